@@ -1,0 +1,4 @@
+pub mod Order
+pub mod Vector
+pub mod Key
+pub mod Text

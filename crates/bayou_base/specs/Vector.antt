@@ -1,0 +1,14 @@
+-- Version vectors (Terry et al. 1994): for each server the number of its Writes that are held.
+use Rattle.std.specs.Prelude.{◌≡◌, ℕ, ◌≤◌, List, All, length, max, slice_index, slice_set}
+use Rattle.bayou_base.specs.declared.limits.TheConstants.{SERVERS, MAX_WRITES}
+use Rattle.bayou_base.specs.declared.wid.Wid.{Wid}
+
+-- one count for each server, and none above what a log can hold
+pub record AreCounts (counts : List ℕ) : Type 0 where
+  pub one_each : length counts ≡ SERVERS
+  pub in_range : All (λ count. count ≤ MAX_WRITES) counts
+
+-- the counts with the Write counted too: its server's count is the greater of what it was and the Write's seq
+abbrev pub raised : List ℕ → Wid → List ℕ
+raised counts wid =
+    slice_set counts wid.origin.index (max (slice_index counts wid.origin.index) wid.seq)

@@ -1,0 +1,36 @@
+//! The names and values that every other crate speaks of: servers, Writes' names and stamps, version vectors, keys,
+//! values, and what a session asks for and is answered. It has no collection that grows and takes no memory.
+//!
+//! Callers see a [`ServerId`], a [`Wid`] and a [`Stamp`] as their numbers, with the ranges kept by the types; a
+//! [`Vector`] as the list of its [`SERVERS`] counts; a [`Key`] and a [`Text`] as the list of their bytes. Constructors
+//! refuse exactly what lies outside the limits, by the first fault. It doesn't promise that a name stands for a Write
+//! that some server holds.
+#![tactic(auto)]
+
+pub mod answer;
+pub mod asks;
+pub mod key;
+pub mod limits;
+pub mod server;
+pub mod session;
+pub mod stamp;
+pub mod value;
+pub mod vector;
+pub mod wid;
+
+#[cfg(test)]
+mod tests;
+
+pub use answer::{Accepted, Seen};
+pub use asks::Asks;
+pub use key::{Key, KeyFault};
+pub use limits::{
+    DEFAULT_LIMIT, MAX_ALTERNATIVES, MAX_CONDITIONS, MAX_KEY_BYTES, MAX_LINE_BYTES, MAX_LINES,
+    MAX_OPS, MAX_TEXT_BYTES, MAX_TURNS, MAX_WRITES, SERVERS, SESSIONS,
+};
+pub use server::ServerId;
+pub use session::SessionId;
+pub use stamp::Stamp;
+pub use value::{Text, Value};
+pub use vector::Vector;
+pub use wid::Wid;

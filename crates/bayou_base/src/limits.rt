@@ -1,0 +1,37 @@
+//! Every limit of the program, each named once.
+
+/// How many servers there may be at the most: the counts of a vector.
+pub const SERVERS: usize = 8;
+
+/// How many sessions there may be at the most.
+pub const SESSIONS: usize = 32;
+
+/// How many Writes a log holds at the most, and so the greatest sequence number, clock and count.
+pub const MAX_WRITES: u32 = 65_536;
+
+/// How many Writes a log holds at the most where a script doesn't say.
+pub const DEFAULT_LIMIT: u32 = 4_096;
+
+/// How many bytes a key has at the most. It has one at the least.
+pub const MAX_KEY_BYTES: usize = 32;
+
+/// How many bytes a text value has at the most.
+pub const MAX_TEXT_BYTES: usize = 32;
+
+/// How many conditions a dependency check, or an alternative, has at the most.
+pub const MAX_CONDITIONS: usize = 8;
+
+/// How many ops an update, or an alternative, has at the most, and so how many keys a program may change.
+pub const MAX_OPS: usize = 8;
+
+/// How many alternatives a merge procedure has at the most.
+pub const MAX_ALTERNATIVES: usize = 4;
+
+/// How many lines a script has at the most, empty ones too.
+pub const MAX_LINES: u64 = 65_536;
+
+/// How many bytes a line has at the most, before its line feed.
+pub const MAX_LINE_BYTES: usize = 65_536;
+
+/// How often one call of an engine calls a reader's `read` or a writer's `write` at the most.
+pub const MAX_TURNS: u32 = 1_000_000;

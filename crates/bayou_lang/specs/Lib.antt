@@ -1,0 +1,5 @@
+pub mod Places
+pub mod Meaning
+pub mod Changes
+pub mod Program
+pub mod Writes

@@ -1,0 +1,204 @@
+ghost use Rattle.std.specs.Prelude.{◌≡◌, ◌+◌, None, Some, ◌<◌, ◌≤◌, ◌∷◌, IfSome, length, map, not};
+ghost use Rattle.std.specs.List.{filter, flat_map};
+ghost use Rattle.std.specs.Option.{option_map};
+ghost use Rattle.arrayvec.specs.ArrayVec.{array_vec_len};
+ghost use Rattle.bayou_base.specs.declared.limits.TheConstants.{MAX_ALTERNATIVES, MAX_OPS};
+ghost use Rattle.bayou_lang.specs.Places.{Places, changed, same_key};
+ghost use Rattle.bayou_lang.specs.Changes.{ChangeOnly, after_changes, op_key, program_writes};
+ghost use Rattle.bayou_lang.specs.Meaning as meaning;
+
+use crate::change::{Change, Changes};
+use crate::program::{Alt, Cond, Op, Program, Term};
+use arrayvec::ArrayVec;
+use bayou_base::{Key, Value};
+
+/// How a program was applied.
+#[derive(Clone, Copy, Debug, PartialEq, Eq)]
+pub enum Outcome {
+    /// The dependency check held, and the update was applied.
+    Updated,
+    /// The check failed, and this alternative, from 0 on, was applied.
+    Merged(u8),
+    /// Nothing was applied.
+    Nothing,
+}
+
+/// A database as a program sees it.
+pub trait Look {
+    ghost places: { Self → Places };
+
+    /// What the key has, if anything.
+    fn look(&self, key: &Key) -> Option<Value>
+        ensures { result ≡ places self.now key.now };
+}
+
+/// A database with changes over it, which the next op sees.
+#[derive(Drop)]
+struct Overlay<'a, L> {
+    under: &'a L,
+    changes: &'a Changes,
+}
+
+impl<L: Look> Look for Overlay<'_, L> {
+    ghost places = { λ overlay. after_changes overlay.changes.now.items (L.places overlay.under.now) };
+
+    fn look(&self, key: &Key) -> Option<Value> {
+        for change in self.changes.as_slice() {
+            if change.key == *key {
+                return change.copy_value();
+            }
+        }
+        self.under.look(key)
+    }
+}
+
+fn holds<L: Look>(condition: &Cond, look: &L) -> bool
+    ensures { result ≡ meaning.holds condition.now (L.places look.now) }
+{
+    match condition {
+        Cond::Equals(key, value) => look.look(key).is_some_and(|found| found == *value),
+        Cond::Absent(key) => look.look(key).is_none(),
+        Cond::AtLeast(key, number) => match look.look(key) {
+            Some(Value::Num(found)) => *number <= found,
+            _ => false,
+        },
+    }
+}
+
+fn all_hold<L: Look>(conditions: &[Cond], look: &L) -> bool
+    ensures { result ≡ meaning.all_hold conditions.now (L.places look.now) }
+{
+    for condition in conditions {
+        if !holds(condition, look) {
+            return false;
+        }
+    }
+    true
+}
+
+fn sum_with(number: i64, value: &Value) -> Option<Value>
+    ensures { result ≡ meaning.sum_with number value.now }
+{
+    match value {
+        Value::Num(found) => found.checked_add(number).map(Value::Num),
+        Value::Text(_) => None,
+    }
+}
+
+fn term_value<L: Look>(term: &Term, look: &L) -> Option<Value>
+    ensures { result ≡ meaning.term_value term.now (L.places look.now) }
+{
+    match term {
+        Term::Lit(value) => Some(value.copy()),
+        Term::Copy(key) => look.look(key),
+        Term::Plus(key, number) => sum_with(*number, &look.look(key)?),
+    }
+}
+
+/// The changes of the other keys, in their order.
+fn others(changes: &Changes, key: &Key) -> Changes
+    ensures items { result.items ≡ filter (λ change. not (same_key change.key key.now)) changes.now.items }
+    ensures no_more { array_vec_len result ≤ array_vec_len changes.now }
+{
+    let mut others = Changes::new();
+    for change in changes.as_slice() {
+        if change.key != *key {
+            others.push(change.copy());
+        }
+    }
+    others
+}
+
+/// Puts the change first, in the place of an older one of its key.
+fn set_change(changes: &mut Changes, change: Change)
+    requires { array_vec_len changes.old < MAX_OPS }
+    ensures items { changes.new.items ≡ change ∷ filter (λ older. not (same_key older.key change.key)) changes.old.items }
+    ensures one_more { array_vec_len changes.new ≤ array_vec_len changes.old + 1 }
+{
+    *changes = others(changes, &change.key);
+    changes.insert(0, change);
+}
+
+/// What an op changes where it is applied to this database, or `None` where it has no value.
+fn op_change<L: Look>(op: &Op, look: &L) -> Option<Change>
+    ensures value { meaning.after_op op.now (L.places look.now)
+        ≡ option_map (λ change. changed change.key change.value (L.places look.now)) result }
+    ensures key { IfSome result (λ change. change.key ≡ op_key op.now) }
+{
+    match op {
+        Op::Put(key, term) => Some(Change {
+            key: key.copy(),
+            value: Some(term_value(term, look)?),
+        }),
+        Op::Del(key) => Some(Change {
+            key: key.copy(),
+            value: None,
+        }),
+    }
+}
+
+/// What ops change, in order, each seeing those before it, or `None` where one has no value.
+fn ops_changes<L: Look>(ops: &[Op], look: &L) -> Option<Changes>
+    requires { length ops.now ≤ MAX_OPS }
+    ensures value { meaning.after_ops ops.now (L.places look.now)
+        ≡ option_map (λ changes. after_changes changes.items (L.places look.now)) result }
+    ensures only { IfSome result (λ changes. ChangeOnly (map op_key ops.now) changes.items) }
+{
+    let mut changes = Changes::new();
+    for op in ops {
+        let overlay = Overlay {
+            under: look,
+            changes: &changes,
+        };
+        let change = op_change(op, &overlay)?;
+        set_change(&mut changes, change);
+    }
+    Some(changes)
+}
+
+/// What an alternative changes where it fits, else `None`.
+fn alternative_changes<L: Look>(alternative: &Alt, look: &L) -> Option<Changes>
+    ensures value { meaning.after_alternative alternative.now (L.places look.now)
+        ≡ option_map (λ changes. after_changes changes.items (L.places look.now)) result }
+    ensures only { IfSome result (λ changes. ChangeOnly (map op_key alternative.now.ops.items) changes.items) }
+{
+    if all_hold(alternative.when.as_slice(), look) {
+        ops_changes(alternative.ops.as_slice(), look)
+    } else {
+        None
+    }
+}
+
+/// The first alternative that fits, and what it changes.
+fn merge_changes<L: Look>(alternatives: &[Alt], look: &L) -> (Outcome, Changes)
+    requires { length alternatives.now ≤ MAX_ALTERNATIVES }
+    ensures value { meaning.merged 0 alternatives.now (L.places look.now)
+        ≡ (result.0, after_changes result.1.items (L.places look.now)) }
+    ensures only { ChangeOnly (flat_map (λ alt. map op_key alt.ops.items) alternatives.now) result.1.items }
+{
+    let mut number = 0;
+    for alternative in alternatives {
+        if let Some(changes) = alternative_changes(alternative, look) {
+            return (Outcome::Merged(number), changes);
+        }
+        number += 1;
+    }
+    (Outcome::Nothing, Changes::new())
+}
+
+impl Program {
+    /// What the program does to a database: how it is applied, and what it changes.
+    pub fn eval<L: Look>(&self, look: &L) -> (Outcome, Changes)
+        ensures value { meaning.mean self.now (L.places look.now)
+            ≡ (result.0, after_changes result.1.items (L.places look.now)) }
+        ensures only { ChangeOnly (program_writes self.now) result.1.items }
+    {
+        if !all_hold(self.check.as_slice(), look) {
+            return merge_changes(self.merge.as_slice(), look);
+        }
+        match ops_changes(self.update.as_slice(), look) {
+            Some(changes) => (Outcome::Updated, changes),
+            None => (Outcome::Nothing, Changes::new()),
+        }
+    }
+}
