@@ -14,12 +14,11 @@ pub mod limits;
 pub mod server;
 pub mod session;
 pub mod stamp;
+#[cfg(test)]
+mod tests;
 pub mod value;
 pub mod vector;
 pub mod wid;
-
-#[cfg(test)]
-mod tests;
 
 pub use answer::{Accepted, Seen};
 pub use asks::Asks;

@@ -13,7 +13,11 @@ fn numbers_at_their_borders(rt: HostRuntime) -> Result<(), Fail> {
         (255, false, false),
     ] {
         assert_eq!(rt; ServerId::new(index).is_some(), is_server, "server {index}");
-        assert_eq!(rt; SessionId::new(index).is_some(), is_session, "session {index}");
+        assert_eq!(rt;
+            SessionId::new(index).is_some(),
+            is_session,
+            "session {index}"
+        );
     }
     let server = ServerId::new(1).ok_or("a server")?;
     for (number, is_in_range) in [
@@ -23,8 +27,16 @@ fn numbers_at_their_borders(rt: HostRuntime) -> Result<(), Fail> {
         (65_537, false),
         (u32::MAX, false),
     ] {
-        assert_eq!(rt; Wid::new(server, number).is_some(), is_in_range, "seq {number}");
-        assert_eq!(rt; Stamp::new(number, server).is_some(), is_in_range, "clock {number}");
+        assert_eq!(rt;
+            Wid::new(server, number).is_some(),
+            is_in_range,
+            "seq {number}"
+        );
+        assert_eq!(rt;
+            Stamp::new(number, server).is_some(),
+            is_in_range,
+            "clock {number}"
+        );
     }
     Ok(())
 }
@@ -48,7 +60,10 @@ fn keys_at_their_borders(rt: HostRuntime) {
         ("abc,", Some(KeyFault::BadByte(3))),
         ("\0", Some(KeyFault::BadByte(0))),
         ("a\u{e4}b", Some(KeyFault::BadByte(1))),
-        ("0123456789abcdef0123456789abcde!", Some(KeyFault::BadByte(31))),
+        (
+            "0123456789abcdef0123456789abcde!",
+            Some(KeyFault::BadByte(31)),
+        ),
     ] {
         assert_eq!(rt; Key::new(name).err(), fault, "{name}");
     }
