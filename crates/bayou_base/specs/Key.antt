@@ -1,5 +1,5 @@
 -- Keys: this project's own alphabet.
-use Rattle.std.specs.Prelude.{ℕ, Bool, List, [], ◌∷◌, Option, None, Some, length, nat_lt, nat_le, ◌==◌, ◌&&◌, ◌||◌, not, position, if◌then◌else◌}
+use Rattle.std.specs.Prelude.{ℕ, Bool, List, Option, Some, length, nat_lt, nat_le, ◌==◌, ◌&&◌, ◌||◌, not, position, if◌then◌else◌}
 use Rattle.std.specs.Option.{option_map}
 use Rattle.bayou_base.specs.declared.limits.TheConstants.{MAX_KEY_BYTES}
 use Rattle.bayou_base.specs.declared.key.KeyFault.{KeyFault}

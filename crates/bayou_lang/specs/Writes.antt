@@ -1,5 +1,5 @@
 -- Lists and sets of Writes.
-use Rattle.std.specs.Prelude.{◌≡◌, ℕ, ◌+◌, ◌<◌, ◌≤◌, List, [], ◌∷◌, All, Any, replicate, slice_index, slice_set, if◌then◌else◌}
+use Rattle.std.specs.Prelude.{◌≡◌, ◌≢◌, ◌↔◌, ℕ, ◌+◌, ◌<◌, ◌≤◌, List, [], ◌∷◌, All, AllPairs, Any, Contains, replicate, slice_index, slice_set, if◌then◌else◌}
 use Rattle.bayou_base.specs.declared.limits.TheConstants.{SERVERS}
 use Rattle.bayou_base.specs.declared.wid.Wid.{Wid}
 use Rattle.bayou_base.specs.Order.{is_before}
@@ -17,6 +17,18 @@ abbrev pub in_stamp_order : List Write → List Write
 in_stamp_order [] = []
 in_stamp_order (write ∷ writes) = place_by_stamp write (in_stamp_order writes)
 
+-- no two of the Writes have one stamp
+abbrev pub HaveDistinctStamps : List Write → Type 0
+HaveDistinctStamps writes = AllPairs (λ a b. a.stamp ≢ b.stamp) writes
+
+-- no two of the Writes have one name
+abbrev pub HaveDistinctWids : List Write → Type 0
+HaveDistinctWids writes = AllPairs (λ a b. a.wid ≢ b.wid) writes
+
+-- the lists have the same Writes, in whatever order
+abbrev pub HaveSameWrites : List Write → List Write → Type 0
+HaveSameWrites xs ys = (write : Write) → Contains xs write ↔ Contains ys write
+
 -- the counts with one more Write of its origin
 abbrev pub counted : List ℕ → Wid → List ℕ
 counted counts wid = slice_set counts wid.origin.index (slice_index counts wid.origin.index + 1)
@@ -26,7 +38,7 @@ abbrev pub count_of : List Write → List ℕ
 count_of [] = replicate SERVERS 0
 count_of (write ∷ writes) = counted (count_of writes) write.wid
 
--- for each server the greatest seq among the Writes that it accepted, 0 where there is none
+-- for each server the greatest seq among the Writes that it accepted, 0 where there is none: this project's own
 abbrev pub greatest_of : List Write → List ℕ
 greatest_of [] = replicate SERVERS 0
 greatest_of (write ∷ writes) = raised (greatest_of writes) write.wid

@@ -8,6 +8,7 @@
 
 pub mod change;
 pub mod eval;
+pub mod laws;
 pub mod program;
 pub mod write;
 

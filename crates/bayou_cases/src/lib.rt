@@ -1,0 +1,15 @@
+//! Tests that cross crates: whole scripts, run over memory and over readers and writers that fail.
+#![tactic(auto)]
+
+#[cfg(test)]
+mod borders;
+#[cfg(test)]
+mod fakes;
+#[cfg(test)]
+mod memory;
+#[cfg(test)]
+mod scripts;
+#[cfg(test)]
+mod streams;
+#[cfg(test)]
+mod words;

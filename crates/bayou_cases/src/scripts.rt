@@ -1,0 +1,256 @@
+//! The worked scripts: what each prints, what fault it tells, and its exit status.
+use crate::memory::run;
+
+struct Case {
+    name: &'static str,
+    script: &'static str,
+    output: &'static str,
+    fault: &'static str,
+    status: u8,
+}
+
+static CASES: [Case; 25] = [
+    Case {
+        name: "a Write is read again (examples/first.jsonl)",
+        script: r#"["servers",1,100]
+["session",0,[]]
+["write",0,0,{"update":[["put","room",1]]}]
+["read",0,0,"room"]
+"#,
+        output: "0 wrote 0:1 clock 1 deps 0\n0 read room num 1 at 1\n",
+        fault: "",
+        status: 0,
+    },
+    Case {
+        name: "a key that nothing was written to",
+        script: r#"["servers",1,100]
+["session",0,[]]
+["read",0,0,"x"]
+"#,
+        output: "0 read x none at 0\n",
+        fault: "",
+        status: 0,
+    },
+    Case {
+        name: "a full log (examples/full.jsonl)",
+        script: r#"["servers",1,1]
+["session",0,[]]
+["write",0,0,{"update":[["put","a",1]]}]
+["write",0,0,{"update":[["put","a",1]]}]
+["read",0,0,"a"]
+"#,
+        output: "0 wrote 0:1 clock 1 deps 0\n0 refused full\n0 read a num 1 at 1\n",
+        fault: "",
+        status: 0,
+    },
+    Case {
+        name: "values of each kind (examples/values.jsonl)",
+        script: r#"["servers",1]
+["session",0,[]]
+["session",31,["ryw","mr","wfr","mw","mw"]]
+
+["write",0,0,{"update":[["put","least",-9223372036854775808],["put","most",9223372036854775807]]}]
+["write",31,0,{"update":[["put","a.b_c-d/9","say \"hi\"\\\n\u0001é"],["put","nothing",""]]}]
+["write",0,0,{"check":[],"merge":[],"update":[]}]
+["read",0,0,"least"]
+["read",31,0,"most"]
+["read",0,0,"a.b_c-d/9"]
+["read",0,0,"nothing"]
+["read",0,0,"absent"]
+"#,
+        output: "0 wrote 0:1 clock 1 deps 0\n31 wrote 0:2 clock 2 deps 1\n0 wrote 0:3 clock 3 deps 2\n0 read least num -9223372036854775808 at 3\n31 read most num 9223372036854775807 at 3\n0 read a.b_c-d/9 text \"say \\\"hi\\\"\\\\\\n\\u0001é\" at 3\n0 read nothing text \"\" at 3\n0 read absent none at 3\n",
+        fault: "",
+        status: 0,
+    },
+    Case {
+        name: "the later put of one key stands (examples/order.jsonl)",
+        script: r#"["servers",1,10]
+["session",2,[]]
+["write",2,0,{"update":[["put","a",1],["put","b",1],["put","a",2]]}]
+["read",2,0,"a"]
+["write",2,0,{"update":[["put","b","two"]]}]
+["read",2,0,"b"]
+["read",2,0,"a"]
+"#,
+        output: "2 wrote 0:1 clock 1 deps 0\n2 read a num 2 at 1\n2 wrote 0:2 clock 2 deps 1\n2 read b text \"two\" at 2\n2 read a num 2 at 2\n",
+        fault: "",
+        status: 0,
+    },
+    Case {
+        name: "a key that is none: nothing is printed for the lines before it either",
+        script: r#"["servers",1,100]
+["session",0,[]]
+["write",0,0,{"update":[["put","Room",1]]}]
+"#,
+        output: "",
+        fault: "bayou: line 3: bad key\n",
+        status: 2,
+    },
+    Case {
+        name: "no JSON",
+        script: "{\n",
+        output: "",
+        fault: "bayou: line 1: not JSON\n",
+        status: 2,
+    },
+    Case {
+        name: "a server that wasn't started",
+        script: r#"["servers",1,100]
+["session",0,[]]
+["read",0,1,"x"]
+"#,
+        output: "",
+        fault: "bayou: line 3: out of place\n",
+        status: 2,
+    },
+    Case {
+        name: "a first line that starts no servers",
+        script: "[\"session\",0,[]]\n[\"servers\",1]\n",
+        output: "",
+        fault: "bayou: line 1: out of place\n",
+        status: 2,
+    },
+    Case {
+        name: "servers started twice",
+        script: "[\"servers\",1]\n[\"session\",0,[]]\n[\"servers\",1]\n",
+        output: "",
+        fault: "bayou: line 3: out of place\n",
+        status: 2,
+    },
+    Case {
+        name: "a session opened twice",
+        script: "[\"servers\",1]\n[\"session\",3,[]]\n[\"session\",4,[]]\n[\"session\",3,[\"mr\"]]\n",
+        output: "",
+        fault: "bayou: line 4: out of place\n",
+        status: 2,
+    },
+    Case {
+        name: "a session that reads before it is opened",
+        script: "[\"servers\",1]\n[\"session\",1,[]]\n[\"read\",0,0,\"x\"]\n[\"session\",0,[]]\n",
+        output: "",
+        fault: "bayou: line 3: out of place\n",
+        status: 2,
+    },
+    Case {
+        name: "a session that writes and is never opened",
+        script: "[\"servers\",1]\n[\"write\",0,0,{}]\n",
+        output: "",
+        fault: "bayou: line 2: out of place\n",
+        status: 2,
+    },
+    Case {
+        name: "a fault of the line comes before its place",
+        script: "[\"servers\",1]\n[\"servers\",2]\n",
+        output: "",
+        fault: "bayou: line 2: bad shape\n",
+        status: 2,
+    },
+    Case {
+        name: "the least line with a fault is told",
+        script: "[\"servers\",1]\n[\"read\",0,0,\"x\"]\n{\n",
+        output: "",
+        fault: "bayou: line 2: out of place\n",
+        status: 2,
+    },
+    Case {
+        name: "no input",
+        script: "",
+        output: "",
+        fault: "bayou: line 1: out of place\n",
+        status: 2,
+    },
+    Case {
+        name: "empty lines alone",
+        script: "\n\n\n",
+        output: "",
+        fault: "bayou: line 1: out of place\n",
+        status: 2,
+    },
+    Case {
+        name: "empty lines are counted",
+        script: "\n[\"servers\",1]\n\n\n{",
+        output: "",
+        fault: "bayou: line 5: not JSON\n",
+        status: 2,
+    },
+    Case {
+        name: "the last line needs no line feed, and CR is white space",
+        script: "[\"servers\",1]\r\n[\"session\",0,[]]\r\n[\"read\",0,0,\"x\"]",
+        output: "0 read x none at 0\n",
+        fault: "",
+        status: 0,
+    },
+    Case {
+        name: "a line of CR alone isn't empty",
+        script: "[\"servers\",1]\n\r\n",
+        output: "",
+        fault: "bayou: line 2: not JSON\n",
+        status: 2,
+    },
+    Case {
+        name: "servers alone print nothing",
+        script: "[\"servers\",1,65536]\n[\"session\",0,[]]\n",
+        output: "",
+        fault: "",
+        status: 0,
+    },
+    Case {
+        name: "a command that there isn't yet",
+        script: "[\"servers\",1]\n[\"log\",0]\n",
+        output: "",
+        fault: "bayou: line 2: bad shape\n",
+        status: 2,
+    },
+    Case {
+        name: "eight puts",
+        script: r#"["servers",1]
+["session",0,[]]
+["write",0,0,{"update":[["put","a",1],["put","b",1],["put","c",1],["put","d",1],["put","e",1],["put","f",1],["put","g",1],["put","h",1]]}]
+["read",0,0,"h"]
+"#,
+        output: "0 wrote 0:1 clock 1 deps 0\n0 read h num 1 at 1\n",
+        fault: "",
+        status: 0,
+    },
+    Case {
+        name: "nine puts",
+        script: r#"["servers",1]
+["session",0,[]]
+["write",0,0,{"update":[["put","a",1],["put","b",1],["put","c",1],["put","d",1],["put","e",1],["put","f",1],["put","g",1],["put","h",1],["put","i",1]]}]
+"#,
+        output: "",
+        fault: "bayou: line 3: bad program\n",
+        status: 2,
+    },
+    Case {
+        name: "two sessions at one server",
+        script: r#"["servers",1,2]
+["session",0,[]]
+["session",1,["ryw"]]
+["write",0,0,{"update":[["put","a",1]]}]
+["write",1,0,{"update":[["put","a","x"]]}]
+["write",0,0,{"update":[["put","a",3]]}]
+["read",1,0,"a"]
+"#,
+        output: "0 wrote 0:1 clock 1 deps 0\n1 wrote 0:2 clock 2 deps 1\n0 refused full\n1 read a text \"x\" at 2\n",
+        fault: "",
+        status: 0,
+    },
+];
+
+#[test]
+fn worked_scripts(rt: HostRuntime) {
+    for case in CASES.iter() {
+        let name = case.name;
+        let given = run(rt.alloc(), case.script.as_bytes());
+        assert!(rt;
+            given.output.as_slice() == case.output.as_bytes(),
+            "the output of: {name}"
+        );
+        assert!(rt;
+            given.errors.as_slice() == case.fault.as_bytes(),
+            "the fault of: {name}"
+        );
+        assert_eq!(rt; given.status, case.status, "the status of: {name}");
+    }
+}

@@ -1,0 +1,133 @@
+//! The command line: from the words that the program is called with to what it is to do.
+//!
+//! Callers see a [`Task`], or a [`Stop`] with the text to show. The grammar of the words and the texts of refusals and of
+//! the usage are `clap`'s; this crate is all that knows of it. It reads nothing but its words, and promises nothing of
+//! the texts.
+#![tactic(auto)]
+
+ghost use Rattle.std.specs.Prelude.{◌≡◌, ◌∷◌, [], IfOk, MatchResult, codes, false, map};
+ghost use Rattle.clap.specs.declared.builder.command.Command.TheViews.{out-Command as fields_of};
+ghost use Rattle.clap.specs.Words.{app_of, kind_of};
+ghost use Rattle.bayou_command.specs.Words.{NamesRun, bayou_app, run_app};
+
+use clap::error::ErrorKind;
+use clap::{Command, Error};
+use std::alloc::{AllocError, Global};
+use std::convert::AsStr;
+
+const ABOUT: &str = "A replicated store in the manner of Bayou, driven by scripts.";
+
+const EXAMPLE: &str =
+    r#"A script is a text of JSON lines. This one starts a server, opens a session, writes and reads:
+
+  ["servers",1]
+  ["session",0,[]]
+  ["write",0,0,{"update":[["put","room",1]]}]
+  ["read",0,0,"room"]
+
+Put it into a file and call: bayou run < FILE
+It prints:
+
+  0 wrote 0:1 clock 1 deps 0
+  0 read room num 1 at 1
+
+`bayou run --help` has the form of each line."#;
+
+const RUN_ABOUT: &str =
+    "Reads a script on standard input, checks it, and prints a line for each answer.";
+
+const RUN_FORM: &str =
+    r#"The first line is ["servers",1] or ["servers",1,LIMIT]; LIMIT is how many Writes a server holds (4096).
+Then ["session",I,[]] opens session I, ["write",I,0,PROGRAM] writes, and ["read",I,0,KEY] reads, in any order.
+
+PROGRAM is {"update":[["put",KEY,VALUE],..]}, with up to 8 puts. I is 0 to 31.
+A KEY has 1 to 32 bytes of a-z 0-9 . _ - /; a VALUE is an integer, or a text of up to 32 bytes.
+
+Example:
+
+  printf '%s\n' '["servers",1]' '["session",0,[]]' \
+    '["write",0,0,{"update":[["put","room",1]]}]' '["read",0,0,"room"]' | bayou run
+
+Nothing is printed before the whole script was read and found good. The exit status is 0; 2 for a script or a command
+line that is refused; 3 where memory, the input or the output fails. What is wrong is told on standard error."#;
+
+/// What the program is to do.
+#[derive(Clone, Copy, Debug, PartialEq, Eq)]
+pub enum Task {
+    /// To run the script on its input.
+    Run,
+}
+
+/// Why the words name no task.
+#[derive(Debug, Drop)]
+pub enum Stop {
+    /// They ask for this text: a help, or the version.
+    Asked(String),
+    /// They are refused with this text.
+    Refused(String),
+    /// Memory ran out.
+    Memory,
+}
+
+impl From<AllocError> for Stop {
+    ghost use Rattle.std.specs.Prelude.{◌≡◌};
+    ghost use Rattle.bayou_command.specs.declared.Stop.TheVariants.{Memory};
+
+    ghost from_gives = { λ _ stop. stop ≡ Memory };
+
+    fn from(_error: AllocError) -> Stop {
+        Stop::Memory
+    }
+}
+
+impl Stop {
+    fn of(alloc: Global, error: &Error) -> Stop
+        ensures memory { kind_of error.now ≡ ErrorKind.OutOfMemory → result ≡ Stop.Memory }
+    {
+        if let ErrorKind::OutOfMemory = error.kind() {
+            return Stop::Memory;
+        }
+        match error.to_string(alloc) {
+            Ok(text) if error.use_stderr() => Stop::Refused(text),
+            Ok(text) => Stop::Asked(text),
+            Err(_) => Stop::Memory,
+        }
+    }
+}
+
+fn run_command<'a>(alloc: Global) -> Command<'a>
+    ensures app { app_of result ≡ run_app }
+    ensures local { (fields_of result).has_globals ≡ false }
+{
+    Command::new(alloc, "run")
+        .about(RUN_ABOUT)
+        .after_help(RUN_FORM)
+}
+
+fn bayou_command<'a>(alloc: Global) -> Result<Command<'a>, AllocError>
+    ensures { IfOk result (λ command. app_of command ≡ bayou_app) }
+{
+    Command::new(alloc, "bayou")
+        .bin_name("bayou")?
+        .version("0.1.0")
+        .about(ABOUT)
+        .after_help(EXAMPLE)
+        .subcommand_required(true)
+        .subcommand(run_command(alloc))
+}
+
+/// What the words name. The first of them is the program's own name.
+pub fn read_words<'a, S: AsStr>(alloc: Global, words: &'a [S]) -> Result<Task, Stop>
+    // Words that ask for `run` and nothing else are taken, unless memory runs out.
+    ensures run { NamesRun (map S.text words.entry.now) → MatchResult result (λ task. task ≡ Task.Run) (λ stop. stop ≡ Stop.Memory) }
+{
+    match bayou_command(alloc)?.try_get_matches_from(words) {
+        Ok(_) => Ok(Task::Run),
+        Err(error) => Err(Stop::of(alloc, &error)),
+    }
+}
+
+/// A law: `bayou run` asks for `run`.
+pub fn run_is_named()
+    ensures { NamesRun (codes "bayou" ∷ codes "run" ∷ []) }
+{}

@@ -1,0 +1,54 @@
+//! What the definitions of meaning come to, in the subject's own words: each law is the contract of a function that
+//! does nothing.
+ghost use Rattle.std.specs.Prelude.{◌≡◌, ℕ, ◌<◌, ℤ, ◌+ℤ◌, ◌≤ℤ◌, ◌↔◌, List, None, Some, true, false, FitsSigned, slice_get};
+ghost use Rattle.std.specs.Int.{w64};
+ghost use Rattle.bayou_base.specs.declared.value.Value.{Value};
+ghost use Rattle.bayou_base.specs.declared.value.Value.TheVariants.{Num};
+ghost use Rattle.bayou_lang.specs.declared.eval.Outcome.TheVariants.{Updated, Merged, Nothing};
+ghost use Rattle.bayou_lang.specs.declared.program.Alt.{Alt};
+ghost use Rattle.bayou_lang.specs.declared.program.Cond.TheVariants.{Equals, Absent, AtLeast};
+ghost use Rattle.bayou_lang.specs.declared.program.Program.{Program};
+ghost use Rattle.bayou_lang.specs.declared.program.Term.TheVariants.{Plus};
+ghost use Rattle.bayou_lang.specs.Meaning.{after_alternative, after_ops, all_hold, holds, mean, term_value};
+ghost use Rattle.bayou_lang.specs.Places.{Places};
+
+/// Equals holds exactly where the key is present with the value.
+pub fn equals_asks_for_the_value()
+    ensures { (key : List ℕ) (value : Value) (places : Places) → (holds (Equals key value) places ≡ true) ↔ (places key ≡ Some value) }
+{}
+
+/// Absent holds exactly where the key is absent.
+pub fn absent_asks_for_no_value()
+    ensures { (key : List ℕ) (places : Places) → (holds (Absent key) places ≡ true) ↔ (places key ≡ None) }
+{}
+
+/// AtLeast holds exactly where the key has a number that isn't less.
+pub fn at_least_asks_for_a_number()
+    ensures { (key : List ℕ) (number : ℤ) (places : Places) → (holds (AtLeast key number) places ≡ true)
+        ↔ ((found : ℤ) × (places key ≡ Some (Num found)) × (number ≤ℤ found)) }
+{}
+
+/// Plus has a value exactly where the key has a number and the sum is an `i64`, and that value is the sum.
+pub fn plus_is_a_sum_that_fits()
+    ensures { (key : List ℕ) (number : ℤ) (places : Places) (value : Value) → (term_value (Plus key number) places ≡ Some value)
+        ↔ ((found : ℤ) × (places key ≡ Some (Num found)) × FitsSigned w64 (found +ℤ number) × (value ≡ Num (found +ℤ number))) }
+{}
+
+/// Where nothing is applied the database is as it was.
+pub fn nothing_leaves_the_database()
+    ensures { (program : Program) (places : Places) → (mean program places).0 ≡ Nothing → (mean program places).1 ≡ places }
+{}
+
+/// Where the update is applied the dependency check holds, and every op had a value.
+pub fn updated_means_all_ops()
+    ensures { (program : Program) (places : Places) → (mean program places).0 ≡ Updated
+        → (all_hold program.check.items places ≡ true) × (after_ops program.update.items places ≡ Some (mean program places).1) }
+{}
+
+/// Where an alternative is applied the dependency check fails, that alternative fits, and none before it does.
+pub fn merged_means_the_first_that_fits()
+    ensures { (program : Program) (places : Places) (number : ℕ) → (mean program places).0 ≡ Merged number
+        → (all_hold program.check.items places ≡ false)
+        × ((alt : Alt) × (slice_get program.merge.items number ≡ Some alt) × (after_alternative alt places ≡ Some (mean program places).1))
+        × ((earlier : ℕ) (alt : Alt) → earlier < number → slice_get program.merge.items earlier ≡ Some alt → after_alternative alt places ≡ None) }
+{}

@@ -1,0 +1,136 @@
+-- The fields of a log still belong together after its calls.
+use Rattle.std.proofs.Common.{◌≡◌, ◌≢◌, ℕ, ◌<◌, ◌≤◌, ◌-◌, true, false, List, [], ◌∷◌, ◌++◌, length, take, drop, get_or, All, ap, sym, ◌∙◌, refl, subst, arith, length-append}
+use Rattle.std.specs.List.{insert}
+use Rattle.std.proofs.lemmas.List.{take_all, drop_all}
+use Rattle.std.proofs.lemmas.List.Elements.{All-push, All-weaker}
+use Rattle.std.proofs.lemmas.List.Quantifiers.{all_pairs_push}
+use Rattle.bayou_base.specs.Order.{is_before}
+use Rattle.bayou_base.specs.Vector.{raised}
+use Rattle.bayou_lang.specs.declared.write.Write.{Write}
+use Rattle.bayou_lang.specs.Places.{Places, empty}
+use Rattle.bayou_lang.specs.Meaning.{mean}
+use Rattle.bayou_lang.specs.Writes.{in_stamp_order}
+use Rattle.bayou_log.specs.Db.{Slots, places, room, HasRoomFor, KeepsRoom}
+use Rattle.bayou_log.specs.Log.{AreHeld, IsNewStamp, IsNewWid}
+use Rattle.bayou_log.specs.Fields.{AgreesWith, picked}
+use Rattle.bayou_log.specs.Replay.{after_writes, replay}
+use Rattle.bayou_log.proofs.Counts.{greatest_of-push}
+use Rattle.bayou_log.proofs.Picked.{picked-insert, AreInside, AreInside-insert, length-picked}
+use Rattle.bayou_log.proofs.StampOrder.{IsInOrder-in_stamp_order, place_by_stamp-at, in_stamp_order-push, length-in_stamp_order}
+
+-- with more room
+pub AgreesWith-more_room : (writes : List Write) (order : List ℕ) (old new : Slots) (vector : List ℕ) → AgreesWith writes order old vector
+    → places new ≡ places old → KeepsRoom (room old) (room new) → AgreesWith writes order new vector
+AgreesWith-more_room writes order old new vector agrees same keeps = record {
+  in_order = agrees.in_order;
+  inside = agrees.inside;
+  replayed = same ∙ agrees.replayed;
+  room = All-weaker (λ write. HasRoomFor (room old) write.program) (λ write. HasRoomFor (room new) write.program)
+      (λ write h k d within. keeps _ (h k d within)) writes agrees.room;
+  counted = agrees.counted;
+}
+
+-- with one more Write
+pub AreHeld-push : (count limit : ℕ) (writes more : List Write) (write : Write) → more ≡ writes ++ write ∷ [] → AreHeld count limit writes
+    → write.wid.origin.index < count → IsNewWid writes write → IsNewStamp writes write → length writes < limit → AreHeld count limit more
+AreHeld-push count limit writes more write same held origin wid stamp below =
+    let pushed : AreHeld count limit (writes ++ write ∷ []) = record {
+      origins = All-push (λ write. write.wid.origin.index < count) writes write held.origins origin;
+      wids = all_pairs_push (λ a b. a.wid ≢ b.wid) writes write held.wids wid;
+      stamps = all_pairs_push (λ a b. a.stamp ≢ b.stamp) writes write held.stamps stamp;
+      within = omega (arith, length-append writes (write ∷ []));
+    } in
+    subst (AreHeld count limit) (sym same) pushed
+
+-- n is the place of the Write in this order
+pub record IsPlaceOf (write : Write) (ordered : List Write) (n : ℕ) : Type 0 where
+  pub within : n ≤ length ordered
+  pub later : All (λ next. is_before write.stamp next.stamp ≡ true) (drop n ordered)
+  pub not_earlier : (d : Write) → 0 < n → is_before write.stamp (get_or ordered (n - 1) d).stamp ≡ false
+
+-- the Writes in stamp order, with one more
+pub in_stamp_order-insert : (writes : List Write) (write : Write) (n : ℕ) → IsNewStamp writes write → IsPlaceOf write (in_stamp_order writes) n
+    → in_stamp_order (writes ++ write ∷ []) ≡ take n (in_stamp_order writes) ++ write ∷ drop n (in_stamp_order writes)
+in_stamp_order-insert writes write n others place =
+    in_stamp_order-push writes write others
+    ∙ place_by_stamp-at write (in_stamp_order writes) n (IsInOrder-in_stamp_order writes) place.within place.later (λ last d is.
+    let some : 0 < n = omega arith in
+    let before : n - 1 ≡ last = omega arith in
+    subst (λ k. is_before write.stamp (get_or (in_stamp_order writes) k d).stamp ≡ false) before (place.not_earlier d some))
+
+pub after_writes-append : (xs ys : List Write) (before : Places) → after_writes (xs ++ ys) before ≡ after_writes ys (after_writes xs before)
+after_writes-append [] ys before = refl
+after_writes-append (write ∷ xs) ys before = after_writes-append xs ys (mean write.program before).1
+
+-- a Write behind all the others is applied on top
+pub replay-last : (writes : List Write) (write : Write) (n : ℕ) → IsNewStamp writes write → IsPlaceOf write (in_stamp_order writes) n → length (in_stamp_order writes) ≤ n
+    → replay (writes ++ write ∷ []) ≡ (mean write.program (replay writes)).1
+replay-last writes write n others place last =
+    let ordered = in_stamp_order writes in
+    ap (λ list. after_writes list empty)
+    (in_stamp_order-insert writes write n others place
+    ∙ ap (λ front. front ++ write ∷ drop n ordered) (take_all n ordered last)
+    ∙ ap (λ back. ordered ++ write ∷ back) (drop_all n ordered last))
+    ∙ after_writes-append ordered (write ∷ []) empty
+
+-- with one more Write
+pub AgreesWith-insert : (writes : List Write) (order : List ℕ) (old new : Slots) (vector : List ℕ) (write : Write) (n : ℕ) → AgreesWith writes order old vector
+    → IsNewStamp writes write → HasRoomFor (room old) write.program → IsPlaceOf write (picked writes order) n
+    → room new ≡ room old → places new ≡ replay (writes ++ write ∷ [])
+    → AgreesWith (writes ++ write ∷ []) (insert order n (length writes)) new (raised vector write.wid)
+AgreesWith-insert writes order old new vector write n agrees others reserved place same replayed =
+    let in_order = in_stamp_order-insert writes write n others (subst (λ ordered. IsPlaceOf write ordered n) agrees.in_order place) in
+    let P : Write → Type 0 = λ held. HasRoomFor (room old) held.program in
+    let kept : (keys : List (List ℕ)) → room old ≡ keys → All (λ held. HasRoomFor keys held.program) (writes ++ write ∷ []) =
+    λ keys e. subst (λ keys. All (λ (held : Write). HasRoomFor keys held.program) (writes ++ write ∷ [])) e (All-push P writes write agrees.room reserved) in
+    record {
+      in_order = picked-insert writes write order n agrees.inside
+          ∙ ap (λ ordered. take n ordered ++ write ∷ drop n ordered) agrees.in_order ∙ sym in_order;
+      inside = AreInside-insert writes write order n agrees.inside;
+      replayed = replayed;
+      room = kept (room new) (sym same);
+      counted = ap (λ counts. raised counts write.wid) agrees.counted ∙ sym (greatest_of-push writes write);
+    }
+
+-- what the search for a place finds
+pub IsPlaceOf-found : (writes slice : List Write) (order places : List ℕ) (write : Write) (n : ℕ) → slice ≡ writes → places ≡ order → AreInside writes order
+    → n ≤ length places
+    → All (λ next. is_before write.stamp next.stamp ≡ true) (drop n (picked slice places))
+    → ((d : Write) → 0 < n → is_before write.stamp (get_or (picked slice places) (n - 1) d).stamp ≡ false)
+    → IsPlaceOf write (picked writes order) n
+IsPlaceOf-found writes slice order places write n same_writes same_order inside within later not_earlier =
+    let ordered : picked slice places ≡ picked writes order = ap (λ list. picked list places) same_writes ∙ ap (picked writes) same_order in
+    let found = subst (λ list. All (λ (next : Write). is_before write.stamp next.stamp ≡ true) (drop n list)
+    × ((d : Write) → 0 < n → is_before write.stamp (get_or list (n - 1) d).stamp ≡ false)) ordered (later, not_earlier) in
+    record {
+      within = omega (arith, length-picked writes order inside, ap length same_order);
+      later = found.0;
+      not_earlier = found.1;
+    }
+
+module _ (writes : List Write) (order : List ℕ) (old new : Slots) (vector : List ℕ) (write : Write) (n : ℕ)
+    (agrees : AgreesWith writes order old vector) (others : IsNewStamp writes write)
+    (reserved : HasRoomFor (room old) write.program) (place : IsPlaceOf write (picked writes order) n) (same : room new ≡ room old) where
+  -- the Write is applied on top, where it goes behind the others
+  pub AgreesWith-insert_last : length writes ≤ n → places new ≡ (mean write.program (places old)).1
+      → AgreesWith (writes ++ write ∷ []) (insert order n (length writes)) new (raised vector write.wid)
+  AgreesWith-insert_last last after =
+      AgreesWith-insert writes order old new vector write n agrees others reserved place same
+      (after ∙ ap (λ before. (mean write.program before).1) agrees.replayed
+      ∙ sym (replay-last writes write n others (subst (λ ordered. IsPlaceOf write ordered n) agrees.in_order place) (omega (arith, length-in_stamp_order writes))))
+
+  -- all are applied again
+  pub AgreesWith-insert_late : places new ≡ after_writes (picked (writes ++ write ∷ []) (insert order n (length writes))) empty
+      → AgreesWith (writes ++ write ∷ []) (insert order n (length writes)) new (raised vector write.wid)
+  AgreesWith-insert_late after =
+      let in_order = in_stamp_order-insert writes write n others (subst (λ ordered. IsPlaceOf write ordered n) agrees.in_order place) in
+      AgreesWith-insert writes order old new vector write n agrees others reserved place same
+      (after ∙ ap (λ list. after_writes list empty)
+      (picked-insert writes write order n agrees.inside ∙ ap (λ ordered. take n ordered ++ write ∷ drop n ordered) agrees.in_order ∙ sym in_order))
+
+pub AgreesWith-same : (writes more : List Write) (order placed : List ℕ) (slots : Slots) (vector counts : List ℕ)
+    → more ≡ writes → placed ≡ order → counts ≡ vector → AgreesWith writes order slots vector → AgreesWith more placed slots counts
+AgreesWith-same writes more order placed slots vector counts same_writes same_order same_vector agrees =
+    subst (λ list. AgreesWith list placed slots counts) (sym same_writes)
+    (subst (λ list. AgreesWith writes list slots counts) (sym same_order)
+    (subst (λ list. AgreesWith writes order slots list) (sym same_vector) agrees))

@@ -1,0 +1,6 @@
+pub mod Agrees
+pub mod Counts
+pub mod Picked
+pub mod SetOfWrites
+pub mod Slots
+pub mod StampOrder

@@ -1,0 +1,36 @@
+-- A database with room for keys ahead of their values: this project's own.
+use Rattle.std.specs.Prelude.{ℕ, Bool, List, Option, All, IsTrue, option_and_then}
+use Rattle.std.specs.List.{list_any}
+use Rattle.std.specs.Map.{keys_of, lookup}
+use Rattle.bayou_base.specs.declared.value.Value.{Value}
+use Rattle.bayou_lang.specs.declared.program.Program.{Program}
+use Rattle.bayou_lang.specs.Places.{Places, same_key}
+use Rattle.bayou_lang.specs.Changes.{program_writes}
+
+-- the keys that there is room for, each with what it has, if anything
+abbrev pub Slots : Type 0
+Slots = List (List ℕ × Option Value)
+
+-- what the database has at each key
+abbrev pub places : Slots → Places
+places slots key = option_and_then (λ value. value) (lookup (same_key key) slots)
+
+-- the keys that there is room for
+abbrev pub room : Slots → List (List ℕ)
+room slots = keys_of slots
+
+-- whether the key is among those that there is room for
+abbrev pub has_room : List (List ℕ) → List ℕ → Bool
+has_room keys key = list_any (same_key key) keys
+
+-- there is room for each of the others
+abbrev pub HasRoomAt : List (List ℕ) → List (List ℕ) → Type 0
+HasRoomAt keys others = All (λ key. IsTrue (has_room keys key)) others
+
+-- there is room for every key that the program may write
+abbrev pub HasRoomFor : List (List ℕ) → Program → Type 0
+HasRoomFor keys program = HasRoomAt keys (program_writes program)
+
+-- there is still room for each key that there was room for
+abbrev pub KeepsRoom : List (List ℕ) → List (List ℕ) → Type 0
+KeepsRoom old new = (key : List ℕ) → IsTrue (has_room old key) → IsTrue (has_room new key)

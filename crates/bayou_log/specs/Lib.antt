@@ -1,0 +1,4 @@
+pub mod Replay
+pub mod Db
+pub mod Log
+pub mod Fields

@@ -1,0 +1,40 @@
+-- A log of Writes as its callers see it: this project's own.
+use Rattle.std.specs.Prelude.{ℕ, ◌<◌, ◌≤◌, ◌≢◌, List, All, length}
+use Rattle.bayou_lang.specs.declared.write.Write.{Write}
+use Rattle.bayou_lang.specs.Writes.{HaveDistinctStamps, HaveDistinctWids}
+use Rattle.bayou_log.specs.Db.{HasRoomFor}
+
+-- room taken ahead: for so many more Writes, and for these keys
+pub record Room : Type 0 where
+  pub writes : ℕ
+  pub keys : List (List ℕ)
+
+-- the Writes held, in order of receipt; the number of servers; how many Writes it may hold; and the room taken ahead
+pub record Log : Type 0 where
+  pub receipts : List Write
+  pub count : ℕ
+  pub limit : ℕ
+  pub room : Room
+
+-- the room is enough for the Write to be inserted
+abbrev pub IsReserved : Room → Write → Type 0
+IsReserved room write = (0 < room.writes) × HasRoomFor room.keys write.program
+
+-- none of the Writes has its name
+abbrev pub IsNewWid : List Write → Write → Type 0
+IsNewWid writes write = All (λ held. held.wid ≢ write.wid) writes
+
+-- none of the Writes has its stamp
+abbrev pub IsNewStamp : List Write → Write → Type 0
+IsNewStamp writes write = All (λ held. held.stamp ≢ write.stamp) writes
+
+-- the origin of each is one of so many servers
+abbrev pub HaveOriginsBelow : ℕ → List Write → Type 0
+HaveOriginsBelow count writes = All (λ write. write.wid.origin.index < count) writes
+
+-- each is of one of the servers, no two have a name or a stamp in common, and they are no more than a log may hold
+pub record AreHeld (count limit : ℕ) (writes : List Write) : Type 0 where
+  pub origins : HaveOriginsBelow count writes
+  pub wids : HaveDistinctWids writes
+  pub stamps : HaveDistinctStamps writes
+  pub within : length writes ≤ limit

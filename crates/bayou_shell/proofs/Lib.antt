@@ -1,0 +1,4 @@
+pub mod Checked
+pub mod Joined
+pub mod Own
+pub mod Runs

@@ -1,0 +1,10 @@
+use Rattle.std.proofs.Common.{false, refl}
+use Rattle.std.proofs.lemmas.List.{get_or-replicate}
+use Rattle.bayou_base.specs.declared.limits.TheConstants.{SESSIONS}
+use Rattle.bayou_shell.proofs.draft.Draft.new.Goals as goal
+
+pub returns : goal.returns
+returns c = record {
+  begins = (refl, rw c.new.ensures.items refl);
+  flags = λ who within. get_or-replicate SESSIONS who false false within;
+}

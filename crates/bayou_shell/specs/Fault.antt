@@ -1,0 +1,34 @@
+-- How a run ends.
+use Rattle.std.specs.Prelude.{ℕ, Result, Ok, Err}
+use Rattle.bayou_text.specs.declared.line.LineFault.{LineFault}
+use Rattle.bayou_text.specs.declared.line.LineFault.TheVariants as line
+use Rattle.bayou_shell.specs.declared.fault.ScriptFault.TheVariants.{NotJson, BadShape, BadKey, BadProgram}
+use Rattle.bayou_shell.specs.declared.fault.Fault.{Fault}
+use Rattle.bayou_shell.specs.declared.fault.Fault.TheVariants.{Line, Memory, Input, Output}
+
+-- the fault of a script whose line of this number wasn't read
+abbrev pub fault_of : ℕ → LineFault → Fault
+fault_of number line.OutOfMemory = Memory
+fault_of number line.NotJson = Line number NotJson
+fault_of number (line.BadShape what) = Line number BadShape
+fault_of number (line.Key why) = Line number BadKey
+fault_of number (line.Program why) = Line number BadProgram
+
+-- 2 for a script that is refused, 3 for what its author can't help
+abbrev pub status_of : Fault → ℕ
+status_of (Line number fault) = 2
+status_of Memory = 3
+status_of Input = 3
+status_of Output = 3
+
+-- the exit status of a run
+abbrev pub exit_status : Result (Unit {0}) Fault → ℕ
+exit_status (Ok done) = 0
+exit_status (Err fault) = status_of fault
+
+-- what may end the reading of the input
+abbrev pub IsReadFault : Fault → Type 0
+IsReadFault (Line number fault) = ⊥
+IsReadFault Memory = Unit {0}
+IsReadFault Input = Unit {0}
+IsReadFault Output = ⊥

@@ -1,0 +1,33 @@
+use bayou_base::{Accepted, Key, Seen, SessionId};
+
+/// Why a Write wasn't accepted.
+#[derive(Clone, Copy, Debug, PartialEq, Eq)]
+pub enum Refusal {
+    /// The server's log holds as many Writes as it may.
+    Full,
+    /// An allocation was refused.
+    Memory,
+}
+
+/// What a command is answered.
+#[derive(Debug, Drop, PartialEq, Eq)]
+pub enum Answer {
+    /// The session was opened, of which nothing is printed.
+    Opened,
+    /// The session's Write was accepted.
+    Wrote {
+        session: SessionId,
+        accepted: Accepted,
+    },
+    /// The session's read was served.
+    Read {
+        session: SessionId,
+        key: Key,
+        seen: Seen,
+    },
+    /// The session's Write was refused.
+    Refused {
+        session: SessionId,
+        refusal: Refusal,
+    },
+}

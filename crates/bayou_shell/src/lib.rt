@@ -1,0 +1,28 @@
+//! Scripts to printed lines: what the program does between the bytes that come in and the bytes that go out.
+//!
+//! Callers see a run as a relation (`RunsAs` in `specs/`) between the bytes that the reader has left, how the run ended,
+//! and what the writer holds before and after. The script's lines are read by the table of the lines, each in its place;
+//! the whole input is read and checked before anything runs. What is printed are the lines of the answers of a run of a
+//! small machine: what one server holds, with every answer that a command may get. Where the input is refused, nothing is
+//! printed, and the least line with a fault is told; where a fault comes later, a front of those lines is printed.
+//!
+//! A caller owes nothing. The theorem is about readers and writers that tell their bytes, as those over memory do; of
+//! others only safety is promised. It isn't promised that memory suffices, that a stream gives or takes anything, or how
+//! often it is asked: the bound on the turns stands in the loops of `reading` and `writing` alone.
+#![tactic(auto)]
+
+mod answer;
+mod checking;
+mod draft;
+pub mod fault;
+mod printed;
+pub mod program;
+mod reading;
+pub mod run;
+mod script;
+mod store;
+mod writing;
+
+pub use fault::{Fault, ScriptFault};
+pub use program::{refuse_words, run_main};
+pub use run::run_script;

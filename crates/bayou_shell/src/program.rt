@@ -1,0 +1,73 @@
+ghost use Rattle.std.specs.Prelude.{◌≡◌, IfSome, Result, map};
+ghost use Rattle.bayou_command.specs.Words.{NamesRun};
+ghost use Rattle.bayou_shell.specs.declared.fault.Fault.{Fault};
+ghost use Rattle.bayou_shell.specs.Fault.{exit_status, status_of};
+ghost use Rattle.bayou_shell.specs.Run.{RunsAs};
+
+use crate::fault::Fault;
+use crate::run::run_script;
+use crate::writing::write_text;
+use bayou_command::{Stop, Task, read_words};
+use std::alloc::Global;
+use std::convert::AsStr;
+use std::io;
+use std::io::{ErrorKind, Read, Write};
+
+/// The exit status of a command line that is refused.
+const REFUSED: u8 = 2;
+
+/// Tells a fault, as far as that can be written, and gives the exit status.
+fn tell<E: Write>(errors: &mut E, fault: Fault) -> u8
+    ensures { result ≡ status_of fault }
+{
+    // Where the fault can't be told, the status still tells it.
+    let _ = write_text(errors, fault.to_line().as_bytes());
+    fault.status()
+}
+
+/// Tells how a task ended, where it ended with a fault, and gives the exit status.
+fn finish<E: Write>(errors: &mut E, ended: Result<(), Fault>) -> u8
+    ensures { result ≡ exit_status ended }
+{
+    match ended {
+        Ok(()) => 0,
+        Err(fault) => tell(errors, fault),
+    }
+}
+
+/// Tells that the program's words can't be had, and gives the exit status.
+pub fn refuse_words<E: Write>(errors: &mut E, error: &io::Error) -> u8 {
+    if error.kind() == ErrorKind::OutOfMemory {
+        return tell(errors, Fault::Memory);
+    }
+    let _ = write_text(errors, b"error: a word of the command line isn't UTF-8\n");
+    REFUSED
+}
+
+/// Does what the words say, of which the first is the program's own name, and gives the exit status.
+pub fn run_main<'a, S: AsStr, R: Read, W: Write, E: Write>(
+    alloc: Global,
+    words: &'a [S],
+    input: &mut R,
+    output: &mut W,
+    errors: &mut E,
+) -> u8
+    ensures run { NamesRun (map S.text words.entry.now) → IfSome (R.remaining input.old) (λ text. (ended : Result (Unit {0}) Fault)
+        × RunsAs text ended (W.contents output.old) (W.contents output.new) × (result ≡ exit_status ended)) }
+{
+    match read_words(alloc, words) {
+        Ok(Task::Run) => {
+            let ended = run_script(alloc, input, output);
+            finish(errors, ended)
+        }
+        Err(Stop::Asked(text)) => {
+            let ended = write_text(output, text.as_bytes());
+            finish(errors, ended)
+        }
+        Err(Stop::Refused(text)) => {
+            let _ = write_text(errors, text.as_bytes());
+            REFUSED
+        }
+        Err(Stop::Memory) => tell(errors, Fault::Memory),
+    }
+}

@@ -1,0 +1,240 @@
+-- What is spelled is short enough for a line.
+use Rattle.std.proofs.Common.{◌≡◌, ℕ, ◌+◌, ◌*◌, ◌<◌, ◌≤◌, ◌^◌, ℤ, pos, negsuc, Bool, true, false, cond, List, [], ◌∷◌, ◌++◌, length, map, None, Some, codes, arith, tests, length-append, lit<, lit≤}
+use Rattle.std.proofs.lemmas.Fmt.{length-decimal-le, length_signed_le}
+use Rattle.std.specs.List.{AllByRecursion}
+use Rattle.serde_json.proofs.OnLiterals.{serde_json_on_literals}
+use Rattle.serde_json.specs.Data.{Data, number, string}
+use Rattle.serde_json.specs.Find.{of_integer}
+use Rattle.serde_json.specs.Written.{compact_text, items_text, comma_if}
+use Rattle.serde_json.specs.View.{items_of}
+use Rattle.bayou_base.specs.declared.asks.Asks.{Asks}
+use Rattle.bayou_base.specs.declared.limits.TheConstants.{MAX_KEY_BYTES, MAX_CONDITIONS, MAX_OPS, MAX_ALTERNATIVES, MAX_LINE_BYTES}
+use Rattle.bayou_base.specs.declared.value.Value.{Value}
+use Rattle.bayou_base.specs.declared.value.Value.TheVariants.{Num, Text}
+use Rattle.bayou_lang.specs.declared.program.Term.{Term}
+use Rattle.bayou_lang.specs.declared.program.Term.TheVariants.{Lit, Copy, Plus}
+use Rattle.bayou_lang.specs.declared.program.Op.{Op}
+use Rattle.bayou_lang.specs.declared.program.Op.TheVariants.{Put, Del}
+use Rattle.bayou_lang.specs.declared.program.Cond.{Cond}
+use Rattle.bayou_lang.specs.declared.program.Cond.TheVariants.{Equals, Absent, AtLeast}
+use Rattle.bayou_lang.specs.declared.program.Alt.{Alt}
+use Rattle.bayou_lang.specs.declared.program.Program.{Program}
+use Rattle.std.specs.Int.{w64}
+use Rattle.std.specs.Int.RustNames.{FitsSigned}
+use Rattle.bayou_text.specs.declared.line.Line.{Line}
+use Rattle.bayou_text.specs.declared.line.Line.TheVariants as line
+use Rattle.bayou_text.specs.Ranges.{IsKey, IsValue, IsTerm, IsOp, IsCond, IsAlt, IsList, IsProgram, IsLine}
+use Rattle.bayou_text.specs.Said.{said}
+use Rattle.bayou_text.specs.Spelling.{form, count_json, value_json, term_json, op_json, cond_json, alt_json, program_json, asks_json, list_json, line_json}
+
+-- how long the text of some JSON is
+abbrev size : Data → ℕ
+size d = length (compact_text d)
+
+-- how long a string is that has this in its quotes
+abbrev size_within : List ℕ → ℕ
+size_within bytes = length (34 ∷ ((bytes ++ []) ++ 34 ∷ []))
+
+either_size : (b : Bool) (xs ys : List ℕ) (n : ℕ) → size_within xs ≤ n → size_within ys ≤ n
+    → size_within (cond b xs ys) ≤ n
+either_size true xs ys n h k = h
+either_size false xs ys n h k = k
+
+byte_short : (x : ℕ) → size (string (x ∷ [])) ≤ 8
+unfolding serde_json_on_literals
+byte_short x = search (arith, either_size)
+
+string_more : (x : ℕ) (s : List ℕ) → size (string (x ∷ s)) + 2 ≡ size (string (x ∷ [])) + size (string s)
+string_more x s = simp length-append (omega arith)
+
+string_size : (s : List ℕ) → size (string s) ≤ 6 * length s + 2
+string_size [] = lit≤ tt
+string_size (x ∷ s) = omega (arith, byte_short x, string_more x s, string_size s)
+
+key_short : (key : List ℕ) → IsKey key → length key ≤ MAX_KEY_BYTES
+key_short key valid = grind (arith, tests)
+
+key_size : (key : List ℕ) → IsKey key → size (string key) ≤ 194
+key_size key valid = omega (arith, string_size key, key_short key valid)
+
+integer_size : (n : ℤ) → FitsSigned w64 n → size (number (of_integer n)) ≤ 20
+integer_size (pos n) fits = let short = length-decimal-le 19 n (lit< tt) (omega (arith, fits)) (omega (
+  arith,
+  fits,
+)) in omega arith
+integer_size (negsuc n) fits = length_signed_le 19 (negsuc n) (omega (arith, fits)) (omega (arith, fits))
+
+value_size : (v : Value) → IsValue v → size (value_json v) ≤ 194
+value_size (Num n) fits = omega (arith, integer_size n fits)
+value_size (Text text) short = omega (arith, string_size text, short)
+
+form_one : (word : List ℕ) (d : Data) → size (form word (d ∷ [])) ≤ 6 * length word + size d + 5
+form_one word d = simp length-append (omega (arith, simp length-append at (string_size word)))
+
+form_two : (word : List ℕ) (d e : Data) → size (form word (d ∷ e ∷ [])) ≤ 6 * length word + size d + size e + 6
+form_two word d e = simp length-append (omega (arith, simp length-append at (string_size word)))
+
+form_three : (word : List ℕ) (d e f : Data)
+    → size (form word (d ∷ e ∷ f ∷ [])) ≤ 6 * length word + size d + size e + size f + 7
+form_three word d e f = simp length-append (omega (arith, simp length-append at (string_size word)))
+
+term_size : (t : Term) → IsTerm t → size (term_json t) ≤ 250
+term_size (Lit v) kept = omega (arith, value_size v kept)
+term_size (Copy key) kept = omega (arith, form_one (codes "copy") (string key), key_size key kept)
+term_size (Plus key n) kept = omega (
+  arith,
+  form_two (codes "plus") (string key) (number (of_integer n)),
+  key_size key kept.0,
+  integer_size n kept.1,
+)
+
+op_size : (o : Op) → IsOp o → size (op_json o) ≤ 500
+op_size (Put key t) kept = omega (
+  arith,
+  form_two (codes "put") (string key) (term_json t),
+  key_size key kept.0,
+  term_size t kept.1,
+)
+op_size (Del key) kept = omega (arith, form_one (codes "del") (string key), key_size key kept)
+
+cond_size : (c : Cond) → IsCond c → size (cond_json c) ≤ 500
+cond_size (Equals key v) kept = omega (
+  arith,
+  form_two (codes "equals") (string key) (value_json v),
+  key_size key kept.0,
+  value_size v kept.1,
+)
+cond_size (Absent key) kept = omega (arith, form_one (codes "absent") (string key), key_size key kept)
+cond_size (AtLeast key n) kept = omega (
+  arith,
+  form_two (codes "atleast") (string key) (number (of_integer n)),
+  key_size key kept.0,
+  integer_size n kept.1,
+)
+
+comma_short : (later : Bool) → length (comma_if later) ≤ 1
+comma_short true = lit≤ tt
+comma_short false = lit≤ tt
+
+items_size : {A : Type 0} (Is : A → Type 0) (one_json : A → Data) (most : ℕ)
+    → ((x : A) → Is x → size (one_json x) ≤ most)
+    → (later : Bool) (xs : List A) → AllByRecursion Is xs
+    → length (items_text later (items_of (map one_json xs))) ≤ (most + 1) * length xs + 1
+items_size Is one_json most each later [] kept = omega arith
+items_size Is one_json most each later (x ∷ xs) kept =
+    simp length-append (omega (
+      arith,
+      comma_short later,
+      each x kept.0,
+      items_size Is one_json most each true xs kept.1,
+    ))
+
+list_size : {A : Type 0} (Is : A → Type 0) (one_json : A → Data) (most : ℕ)
+    → ((x : A) → Is x → size (one_json x) ≤ most)
+    → (xs : List A) → AllByRecursion Is xs → size (list_json one_json xs) ≤ (most + 1) * length xs + 2
+list_size Is one_json most each xs kept = omega (arith, items_size Is one_json most each false xs kept)
+
+ops_size : (ops : List Op) → IsList IsOp MAX_OPS ops → size (list_json op_json ops) ≤ 4010
+ops_size ops kept = omega (arith, list_size IsOp op_json 500 op_size ops kept.each, kept.fits)
+
+conds_size : (conditions : List Cond) → IsList IsCond MAX_CONDITIONS conditions
+    → size (list_json cond_json conditions) ≤ 4010
+conds_size conditions kept = omega (
+  arith,
+  list_size IsCond cond_json 500 cond_size conditions kept.each,
+  kept.fits,
+)
+
+alt_size : (a : Alt) → IsAlt a → size (alt_json a) ≤ 8100
+alt_size a kept =
+    simp length-append (omega (
+      arith,
+      ops_size a.ops.items kept.ops,
+      conds_size a.when.items kept.when,
+      simp length-append at (string_size (codes "ops")),
+      simp length-append at (string_size (codes "when")),
+    ))
+
+alts_size : (alternatives : List Alt) → IsList IsAlt MAX_ALTERNATIVES alternatives
+    → size (list_json alt_json alternatives) ≤ 32500
+alts_size alternatives kept = omega (
+  arith,
+  list_size IsAlt alt_json 8100 alt_size alternatives kept.each,
+  kept.fits,
+)
+
+program_size : (p : Program) → IsProgram p → size (program_json p) ≤ 41000
+unfolding program_json
+program_size p kept =
+    simp length-append (omega (
+      arith,
+      conds_size p.check.items kept.check,
+      alts_size p.merge.items kept.merge,
+      ops_size p.update.items kept.update,
+      simp length-append at (string_size (codes "check")),
+      simp length-append at (string_size (codes "merge")),
+      simp length-append at (string_size (codes "update")),
+    ))
+
+asks_cases : (ryw mr wfr mw : Bool) → size (asks_json (record { ryw = ryw; mr = mr; wfr = wfr; mw = mw })) ≤ 100
+unfolding serde_json_on_literals
+asks_cases true true true true = lit≤ tt
+asks_cases true true true false = lit≤ tt
+asks_cases true true false true = lit≤ tt
+asks_cases true true false false = lit≤ tt
+asks_cases true false true true = lit≤ tt
+asks_cases true false true false = lit≤ tt
+asks_cases true false false true = lit≤ tt
+asks_cases true false false false = lit≤ tt
+asks_cases false true true true = lit≤ tt
+asks_cases false true true false = lit≤ tt
+asks_cases false true false true = lit≤ tt
+asks_cases false true false false = lit≤ tt
+asks_cases false false true true = lit≤ tt
+asks_cases false false true false = lit≤ tt
+asks_cases false false false true = lit≤ tt
+asks_cases false false false false = lit≤ tt
+
+asks_size : (asks : Asks) → size (asks_json asks) ≤ 100
+asks_size asks = asks_cases asks.ryw asks.mr asks.wfr asks.mw
+
+count_size : (n : ℕ) → n < 2 ^ 32 → size (count_json n) ≤ 10
+count_size n small = length-decimal-le 10 n (lit< tt) (omega arith) (omega arith)
+
+-- no line that is written is too long to be read
+pub line_size : (l : Line) → IsLine l → size (line_json (said l)) ≤ MAX_LINE_BYTES
+line_size (line.Servers count None) kept = omega (
+  arith,
+  form_one (codes "servers") (count_json count),
+  count_size count kept.0,
+)
+line_size (line.Servers count (Some limit)) kept =
+    omega (
+      arith,
+      form_two (codes "servers") (count_json count) (count_json limit),
+      count_size count kept.0,
+      count_size limit kept.1,
+    )
+line_size (line.Session who asks) kept =
+    omega (
+      arith,
+      form_two (codes "session") (count_json who.index) (asks_json asks),
+      count_size who.index (omega (arith, who.in_range)),
+      asks_size asks,
+    )
+line_size (line.Write who place program) kept =
+    omega (
+      arith,
+      form_three (codes "write") (count_json who.index) (count_json place.index) (program_json program.value),
+      count_size who.index (omega (arith, who.in_range)),
+      count_size place.index (omega (arith, place.in_range)),
+      program_size program.value kept,
+    )
+line_size (line.Read who place key) kept =
+    omega (
+      arith,
+      form_three (codes "read") (count_json who.index) (count_json place.index) (string key),
+      count_size who.index (omega (arith, who.in_range)),
+      count_size place.index (omega (arith, place.in_range)),
+      key_size key kept,
+    )

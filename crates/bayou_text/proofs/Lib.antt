@@ -1,0 +1,10 @@
+pub mod Views
+pub mod Lists
+pub mod Faults
+pub mod Spelled
+pub mod Written
+pub mod Again
+pub mod Lengths
+pub mod Readers
+pub mod ProgramTable
+pub mod LineTable

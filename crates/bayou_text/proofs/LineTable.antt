@@ -1,0 +1,211 @@
+-- Lines that are read are so spelled, by the table; and those that are so spelled are read.
+use Rattle.std.proofs.Common.{◌≡◌, inl, inr, ℕ, ◌-◌, ◌≤◌, true, List, [], ◌∷◌, length, None, Some, Ok, Err, IsUtf8, codes, ap, ◌∙◌, subst, arith}
+use Rattle.std.specs.Str.{bytes_eq}
+use Rattle.serde_json.specs.Data.{Data}
+use Rattle.serde_json.specs.Read.{read as json_of}
+use Rattle.bayou_base.specs.declared.limits.TheConstants.{SERVERS, SESSIONS, MAX_WRITES, MAX_LINE_BYTES}
+use Rattle.bayou_text.specs.declared.line.LineFault.TheVariants.{BadShape, NotJson}
+use Rattle.bayou_text.specs.declared.line.Shape.TheVariants.{Command}
+use Rattle.bayou_text.specs.declared.line.Shape.TheVariants as shape
+use Rattle.bayou_text.proofs.ProgramTable.{program_found, program_read}
+use Rattle.bayou_text.proofs.Readers.{bound, chosen, there, same_word, worded_of, listed_items, number_found, number_read, key_found, key_read, asks_found, asks_read}
+use Rattle.bayou_text.specs.Asks.{asks_in}
+use Rattle.bayou_text.specs.Lines.{servers_in, opening_in, writing_in, reading_in, command_of, line_in, text_line}
+use Rattle.bayou_text.specs.Numbers.{count_in, limit_in, session_in, server_in}
+use Rattle.bayou_text.specs.Programs.{program_in}
+use Rattle.bayou_text.specs.Reading.{◌>>=◌, worded}
+use Rattle.bayou_text.specs.Said.{Said, servers, session, write, read}
+use Rattle.bayou_text.specs.Spelling.{form}
+use Rattle.bayou_text.specs.Table.{AtServer, ProgramIs, KeyIs, LineIs, Spells}
+use Rattle.bayou_text.specs.Values.{key_in}
+
+servers_found : (d : Data) (parts : List Data) (s : Said) → d ≡ form (codes "servers") parts
+    → servers_in parts ≡ Ok s → LineIs d s
+unfolding servers_in
+servers_found d [] s is e = absurd (cc)
+servers_found d (c ∷ []) s is e =
+    let count = bound (count_in c) (λ n. Ok (servers n None)) s e in
+    let counted = number_found 1 1 c count.0 count.1 in
+    let same : servers count.0 None ≡ s = cc in
+    subst (λ (t : Said). LineIs d t) same (record {
+      count_data = c;
+      form_is = is;
+      count_is = counted.0;
+      one = omega (arith, counted.1);
+    })
+servers_found d (c ∷ l ∷ []) s is e =
+    let count = bound (count_in c) (λ n. limit_in l >>= λ most. Ok (servers n (Some most))) s e in
+    let limit = bound (limit_in l) (λ most. Ok (servers count.0 (Some most))) s count.2 in
+    let counted = number_found 1 1 c count.0 count.1 in
+    let limited = number_found 1 MAX_WRITES l limit.0 limit.1 in
+    let same : servers count.0 (Some limit.0) ≡ s = cc in
+    subst (λ (t : Said). LineIs d t) same (record {
+      count_data = c;
+      limit_data = l;
+      form_is = is;
+      count_is = counted.0;
+      one = omega (arith, counted.1);
+      limit_is = limited.0;
+      limit_in_range = limited.1;
+    })
+servers_found d (c ∷ l ∷ other ∷ more) s is e = absurd (cc)
+
+opening_found : (d : Data) (parts : List Data) (s : Said) → d ≡ form (codes "session") parts
+    → opening_in parts ≡ Ok s → LineIs d s
+unfolding opening_in
+opening_found d [] s is e = absurd (cc)
+opening_found d (w ∷ []) s is e = absurd (cc)
+opening_found d (w ∷ a ∷ []) s is e =
+    let who = bound (session_in w) (λ n. asks_in a >>= λ asks. Ok (session n asks)) s e in
+    let asks = bound (asks_in a) (λ asks. Ok (session who.0 asks)) s who.2 in
+    let numbered = number_found 0 (SESSIONS - 1) w who.0 who.1 in
+    let same : session who.0 asks.0 ≡ s = cc in
+    subst (λ (t : Said). LineIs d t) same (record {
+      who_data = w;
+      asks_data = a;
+      form_is = is;
+      who_is = numbered.0;
+      who_in_range = omega (arith, numbered.1);
+      asks_are = asks_found a asks.0 asks.1;
+    })
+opening_found d (w ∷ a ∷ other ∷ more) s is e = absurd (cc)
+
+at_server : (word : List ℕ) (Is : Data → Type 0) (d w p l : Data) (who place : ℕ)
+    → d ≡ form word (w ∷ p ∷ l ∷ [])
+    → session_in w ≡ Ok who → server_in p ≡ Ok place → Is l → AtServer word Is d who place
+at_server word Is d w p l who place is first second last =
+    let session_is = number_found 0 (SESSIONS - 1) w who first in
+    let server_is = number_found 0 (SERVERS - 1) p place second in
+    record {
+      who_data = w;
+      place_data = p;
+      last_data = l;
+      form_is = is;
+      who_is = session_is.0;
+      who_in_range = omega (arith, session_is.1);
+      place_is = server_is.0;
+      place_in_range = omega (arith, server_is.1);
+      last_is = last;
+    }
+
+writing_found : (d : Data) (parts : List Data) (s : Said) → d ≡ form (codes "write") parts
+    → writing_in parts ≡ Ok s → LineIs d s
+unfolding writing_in
+writing_found d [] s is e = absurd (cc)
+writing_found d (w ∷ []) s is e = absurd (cc)
+writing_found d (w ∷ p ∷ []) s is e = absurd (cc)
+writing_found d (w ∷ p ∷ l ∷ []) s is e =
+    let who = bound (session_in w)
+    (λ n. server_in p >>= λ o. program_in l >>= λ program. Ok (write n o program)) s e in
+    let place = bound (server_in p) (λ o. program_in l >>= λ program. Ok (write who.0 o program)) s who.2 in
+    let program = bound (program_in l) (λ program. Ok (write who.0 place.0 program)) s place.2 in
+    let same : write who.0 place.0 program.0 ≡ s = cc in
+    subst (λ (t : Said). LineIs d t) same
+    (at_server (codes "write") (λ last. ProgramIs last program.0) d w p l who.0 place.0 is who.1 place.1
+    (program_found l program.0 program.1))
+writing_found d (w ∷ p ∷ l ∷ other ∷ more) s is e = absurd (cc)
+
+reading_found : (d : Data) (parts : List Data) (s : Said) → d ≡ form (codes "read") parts
+    → reading_in parts ≡ Ok s → LineIs d s
+unfolding reading_in
+reading_found d [] s is e = absurd (cc)
+reading_found d (w ∷ []) s is e = absurd (cc)
+reading_found d (w ∷ p ∷ []) s is e = absurd (cc)
+reading_found d (w ∷ p ∷ l ∷ []) s is e =
+    let who = bound (session_in w) (λ n. server_in p >>= λ o. key_in l >>= λ key. Ok (read n o key)) s e in
+    let place = bound (server_in p) (λ o. key_in l >>= λ key. Ok (read who.0 o key)) s who.2 in
+    let key = bound (key_in l) (λ key. Ok (read who.0 place.0 key)) s place.2 in
+    let same : read who.0 place.0 key.0 ≡ s = cc in
+    subst (λ (t : Said). LineIs d t) same
+    (at_server (codes "read") (λ last. KeyIs last key.0) d w p l who.0 place.0 is who.1 place.1
+    (key_found l key.0 key.1))
+reading_found d (w ∷ p ∷ l ∷ other ∷ more) s is e = absurd (cc)
+
+-- a word that is this one
+renamed : (d : Data) (word name : List ℕ) (parts : List Data) → bytes_eq word name ≡ true
+    → d ≡ form word parts → d ≡ form name parts
+renamed d word name parts same is = is ∙ ap (λ w. form w parts) (same_word word name same)
+
+command_found : (d : Data) (word : List ℕ) (parts : List Data) (s : Said) → d ≡ form word parts
+    → command_of word parts ≡ Ok s → LineIs d s
+command_found d word parts s is e = elim
+    (chosen (bytes_eq word (codes "servers")) (servers_in parts) _ (Ok s) e) [
+      | inl h ↦ servers_found d parts s (renamed d word _ parts h.0 is) h.1
+      | inr h ↦ elim (chosen (bytes_eq word (codes "session")) (opening_in parts) _ (Ok s) h.1) [
+        | inl i ↦ opening_found d parts s (renamed d word _ parts i.0 is) i.1
+        | inr i ↦ elim (chosen (bytes_eq word (codes "write")) (writing_in parts) _ (Ok s) i.1) [
+          | inl j ↦ writing_found d parts s (renamed d word _ parts j.0 is) j.1
+          | inr j ↦ elim (chosen (bytes_eq word (codes "read")) (reading_in parts) (Err (BadShape Command))
+              (Ok s) j.1) [
+                | inl k ↦ reading_found d parts s (renamed d word _ parts k.0 is) k.1
+                | inr k ↦ absurd (cc)
+              ]
+        ]
+      ]
+    ]
+
+pub line_found : (d : Data) (s : Said) → line_in d ≡ Ok s → LineIs d s
+unfolding line_in
+line_found d s e =
+    let some = there (λ parts. command_of parts.0 parts.1) (worded d) (BadShape shape.Line) s e in
+    command_found d some.0.0 some.0.1 s (worded_of d some.0 some.1) some.2
+
+formed : (word : List ℕ) (parts : List Data) (s : Said) → command_of word parts ≡ Ok s
+    → line_in (form word parts) ≡ Ok s
+unfolding line_in
+formed word parts s e = ap (command_of word) (listed_items parts) ∙ e
+
+pub line_read : (d : Data) (s : Said) → LineIs d s → line_in d ≡ Ok s
+unfolding servers_in opening_in writing_in reading_in
+line_read d (servers count None) is =
+    rw is.form_is (formed _ (is.count_data ∷ []) _
+    (rw (number_read 1 1 is.count_data count is.count_is (omega (arith, is.one)) (omega (arith, is.one)))))
+line_read d (servers count (Some limit)) is =
+    rw is.form_is (formed _ (is.count_data ∷ is.limit_data ∷ []) _
+    (rw (
+      number_read 1 1 is.count_data count is.count_is (omega (arith, is.one)) (omega (arith, is.one)),
+      number_read 1 MAX_WRITES is.limit_data limit is.limit_is is.limit_in_range.0 is.limit_in_range.1,
+    )))
+line_read d (session who asks) is =
+    rw is.form_is (formed _ (is.who_data ∷ is.asks_data ∷ []) _
+    (rw (
+      number_read 0 (SESSIONS - 1) is.who_data who is.who_is (omega arith) (omega (arith, is.who_in_range)),
+      asks_read is.asks_data asks is.asks_are,
+    )))
+line_read d (write who place program) is =
+    rw is.form_is (formed _ (is.who_data ∷ is.place_data ∷ is.last_data ∷ []) _
+    (rw (
+      number_read 0 (SESSIONS - 1) is.who_data who is.who_is (omega arith) (omega (arith, is.who_in_range)),
+      number_read 0 (SERVERS - 1) is.place_data place is.place_is (omega arith) (omega (
+        arith,
+        is.place_in_range,
+      )),
+      program_read is.last_data program is.last_is,
+    )))
+line_read d (read who place key) is =
+    rw is.form_is (formed _ (is.who_data ∷ is.place_data ∷ is.last_data ∷ []) _
+    (rw (
+      number_read 0 (SESSIONS - 1) is.who_data who is.who_is (omega arith) (omega (arith, is.who_in_range)),
+      number_read 0 (SERVERS - 1) is.place_data place is.place_is (omega arith) (omega (
+        arith,
+        is.place_in_range,
+      )),
+      key_read is.last_data key is.last_is,
+    )))
+
+-- ---- bytes
+
+pub spells_from_line : (bytes : List ℕ) (s : Said) → length bytes ≤ MAX_LINE_BYTES → IsUtf8 bytes
+    → text_line bytes ≡ Ok s → Spells bytes s
+spells_from_line bytes s short text e =
+    let some = there line_in (json_of bytes) NotJson s e in
+    record {
+      in_length = short;
+      utf8 = text;
+      json = some.0;
+      json_is = some.1;
+      line_is = line_found some.0 s some.2;
+    }
+
+pub line_from_spells : (bytes : List ℕ) (s : Said) → Spells bytes s → text_line bytes ≡ Ok s
+line_from_spells bytes s spells = rw spells.json_is (line_read spells.json s spells.line_is)

@@ -1,0 +1,47 @@
+-- A list that is read from its front.
+use Rattle.std.proofs.Common.{◌≡◌, ℕ, ◌+◌, ◌<◌, List, [], ◌∷◌, ◌++◌, length, drop, map, get_or, Ok, Err, refl, ap, sym, ◌∙◌, append_assoc, append-nil, add-one, drop-cons}
+use Rattle.serde_json.specs.Data.{Data}
+use Rattle.bayou_text.specs.declared.line.LineFault.{LineFault}
+use Rattle.bayou_text.specs.Reading.{Reads, ◌>>=◌, all_in}
+
+-- those in front, and then those that are read
+abbrev pub after : {A : Type 0} → List A → Reads (List A) → Reads (List A)
+after front (Ok others) = Ok (front ++ others)
+after front (Err e) = Err e
+
+after_none : {A : Type 0} (read : Reads (List A)) → read ≡ after [] read
+after_none (Ok others) = refl
+after_none (Err e) = refl
+
+one_more : {A : Type 0} (front : List A) (one : A) (read : Reads (List A))
+    → after front (read >>= λ others. Ok (one ∷ others)) ≡ after (front ++ one ∷ []) read
+one_more front one (Ok others) = ap Ok (sym (append_assoc front (one ∷ []) others))
+one_more front one (Err e) = refl
+
+module _ {A V : Type 0} (one_in : Data → Reads A) (seen : V → Data) where
+  abbrev pub IsReadTo : List V → ℕ → List A → Type 0
+  IsReadTo values i front = all_in one_in (map seen values) ≡ after front
+      (all_in one_in (map seen (drop i values)))
+
+  pub read_none : (values : List V) → IsReadTo values 0 []
+  read_none values = after_none (all_in one_in (map seen values))
+
+  pub read_more : (values : List V) (i : ℕ) (v : V) (front : List A) (one : A) → i < length values
+      → IsReadTo values i front → one_in (seen (get_or values i v)) ≡ Ok one
+      → IsReadTo values (i + 1) (front ++ one ∷ [])
+  read_more values i v front one below so_far found =
+      let step : all_in one_in (map seen (drop i values)) ≡
+      (all_in one_in (map seen (drop (i + 1) values)) >>= λ others. Ok (one ∷ others)) =
+      rw (add-one, drop-cons values i v) (rw found) in
+      so_far ∙ ap (after front) step ∙ one_more front one _
+
+  pub read_fault : (values : List V) (i : ℕ) (v : V) (front : List A) (fault : LineFault) → i < length values
+      → IsReadTo values i front → one_in (seen (get_or values i v)) ≡ Err fault
+      → all_in one_in (map seen values) ≡ Err fault
+  read_fault values i v front fault below so_far found =
+      let step : all_in one_in (map seen (drop i values)) ≡ Err fault = rw (drop-cons values i v) (rw found) in
+      so_far ∙ ap (after front) step
+
+  pub read_all : (values : List V) (i : ℕ) (front : List A) → drop i values ≡ [] → IsReadTo values i front
+      → all_in one_in (map seen values) ≡ Ok front
+  read_all values i front done so_far = so_far ∙ rw done (ap Ok (append-nil front))

@@ -1,0 +1,10 @@
+pub mod Reading
+pub mod Numbers
+pub mod Values
+pub mod Asks
+pub mod Programs
+pub mod Said
+pub mod Lines
+pub mod Spelling
+pub mod Ranges
+pub mod Table

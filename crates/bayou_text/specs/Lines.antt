@@ -1,0 +1,84 @@
+-- Lines: an array of a command word and what the command takes.
+use Rattle.std.specs.Prelude.{◌≡◌, ◌<◌, ◌≤◌, ◌⊎◌, ℕ, List, [], ◌∷◌, None, Some, Ok, Err, codes, length, nat_lt, IsUtf8, if◌then◌else◌}
+use Rattle.std.specs.Option.{ok_or}
+use Rattle.std.specs.Str.{bytes_eq}
+use Rattle.serde_json.specs.Data.{Data}
+use Rattle.serde_json.specs.Read.{read as json_of}
+use Rattle.bayou_base.specs.declared.limits.TheConstants.{MAX_LINE_BYTES}
+use Rattle.bayou_text.specs.declared.line.LineFault.{LineFault}
+use Rattle.bayou_text.specs.declared.line.LineFault.TheVariants.{BadShape, NotJson, OutOfMemory}
+use Rattle.bayou_text.specs.declared.line.Shape.TheVariants.{Arity, Command, Line}
+use Rattle.bayou_text.specs.Asks.{asks_in}
+use Rattle.bayou_text.specs.Numbers.{count_in, limit_in, session_in, server_in}
+use Rattle.bayou_text.specs.Programs.{program_in}
+use Rattle.bayou_text.specs.Reading.{Reads, ◌>>=◌, worded}
+use Rattle.bayou_text.specs.Said.{Said, servers, session, write, read}
+use Rattle.bayou_text.specs.Values.{key_in}
+
+-- ["servers", count] and ["servers", count, limit], behind the word
+unfoldable pub servers_in : List Data → Reads Said
+servers_in (count ∷ []) = count_in count >>= λ n. Ok (servers n None)
+servers_in (count ∷ limit ∷ []) = do
+  n ← count_in count
+  most ← limit_in limit
+  Ok (servers n (Some most))
+servers_in _ = Err (BadShape Arity)
+
+-- ["session", session, asks]
+unfoldable pub opening_in : List Data → Reads Said
+opening_in (who ∷ asks ∷ []) = do
+  n ← session_in who
+  wanted ← asks_in asks
+  Ok (session n wanted)
+opening_in _ = Err (BadShape Arity)
+
+-- ["write", session, server, program]
+unfoldable pub writing_in : List Data → Reads Said
+writing_in (who ∷ place ∷ program ∷ []) = do
+  n ← session_in who
+  at ← server_in place
+  work ← program_in program
+  Ok (write n at work)
+writing_in _ = Err (BadShape Arity)
+
+-- ["read", session, server, key]
+unfoldable pub reading_in : List Data → Reads Said
+reading_in (who ∷ place ∷ key ∷ []) = do
+  n ← session_in who
+  at ← server_in place
+  name ← key_in key
+  Ok (read n at name)
+reading_in _ = Err (BadShape Arity)
+
+abbrev pub command_of : List ℕ → List Data → Reads Said
+command_of word parts =
+    if bytes_eq word (codes "servers") then servers_in parts
+    else (if bytes_eq word (codes "session") then opening_in parts
+    else (if bytes_eq word (codes "write") then writing_in parts
+    else (if bytes_eq word (codes "read") then reading_in parts
+    else Err (BadShape Command))))
+
+unfoldable pub line_in : Data → Reads Said
+line_in d = ok_or (worded d) (BadShape Line) >>= λ parts. command_of parts.0 parts.1
+
+-- the line that a text is
+abbrev pub text_line : List ℕ → Reads Said
+text_line text = ok_or (json_of text) NotJson >>= line_in
+
+-- the line that bytes in UTF-8 are
+abbrev pub line_of : List ℕ → Reads Said
+line_of bytes = if nat_lt MAX_LINE_BYTES (length bytes) then Err (BadShape Line) else text_line bytes
+
+-- bytes that are looked into: not too many, and UTF-8
+abbrev pub IsText : List ℕ → Type 0
+IsText bytes = (length bytes ≤ MAX_LINE_BYTES) × IsUtf8 bytes
+
+-- the first fault of bytes: they are too many, they aren't UTF-8, or the text is no line
+pub data IsFaultOf (bytes : List ℕ) (fault : LineFault) : Type 0 where
+  too_long : MAX_LINE_BYTES < length bytes → fault ≡ BadShape Line → IsFaultOf bytes fault
+  no_text : length bytes ≤ MAX_LINE_BYTES → ¬ (IsUtf8 bytes) → fault ≡ NotJson → IsFaultOf bytes fault
+  no_line : IsText bytes → text_line bytes ≡ Err fault → IsFaultOf bytes fault
+
+-- why bytes weren't read: memory ran out while they were looked into, or the first fault
+abbrev pub IsRefusalOf : List ℕ → LineFault → Type 0
+IsRefusalOf bytes fault = ((fault ≡ OutOfMemory) × IsText bytes) ⊎ IsFaultOf bytes fault

@@ -1,0 +1,32 @@
+-- Numbers: integers, each in the range of its place. What is no integer, as 1.0, is Number too.
+use Rattle.std.specs.Prelude.{ℕ, ◌-◌, nat_le, ◌&&◌, Ok, Err, option_and_then, if◌then◌else◌}
+use Rattle.std.specs.Option.{ok_or}
+use Rattle.serde_json.specs.Data.{Data}
+use Rattle.serde_json.specs.Find.{as_number, as_u64}
+use Rattle.bayou_base.specs.declared.limits.TheConstants.{SERVERS, SESSIONS, MAX_WRITES}
+use Rattle.bayou_text.specs.declared.line.LineFault.TheVariants.{BadShape}
+use Rattle.bayou_text.specs.declared.line.Shape.TheVariants.{Number}
+use Rattle.bayou_text.specs.Reading.{Reads, ◌>>=◌}
+
+abbrev pub within : ℕ → ℕ → ℕ → Reads ℕ
+within least most n = if nat_le least n && nat_le n most then Ok n else Err (BadShape Number)
+
+-- the integer, from the least to the most
+abbrev pub number_in : ℕ → ℕ → Data → Reads ℕ
+number_in least most d = ok_or (option_and_then as_u64 (as_number d)) (BadShape Number) >>= within least most
+
+-- how many servers: one, as yet
+abbrev pub count_in : Data → Reads ℕ
+count_in = number_in 1 1
+
+-- how many Writes a log holds at the most
+abbrev pub limit_in : Data → Reads ℕ
+limit_in = number_in 1 MAX_WRITES
+
+-- the session of this number
+abbrev pub session_in : Data → Reads ℕ
+session_in = number_in 0 (SESSIONS - 1)
+
+-- the server of this number
+abbrev pub server_in : Data → Reads ℕ
+server_in = number_in 0 (SERVERS - 1)

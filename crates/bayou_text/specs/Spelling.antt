@@ -1,0 +1,79 @@
+-- The one spelling of each thing, as JSON data. Its text is compact, and an object's members stand by their names.
+use Rattle.std.specs.Prelude.{ℕ, Bool, List, [], ◌∷◌, ◌++◌, None, Some, codes, map, if◌then◌else◌}
+use Rattle.serde_json.specs.Data.{Data, number, unsigned, string, array, object, no_members, member}
+use Rattle.serde_json.specs.Find.{of_integer}
+use Rattle.serde_json.specs.View.{items_of}
+use Rattle.bayou_base.specs.declared.asks.Asks.{Asks}
+use Rattle.bayou_base.specs.declared.value.Value.{Value}
+use Rattle.bayou_base.specs.declared.value.Value.TheVariants.{Num, Text}
+use Rattle.bayou_lang.specs.declared.program.Term.{Term}
+use Rattle.bayou_lang.specs.declared.program.Term.TheVariants.{Lit, Copy, Plus}
+use Rattle.bayou_lang.specs.declared.program.Op.{Op}
+use Rattle.bayou_lang.specs.declared.program.Op.TheVariants.{Put, Del}
+use Rattle.bayou_lang.specs.declared.program.Cond.{Cond}
+use Rattle.bayou_lang.specs.declared.program.Cond.TheVariants.{Equals, Absent, AtLeast}
+use Rattle.bayou_lang.specs.declared.program.Alt.{Alt}
+use Rattle.bayou_lang.specs.declared.program.Program.{Program}
+use Rattle.bayou_text.specs.Said.{Said, servers, session, write, read}
+
+-- an array that begins with a word
+abbrev pub form : List ℕ → List Data → Data
+form word parts = array (items_of (string word ∷ parts))
+
+abbrev pub value_json : Value → Data
+value_json (Num n) = number (of_integer n)
+value_json (Text text) = string text
+
+-- a value, ["copy", key] or ["plus", key, n]
+abbrev pub term_json : Term → Data
+term_json (Lit value) = value_json value
+term_json (Copy key) = form (codes "copy") (string key ∷ [])
+term_json (Plus key n) = form (codes "plus") (string key ∷ number (of_integer n) ∷ [])
+
+-- ["put", key, term] or ["del", key]
+abbrev pub op_json : Op → Data
+op_json (Put key term) = form (codes "put") (string key ∷ term_json term ∷ [])
+op_json (Del key) = form (codes "del") (string key ∷ [])
+
+-- ["equals", key, value], ["absent", key] or ["atleast", key, n]
+abbrev pub cond_json : Cond → Data
+cond_json (Equals key value) = form (codes "equals") (string key ∷ value_json value ∷ [])
+cond_json (Absent key) = form (codes "absent") (string key ∷ [])
+cond_json (AtLeast key n) = form (codes "atleast") (string key ∷ number (of_integer n) ∷ [])
+
+-- the array of what each stands for
+abbrev pub list_json : {A : Type 0} → (A → Data) → List A → Data
+list_json one_json xs = array (items_of (map one_json xs))
+
+-- {"ops":[op, ..],"when":[condition, ..]}
+abbrev pub alt_json : Alt → Data
+alt_json alt =
+    object (member (codes "ops") (list_json op_json alt.ops.items)
+    (member (codes "when") (list_json cond_json alt.when.items) no_members))
+
+-- {"check":[condition, ..],"merge":[alternative, ..],"update":[op, ..]}
+unfoldable pub program_json : Program → Data
+program_json program =
+    object (member (codes "check") (list_json cond_json program.check.items)
+    (member (codes "merge") (list_json alt_json program.merge.items)
+    (member (codes "update") (list_json op_json program.update.items) no_members)))
+
+abbrev pub word_if : Bool → List ℕ → List Data
+word_if asked word = if asked then string word ∷ [] else []
+
+-- the words of what is asked for, in the order of the table
+abbrev pub asks_json : Asks → Data
+asks_json asks =
+    array (items_of (word_if asks.ryw (codes "ryw") ++ word_if asks.mr (codes "mr") ++ word_if asks.wfr
+    (codes "wfr") ++ word_if asks.mw (codes "mw")))
+
+abbrev pub count_json : ℕ → Data
+count_json n = number (unsigned n)
+
+abbrev pub line_json : Said → Data
+line_json (servers count None) = form (codes "servers") (count_json count ∷ [])
+line_json (servers count (Some limit)) = form (codes "servers") (count_json count ∷ count_json limit ∷ [])
+line_json (session who asks) = form (codes "session") (count_json who ∷ asks_json asks ∷ [])
+line_json (write who place program) = form (codes "write")
+    (count_json who ∷ count_json place ∷ program_json program ∷ [])
+line_json (read who place key) = form (codes "read") (count_json who ∷ count_json place ∷ string key ∷ [])

@@ -1,0 +1,152 @@
+-- The table of the lines (this project's own): which data spells which thing, member by member, with no word on how
+-- it is read. As yet an op is a `put` of a value, and there are no conditions, alternatives or other terms.
+use Rattle.std.specs.Prelude.{◌≡◌, ◌<◌, ◌≤◌, ◌⊎◌, ◌↔◌, ℕ, List, [], ◌∷◌, None, Some, codes, length, IsTrue, IsUtf8}
+use Rattle.std.specs.List.{AllByRecursion, AllZip, Contains}
+use Rattle.serde_json.specs.Data.{Data, Num, number, unsigned, string, array, object, Members}
+use Rattle.serde_json.specs.Find.{as_i64, get}
+use Rattle.serde_json.specs.Read.{read as json_of}
+use Rattle.serde_json.specs.View.{items_of}
+use Rattle.bayou_base.specs.Key.{key_fault}
+use Rattle.bayou_base.specs.Text.{IsShort}
+use Rattle.bayou_base.specs.declared.asks.Asks.{Asks}
+use Rattle.bayou_base.specs.declared.limits.TheConstants.{SERVERS, SESSIONS, MAX_CONDITIONS, MAX_OPS, MAX_ALTERNATIVES, MAX_WRITES, MAX_LINE_BYTES}
+use Rattle.bayou_base.specs.declared.value.Value.{Value}
+use Rattle.bayou_base.specs.declared.value.Value.TheVariants.{Num as Integer, Text}
+use Rattle.bayou_lang.specs.declared.program.Term.{Term}
+use Rattle.bayou_lang.specs.declared.program.Term.TheVariants.{Lit, Copy, Plus}
+use Rattle.bayou_lang.specs.declared.program.Op.{Op}
+use Rattle.bayou_lang.specs.declared.program.Op.TheVariants.{Put, Del}
+use Rattle.bayou_lang.specs.declared.program.Cond.{Cond}
+use Rattle.bayou_lang.specs.declared.program.Alt.{Alt}
+use Rattle.bayou_lang.specs.declared.program.Program.{Program}
+use Rattle.bayou_text.specs.Reading.{names}
+use Rattle.bayou_text.specs.Said.{Said, servers, session, write, read}
+use Rattle.bayou_text.specs.Spelling.{form}
+
+-- an integer, and no other number: 1.0 isn't one
+abbrev pub NumberIs : Data → ℕ → Type 0
+NumberIs d n = d ≡ number (unsigned n)
+
+-- an integer that fits i64, or a text that is short enough
+abbrev pub ValueIs : Data → Value → Type 0
+ValueIs d (Integer n) = (m : Num) × (d ≡ number m) × (as_i64 m ≡ Some n)
+ValueIs d (Text text) = (d ≡ string text) × IsShort text
+
+-- a text that is a key
+abbrev pub KeyIs : Data → List ℕ → Type 0
+KeyIs d key = (d ≡ string key) × (key_fault key ≡ None)
+
+-- a value
+abbrev pub TermIs : Data → Term → Type 0
+TermIs d (Lit value) = ValueIs d value
+TermIs d (Copy key) = ⊥
+TermIs d (Plus key n) = ⊥
+
+-- an array of exactly "put", a key and a term
+pub record PutIs (d : Data) (key : List ℕ) (term : Term) : Type 0 where
+  pub key_data : Data
+  pub term_data : Data
+  pub form_is : d ≡ form (codes "put") (key_data ∷ term_data ∷ [])
+  pub key_is : KeyIs key_data key
+  pub term_is : TermIs term_data term
+
+abbrev pub OpIs : Data → Op → Type 0
+OpIs d (Put key term) = PutIs d key term
+OpIs d (Del key) = ⊥
+
+abbrev pub CondIs : Data → Cond → Type 0
+CondIs d condition = ⊥
+
+abbrev pub AltIs : Data → Alt → Type 0
+AltIs d alternative = ⊥
+
+-- the members of the list that an object has under this name: none where it has no such member
+pub data MemberIs (name : List ℕ) (d : Data) (ds : List Data) : Type 0 where
+  missing : get name d ≡ None → ds ≡ [] → MemberIs name d ds
+  present : get name d ≡ Some (array (items_of ds)) → MemberIs name d ds
+
+-- a list of so many at the most, each of them spelled
+pub record ListIs {A : Type 0} (Is : Data → A
+    → Type 0) (most : ℕ) (name : List ℕ) (d : Data) (xs : List A) : Type 0 where
+  pub data_of : List Data
+  pub member_is : MemberIs name d data_of
+  pub fits : length data_of ≤ most
+  pub each : AllZip Is data_of xs
+
+-- an object of no other members than "check", "merge" and "update", each of which may be missing
+pub record ProgramIs (d : Data) (program : Program) : Type 0 where
+  pub members : Members
+  pub object_is : d ≡ object members
+  pub known : AllByRecursion
+      (λ name. (name ≡ codes "check") ⊎ ((name ≡ codes "merge") ⊎ (name ≡ codes "update"))) (names members)
+  pub check : ListIs CondIs MAX_CONDITIONS (codes "check") d program.check.items
+  pub merge : ListIs AltIs MAX_ALTERNATIVES (codes "merge") d program.merge.items
+  pub update : ListIs OpIs MAX_OPS (codes "update") d program.update.items
+
+-- one of the four words
+abbrev pub IsAsk : Data → Type 0
+IsAsk d = (d ≡ string (codes "ryw")) ⊎
+    ((d ≡ string (codes "mr")) ⊎ ((d ≡ string (codes "wfr")) ⊎ (d ≡ string (codes "mw"))))
+
+-- an array of the four words alone; a guarantee is asked for exactly where its word stands in it
+pub record AsksAre (d : Data) (asks : Asks) : Type 0 where
+  pub words : List Data
+  pub array_is : d ≡ array (items_of words)
+  pub known : AllByRecursion IsAsk words
+  pub ryw : IsTrue asks.ryw ↔ Contains words (string (codes "ryw"))
+  pub mr : IsTrue asks.mr ↔ Contains words (string (codes "mr"))
+  pub wfr : IsTrue asks.wfr ↔ Contains words (string (codes "wfr"))
+  pub mw : IsTrue asks.mw ↔ Contains words (string (codes "mw"))
+
+-- ["servers", count]
+pub record ServersIs (d : Data) (count : ℕ) : Type 0 where
+  pub count_data : Data
+  pub form_is : d ≡ form (codes "servers") (count_data ∷ [])
+  pub count_is : NumberIs count_data count
+  pub one : count ≡ 1
+
+-- ["servers", count, limit]
+pub record LimitedIs (d : Data) (count limit : ℕ) : Type 0 where
+  pub count_data : Data
+  pub limit_data : Data
+  pub form_is : d ≡ form (codes "servers") (count_data ∷ limit_data ∷ [])
+  pub count_is : NumberIs count_data count
+  pub one : count ≡ 1
+  pub limit_is : NumberIs limit_data limit
+  pub limit_in_range : (1 ≤ limit) × (limit ≤ MAX_WRITES)
+
+-- ["session", session, asks]
+pub record SessionIs (d : Data) (who : ℕ) (asks : Asks) : Type 0 where
+  pub who_data : Data
+  pub asks_data : Data
+  pub form_is : d ≡ form (codes "session") (who_data ∷ asks_data ∷ [])
+  pub who_is : NumberIs who_data who
+  pub who_in_range : who < SESSIONS
+  pub asks_are : AsksAre asks_data asks
+
+-- [word, session, server, last]: what `write` and `read` have alike
+pub record AtServer (word : List ℕ) (Is : Data → Type 0) (d : Data) (who place : ℕ) : Type 0 where
+  pub who_data : Data
+  pub place_data : Data
+  pub last_data : Data
+  pub form_is : d ≡ form word (who_data ∷ place_data ∷ last_data ∷ [])
+  pub who_is : NumberIs who_data who
+  pub who_in_range : who < SESSIONS
+  pub place_is : NumberIs place_data place
+  pub place_in_range : place < SERVERS
+  pub last_is : Is last_data
+
+abbrev pub LineIs : Data → Said → Type 0
+LineIs d (servers count None) = ServersIs d count
+LineIs d (servers count (Some limit)) = LimitedIs d count limit
+LineIs d (session who asks) = SessionIs d who asks
+LineIs d (write who place program) = AtServer (codes "write") (λ last. ProgramIs last program) d who place
+LineIs d (read who place key) = AtServer (codes "read") (λ last. KeyIs last key) d who place
+
+-- bytes that say this: at most so many, UTF-8, and the JSON of a line
+pub record Spells (bytes : List ℕ) (s : Said) : Type 0 where
+  pub in_length : length bytes ≤ MAX_LINE_BYTES
+  pub utf8 : IsUtf8 bytes
+  pub json : Data
+  pub json_is : json_of bytes ≡ Some json
+  pub line_is : LineIs json s

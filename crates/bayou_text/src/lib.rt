@@ -1,0 +1,23 @@
+//! Lines of JSON: what each line of a script says, and the one spelling of what is said.
+//!
+//! Callers see a [`Line`] as what it says, `said`: a command with its numbers, its key or its program. `Spells` in
+//! `specs/Table` is the table of the lines: which JSON data spells which command, member by member. [`read_line`]
+//! answers exactly what the bytes spell, or the first fault, which `specs/Lines` and the files below it compute.
+//! [`write_line`] gives the one spelling of `specs/Spelling`, and what it wrote is read as the line that was written.
+//! A new command is an arm of [`Line`], of `line_in` in the reader, of `line_json` in the writer, of `command_of` and
+//! `line_json` in the grammar, and of `LineIs` in the table.
+//!
+//! A caller cuts its text into lines: a line feed is no part of one. Nothing is kept between two calls, so a refusal
+//! leaves nothing behind. Not promised here: that a line fits its place in a script (that a session was opened, or a
+//! server started), and that memory was short where [`LineFault::OutOfMemory`] is answered.
+#![tactic(auto)]
+
+pub mod line;
+pub mod read;
+#[cfg(test)]
+mod tests;
+pub mod write;
+
+pub use line::{Line, LineFault, Shape};
+pub use read::read_line;
+pub use write::write_line;

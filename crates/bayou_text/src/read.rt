@@ -1,0 +1,137 @@
+ghost use Rattle.std.specs.Prelude.{◌≡◌, map, IfOk, IfErr};
+ghost use Rattle.serde_json.specs.View.{view};
+ghost use Rattle.bayou_text.specs.Reading.{Answers, Gives};
+ghost use Rattle.bayou_text.specs.Said.{Said, said};
+ghost use Rattle.bayou_text.specs.Lines as grammar;
+ghost use Rattle.bayou_text.specs.Lines.{IsRefusalOf};
+ghost use Rattle.bayou_text.specs.Table.{Spells};
+
+use crate::line::{Line, LineFault, Shape};
+use crate::read::asks::asks_in;
+use crate::read::number::{count_in, limit_in, server_in, session_in};
+use crate::read::program::program_in;
+use crate::read::value::{key_in, worded};
+use bayou_base::MAX_LINE_BYTES;
+use serde_json::Value;
+use std::alloc::Global;
+use std::str;
+
+mod asks;
+mod number;
+mod program;
+mod value;
+
+/// What a line says, which has no line feed, or its first fault. Numbers are as `serde_json` keeps them: `1.0`, `1e2`
+/// and `-0` are no integers. Of equal members of an object the last counts.
+pub fn read_line(alloc: Global, bytes: &[u8]) -> Result<Line, LineFault>
+    // What is answered is what the bytes spell, by the table of the lines.
+    ensures found { IfOk result (λ line. Spells bytes.now (said line)) }
+    // Bytes that spell a line are read as that line, unless memory runs out.
+    ensures only { (line : Said) → Spells bytes.now line → Gives said result (Ok line) }
+    ensures exact { IfOk result (λ line. grammar.line_of bytes.now ≡ Ok (said line)) }
+    // Else it is the first fault, in the order of the grammar.
+    ensures fault { IfErr result (IsRefusalOf bytes.now) }
+{
+    if bytes.len() > MAX_LINE_BYTES {
+        return Err(LineFault::BadShape(Shape::Line));
+    }
+    match str::from_utf8(bytes) {
+        Ok(text) => read_text(alloc, text),
+        Err(_) => Err(LineFault::NotJson),
+    }
+}
+
+fn read_text(alloc: Global, text: &str) -> Result<Line, LineFault>
+    ensures { Gives said result (grammar.text_line text.now) }
+{
+    match Value::from_str(alloc, text) {
+        Ok(json) => line_in(alloc, &json),
+        Err(fault) => {
+            if fault.is_memory() {
+                Err(LineFault::OutOfMemory)
+            } else {
+                Err(LineFault::NotJson)
+            }
+        }
+    }
+}
+
+#[tactic(auto, unfolding(crate::specs::Lines::line_in))]
+fn line_in(alloc: Global, json: &Value) -> Result<Line, LineFault>
+    ensures { Gives said result (grammar.line_in (view json.now)) }
+{
+    let Some((word, parts)) = worded(json) else {
+        return Err(LineFault::BadShape(Shape::Line));
+    };
+    if word == "servers" {
+        return servers_in(parts);
+    }
+    if word == "session" {
+        return opening_in(parts);
+    }
+    if word == "write" {
+        return writing_in(alloc, parts);
+    }
+    if word == "read" {
+        return reading_in(parts);
+    }
+    Err(LineFault::BadShape(Shape::Command))
+}
+
+#[tactic(auto, unfolding(crate::specs::Lines::servers_in))]
+fn servers_in(parts: &[Value]) -> Result<Line, LineFault>
+    ensures { Answers said result (grammar.servers_in (map view parts.now)) }
+{
+    match parts {
+        [count] => Ok(Line::Servers {
+            count: count_in(count)?,
+            limit: None,
+        }),
+        [count, limit] => Ok(Line::Servers {
+            count: count_in(count)?,
+            limit: Some(limit_in(limit)?),
+        }),
+        _ => Err(LineFault::BadShape(Shape::Arity)),
+    }
+}
+
+#[tactic(auto, unfolding(crate::specs::Lines::opening_in))]
+fn opening_in(parts: &[Value]) -> Result<Line, LineFault>
+    ensures { Answers said result (grammar.opening_in (map view parts.now)) }
+{
+    let [session, asks] = parts else {
+        return Err(LineFault::BadShape(Shape::Arity));
+    };
+    Ok(Line::Session {
+        session: session_in(session)?,
+        asks: asks_in(asks)?,
+    })
+}
+
+#[tactic(auto, unfolding(crate::specs::Lines::writing_in))]
+fn writing_in(alloc: Global, parts: &[Value]) -> Result<Line, LineFault>
+    ensures { Gives said result (grammar.writing_in (map view parts.now)) }
+{
+    let [session, server, program] = parts else {
+        return Err(LineFault::BadShape(Shape::Arity));
+    };
+    Ok(Line::Write {
+        session: session_in(session)?,
+        server: server_in(server)?,
+        program: Box::new(alloc, program_in(program)?)?,
+    })
+}
+
+#[tactic(auto, unfolding(crate::specs::Lines::reading_in))]
+fn reading_in(parts: &[Value]) -> Result<Line, LineFault>
+    ensures { Answers said result (grammar.reading_in (map view parts.now)) }
+{
+    let [session, server, key] = parts else {
+        return Err(LineFault::BadShape(Shape::Arity));
+    };
+    Ok(Line::Read {
+        session: session_in(session)?,
+        server: server_in(server)?,
+        key: key_in(key)?,
+    })
+}

@@ -1,0 +1,58 @@
+ghost use Rattle.std.specs.Prelude.{◌≡◌, ◌<◌, ◌≤◌, IfOk};
+ghost use Rattle.serde_json.specs.View.{view};
+ghost use Rattle.bayou_text.specs.Numbers as grammar;
+ghost use Rattle.bayou_text.specs.Reading.{Answers};
+ghost use Rattle.bayou_base.specs.declared.limits.TheConstants.{SERVERS, SESSIONS, MAX_WRITES};
+
+use crate::line::{LineFault, Shape};
+use bayou_base::{MAX_WRITES, SERVERS, SESSIONS, ServerId, SessionId};
+use serde_json::Value;
+
+/// The integer of this range.
+fn number_in(json: &Value, least: u64, most: u64) -> Result<u64, LineFault>
+    ensures value { result ≡ grammar.number_in least most (view json.now) }
+    ensures in_range { IfOk result (λ number. (least ≤ number) × (number ≤ most)) }
+{
+    let Some(number) = json.as_u64() else {
+        return Err(LineFault::BadShape(Shape::Number));
+    };
+    if least <= number && number <= most {
+        Ok(number)
+    } else {
+        Err(LineFault::BadShape(Shape::Number))
+    }
+}
+
+/// How many servers.
+pub(crate) fn count_in(json: &Value) -> Result<u8, LineFault>
+    ensures { result ≡ grammar.count_in (view json.now) }
+{
+    Ok(number_in(json, 1, 1)? as u8)
+}
+
+/// How many Writes a log holds at the most.
+pub(crate) fn limit_in(json: &Value) -> Result<u32, LineFault>
+    ensures { result ≡ grammar.limit_in (view json.now) }
+{
+    Ok(number_in(json, 1, MAX_WRITES as u64)? as u32)
+}
+
+pub(crate) fn session_in(json: &Value) -> Result<SessionId, LineFault>
+    ensures { Answers (λ session. session.index) result (grammar.session_in (view json.now)) }
+{
+    let index = number_in(json, 0, SESSIONS as u64 - 1)?;
+    let Some(session) = SessionId::new(index as u8) else {
+        unreachable!();
+    };
+    Ok(session)
+}
+
+pub(crate) fn server_in(json: &Value) -> Result<ServerId, LineFault>
+    ensures { Answers (λ server. server.index) result (grammar.server_in (view json.now)) }
+{
+    let index = number_in(json, 0, SERVERS as u64 - 1)?;
+    let Some(server) = ServerId::new(index as u8) else {
+        unreachable!();
+    };
+    Ok(server)
+}
