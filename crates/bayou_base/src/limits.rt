@@ -33,5 +33,17 @@ pub const MAX_LINES: u64 = 65_536;
 /// How many bytes a line has at the most, before its line feed.
 pub const MAX_LINE_BYTES: usize = 65_536;
 
+/// How many bytes an encoded Write has at the most: each list full, and each key, text and term as long as it may be.
+pub const MAX_WRITE_BYTES: usize = 5_812;
+
+/// How many bytes a frame's length counts at the most: its kind and its payload.
+pub const MAX_FRAME_BYTES: usize = 8_192;
+
+/// How many bytes the body of a journal's entry has at the most. It has one at the least.
+pub const MAX_BODY_BYTES: usize = 8_192;
+
 /// How often one call of an engine calls a reader's `read` or a writer's `write` at the most.
 pub const MAX_TURNS: u32 = 1_000_000;
+
+/// How many places a session has: the operations that it may try.
+pub const MAX_PLACES: u32 = u32::MAX;

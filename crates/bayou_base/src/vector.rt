@@ -1,6 +1,6 @@
 ghost use Rattle.std.specs.Prelude.{◌≡◌, ℕ, ◌≤◌, ◌↔◌, ◌⊎◌, All, IsTrue, IsSome, IfSome, replicate, slice_index};
 ghost use Rattle.bayou_base.specs.declared.limits.TheConstants.{SERVERS, MAX_WRITES};
-ghost use Rattle.bayou_base.specs.Vector.{Covers, CoversAllOf, Dominates, joined, raised};
+ghost use Rattle.bayou_base.specs.Vector.{AreCounts, Covers, CoversAllOf, Dominates, joined, raised};
 
 use crate::limits::{MAX_WRITES, SERVERS};
 use crate::server::ServerId;
@@ -65,6 +65,14 @@ impl Vector {
         } else {
             None
         }
+    }
+
+    /// The counts, one for each server.
+    pub fn counts(&self) -> &[u32; SERVERS]
+        ensures value { result.now ≡ self.now }
+        ensures valid { AreCounts result.now }
+    {
+        &self.counts
     }
 
     /// How many Writes of the server it counts.

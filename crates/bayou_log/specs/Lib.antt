@@ -1,4 +1,5 @@
 pub mod Replay
 pub mod Db
 pub mod Log
+pub mod Listing
 pub mod Fields

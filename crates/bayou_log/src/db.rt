@@ -1,4 +1,4 @@
-ghost use Rattle.std.specs.Prelude.{◌≡◌, IsTrue, OnOk, All, map};
+ghost use Rattle.std.specs.Prelude.{◌≡◌, IsTrue, OnOk, IfOk, All, map};
 ghost use Rattle.std.specs.List.{flat_map};
 ghost use Rattle.bayou_lang.specs.Changes.{after_changes, op_key, ChangeOnly};
 ghost use Rattle.bayou_lang.specs.Meaning.{mean};
@@ -6,7 +6,7 @@ ghost use Rattle.bayou_lang.specs.Places.{changed, empty};
 ghost use Rattle.bayou_log.specs.Db.{places, room, has_room, HasRoomAt, HasRoomFor, KeepsRoom};
 
 use bayou_base::{Key, Value};
-use bayou_lang::{Alt, Change, Changes, Look, Op, Outcome, Program};
+use bayou_lang::{Alt, Change, Changes, Look, Op, Outcome, Program, Write};
 use std::alloc::{AllocError, Global};
 use std::collections::BTreeMap;
 use std::marker::Model;
@@ -161,6 +161,18 @@ impl Db {
     {
         forget_values(&mut self.slots);
     }
+}
+
+/// An empty database with room for all that the Writes may write.
+pub(crate) fn prepared(alloc: Global, writes: &[Write]) -> Result<Db, AllocError>
+    ensures empty { IfOk result (λ db. places db ≡ empty) }
+    ensures room { IfOk result (λ db. All (λ write. HasRoomFor (room db) write.program) writes.now) }
+{
+    let mut db = Db::new(alloc);
+    for write in writes {
+        db.prepare(&write.program)?;
+    }
+    Ok(db)
 }
 
 impl Look for Db {

@@ -12,6 +12,7 @@
 
 pub mod db;
 pub mod laws;
+pub mod listing;
 mod order;
 pub mod plain;
 #[cfg(test)]
@@ -19,4 +20,5 @@ mod tests;
 pub mod write_log;
 
 pub use db::Db;
+pub use listing::Listed;
 pub use write_log::WriteLog;

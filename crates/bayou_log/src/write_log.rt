@@ -1,11 +1,13 @@
-ghost use Rattle.std.specs.Prelude.{◌≡◌, ◌<◌, ◌≤◌, ◌↔◌, [], ◌∷◌, ◌++◌, IsTrue, OnOk, length};
+ghost use Rattle.std.specs.Prelude.{◌≡◌, ◌<◌, ◌≤◌, ◌↔◌, [], ◌∷◌, ◌++◌, IsTrue, IfOk, OnOk, length};
 ghost use Rattle.bayou_base.specs.declared.limits.TheConstants.{SERVERS, MAX_WRITES};
 ghost use Rattle.bayou_lang.specs.declared.write.Write.{Write};
 ghost use Rattle.bayou_lang.specs.Writes.{greatest_of};
+ghost use Rattle.bayou_log.specs.Listing.{listing_of};
 ghost use Rattle.bayou_log.specs.Log.{AreHeld, IsNewStamp, IsNewWid, IsReserved};
 ghost use Rattle.bayou_log.specs.Replay.{replay};
 
 use crate::db::Db;
+use crate::listing::{Listed, outcomes_in_turn};
 use crate::order::{apply_in_turn, place_of};
 use bayou_base::{Key, MAX_WRITES, SERVERS, Value, Vector};
 use bayou_lang::Write;
@@ -107,6 +109,14 @@ impl WriteLog {
         ensures { result ≡ greatest_of self.now.receipts }
     {
         self.vector
+    }
+
+    /// The Writes held, in stamp order, each with the outcome that it has in the replay. It takes time as an insertion
+    /// before all other Writes does.
+    pub fn listing(&self, alloc: Global) -> Result<Vec<Listed>, AllocError>
+        ensures { IfOk result (λ list. list.items ≡ listing_of self.now.receipts) }
+    {
+        outcomes_in_turn(alloc, &self.writes, &self.order)
     }
 
     /// Takes room ahead, so that the Write can be inserted. Where memory is refused, the room that there was stays.
