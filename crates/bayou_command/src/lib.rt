@@ -38,9 +38,14 @@ const RUN_ABOUT: &str =
 
 const RUN_FORM: &str =
     r#"The first line is ["servers",1] or ["servers",1,LIMIT]; LIMIT is how many Writes a server holds (4096).
-Then ["session",I,[]] opens session I, ["write",I,0,PROGRAM] writes, and ["read",I,0,KEY] reads, in any order.
+Then ["session",I,[]] opens session I (0 to 31), ["write",I,0,PROGRAM] writes, ["read",I,0,KEY] reads, and
+["log",0] lists what the server holds, in any order.
 
-PROGRAM is {"update":[["put",KEY,VALUE],..]}, with up to 8 puts. I is 0 to 31.
+PROGRAM is {"check":[COND,..],"update":[OP,..],"merge":[{"when":[COND,..],"ops":[OP,..]},..]}; a list may be missing.
+Where every COND of check holds, update is applied, whole or not at all; else the first part of merge that fits.
+COND  ["equals",KEY,VALUE]  ["absent",KEY]  ["atleast",KEY,NUMBER]
+OP    ["put",KEY,TERM]  ["del",KEY]
+TERM  VALUE  ["copy",KEY]  ["plus",KEY,NUMBER]
 A KEY has 1 to 32 bytes of a-z 0-9 . _ - /; a VALUE is an integer, or a text of up to 32 bytes.
 
 Example:

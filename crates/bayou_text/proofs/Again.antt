@@ -1,29 +1,38 @@
 -- What is spelled is read as what it says.
-use Rattle.std.proofs.Common.{◌≡◌, ℕ, ◌-◌, ◌<◌, ◌≤◌, ◌^◌, pos, negsuc, Bool, true, false, nat_lt, List, [], ◌∷◌, map, length, None, Some, Ok, refl, ap, ◌∙◌, subst, arith, tests}
+use Rattle.std.proofs.Common.{◌≡◌, ℕ, ◌-◌, ◌<◌, ◌≤◌, ◌^◌, ℤ, pos, negsuc, Bool, true, false, nat_lt, List, [], ◌∷◌, map, length, None, Some, Ok, refl, arith, tests}
 use Rattle.std.proofs.lemmas.List.{length-map}
+use Rattle.std.specs.Int.{w64}
+use Rattle.std.specs.Int.RustNames.{FitsSigned}
 use Rattle.std.specs.List.{AllByRecursion}
-use Rattle.serde_json.specs.Data.{string}
+use Rattle.serde_json.specs.Data.{Data, number, string}
+use Rattle.serde_json.specs.Find.{of_integer}
 use Rattle.serde_json.specs.View.{items_of}
 use Rattle.bayou_base.specs.declared.asks.Asks.{Asks}
-use Rattle.bayou_base.specs.declared.limits.TheConstants.{MAX_OPS, SERVERS, SESSIONS, MAX_WRITES}
+use Rattle.bayou_base.specs.declared.limits.TheConstants.{MAX_CONDITIONS, MAX_OPS, MAX_ALTERNATIVES, SERVERS, SESSIONS, MAX_WRITES}
 use Rattle.bayou_base.specs.declared.value.Value.{Value}
 use Rattle.bayou_base.specs.declared.value.Value.TheVariants.{Num, Text}
+use Rattle.bayou_lang.specs.declared.program.Term.{Term}
 use Rattle.bayou_lang.specs.declared.program.Term.TheVariants.{Lit, Copy, Plus}
 use Rattle.bayou_lang.specs.declared.program.Op.{Op}
 use Rattle.bayou_lang.specs.declared.program.Op.TheVariants.{Put, Del}
+use Rattle.bayou_lang.specs.declared.program.Cond.{Cond}
+use Rattle.bayou_lang.specs.declared.program.Cond.TheVariants.{Equals, Absent, AtLeast}
+use Rattle.bayou_lang.specs.declared.program.Alt.{Alt}
 use Rattle.bayou_lang.specs.declared.program.Program.{Program}
+use Rattle.bayou_lang.specs.declared.program.ProgramFault.{ProgramFault}
+use Rattle.bayou_lang.specs.declared.program.ProgramFault.TheVariants.{TooManyConds, TooManyOps, TooManyAlts}
 use Rattle.bayou_text.specs.declared.line.Line.{Line}
 use Rattle.bayou_text.specs.declared.line.Line.TheVariants as line
-use Rattle.bayou_text.proofs.ProgramTable.{program_is}
 use Rattle.bayou_text.proofs.Readers.{listed_items}
 use Rattle.bayou_text.specs.Asks.{asks_in}
-use Rattle.bayou_text.specs.Lines.{line_in, servers_in, opening_in, writing_in, reading_in}
-use Rattle.bayou_text.specs.Numbers.{number_in}
-use Rattle.bayou_text.specs.Programs.{term_in, put_in, op_in, ops_in, program_in, update_of}
-use Rattle.bayou_text.specs.Ranges.{IsKey, IsValue, IsOp, IsProgram, IsLine, IsPutOfValue, IsPlain, IsReadable}
-use Rattle.bayou_text.specs.Reading.{◌>>=◌, listed, all_in}
+use Rattle.bayou_text.specs.Lines.{line_in, servers_in, opening_in, writing_in, reading_in, listing_in}
+use Rattle.bayou_text.specs.Numbers.{number_in, integer_in}
+use Rattle.bayou_text.specs.Parts.{named_in, keyed_in, term_in, op_in, cond_in}
+use Rattle.bayou_text.specs.Programs.{few_in, alt_in, program_in}
+use Rattle.bayou_text.specs.Ranges.{IsKey, IsValue, IsTerm, IsOp, IsCond, IsList, IsAlt, IsProgram, IsLine, IsReadable}
+use Rattle.bayou_text.specs.Reading.{Reads, listed, all_in}
 use Rattle.bayou_text.specs.Said.{said}
-use Rattle.bayou_text.specs.Spelling.{count_json, value_json, op_json, program_json, asks_json, line_json}
+use Rattle.bayou_text.specs.Spelling.{count_json, value_json, term_json, op_json, cond_json, alt_json, program_json, asks_json, line_json}
 use Rattle.bayou_text.specs.Values.{key_in, value_in}
 
 number_again : (least most n : ℕ) → least ≤ n → n ≤ most → number_in least most (count_json n) ≡ Ok n
@@ -37,39 +46,64 @@ value_again (Num (pos n)) fits = let small : n < 2 ^ 63 = omega (arith, fits) in
 value_again (Num (negsuc n)) fits = refl
 value_again (Text text) short = grind (arith, tests, short)
 
-literal : (v : Value) → term_in (value_json v) ≡ (value_in (value_json v) >>= λ value. Ok (Lit value))
+integer_again : (n : ℤ) → FitsSigned w64 n → integer_in (number (of_integer n)) ≡ Ok n
+integer_again (pos n) fits = let small : n < 2 ^ 63 = omega (arith, fits) in grind (arith, tests)
+integer_again (negsuc n) fits = refl
+
+-- ---- terms, ops and conditions
+
+literal_again : (v : Value) → IsValue v → term_in (value_json v) ≡ Ok (Lit v)
 unfolding term_in
-literal (Num n) = refl
-literal (Text text) = refl
+literal_again (Num n) kept = rw (value_again (Num n) kept)
+literal_again (Text text) kept = rw (value_again (Text text) kept)
 
-op_again : (o : Op) → IsOp o → IsPutOfValue o → op_in (op_json o) ≡ Ok o
-unfolding op_in put_in
-op_again (Put key (Lit v)) kept plain = rw (key_again key kept.0, literal v, value_again v kept.1)
-op_again (Put key (Copy other)) kept plain = absurd plain
-op_again (Put key (Plus other n)) kept plain = absurd plain
-op_again (Del key) kept plain = absurd plain
+term_again : (t : Term) → IsTerm t → term_in (term_json t) ≡ Ok t
+unfolding term_in named_in keyed_in
+term_again (Lit v) kept = literal_again v kept
+term_again (Copy key) kept = rw (key_again key kept)
+term_again (Plus key n) kept = rw (key_again key kept.0) (rw (integer_again n kept.1))
 
-all_again : (ops : List Op) → AllByRecursion IsOp ops → AllByRecursion IsPutOfValue ops
-    → all_in op_in (map op_json ops) ≡ Ok ops
-all_again [] kept plain = refl
-all_again (o ∷ ops) kept plain = rw (op_again o kept.0 plain.0, all_again ops kept.1 plain.1)
+op_again : (o : Op) → IsOp o → op_in (op_json o) ≡ Ok o
+unfolding op_in named_in keyed_in
+op_again (Put key t) kept = rw (key_again key kept.0) (rw (term_again t kept.1))
+op_again (Del key) kept = rw (key_again key kept)
 
-ops_again : (ops : List Op) → length ops ≤ MAX_OPS → AllByRecursion IsOp ops → AllByRecursion IsPutOfValue ops
-    → ops_in (listed (items_of (map op_json ops))) ≡ Ok ops
-ops_again ops few kept plain =
-    let short : nat_lt MAX_OPS (length (map op_json ops)) ≡ false = simp length-map (grind (arith, tests)) in
-    ap ops_in (listed_items (map op_json ops)) ∙ rw short (all_again ops kept plain)
+cond_again : (c : Cond) → IsCond c → cond_in (cond_json c) ≡ Ok c
+unfolding cond_in named_in keyed_in
+cond_again (Equals key v) kept = rw (key_again key kept.0) (rw (value_again v kept.1))
+cond_again (Absent key) kept = rw (key_again key kept)
+cond_again (AtLeast key n) kept = rw (key_again key kept.0) (rw (integer_again n kept.1))
 
-update_again : (ops : List Op) → ops_in (listed (items_of (map op_json ops))) ≡ Ok ops
-    → program_in (program_json (update_of ops)) ≡ Ok (update_of ops)
+-- ---- lists
+
+module _ {A : Type 0} (Is : A → Type 0) (one_in : Data → Reads A) (one_json : A → Data) where
+  each_again : ((x : A) → Is x → one_in (one_json x) ≡ Ok x) → (xs : List A) → AllByRecursion Is xs
+      → all_in one_in (map one_json xs) ≡ Ok xs
+  each_again again [] kept = refl
+  each_again again (x ∷ xs) kept = rw (again x kept.0, each_again again xs kept.1)
+
+  few_again : ((x : A) → Is x → one_in (one_json x) ≡ Ok x) → (most : ℕ) (many : ProgramFault) (xs : List A)
+      → IsList Is most xs → few_in most many one_in (listed (items_of (map one_json xs))) ≡ Ok xs
+  few_again again most many xs kept =
+      let short : nat_lt most (length (map one_json xs)) ≡ false = simp length-map (grind (
+        arith,
+        tests,
+        kept.fits,
+      )) in
+      rw (listed_items (map one_json xs)) (rw short (each_again again xs kept.each))
+
+alt_again : (a : Alt) → IsAlt a → alt_in (alt_json a) ≡ Ok a
+unfolding alt_in
+alt_again a kept =
+    rw (few_again IsCond cond_in cond_json cond_again MAX_CONDITIONS TooManyConds a.when.items kept.when)
+    (rw (few_again IsOp op_in op_json op_again MAX_OPS TooManyOps a.ops.items kept.ops))
+
+program_again : (p : Program) → IsProgram p → program_in (program_json p) ≡ Ok p
 unfolding program_in program_json
-update_again ops again = rw again
-
-program_again : (p : Program) → IsProgram p → IsPlain p → program_in (program_json p) ≡ Ok p
-program_again p kept plain =
-    let again = update_again p.update.items
-    (ops_again p.update.items kept.update.fits kept.update.each plain.update) in
-    subst (λ (q : Program). program_in (program_json q) ≡ Ok q) (program_is p plain.check plain.merge) again
+program_again p kept =
+    rw (few_again IsCond cond_in cond_json cond_again MAX_CONDITIONS TooManyConds p.check.items kept.check)
+    (rw (few_again IsOp op_in op_json op_again MAX_OPS TooManyOps p.update.items kept.update)
+    (rw (few_again IsAlt alt_in alt_json alt_again MAX_ALTERNATIVES TooManyAlts p.merge.items kept.merge)))
 
 asks_cases : (ryw mr wfr mw : Bool)
     → asks_in (asks_json (record { ryw = ryw; mr = mr; wfr = wfr; mw = mw })) ≡ Ok (record {
@@ -99,7 +133,7 @@ asks_again : (asks : Asks) → asks_in (asks_json asks) ≡ Ok asks
 asks_again asks = asks_cases asks.ryw asks.mr asks.wfr asks.mw
 
 pub line_again : (l : Line) → IsLine l → IsReadable (said l) → line_in (line_json (said l)) ≡ Ok (said l)
-unfolding line_in servers_in opening_in writing_in reading_in
+unfolding line_in servers_in opening_in writing_in reading_in listing_in
 line_again (line.Servers count None) kept readable = rw (readable.0)
 line_again (line.Servers count (Some limit)) kept readable = rw (
   readable.0,
@@ -114,7 +148,7 @@ line_again (line.Write who place program) kept readable =
         arith,
         place.in_range,
       )),
-      program_again program.value kept readable,
+      program_again program.value kept,
     )
 line_again (line.Read who place key) kept readable =
     rw (
@@ -125,3 +159,7 @@ line_again (line.Read who place key) kept readable =
       )),
       key_again key kept,
     )
+line_again (line.Log place) kept readable = rw (number_again 0 (SERVERS - 1) place.index (omega arith) (omega (
+  arith,
+  place.in_range,
+)))

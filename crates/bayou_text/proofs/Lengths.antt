@@ -238,3 +238,9 @@ line_size (line.Read who place key) kept =
       count_size place.index (omega (arith, place.in_range)),
       key_size key kept,
     )
+line_size (line.Log place) kept =
+    omega (
+      arith,
+      form_one (codes "log") (count_json place.index),
+      count_size place.index (omega (arith, place.in_range)),
+    )

@@ -6,5 +6,6 @@ pub mod Written
 pub mod Again
 pub mod Lengths
 pub mod Readers
+pub mod PartTable
 pub mod ProgramTable
 pub mod LineTable

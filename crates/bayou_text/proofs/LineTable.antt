@@ -1,6 +1,5 @@
 -- Lines that are read are so spelled, by the table; and those that are so spelled are read.
-use Rattle.std.proofs.Common.{◌≡◌, inl, inr, ℕ, ◌-◌, ◌≤◌, true, List, [], ◌∷◌, length, None, Some, Ok, Err, IsUtf8, codes, ap, ◌∙◌, subst, arith}
-use Rattle.std.specs.Str.{bytes_eq}
+use Rattle.std.proofs.Common.{◌≡◌, inl, inr, ℕ, ◌-◌, ◌≤◌, List, [], ◌∷◌, length, None, Some, Ok, Err, IsUtf8, codes, ap, ◌∙◌, subst, arith}
 use Rattle.serde_json.specs.Data.{Data}
 use Rattle.serde_json.specs.Read.{read as json_of}
 use Rattle.bayou_base.specs.declared.limits.TheConstants.{SERVERS, SESSIONS, MAX_WRITES, MAX_LINE_BYTES}
@@ -8,13 +7,13 @@ use Rattle.bayou_text.specs.declared.line.LineFault.TheVariants.{BadShape, NotJs
 use Rattle.bayou_text.specs.declared.line.Shape.TheVariants.{Command}
 use Rattle.bayou_text.specs.declared.line.Shape.TheVariants as shape
 use Rattle.bayou_text.proofs.ProgramTable.{program_found, program_read}
-use Rattle.bayou_text.proofs.Readers.{bound, chosen, there, same_word, worded_of, listed_items, number_found, number_read, key_found, key_read, asks_found, asks_read}
+use Rattle.bayou_text.proofs.Readers.{bound, there, word_or, worded_of, listed_items, number_found, number_read, key_found, key_read, asks_found, asks_read}
 use Rattle.bayou_text.specs.Asks.{asks_in}
-use Rattle.bayou_text.specs.Lines.{servers_in, opening_in, writing_in, reading_in, command_of, line_in, text_line}
+use Rattle.bayou_text.specs.Lines.{servers_in, opening_in, writing_in, reading_in, listing_in, command_of, line_in, text_line}
 use Rattle.bayou_text.specs.Numbers.{count_in, limit_in, session_in, server_in}
 use Rattle.bayou_text.specs.Programs.{program_in}
 use Rattle.bayou_text.specs.Reading.{◌>>=◌, worded}
-use Rattle.bayou_text.specs.Said.{Said, servers, session, write, read}
+use Rattle.bayou_text.specs.Said.{Said, servers, session, write, read, log}
 use Rattle.bayou_text.specs.Spelling.{form}
 use Rattle.bayou_text.specs.Table.{AtServer, ProgramIs, KeyIs, LineIs, Spells}
 use Rattle.bayou_text.specs.Values.{key_in}
@@ -121,25 +120,39 @@ reading_found d (w ∷ p ∷ l ∷ []) s is e =
     (key_found l key.0 key.1))
 reading_found d (w ∷ p ∷ l ∷ other ∷ more) s is e = absurd (cc)
 
--- a word that is this one
-renamed : (d : Data) (word name : List ℕ) (parts : List Data) → bytes_eq word name ≡ true
-    → d ≡ form word parts → d ≡ form name parts
-renamed d word name parts same is = is ∙ ap (λ w. form w parts) (same_word word name same)
+listing_found : (d : Data) (parts : List Data) (s : Said) → d ≡ form (codes "log") parts
+    → listing_in parts ≡ Ok s → LineIs d s
+unfolding listing_in
+listing_found d [] s is e = absurd (cc)
+listing_found d (p ∷ []) s is e =
+    let place = bound (server_in p) (λ o. Ok (log o)) s e in
+    let numbered = number_found 0 (SERVERS - 1) p place.0 place.1 in
+    let same : log place.0 ≡ s = cc in
+    subst (λ (t : Said). LineIs d t) same (record {
+      place_data = p;
+      form_is = is;
+      place_is = numbered.0;
+      place_in_range = omega (arith, numbered.1);
+    })
+listing_found d (p ∷ other ∷ more) s is e = absurd (cc)
 
 command_found : (d : Data) (word : List ℕ) (parts : List Data) (s : Said) → d ≡ form word parts
     → command_of word parts ≡ Ok s → LineIs d s
 command_found d word parts s is e = elim
-    (chosen (bytes_eq word (codes "servers")) (servers_in parts) _ (Ok s) e) [
-      | inl h ↦ servers_found d parts s (renamed d word _ parts h.0 is) h.1
-      | inr h ↦ elim (chosen (bytes_eq word (codes "session")) (opening_in parts) _ (Ok s) h.1) [
-        | inl i ↦ opening_found d parts s (renamed d word _ parts i.0 is) i.1
-        | inr i ↦ elim (chosen (bytes_eq word (codes "write")) (writing_in parts) _ (Ok s) i.1) [
-          | inl j ↦ writing_found d parts s (renamed d word _ parts j.0 is) j.1
-          | inr j ↦ elim (chosen (bytes_eq word (codes "read")) (reading_in parts) (Err (BadShape Command))
-              (Ok s) j.1) [
-                | inl k ↦ reading_found d parts s (renamed d word _ parts k.0 is) k.1
-                | inr k ↦ absurd (cc)
-              ]
+    (word_or d word (codes "servers") parts (servers_in parts) _ s is e) [
+      | inl h ↦ servers_found d parts s h.0 h.1
+      | inr h ↦ elim (word_or d word (codes "session") parts (opening_in parts) _ s is h) [
+        | inl i ↦ opening_found d parts s i.0 i.1
+        | inr i ↦ elim (word_or d word (codes "write") parts (writing_in parts) _ s is i) [
+          | inl j ↦ writing_found d parts s j.0 j.1
+          | inr j ↦ elim (word_or d word (codes "read") parts (reading_in parts) _ s is j) [
+            | inl k ↦ reading_found d parts s k.0 k.1
+            | inr k ↦ elim (word_or d word (codes "log") parts (listing_in parts) (Err (BadShape Command)) s
+                is k) [
+                  | inl l ↦ listing_found d parts s l.0 l.1
+                  | inr l ↦ absurd (cc)
+                ]
+          ]
         ]
       ]
     ]
@@ -156,7 +169,7 @@ unfolding line_in
 formed word parts s e = ap (command_of word) (listed_items parts) ∙ e
 
 pub line_read : (d : Data) (s : Said) → LineIs d s → line_in d ≡ Ok s
-unfolding servers_in opening_in writing_in reading_in
+unfolding servers_in opening_in writing_in reading_in listing_in
 line_read d (servers count None) is =
     rw is.form_is (formed _ (is.count_data ∷ []) _
     (rw (number_read 1 1 is.count_data count is.count_is (omega (arith, is.one)) (omega (arith, is.one)))))
@@ -192,6 +205,12 @@ line_read d (read who place key) is =
       )),
       key_read is.last_data key is.last_is,
     )))
+line_read d (log place) is =
+    rw is.form_is (formed _ (is.place_data ∷ []) _
+    (rw (number_read 0 (SERVERS - 1) is.place_data place is.place_is (omega arith) (omega (
+      arith,
+      is.place_in_range,
+    )))))
 
 -- ---- bytes
 

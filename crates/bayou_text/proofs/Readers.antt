@@ -18,10 +18,10 @@ use Rattle.bayou_text.specs.declared.line.LineFault.{LineFault}
 use Rattle.bayou_text.specs.declared.line.LineFault.TheVariants as fault
 use Rattle.bayou_text.specs.declared.line.Shape.TheVariants.{Name, Number, Word, Worth, Form}
 use Rattle.bayou_text.specs.Asks.{is_ask, asked, asks_of, asks_in}
-use Rattle.bayou_text.specs.Numbers.{number_in, within}
+use Rattle.bayou_text.specs.Numbers.{number_in, integer_in, within}
 use Rattle.bayou_text.specs.Reading.{Reads, ◌>>=◌, listed, headed, worded, says}
 use Rattle.bayou_text.specs.Spelling.{form}
-use Rattle.bayou_text.specs.Table.{NumberIs, ValueIs, KeyIs, IsAsk, AsksAre}
+use Rattle.bayou_text.specs.Table.{NumberIs, IntegerIs, ValueIs, KeyIs, IsAsk, AsksAre}
 use Rattle.bayou_text.specs.Values.{key_of, key_in, text_of, value_in}
 
 -- ---- steps
@@ -43,6 +43,15 @@ there f (Some x) e y given = (x, refl, given)
 
 pub same_word : (a b : List ℕ) → bytes_eq a b ≡ true → a ≡ b
 same_word a b e = (bytes_eq-Decides a b).0 e
+
+-- the word in front is this one, or what follows for others was read
+pub word_or : {A : Type 0} (d : Data) (word name : List ℕ) (parts : List Data) (x y : Reads A) (a : A)
+    → d ≡ form word parts → cond (bytes_eq word name) x y ≡ Ok a
+    → ((d ≡ form name parts) × (x ≡ Ok a)) ⊎ (y ≡ Ok a)
+word_or d word name parts x y a is e = elim (chosen (bytes_eq word name) x y (Ok a) e) [
+  | inl h ↦ inl (is ∙ ap (λ w. form w parts) (same_word word name h.0), h.1)
+  | inr h ↦ inr h.1
+]
 
 pub own_word : (a : List ℕ) → bytes_eq a a ≡ true
 own_word a = (bytes_eq-Decides a a).1 refl
@@ -147,6 +156,21 @@ pub number_read : (least most : ℕ) (d : Data) (n : ℕ) → NumberIs d n → l
     → number_in least most d ≡ Ok n
 number_read least most d n is low high = rw is (grind (arith, tests))
 
+some_of : {A : Type 0} (o : Option A) (e : LineFault) (x : A) → ok_or o e ≡ Ok x → o ≡ Some x
+some_of None e x given = absurd (cc)
+some_of (Some y) e x given = let same : y ≡ x = cc in ap Some same
+
+integer_of : (d : Data) (o : Option Num) (n : ℤ) → as_number d ≡ o → option_and_then as_i64 o ≡ Some n
+    → IntegerIs d n
+integer_of d None n was e = absurd (cc)
+integer_of d (Some m) n was e = (m, number_of d m was, e)
+
+pub integer_found : (d : Data) (n : ℤ) → integer_in d ≡ Ok n → IntegerIs d n
+integer_found d n e = integer_of d (as_number d) n refl (some_of _ _ n e)
+
+pub integer_read : (d : Data) (n : ℤ) → IntegerIs d n → integer_in d ≡ Ok n
+integer_read d n is = rw is.1 (rw is.2)
+
 key_of_is : (name key : List ℕ) (o : Option KeyFault) → key_fault name ≡ o
     → option_map_or (λ why. Err (fault.Key why)) o (Ok name) ≡ Ok key → (name ≡ key) × (key_fault key ≡ None)
 key_of_is name key None was e = let same : name ≡ key = cc in (same, sym (ap key_fault same) ∙ was)
@@ -213,7 +237,7 @@ pub or_true : (a b : Bool) → (a || b) ≡ true → (a ≡ true) ⊎ (b ≡ tru
 or_true true b e = inl refl
 or_true false b e = inr e
 
-pub ask_of : (d : Data) → is_ask d ≡ true → IsAsk d
+ask_of : (d : Data) → is_ask d ≡ true → IsAsk d
 ask_of d e = elim (or_true _ _ e) [
   | inr mw ↦ inr (inr (inr (says_is _ d mw)))
   | inl abc ↦ elim (or_true _ _ abc) [
@@ -225,7 +249,7 @@ ask_of d e = elim (or_true _ _ e) [
   ]
 ]
 
-pub of_ask : (d : Data) → IsAsk d → is_ask d ≡ true
+of_ask : (d : Data) → IsAsk d → is_ask d ≡ true
 of_ask d (inl e) = rw e
 of_ask d (inr (inl e)) = rw e
 of_ask d (inr (inr (inl e))) = rw e
@@ -239,16 +263,18 @@ or_right : (a b : Bool) → b ≡ true → (a || b) ≡ true
 or_right true b e = refl
 or_right false b e = e
 
-all_of : (ds : List Data) → list_all is_ask ds ≡ true → AllByRecursion IsAsk ds
-all_of [] e = tt
-all_of (d ∷ ds) e = let parts = and_true (is_ask d) (list_all is_ask ds) e in (
-  ask_of d parts.0,
-  all_of ds parts.1,
+pub all_of : {A : Type 0} (test : A → Bool) (Is : A → Type 0) → ((x : A) → test x ≡ true → Is x)
+    → (xs : List A) → list_all test xs ≡ true → AllByRecursion Is xs
+all_of test Is each [] e = tt
+all_of test Is each (x ∷ xs) e = let parts = and_true (test x) (list_all test xs) e in (
+  each x parts.0,
+  all_of test Is each xs parts.1,
 )
 
-of_all : (ds : List Data) → AllByRecursion IsAsk ds → list_all is_ask ds ≡ true
-of_all [] h = refl
-of_all (d ∷ ds) h = rw (of_ask d h.0, of_all ds h.1)
+pub of_all : {A : Type 0} (test : A → Bool) (Is : A → Type 0) → ((x : A) → Is x → test x ≡ true)
+    → (xs : List A) → AllByRecursion Is xs → list_all test xs ≡ true
+of_all test Is each [] h = refl
+of_all test Is each (x ∷ xs) h = rw (each x h.0, of_all test Is each xs h.1)
 
 contained : (word : List ℕ) (ds : List Data) → list_any (says word) ds ≡ true → Contains ds (string word)
 contained word [] e = absurd (cc)
@@ -276,7 +302,7 @@ asks_of_is d ds asks is e = elim
           subst (λ (a : Asks). AsksAre d a) same (record {
             words = ds;
             array_is = is;
-            known = all_of ds h.0;
+            known = all_of is_ask IsAsk ask_of ds h.0;
             ryw = (contained (codes "ryw") ds, containing (codes "ryw") ds);
             mr = (contained (codes "mr") ds, containing (codes "mr") ds);
             wfr = (contained (codes "wfr") ds, containing (codes "wfr") ds);
@@ -305,5 +331,5 @@ asks_read d asks is =
     (λ e. is.wfr.1 (contained _ _ e)) (λ e. containing _ _ (is.wfr.0 e)) in
     let mw : list_any (says (codes "mw")) is.words ≡ asks.mw = same_bool _ _ (λ e. is.mw.1 (contained _ _ e))
     (λ e. containing _ _ (is.mw.0 e)) in
-    let all : asks_of is.words ≡ Ok asks = rw (of_all is.words is.known, ryw, mr, wfr, mw) in
+    let all : asks_of is.words ≡ Ok asks = rw (of_all is_ask IsAsk of_ask is.words is.known, ryw, mr, wfr, mw) in
     rw is.array_is (ap asks_of (listed_items is.words) ∙ all)

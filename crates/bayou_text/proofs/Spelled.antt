@@ -16,7 +16,7 @@ use Rattle.bayou_lang.specs.declared.program.Cond.{Cond}
 use Rattle.bayou_lang.specs.declared.program.Cond.TheVariants.{Equals, Absent, AtLeast}
 use Rattle.bayou_lang.specs.declared.program.Alt.{Alt}
 use Rattle.bayou_lang.specs.declared.program.Program.{Program}
-use Rattle.bayou_text.specs.Said.{Said, servers, session, write, read}
+use Rattle.bayou_text.specs.Said.{Said, servers, session, write, read, log}
 use Rattle.bayou_text.specs.Spelling.{form, word_if, count_json, value_json, term_json, op_json, cond_json, alt_json, program_json, asks_json, list_json, line_json}
 
 -- no float, and at most so deep
@@ -157,3 +157,4 @@ line_plain (read who place key) =
       count 6 who,
       (count 6 place, (text 6 key, tt)),
     )
+line_plain (log place) = formed 6 _ (count_json place ∷ []) (count 6 place, tt)

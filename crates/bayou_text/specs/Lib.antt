@@ -2,6 +2,7 @@ pub mod Reading
 pub mod Numbers
 pub mod Values
 pub mod Asks
+pub mod Parts
 pub mod Programs
 pub mod Said
 pub mod Lines

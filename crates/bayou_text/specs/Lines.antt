@@ -12,7 +12,7 @@ use Rattle.bayou_text.specs.Asks.{asks_in}
 use Rattle.bayou_text.specs.Numbers.{count_in, limit_in, session_in, server_in}
 use Rattle.bayou_text.specs.Programs.{program_in}
 use Rattle.bayou_text.specs.Reading.{Reads, ◌>>=◌, worded}
-use Rattle.bayou_text.specs.Said.{Said, servers, session, write, read}
+use Rattle.bayou_text.specs.Said.{Said, servers, session, write, read, log}
 use Rattle.bayou_text.specs.Values.{key_in}
 
 -- ["servers", count] and ["servers", count, limit], behind the word
@@ -50,13 +50,19 @@ reading_in (who ∷ place ∷ key ∷ []) = do
   Ok (read n at name)
 reading_in _ = Err (BadShape Arity)
 
+-- ["log", server]
+unfoldable pub listing_in : List Data → Reads Said
+listing_in (place ∷ []) = server_in place >>= λ at. Ok (log at)
+listing_in _ = Err (BadShape Arity)
+
 abbrev pub command_of : List ℕ → List Data → Reads Said
 command_of word parts =
     if bytes_eq word (codes "servers") then servers_in parts
     else (if bytes_eq word (codes "session") then opening_in parts
     else (if bytes_eq word (codes "write") then writing_in parts
     else (if bytes_eq word (codes "read") then reading_in parts
-    else Err (BadShape Command))))
+    else (if bytes_eq word (codes "log") then listing_in parts
+    else Err (BadShape Command)))))
 
 unfoldable pub line_in : Data → Reads Said
 line_in d = ok_or (worded d) (BadShape Line) >>= λ parts. command_of parts.0 parts.1

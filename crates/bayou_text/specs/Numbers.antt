@@ -1,8 +1,8 @@
 -- Numbers: integers, each in the range of its place. What is no integer, as 1.0, is Number too.
-use Rattle.std.specs.Prelude.{ℕ, ◌-◌, nat_le, ◌&&◌, Ok, Err, option_and_then, if◌then◌else◌}
+use Rattle.std.specs.Prelude.{ℕ, ℤ, ◌-◌, nat_le, ◌&&◌, Ok, Err, option_and_then, if◌then◌else◌}
 use Rattle.std.specs.Option.{ok_or}
 use Rattle.serde_json.specs.Data.{Data}
-use Rattle.serde_json.specs.Find.{as_number, as_u64}
+use Rattle.serde_json.specs.Find.{as_number, as_i64, as_u64}
 use Rattle.bayou_base.specs.declared.limits.TheConstants.{SERVERS, SESSIONS, MAX_WRITES}
 use Rattle.bayou_text.specs.declared.line.LineFault.TheVariants.{BadShape}
 use Rattle.bayou_text.specs.declared.line.Shape.TheVariants.{Number}
@@ -30,3 +30,7 @@ session_in = number_in 0 (SESSIONS - 1)
 -- the server of this number
 abbrev pub server_in : Data → Reads ℕ
 server_in = number_in 0 (SERVERS - 1)
+
+-- an integer of i64
+abbrev pub integer_in : Data → Reads ℤ
+integer_in d = ok_or (option_and_then as_i64 (as_number d)) (BadShape Number)

@@ -1,5 +1,5 @@
--- What the types of a line keep, and which lines are read as yet.
-use Rattle.std.specs.Prelude.{◌≡◌, ℕ, ◌<◌, ◌≤◌, ◌^◌, List, [], None, IfSome, length, ⊤}
+-- What the types of a line keep, and which lines are read.
+use Rattle.std.specs.Prelude.{◌≡◌, ℕ, ◌<◌, ◌≤◌, ◌^◌, List, None, IfSome, length, ⊤}
 use Rattle.std.specs.Int.{w64}
 use Rattle.std.specs.Int.RustNames.{FitsSigned}
 use Rattle.std.specs.List.{AllByRecursion}
@@ -18,7 +18,7 @@ use Rattle.bayou_lang.specs.declared.program.Alt.{Alt}
 use Rattle.bayou_lang.specs.declared.program.Program.{Program}
 use Rattle.bayou_text.specs.declared.line.Line.{Line}
 use Rattle.bayou_text.specs.declared.line.Line.TheVariants as line
-use Rattle.bayou_text.specs.Said.{Said, servers, session, write, read}
+use Rattle.bayou_text.specs.Said.{Said, servers, session, write, read, log}
 
 abbrev pub IsKey : List ℕ → Type 0
 IsKey name = key_fault name ≡ None
@@ -61,25 +61,15 @@ IsLine (line.Servers count limit) = (count < 2 ^ 32) × IfSome limit (λ most. m
 IsLine (line.Session who asks) = ⊤
 IsLine (line.Write who place program) = IsProgram program.value
 IsLine (line.Read who place key) = IsKey key
-
--- the update sets keys to values, and nothing is checked or merged: what is read as yet
-abbrev pub IsPutOfValue : Op → Type 0
-IsPutOfValue (Put key (Lit value)) = ⊤
-IsPutOfValue (Put key (Copy other)) = ⊥
-IsPutOfValue (Put key (Plus other n)) = ⊥
-IsPutOfValue (Del key) = ⊥
-
-pub record IsPlain (program : Program) : Type 0 where
-  pub check : program.check.items ≡ []
-  pub merge : program.merge.items ≡ []
-  pub update : AllByRecursion IsPutOfValue program.update.items
+IsLine (line.Log place) = ⊤
 
 abbrev pub IsLimit : ℕ → Type 0
 IsLimit limit = (1 ≤ limit) × (limit ≤ MAX_WRITES)
 
--- the lines that are read as yet
+-- the lines that are read: the type of a line leaves wider only how many servers, and how many Writes
 abbrev pub IsReadable : Said → Type 0
 IsReadable (servers count limit) = (count ≡ 1) × IfSome limit IsLimit
 IsReadable (session who asks) = ⊤
-IsReadable (write who place program) = IsPlain program
+IsReadable (write who place program) = ⊤
 IsReadable (read who place key) = ⊤
+IsReadable (log place) = ⊤

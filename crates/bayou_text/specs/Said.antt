@@ -11,9 +11,11 @@ pub data Said : Type 0 where
   session : ℕ → Asks → Said
   write : ℕ → ℕ → Program → Said
   read : ℕ → ℕ → List ℕ → Said
+  log : ℕ → Said
 
 abbrev pub said : Line → Said
 said (line.Servers count limit) = servers count limit
 said (line.Session who asks) = session who.index asks
 said (line.Write who place program) = write who.index place.index program.value
 said (line.Read who place key) = read who.index place.index key
+said (line.Log place) = log place.index

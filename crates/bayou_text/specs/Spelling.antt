@@ -14,7 +14,7 @@ use Rattle.bayou_lang.specs.declared.program.Cond.{Cond}
 use Rattle.bayou_lang.specs.declared.program.Cond.TheVariants.{Equals, Absent, AtLeast}
 use Rattle.bayou_lang.specs.declared.program.Alt.{Alt}
 use Rattle.bayou_lang.specs.declared.program.Program.{Program}
-use Rattle.bayou_text.specs.Said.{Said, servers, session, write, read}
+use Rattle.bayou_text.specs.Said.{Said, servers, session, write, read, log}
 
 -- an array that begins with a word
 abbrev pub form : List ℕ → List Data → Data
@@ -77,3 +77,4 @@ line_json (session who asks) = form (codes "session") (count_json who ∷ asks_j
 line_json (write who place program) = form (codes "write")
     (count_json who ∷ count_json place ∷ program_json program ∷ [])
 line_json (read who place key) = form (codes "read") (count_json who ∷ count_json place ∷ string key ∷ [])
+line_json (log place) = form (codes "log") (count_json place ∷ [])

@@ -1,6 +1,6 @@
 -- The table of the lines (this project's own): which data spells which thing, member by member, with no word on how
--- it is read. As yet an op is a `put` of a value, and there are no conditions, alternatives or other terms.
-use Rattle.std.specs.Prelude.{◌≡◌, ◌<◌, ◌≤◌, ◌⊎◌, ◌↔◌, ℕ, List, [], ◌∷◌, None, Some, codes, length, IsTrue, IsUtf8}
+-- it is read.
+use Rattle.std.specs.Prelude.{◌≡◌, ◌<◌, ◌≤◌, ◌⊎◌, ◌↔◌, ℕ, ℤ, List, [], ◌∷◌, None, Some, codes, length, IsTrue, IsUtf8}
 use Rattle.std.specs.List.{AllByRecursion, AllZip, Contains}
 use Rattle.serde_json.specs.Data.{Data, Num, number, unsigned, string, array, object, Members}
 use Rattle.serde_json.specs.Find.{as_i64, get}
@@ -17,48 +17,60 @@ use Rattle.bayou_lang.specs.declared.program.Term.TheVariants.{Lit, Copy, Plus}
 use Rattle.bayou_lang.specs.declared.program.Op.{Op}
 use Rattle.bayou_lang.specs.declared.program.Op.TheVariants.{Put, Del}
 use Rattle.bayou_lang.specs.declared.program.Cond.{Cond}
+use Rattle.bayou_lang.specs.declared.program.Cond.TheVariants.{Equals, Absent, AtLeast}
 use Rattle.bayou_lang.specs.declared.program.Alt.{Alt}
 use Rattle.bayou_lang.specs.declared.program.Program.{Program}
 use Rattle.bayou_text.specs.Reading.{names}
-use Rattle.bayou_text.specs.Said.{Said, servers, session, write, read}
+use Rattle.bayou_text.specs.Said.{Said, servers, session, write, read, log}
 use Rattle.bayou_text.specs.Spelling.{form}
 
 -- an integer, and no other number: 1.0 isn't one
 abbrev pub NumberIs : Data → ℕ → Type 0
 NumberIs d n = d ≡ number (unsigned n)
 
+-- an integer that fits i64
+abbrev pub IntegerIs : Data → ℤ → Type 0
+IntegerIs d n = (m : Num) × (d ≡ number m) × (as_i64 m ≡ Some n)
+
 -- an integer that fits i64, or a text that is short enough
 abbrev pub ValueIs : Data → Value → Type 0
-ValueIs d (Integer n) = (m : Num) × (d ≡ number m) × (as_i64 m ≡ Some n)
+ValueIs d (Integer n) = IntegerIs d n
 ValueIs d (Text text) = (d ≡ string text) × IsShort text
 
 -- a text that is a key
 abbrev pub KeyIs : Data → List ℕ → Type 0
 KeyIs d key = (d ≡ string key) × (key_fault key ≡ None)
 
--- a value
+-- an array of exactly a word and a key
+pub record NamedIs (word : List ℕ) (d : Data) (key : List ℕ) : Type 0 where
+  pub key_data : Data
+  pub form_is : d ≡ form word (key_data ∷ [])
+  pub key_is : KeyIs key_data key
+
+-- an array of exactly a word, a key and one more member
+pub record KeyedIs (word : List ℕ) (Is : Data → Type 0) (d : Data) (key : List ℕ) : Type 0 where
+  pub key_data : Data
+  pub last_data : Data
+  pub form_is : d ≡ form word (key_data ∷ last_data ∷ [])
+  pub key_is : KeyIs key_data key
+  pub last_is : Is last_data
+
+-- a value, ["copy", key] or ["plus", key, n]
 abbrev pub TermIs : Data → Term → Type 0
 TermIs d (Lit value) = ValueIs d value
-TermIs d (Copy key) = ⊥
-TermIs d (Plus key n) = ⊥
+TermIs d (Copy key) = NamedIs (codes "copy") d key
+TermIs d (Plus key n) = KeyedIs (codes "plus") (λ last. IntegerIs last n) d key
 
--- an array of exactly "put", a key and a term
-pub record PutIs (d : Data) (key : List ℕ) (term : Term) : Type 0 where
-  pub key_data : Data
-  pub term_data : Data
-  pub form_is : d ≡ form (codes "put") (key_data ∷ term_data ∷ [])
-  pub key_is : KeyIs key_data key
-  pub term_is : TermIs term_data term
-
+-- ["put", key, term] or ["del", key]
 abbrev pub OpIs : Data → Op → Type 0
-OpIs d (Put key term) = PutIs d key term
-OpIs d (Del key) = ⊥
+OpIs d (Put key term) = KeyedIs (codes "put") (λ last. TermIs last term) d key
+OpIs d (Del key) = NamedIs (codes "del") d key
 
+-- ["equals", key, value], ["absent", key] or ["atleast", key, n]
 abbrev pub CondIs : Data → Cond → Type 0
-CondIs d condition = ⊥
-
-abbrev pub AltIs : Data → Alt → Type 0
-AltIs d alternative = ⊥
+CondIs d (Equals key value) = KeyedIs (codes "equals") (λ last. ValueIs last value) d key
+CondIs d (Absent key) = NamedIs (codes "absent") d key
+CondIs d (AtLeast key n) = KeyedIs (codes "atleast") (λ last. IntegerIs last n) d key
 
 -- the members of the list that an object has under this name: none where it has no such member
 pub data MemberIs (name : List ℕ) (d : Data) (ds : List Data) : Type 0 where
@@ -73,12 +85,25 @@ pub record ListIs {A : Type 0} (Is : Data → A
   pub fits : length data_of ≤ most
   pub each : AllZip Is data_of xs
 
+abbrev pub IsAltName : List ℕ → Type 0
+IsAltName name = (name ≡ codes "ops") ⊎ (name ≡ codes "when")
+
+-- an object of no other members than "ops" and "when", each of which may be missing
+pub record AltIs (d : Data) (alternative : Alt) : Type 0 where
+  pub members : Members
+  pub object_is : d ≡ object members
+  pub known : AllByRecursion IsAltName (names members)
+  pub conditions : ListIs CondIs MAX_CONDITIONS (codes "when") d alternative.when.items
+  pub steps : ListIs OpIs MAX_OPS (codes "ops") d alternative.ops.items
+
+abbrev pub IsProgramName : List ℕ → Type 0
+IsProgramName name = (name ≡ codes "check") ⊎ ((name ≡ codes "merge") ⊎ (name ≡ codes "update"))
+
 -- an object of no other members than "check", "merge" and "update", each of which may be missing
 pub record ProgramIs (d : Data) (program : Program) : Type 0 where
   pub members : Members
   pub object_is : d ≡ object members
-  pub known : AllByRecursion
-      (λ name. (name ≡ codes "check") ⊎ ((name ≡ codes "merge") ⊎ (name ≡ codes "update"))) (names members)
+  pub known : AllByRecursion IsProgramName (names members)
   pub check : ListIs CondIs MAX_CONDITIONS (codes "check") d program.check.items
   pub merge : ListIs AltIs MAX_ALTERNATIVES (codes "merge") d program.merge.items
   pub update : ListIs OpIs MAX_OPS (codes "update") d program.update.items
@@ -136,12 +161,20 @@ pub record AtServer (word : List ℕ) (Is : Data → Type 0) (d : Data) (who pla
   pub place_in_range : place < SERVERS
   pub last_is : Is last_data
 
+-- ["log", server]
+pub record LogIs (d : Data) (place : ℕ) : Type 0 where
+  pub place_data : Data
+  pub form_is : d ≡ form (codes "log") (place_data ∷ [])
+  pub place_is : NumberIs place_data place
+  pub place_in_range : place < SERVERS
+
 abbrev pub LineIs : Data → Said → Type 0
 LineIs d (servers count None) = ServersIs d count
 LineIs d (servers count (Some limit)) = LimitedIs d count limit
 LineIs d (session who asks) = SessionIs d who asks
 LineIs d (write who place program) = AtServer (codes "write") (λ last. ProgramIs last program) d who place
 LineIs d (read who place key) = AtServer (codes "read") (λ last. KeyIs last key) d who place
+LineIs d (log place) = LogIs d place
 
 -- bytes that say this: at most so many, UTF-8, and the JSON of a line
 pub record Spells (bytes : List ℕ) (s : Said) : Type 0 where

@@ -28,6 +28,10 @@ pub enum Line {
         server: ServerId,
         key: Key,
     },
+    /// Lists the Writes that the server holds, with the outcome of each.
+    Log {
+        server: ServerId,
+    },
 }
 
 /// What of a line has a shape that no line has.

@@ -18,6 +18,7 @@ use std::str;
 
 mod asks;
 mod number;
+mod part;
 mod program;
 mod value;
 
@@ -74,6 +75,9 @@ fn line_in(alloc: Global, json: &Value) -> Result<Line, LineFault>
     }
     if word == "read" {
         return reading_in(parts);
+    }
+    if word == "log" {
+        return listing_in(parts);
     }
     Err(LineFault::BadShape(Shape::Command))
 }
@@ -133,5 +137,17 @@ fn reading_in(parts: &[Value]) -> Result<Line, LineFault>
         session: session_in(session)?,
         server: server_in(server)?,
         key: key_in(key)?,
+    })
+}
+
+#[tactic(auto, unfolding(crate::specs::Lines::listing_in))]
+fn listing_in(parts: &[Value]) -> Result<Line, LineFault>
+    ensures { Answers said result (grammar.listing_in (map view parts.now)) }
+{
+    let [server] = parts else {
+        return Err(LineFault::BadShape(Shape::Arity));
+    };
+    Ok(Line::Log {
+        server: server_in(server)?,
     })
 }

@@ -1,9 +1,11 @@
 use crate::line::{LineFault, Shape};
 use crate::{read_line, write_line};
 use bayou_base::{KeyFault, MAX_LINE_BYTES};
-use bayou_lang::ProgramFault;
 use std::alloc::{AllocError, Global};
 use std::test::Fail;
+
+mod memory;
+mod programs;
 
 /// A line, and its spelling or its first fault.
 type Row = (&'static str, Result<&'static str, LineFault>);
@@ -42,244 +44,139 @@ fn agrees(
 
 /// The first row that isn't so.
 fn first_wrong(alloc: Global, rows: &[Row]) -> Result<Option<&'static str>, AllocError> {
+    first_wrong_within(alloc, "", rows, "")
+}
+
+/// The first row that isn't so where its texts stand between these two.
+fn first_wrong_within(
+    alloc: Global,
+    front: &str,
+    rows: &[Row],
+    back: &str,
+) -> Result<Option<&'static str>, AllocError> {
     for (text, expected) in rows {
-        if !agrees(alloc, text.as_bytes(), *expected)? {
+        let line = format!(in alloc; "{front}{text}{back}")?;
+        let holds = match expected {
+            Ok(spelling) => {
+                let spelling = format!(in alloc; "{front}{spelling}{back}")?;
+                agrees(alloc, line.as_bytes(), Ok(spelling.as_str()))?
+            }
+            Err(fault) => agrees(alloc, line.as_bytes(), Err(*fault))?,
+        };
+        if !holds {
             return Ok(Some(*text));
         }
     }
     Ok(None)
 }
 
+/// Commands, each alone.
+const COMMANDS: &[Row] = &[
+    (r#"["servers",1]"#, Ok(r#"["servers",1]"#)),
+    (r#"["servers",1,1]"#, Ok(r#"["servers",1,1]"#)),
+    (
+        " [ \"servers\" , 1 , 65536 ] \r",
+        Ok(r#"["servers",1,65536]"#),
+    ),
+    (r#"["servers",1,0]"#, Err(NUMBER)),
+    (r#"["servers",1,65537]"#, Err(NUMBER)),
+    (r#"["servers",0]"#, Err(NUMBER)),
+    (r#"["servers",2]"#, Err(NUMBER)),
+    (r#"["servers",2,0,0]"#, Err(ARITY)),
+    (r#"["servers"]"#, Err(ARITY)),
+    (r#"["servers",1.0]"#, Err(NUMBER)),
+    (r#"["servers",1e0]"#, Err(NUMBER)),
+    (r#"["servers","1"]"#, Err(NUMBER)),
+    (r#"["servers",null,0]"#, Err(NUMBER)),
+    (r#"["session",0,[]]"#, Ok(r#"["session",0,[]]"#)),
+    (
+        r#"["session",31,["mw","ryw","mr","ryw","wfr"]]"#,
+        Ok(r#"["session",31,["ryw","mr","wfr","mw"]]"#),
+    ),
+    (r#"["session",7,["wfr"]]"#, Ok(r#"["session",7,["wfr"]]"#)),
+    (r#"["session",32,["x"]]"#, Err(NUMBER)),
+    (r#"["session",-0,[]]"#, Err(NUMBER)),
+    (r#"["session",18446744073709551616,[]]"#, Err(NUMBER)),
+    (r#"["session",0,["x"]]"#, Err(WORD)),
+    (r#"["session",0,["ryw",1]]"#, Err(WORD)),
+    (r#"["session",0,["RYW"]]"#, Err(WORD)),
+    (r#"["session",0,"ryw"]"#, Err(FORM)),
+    (r#"["session",0,{}]"#, Err(FORM)),
+    (r#"["session",0]"#, Err(ARITY)),
+    (
+        r#"["read",0,7,"a.b_c-d/9"]"#,
+        Ok(r#"["read",0,7,"a.b_c-d/9"]"#),
+    ),
+    (r#"["read",0,0,"\u0061"]"#, Ok(r#"["read",0,0,"a"]"#)),
+    (r#"["read",0,8,"a"]"#, Err(NUMBER)),
+    (r#"["read",-1,0,"A"]"#, Err(NUMBER)),
+    (r#"["read",0,-1,"A"]"#, Err(NUMBER)),
+    (r#"["read",0,0,""]"#, Err(LineFault::Key(KeyFault::Empty))),
+    (
+        r#"["read",0,0,"abA"]"#,
+        Err(LineFault::Key(KeyFault::BadByte(2))),
+    ),
+    (
+        r#"["read",0,0,"a\u0000"]"#,
+        Err(LineFault::Key(KeyFault::BadByte(1))),
+    ),
+    (
+        r#"["read",0,0,"aaaaaaaaaaaaaaaaaaaaaaaaaaaaaaaa"]"#,
+        Ok(r#"["read",0,0,"aaaaaaaaaaaaaaaaaaaaaaaaaaaaaaaa"]"#),
+    ),
+    (
+        r#"["read",0,0,"aaaaaaaaaaaaaaaaaaaaaaaaaaaaaaaaA"]"#,
+        Err(LineFault::Key(KeyFault::TooLong)),
+    ),
+    (r#"["read",0,0,0]"#, Err(NAME)),
+    (r#"["read",0,0,"a",0]"#, Err(ARITY)),
+    (r#"["write",0,{}]"#, Err(ARITY)),
+    (r#"["write",0,8,[]]"#, Err(NUMBER)),
+    (r#"["log",7]"#, Ok(r#"["log",7]"#)),
+    (r#"["log"]"#, Err(ARITY)),
+    (r#"["log",0,0]"#, Err(ARITY)),
+    (r#"["log",8]"#, Err(NUMBER)),
+    (r#"["totals"]"#, Err(COMMAND)),
+    (r#"["Read",0,0,"a"]"#, Err(COMMAND)),
+    (r#"["entry",0]"#, Err(COMMAND)),
+    (r#"["x"]"#, Err(COMMAND)),
+    ("[1]", Err(LINE)),
+    ("[]", Err(LINE)),
+    ("{}", Err(LINE)),
+    (r#""read""#, Err(LINE)),
+    ("null", Err(LINE)),
+];
+
 #[test]
 fn commands(rt: HostRuntime) -> Result<(), Fail> {
-    let rows: [Row; 46] = [
-        ("[\"servers\",1]", Ok("[\"servers\",1]")),
-        ("[\"servers\",1,1]", Ok("[\"servers\",1,1]")),
-        (
-            " [ \"servers\" , 1 , 65536 ] \r",
-            Ok("[\"servers\",1,65536]"),
-        ),
-        ("[\"servers\",1,0]", Err(NUMBER)),
-        ("[\"servers\",1,65537]", Err(NUMBER)),
-        ("[\"servers\",0]", Err(NUMBER)),
-        ("[\"servers\",2]", Err(NUMBER)),
-        ("[\"servers\",2,0,0]", Err(ARITY)),
-        ("[\"servers\"]", Err(ARITY)),
-        ("[\"servers\",1.0]", Err(NUMBER)),
-        ("[\"servers\",1e0]", Err(NUMBER)),
-        ("[\"servers\",\"1\"]", Err(NUMBER)),
-        ("[\"servers\",null,0]", Err(NUMBER)),
-        ("[\"session\",0,[]]", Ok("[\"session\",0,[]]")),
-        (
-            "[\"session\",31,[\"mw\",\"ryw\",\"mr\",\"ryw\",\"wfr\"]]",
-            Ok("[\"session\",31,[\"ryw\",\"mr\",\"wfr\",\"mw\"]]"),
-        ),
-        ("[\"session\",7,[\"wfr\"]]", Ok("[\"session\",7,[\"wfr\"]]")),
-        ("[\"session\",32,[\"x\"]]", Err(NUMBER)),
-        ("[\"session\",-0,[]]", Err(NUMBER)),
-        ("[\"session\",18446744073709551616,[]]", Err(NUMBER)),
-        ("[\"session\",0,[\"x\"]]", Err(WORD)),
-        ("[\"session\",0,[\"ryw\",1]]", Err(WORD)),
-        ("[\"session\",0,[\"RYW\"]]", Err(WORD)),
-        ("[\"session\",0,\"ryw\"]", Err(FORM)),
-        ("[\"session\",0,{}]", Err(FORM)),
-        ("[\"session\",0]", Err(ARITY)),
-        (
-            "[\"read\",0,7,\"a.b_c-d/9\"]",
-            Ok("[\"read\",0,7,\"a.b_c-d/9\"]"),
-        ),
-        ("[\"read\",0,0,\"\\u0061\"]", Ok("[\"read\",0,0,\"a\"]")),
-        ("[\"read\",0,8,\"a\"]", Err(NUMBER)),
-        ("[\"read\",-1,0,\"A\"]", Err(NUMBER)),
-        ("[\"read\",0,-1,\"A\"]", Err(NUMBER)),
-        ("[\"read\",0,0,\"\"]", Err(LineFault::Key(KeyFault::Empty))),
-        (
-            "[\"read\",0,0,\"abA\"]",
-            Err(LineFault::Key(KeyFault::BadByte(2))),
-        ),
-        (
-            "[\"read\",0,0,\"a\\u0000\"]",
-            Err(LineFault::Key(KeyFault::BadByte(1))),
-        ),
-        (
-            "[\"read\",0,0,\"aaaaaaaaaaaaaaaaaaaaaaaaaaaaaaaa\"]",
-            Ok("[\"read\",0,0,\"aaaaaaaaaaaaaaaaaaaaaaaaaaaaaaaa\"]"),
-        ),
-        (
-            "[\"read\",0,0,\"aaaaaaaaaaaaaaaaaaaaaaaaaaaaaaaaA\"]",
-            Err(LineFault::Key(KeyFault::TooLong)),
-        ),
-        ("[\"read\",0,0,0]", Err(NAME)),
-        ("[\"read\",0,0,\"a\",0]", Err(ARITY)),
-        ("[\"log\",0]", Err(COMMAND)),
-        ("[\"Read\",0,0,\"a\"]", Err(COMMAND)),
-        ("[\"entry\",0]", Err(COMMAND)),
-        ("[\"x\"]", Err(COMMAND)),
-        ("[1]", Err(LINE)),
-        ("[]", Err(LINE)),
-        ("{}", Err(LINE)),
-        ("\"read\"", Err(LINE)),
-        ("null", Err(LINE)),
-    ];
-    assert_eq!(rt; first_wrong(rt.alloc(), &rows)?, None);
+    assert_eq!(rt; first_wrong(rt.alloc(), COMMANDS)?, None);
     Ok(())
 }
 
-#[test]
-fn programs(rt: HostRuntime) -> Result<(), Fail> {
-    let nothing = "[\"write\",0,0,{\"check\":[],\"merge\":[],\"update\":[]}]";
-    let one = "[\"write\",0,0,{\"check\":[],\"merge\":[],\"update\":[[\"put\",\"a\",1]]}]";
-    let rows: [Row; 41] = [
-        ("[\"write\",0,0,{}]", Ok(nothing)),
-        (nothing, Ok(nothing)),
-        (one, Ok(one)),
-        ("[\"write\",0,0,{\"update\":[[\"put\",\"a\",1]]}]", Ok(one)),
-        // of equal members the last stays, and the others need only be JSON
-        (
-            "[\"write\",0,0,{\"update\":0,\"update\":[[\"put\",\"a\",1]]}]",
-            Ok(one),
-        ),
-        (
-            "[\"write\",0,0,{\"update\":[[\"put\",\"a\",1]],\"update\":[]}]",
-            Ok(nothing),
-        ),
-        (
-            "[\"write\",0,0,{\"update\":[[\"put\",\"a\",9223372036854775807],[\"put\",\"a\",-9223372036854775808]]}]",
-            Ok(
-                "[\"write\",0,0,{\"check\":[],\"merge\":[],\"update\":[[\"put\",\"a\",9223372036854775807],[\"put\",\"a\",-9223372036854775808]]}]",
-            ),
-        ),
-        (
-            "[\"write\",0,0,{\"update\":[[\"put\",\"a\",9223372036854775808]]}]",
-            Err(WORTH),
-        ),
-        (
-            "[\"write\",0,0,{\"update\":[[\"put\",\"a\",-9223372036854775809]]}]",
-            Err(WORTH),
-        ),
-        (
-            "[\"write\",0,0,{\"update\":[[\"put\",\"a\",18446744073709551616]]}]",
-            Err(WORTH),
-        ),
-        (
-            "[\"write\",0,0,{\"update\":[[\"put\",\"a\",1.0]]}]",
-            Err(WORTH),
-        ),
-        (
-            "[\"write\",0,0,{\"update\":[[\"put\",\"a\",1e2]]}]",
-            Err(WORTH),
-        ),
-        (
-            "[\"write\",0,0,{\"update\":[[\"put\",\"a\",-0]]}]",
-            Err(WORTH),
-        ),
-        (
-            "[\"write\",0,0,{\"update\":[[\"put\",\"a\",null]]}]",
-            Err(WORTH),
-        ),
-        (
-            "[\"write\",0,0,{\"update\":[[\"put\",\"a\",true]]}]",
-            Err(WORTH),
-        ),
-        (
-            "[\"write\",0,0,{\"update\":[[\"put\",\"a\",{}]]}]",
-            Err(WORTH),
-        ),
-        (
-            "[\"write\",0,0,{\"update\":[[\"put\",\"a\",\"\\u0000\\n\\\"\\/\\u00e9\"]]}]",
-            Ok(
-                "[\"write\",0,0,{\"check\":[],\"merge\":[],\"update\":[[\"put\",\"a\",\"\\u0000\\n\\\"/\u{e9}\"]]}]",
-            ),
-        ),
-        (
-            "[\"write\",0,0,{\"update\":[[\"put\",\"a\",\"aaaaaaaaaaaaaaaaaaaaaaaaaaaaaa\u{e9}\"]]}]",
-            Ok(
-                "[\"write\",0,0,{\"check\":[],\"merge\":[],\"update\":[[\"put\",\"a\",\"aaaaaaaaaaaaaaaaaaaaaaaaaaaaaa\u{e9}\"]]}]",
-            ),
-        ),
-        (
-            "[\"write\",0,0,{\"update\":[[\"put\",\"a\",\"aaaaaaaaaaaaaaaaaaaaaaaaaaaaaaa\u{e9}\"]]}]",
-            Err(WORTH),
-        ),
-        (
-            "[\"write\",0,0,{\"update\":[[\"put\",\"A\",null]]}]",
-            Err(LineFault::Key(KeyFault::BadByte(0))),
-        ),
-        ("[\"write\",0,0,{\"update\":[[\"put\",0,null]]}]", Err(NAME)),
-        ("[\"write\",0,0,{\"update\":[[\"put\",0]]}]", Err(ARITY)),
-        (
-            "[\"write\",0,0,{\"update\":[[\"put\",\"a\",1,1]]}]",
-            Err(ARITY),
-        ),
-        ("[\"write\",0,0,{\"update\":[[\"set\",\"a\"]]}]", Err(WORD)),
-        ("[\"write\",0,0,{\"update\":[[\"del\",\"A\"]]}]", Err(FORM)),
-        (
-            "[\"write\",0,0,{\"update\":[[\"put\",\"a\",[\"copy\",\"b\"]]]}]",
-            Err(FORM),
-        ),
-        (
-            "[\"write\",0,0,{\"update\":[[\"put\",\"a\",[\"plus\",\"b\",1]]]}]",
-            Err(FORM),
-        ),
-        (
-            "[\"write\",0,0,{\"update\":[[\"put\",\"a\",[\"x\"]]]}]",
-            Err(WORD),
-        ),
-        (
-            "[\"write\",0,0,{\"update\":[[\"put\",\"a\",[]]]}]",
-            Err(FORM),
-        ),
-        ("[\"write\",0,0,{\"update\":[[]]}]", Err(FORM)),
-        ("[\"write\",0,0,{\"update\":[1]}]", Err(FORM)),
-        ("[\"write\",0,0,{\"update\":{}}]", Err(FORM)),
-        ("[\"write\",0,0,{\"update\":null}]", Err(FORM)),
-        (
-            "[\"write\",0,0,{\"update\":[0,0,0,0,0,0,0,0,0]}]",
-            Err(LineFault::Program(ProgramFault::TooManyOps)),
-        ),
-        ("[\"write\",0,0,{\"update\":[0,0,0,0,0,0,0,0]}]", Err(FORM)),
-        (
-            "[\"write\",0,0,{\"update\":[[\"del\",\"A\"]],\"check\":[[\"absent\",1]]}]",
-            Err(FORM),
-        ),
-        (
-            "[\"write\",0,0,{\"update\":[[\"put\",\"A\",1]],\"merge\":[{}]}]",
-            Err(LineFault::Key(KeyFault::BadByte(0))),
-        ),
-        (
-            "[\"write\",0,0,{\"update\":[[\"put\",\"A\",1]],\"x\":1}]",
-            Err(FORM),
-        ),
-        ("[\"write\",0,0,[]]", Err(FORM)),
-        ("[\"write\",0]", Err(ARITY)),
-        ("[\"write\",0,8,[]]", Err(NUMBER)),
-    ];
-    assert_eq!(rt; first_wrong(rt.alloc(), &rows)?, None);
-    Ok(())
-}
+/// Texts that are no JSON.
+const NO_JSON: &[Row] = &[
+    ("", Err(LineFault::NotJson)),
+    (" ", Err(LineFault::NotJson)),
+    ("\r", Err(LineFault::NotJson)),
+    ("\u{feff}[\"servers\",1]", Err(LineFault::NotJson)),
+    (r#"["servers",1"#, Err(LineFault::NotJson)),
+    (r#"["servers",1]]"#, Err(LineFault::NotJson)),
+    (r#"["servers",1,]"#, Err(LineFault::NotJson)),
+    (r#"["servers",01]"#, Err(LineFault::NotJson)),
+    (r#"["servers",1e999]"#, Err(LineFault::NotJson)),
+    (r#"["read",0,0,"\ud800"]"#, Err(LineFault::NotJson)),
+    (r#"["read",0,0,"\udc00\ud800"]"#, Err(LineFault::NotJson)),
+    ("[\"read\",0,0,\"a\tb\"]", Err(LineFault::NotJson)),
+    (
+        r#"["write",0,0,{"x":"\ud800","x":1}]"#,
+        Err(LineFault::NotJson),
+    ),
+    ("['servers',1]", Err(LineFault::NotJson)),
+];
 
 #[test]
 fn texts_that_are_no_json(rt: HostRuntime) -> Result<(), Fail> {
-    let rows: [Row; 14] = [
-        ("", Err(LineFault::NotJson)),
-        (" ", Err(LineFault::NotJson)),
-        ("\r", Err(LineFault::NotJson)),
-        ("\u{feff}[\"servers\",1]", Err(LineFault::NotJson)),
-        ("[\"servers\",1", Err(LineFault::NotJson)),
-        ("[\"servers\",1]]", Err(LineFault::NotJson)),
-        ("[\"servers\",1,]", Err(LineFault::NotJson)),
-        ("[\"servers\",01]", Err(LineFault::NotJson)),
-        ("[\"servers\",1e999]", Err(LineFault::NotJson)),
-        ("[\"read\",0,0,\"\\ud800\"]", Err(LineFault::NotJson)),
-        ("[\"read\",0,0,\"\\udc00\\ud800\"]", Err(LineFault::NotJson)),
-        ("[\"read\",0,0,\"a\tb\"]", Err(LineFault::NotJson)),
-        (
-            "[\"write\",0,0,{\"x\":\"\\ud800\",\"x\":1}]",
-            Err(LineFault::NotJson),
-        ),
-        ("['servers',1]", Err(LineFault::NotJson)),
-    ];
-    assert_eq!(rt; first_wrong(rt.alloc(), &rows)?, None);
+    assert_eq!(rt; first_wrong(rt.alloc(), NO_JSON)?, None);
     let holds = agrees(
         rt.alloc(),
         b"[\"read\",0,0,\"\xff\"]",
@@ -291,7 +188,7 @@ fn texts_that_are_no_json(rt: HostRuntime) -> Result<(), Fail> {
 
 /// A line that nests this deep, behind its command.
 fn nested(alloc: Global, depth: usize) -> Result<Vec<u8>, AllocError> {
-    let mut bytes = Vec::from_slice(alloc, b"[\"session\",0,")?;
+    let mut bytes = Vec::from_slice(alloc, br#"["session",0,"#)?;
     for _ in 1..depth {
         bytes.push(b'[')?;
     }
@@ -313,7 +210,7 @@ fn depths(rt: HostRuntime) -> Result<(), Fail> {
 
 /// `["servers",1]` and spaces behind it: so many bytes, which are at least 13.
 fn padded(alloc: Global, len: usize) -> Result<Vec<u8>, AllocError> {
-    let mut bytes = Vec::from_slice(alloc, b"[\"servers\",1]")?;
+    let mut bytes = Vec::from_slice(alloc, br#"["servers",1]"#)?;
     for _ in 13..len {
         bytes.push(b' ')?;
     }
@@ -323,7 +220,7 @@ fn padded(alloc: Global, len: usize) -> Result<Vec<u8>, AllocError> {
 #[test]
 fn lengths(rt: HostRuntime) -> Result<(), Fail> {
     let longest = padded(rt.alloc(), MAX_LINE_BYTES)?;
-    let holds = agrees(rt.alloc(), &longest, Ok("[\"servers\",1]"))?;
+    let holds = agrees(rt.alloc(), &longest, Ok(r#"["servers",1]"#))?;
     assert!(rt; holds);
     let mut longer = padded(rt.alloc(), MAX_LINE_BYTES + 1)?;
     let holds = agrees(rt.alloc(), &longer, Err(LINE))?;

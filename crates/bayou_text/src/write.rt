@@ -56,5 +56,6 @@ fn line_json(alloc: Global, line: &Line) -> Result<Value, AllocError>
             server,
             key,
         } => json!(in alloc; ["read", session.index, server.index, key.as_str()]),
+        Line::Log { server } => json!(in alloc; ["log", server.index]),
     }
 }

@@ -56,3 +56,10 @@ pub(crate) fn server_in(json: &Value) -> Result<ServerId, LineFault>
     };
     Ok(server)
 }
+
+/// An integer of `i64`.
+pub(crate) fn integer_in(json: &Value) -> Result<i64, LineFault>
+    ensures { result ≡ grammar.integer_in (view json.now) }
+{
+    json.as_i64().ok_or(LineFault::BadShape(Shape::Number))
+}

@@ -1,71 +1,65 @@
-ghost use Rattle.std.specs.Prelude.{◌≡◌, ◌≤◌, map, length};
+ghost use Rattle.std.specs.Prelude.{◌≡◌, map};
 ghost use Rattle.std.specs.List.{list_all};
+ghost use Rattle.serde_json.specs.Data.{Data};
 ghost use Rattle.serde_json.specs.View.{view, members_view};
-ghost use Rattle.bayou_text.specs.Reading.{Answers, all_in, names};
+ghost use Rattle.bayou_text.specs.Parts as parts;
 ghost use Rattle.bayou_text.specs.Programs as grammar;
-ghost use Rattle.bayou_base.specs.declared.limits.TheConstants.{MAX_OPS};
+ghost use Rattle.bayou_text.specs.Reading.{Answers, Reads, names};
 
 use crate::line::{LineFault, Shape};
-use crate::read::value::{key_in, value_in, worded};
+use crate::read::part::{cond_in, op_in};
 use arrayvec::ArrayVec;
-use bayou_base::MAX_OPS;
-use bayou_lang::{Op, Program, ProgramFault, Term};
+use bayou_base::{MAX_ALTERNATIVES, MAX_CONDITIONS, MAX_OPS};
+use bayou_lang::{Alt, Cond, Op, Program, ProgramFault};
 use serde_json::{Map, Value};
 
-/// A term that isn't an array is a value.
-#[tactic(auto, unfolding(crate::specs::Programs::term_in))]
-fn term_in(json: &Value) -> Result<Term, LineFault>
-    ensures { result ≡ grammar.term_in (view json.now) }
-{
-    if json.as_array().is_none() {
-        return Ok(Term::Lit(value_in(json)?));
-    }
-    let Some((word, _)) = worded(json) else {
-        return Err(LineFault::BadShape(Shape::Form));
-    };
-    if word == "copy" || word == "plus" {
-        return Err(LineFault::BadShape(Shape::Form));
-    }
-    Err(LineFault::BadShape(Shape::Word))
+/// What stands in the lists of a program.
+trait Part: Default + Drop {
+    ghost reads: { Data → Reads Self };
+
+    fn part_in(json: &Value) -> Result<Self, LineFault>
+        ensures { result ≡ reads (view json.now) };
 }
 
-#[tactic(auto, unfolding(crate::specs::Programs::put_in))]
-fn put_in(parts: &[Value]) -> Result<Op, LineFault>
-    ensures { result ≡ grammar.put_in (map view parts.now) }
-{
-    let [key, term] = parts else {
-        return Err(LineFault::BadShape(Shape::Arity));
-    };
-    Ok(Op::Put(key_in(key)?, term_in(term)?))
+impl Part for Cond {
+    ghost reads = { parts.cond_in };
+
+    fn part_in(json: &Value) -> Result<Self, LineFault> {
+        cond_in(json)
+    }
 }
 
-#[tactic(auto, unfolding(crate::specs::Programs::op_in))]
-fn op_in(json: &Value) -> Result<Op, LineFault>
-    ensures { result ≡ grammar.op_in (view json.now) }
-{
-    let Some((word, parts)) = worded(json) else {
-        return Err(LineFault::BadShape(Shape::Form));
-    };
-    if word == "put" {
-        return put_in(parts);
+impl Part for Op {
+    ghost reads = { parts.op_in };
+
+    fn part_in(json: &Value) -> Result<Self, LineFault> {
+        op_in(json)
     }
-    if word == "del" {
-        return Err(LineFault::BadShape(Shape::Form));
-    }
-    Err(LineFault::BadShape(Shape::Word))
 }
 
-fn ops_in(list: &[Value]) -> Result<ArrayVec<Op, MAX_OPS>, LineFault>
-    ensures { Answers (λ ops. ops.items) result (grammar.ops_in (map view list.now)) }
-{
-    if list.len() > MAX_OPS {
-        return Err(LineFault::Program(ProgramFault::TooManyOps));
+impl Part for Alt {
+    ghost reads = { grammar.alt_in };
+
+    fn part_in(json: &Value) -> Result<Self, LineFault> {
+        alt_in(json)
     }
-    let mut ops = ArrayVec::new();
+}
+
+/// The members of a list, or this fault where there are too many.
+fn few_in<T: Part, const MOST: usize>(
+    list: &[Value],
+    many: ProgramFault,
+) -> Result<ArrayVec<T, MOST>, LineFault>
+    ensures { Answers (λ few. few.items) result (grammar.few_in MOST many T.reads (map view list.now)) }
+{
+    if list.len() > MOST {
+        return Err(LineFault::Program(many));
+    }
+    let mut few = ArrayVec::new();
     for json in list {
-        ops.push(op_in(json)?);
+        few.push(T::part_in(json)?);
     }
-    Ok(ops)
+    Ok(few)
 }
 
 /// The list that is the member of this name: the empty one where there is no such member.
@@ -82,10 +76,41 @@ fn list_of<'v>(json: &'v Value, name: &str) -> Result<&'v [Value], LineFault>
     }
 }
 
+fn conds_in(json: &Value, name: &str) -> Result<ArrayVec<Cond, MAX_CONDITIONS>, LineFault>
+    ensures { Answers (λ conditions. conditions.items) result (grammar.conds_in name.now (view json.now)) }
+{
+    few_in(list_of(json, name)?, ProgramFault::TooManyConds)
+}
+
+fn ops_in(json: &Value, name: &str) -> Result<ArrayVec<Op, MAX_OPS>, LineFault>
+    ensures { Answers (λ ops. ops.items) result (grammar.ops_in name.now (view json.now)) }
+{
+    few_in(list_of(json, name)?, ProgramFault::TooManyOps)
+}
+
+fn alts_in(json: &Value, name: &str) -> Result<ArrayVec<Alt, MAX_ALTERNATIVES>, LineFault>
+    ensures { Answers (λ alternatives. alternatives.items) result (grammar.alts_in name.now (view json.now)) }
+{
+    few_in(list_of(json, name)?, ProgramFault::TooManyAlts)
+}
+
+fn is_alt_name(name: &str) -> bool
+    ensures { result ≡ grammar.is_alt_name name.now }
+{
+    name == "ops" || name == "when"
+}
+
 fn is_member_name(name: &str) -> bool
     ensures { result ≡ grammar.is_member_name name.now }
 {
     name == "check" || name == "merge" || name == "update"
+}
+
+/// Whether every member has a name that an alternative's members have.
+fn are_of_alt(members: &Map<String, Value>) -> bool
+    ensures { result ≡ list_all grammar.is_alt_name (names (members_view members.now.entries)) }
+{
+    members.keys().all(|name| is_alt_name(name.as_str()))
 }
 
 /// Whether every member has a name that a program's members have.
@@ -95,25 +120,20 @@ fn are_known(members: &Map<String, Value>) -> bool
     members.keys().all(|name| is_member_name(name.as_str()))
 }
 
-/// The list of this name may be there, and is empty.
-fn no_list(json: &Value, name: &str) -> Result<(), LineFault>
-    ensures { result ≡ grammar.no_list name.now (view json.now) }
+#[tactic(auto, unfolding(crate::specs::Programs::alt_in))]
+fn alt_in(json: &Value) -> Result<Alt, LineFault>
+    ensures { result ≡ grammar.alt_in (view json.now) }
 {
-    if list_of(json, name)?.is_empty() {
-        Ok(())
-    } else {
-        Err(LineFault::BadShape(Shape::Form))
-    }
-}
-
-fn update_of(update: &[Op]) -> Program
-    requires { length update.now ≤ MAX_OPS }
-    ensures { result ≡ grammar.update_of update.now }
-{
-    let Ok(program) = Program::new(&[], update, &[]) else {
-        unreachable!();
+    let Some(members) = json.as_object() else {
+        return Err(LineFault::BadShape(Shape::Form));
     };
-    program
+    if !are_of_alt(members) {
+        return Err(LineFault::BadShape(Shape::Form));
+    }
+    Ok(Alt {
+        when: conds_in(json, "when")?,
+        ops: ops_in(json, "ops")?,
+    })
 }
 
 #[tactic(auto, unfolding(crate::specs::Programs::program_in))]
@@ -126,8 +146,9 @@ pub(crate) fn program_in(json: &Value) -> Result<Program, LineFault>
     if !are_known(members) {
         return Err(LineFault::BadShape(Shape::Form));
     }
-    no_list(json, "check")?;
-    let update = ops_in(list_of(json, "update")?)?;
-    no_list(json, "merge")?;
-    Ok(update_of(&update))
+    Ok(Program {
+        check: conds_in(json, "check")?,
+        update: ops_in(json, "update")?,
+        merge: alts_in(json, "merge")?,
+    })
 }
