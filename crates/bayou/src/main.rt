@@ -1,7 +1,7 @@
 //! The program `bayou`: its real words and streams, and nothing else.
 #![tactic(auto)]
 
-use bayou_shell::{refuse_words, run_main};
+use bayou_shell::{Input, Output, refuse_words, run_main};
 use std::process::ExitCode;
 use std::{env, io};
 
@@ -10,13 +10,13 @@ fn words_of(rt: &HostRuntime) -> io::Result<Vec<String>> {
 }
 
 fn main(rt: HostRuntime) -> ExitCode {
-    let mut errors = rt.stderr();
+    let mut errors = Output::new(rt.stderr());
     let status = match words_of(&rt) {
         Ok(words) => run_main(
             rt.alloc(),
             words.as_slice(),
-            &mut rt.stdin(),
-            &mut rt.stdout(),
+            &mut Input::new(rt.stdin()),
+            &mut Output::new(rt.stdout()),
             &mut errors,
         ),
         Err(error) => refuse_words(&mut errors, &error),

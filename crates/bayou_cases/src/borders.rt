@@ -12,6 +12,7 @@ enum Told {
     Nothing,
     BadShape,
     BadKey,
+    BadProgram,
     NotJson,
     OutOfPlace,
 }
@@ -22,6 +23,7 @@ impl Told {
             Told::Nothing => "",
             Told::BadShape => "bayou: line 3: bad shape\n",
             Told::BadKey => "bayou: line 3: bad key\n",
+            Told::BadProgram => "bayou: line 3: bad program\n",
             Told::NotJson => "bayou: line 3: not JSON\n",
             Told::OutOfPlace => "bayou: line 3: out of place\n",
         }
@@ -29,7 +31,7 @@ impl Told {
 }
 
 /// Lines, and what each is told in the third place.
-static LINES: [(&str, Told); 30] = [
+static LINES: [(&str, Told); 37] = [
     // Numbers of sessions and servers.
     (r#"["session",31,[]]"#, Told::Nothing),
     (r#"["session",32,[]]"#, Told::BadShape),
@@ -42,6 +44,8 @@ static LINES: [(&str, Told); 30] = [
     (r#"["servers",1,0]"#, Told::BadShape),
     (r#"["servers",1,65536]"#, Told::OutOfPlace),
     (r#"["servers",1,65537]"#, Told::BadShape),
+    (r#"["log",7]"#, Told::OutOfPlace),
+    (r#"["log",8]"#, Told::BadShape),
     // Values.
     (
         r#"["write",0,0,{"update":[["put","a",9223372036854775808]]}]"#,
@@ -91,6 +95,20 @@ static LINES: [(&str, Told); 30] = [
         r#"["write",0,0,{"update":[["put","a",1]],"more":[]}]"#,
         Told::BadShape,
     ),
+    (r#"["log"]"#, Told::BadShape),
+    (r#"["write",0,0,{"merge":[{},{},{},{}]}]"#, Told::Nothing),
+    (
+        r#"["write",0,0,{"merge":[{},{},{},{},{}]}]"#,
+        Told::BadProgram,
+    ),
+    (
+        r#"["write",0,0,{"check":[0,0,0,0,0,0,0,0]}]"#,
+        Told::BadShape,
+    ),
+    (
+        r#"["write",0,0,{"check":[0,0,0,0,0,0,0,0,0]}]"#,
+        Told::BadProgram,
+    ),
     ("  ", Told::NotJson),
     (r#"["read",0,0,"x"],"#, Told::NotJson),
     (r#"null"#, Told::BadShape),
@@ -100,7 +118,7 @@ static LINES: [(&str, Told); 30] = [
 fn lines_at_their_borders(rt: HostRuntime) -> Result<(), Fail> {
     for (line, told) in LINES.iter() {
         let script = joined(rt.alloc(), &[BEGIN.as_bytes(), line.as_bytes()])?;
-        let given = run(rt.alloc(), script.as_slice());
+        let given = run(rt.alloc(), script.as_slice())?;
         let status = if *told == Told::Nothing { 0 } else { 2 };
         assert!(rt;
             given.errors.as_slice() == told.line().as_bytes(),
@@ -127,17 +145,17 @@ fn read_of_byte(alloc: Global, byte: u8) -> Result<Vec<u8>, AllocError> {
 fn bytes_of_keys(rt: HostRuntime) -> Result<(), Fail> {
     // The bytes beside each range of the alphabet, and some others of ASCII that JSON lets stand for themselves.
     for byte in b" !#*+,:;@AZ[]^`{|}~" {
-        let given = run(rt.alloc(), read_of_byte(rt.alloc(), *byte)?.as_slice());
+        let given = run(rt.alloc(), read_of_byte(rt.alloc(), *byte)?.as_slice())?;
         assert!(rt;
             given.errors.as_slice() == b"bayou: line 3: bad key\n".as_slice(),
             "the byte {byte}"
         );
     }
     for byte in b"-./09_az" {
-        let given = run(rt.alloc(), read_of_byte(rt.alloc(), *byte)?.as_slice());
+        let given = run(rt.alloc(), read_of_byte(rt.alloc(), *byte)?.as_slice())?;
         assert_eq!(rt; given.status, 0, "the byte {byte}");
     }
-    let given = run(rt.alloc(), read_of_byte(rt.alloc(), 0xff)?.as_slice());
+    let given = run(rt.alloc(), read_of_byte(rt.alloc(), 0xff)?.as_slice())?;
     assert!(rt; given.errors.as_slice() == b"bayou: line 3: not JSON\n".as_slice());
     Ok(())
 }
@@ -152,7 +170,7 @@ fn run_filled(
 ) -> Result<Given, AllocError> {
     let filling = repeated(alloc, byte, count)?;
     let script = joined(alloc, &[before, filling.as_slice(), after])?;
-    Ok(run(alloc, script.as_slice()))
+    run(alloc, script.as_slice())
 }
 
 const SESSION: &[u8] = b"[\"session\",0,[]]";

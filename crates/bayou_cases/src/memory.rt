@@ -1,4 +1,4 @@
-use bayou_shell::run_main;
+use bayou_shell::{Input, Output, run_main};
 use std::alloc::{AllocError, Global};
 
 /// What a call of the program gave.
@@ -9,21 +9,33 @@ pub struct Given {
     pub status: u8,
 }
 
+/// No bytes, with room for more than a call of these tests writes: so any want of memory in the call is the program's
+/// own.
+pub fn roomy(alloc: Global) -> Result<Vec<u8>, AllocError> {
+    Vec::with_capacity(alloc, 4096)
+}
+
 /// Calls the program with these words over this input.
-pub fn call(alloc: Global, words: &[&str], input: &[u8]) -> Given {
-    let mut output = Vec::new(alloc);
-    let mut errors = Vec::new(alloc);
+pub fn call(alloc: Global, words: &[&str], input: &[u8]) -> Result<Given, AllocError> {
+    let mut output = roomy(alloc)?;
+    let mut errors = roomy(alloc)?;
     let mut reader = input;
-    let status = run_main(alloc, words, &mut reader, &mut output, &mut errors);
-    Given {
+    let status = run_main(
+        alloc,
+        words,
+        &mut Input::new(&mut reader),
+        &mut Output::new(&mut output),
+        &mut Output::new(&mut errors),
+    );
+    Ok(Given {
         output,
         errors,
         status,
-    }
+    })
 }
 
 /// Runs a script.
-pub fn run(alloc: Global, script: &[u8]) -> Given {
+pub fn run(alloc: Global, script: &[u8]) -> Result<Given, AllocError> {
     call(alloc, &["bayou", "run"], script)
 }
 

@@ -1,5 +1,7 @@
 //! The worked scripts: what each prints, what fault it tells, and its exit status.
-use crate::memory::run;
+use crate::memory::{Given, run};
+use std::str;
+use std::test::Fail;
 
 struct Case {
     name: &'static str,
@@ -9,7 +11,7 @@ struct Case {
     status: u8,
 }
 
-static CASES: [Case; 25] = [
+static CASES: [Case; 32] = [
     Case {
         name: "a Write is read again (examples/first.jsonl)",
         script: r#"["servers",1,100]
@@ -196,7 +198,7 @@ static CASES: [Case; 25] = [
     },
     Case {
         name: "a command that there isn't yet",
-        script: "[\"servers\",1]\n[\"log\",0]\n",
+        script: "[\"servers\",1]\n[\"totals\"]\n",
         output: "",
         fault: "bayou: line 2: bad shape\n",
         status: 2,
@@ -231,18 +233,134 @@ static CASES: [Case; 25] = [
 ["write",1,0,{"update":[["put","a","x"]]}]
 ["write",0,0,{"update":[["put","a",3]]}]
 ["read",1,0,"a"]
+["log",0]
 "#,
-        output: "0 wrote 0:1 clock 1 deps 0\n1 wrote 0:2 clock 2 deps 1\n0 refused full\n1 read a text \"x\" at 2\n",
+        output: "0 wrote 0:1 clock 1 deps 0\n1 wrote 0:2 clock 2 deps 1\n0 refused full\n1 read a text \"x\" at 2\nlog 0 0:1 clock 1 updated\nlog 0 0:2 clock 2 updated\nlog 0 at 2\n",
         fault: "",
         status: 0,
     },
+    Case {
+        name: "a sum above the greatest number has no value",
+        script: r#"["servers",1,100]
+["session",0,[]]
+["write",0,0,{"update":[["put","n",9223372036854775807]]}]
+["write",0,0,{"update":[["put","n",["plus","n",1]]]}]
+["log",0]
+"#,
+        output: "0 wrote 0:1 clock 1 deps 0\n0 wrote 0:2 clock 2 deps 1\nlog 0 0:1 clock 1 updated\nlog 0 0:2 clock 2 nothing\nlog 0 at 2\n",
+        fault: "",
+        status: 0,
+    },
+    Case {
+        name: "a program that does nothing",
+        script: r#"["servers",1,100]
+["session",0,[]]
+["write",0,0,{}]
+["log",0]
+"#,
+        output: "0 wrote 0:1 clock 1 deps 0\nlog 0 0:1 clock 1 updated\nlog 0 at 1\n",
+        fault: "",
+        status: 0,
+    },
+    Case {
+        name: "rooms and a waiting list (examples/booking.jsonl)",
+        script: r#"["servers",1,100]
+["session",0,[]]
+["session",1,[]]
+["write",0,0,{"check":[["absent","room/9"]],"update":[["put","room/9","ann"]],"merge":[{"when":[["absent","room/10"]],"ops":[["put","room/10","ann"]]},{"ops":[["put","waiting",["plus","waiting",1]]]}]}]
+["write",1,0,{"check":[["absent","room/9"]],"update":[["put","room/9","ben"]],"merge":[{"when":[["absent","room/10"]],"ops":[["put","room/10","ben"]]},{"ops":[["put","waiting",["plus","waiting",1]]]}]}]
+["write",0,0,{"check":[["absent","room/9"]],"update":[["put","room/9","ann"]],"merge":[{"when":[["absent","room/10"]],"ops":[["put","room/10","ann"]]},{"ops":[["put","waiting",["plus","waiting",1]]]}]}]
+["write",1,0,{"update":[["put","waiting",0]]}]
+["write",0,0,{"check":[["absent","room/9"]],"update":[["put","room/9","ann"]],"merge":[{"when":[["absent","room/10"]],"ops":[["put","room/10","ann"]]},{"ops":[["put","waiting",["plus","waiting",1]]]}]}]
+["write",0,0,{"check":[["equals","room/9","ann"],["absent","room/11"]],"update":[["put","room/11",["copy","room/9"]],["del","room/9"]]}]
+["read",0,0,"room/9"]
+["read",1,0,"room/10"]
+["read",0,0,"room/11"]
+["read",1,0,"waiting"]
+["log",0]
+"#,
+        output: "0 wrote 0:1 clock 1 deps 0\n1 wrote 0:2 clock 2 deps 1\n0 wrote 0:3 clock 3 deps 2\n1 wrote 0:4 clock 4 deps 3\n0 wrote 0:5 clock 5 deps 4\n0 wrote 0:6 clock 6 deps 5\n0 read room/9 none at 6\n1 read room/10 text \"ben\" at 6\n0 read room/11 text \"ann\" at 6\n1 read waiting num 1 at 6\nlog 0 0:1 clock 1 updated\nlog 0 0:2 clock 2 merged 0\nlog 0 0:3 clock 3 nothing\nlog 0 0:4 clock 4 updated\nlog 0 0:5 clock 5 merged 1\nlog 0 0:6 clock 6 updated\nlog 0 at 6\n",
+        fault: "",
+        status: 0,
+    },
+    Case {
+        name: "numbers, texts that look like them, and updates of which nothing stays",
+        script: r#"["servers",1,100]
+["session",0,[]]
+["write",0,0,{"update":[["put","seats",2],["put","label","2"]]}]
+["read",0,0,"label"]
+["write",0,0,{"check":[["equals","seats","2"]],"merge":[{"when":[["atleast","label",2]],"ops":[["del","seats"]]},{"when":[["atleast","seats",2],["equals","label","2"]],"ops":[["put","seats",["plus","seats",-1]],["put","label",["copy","seats"]],["del","absent"]]}]}]
+["write",0,0,{"check":[["atleast","seats",2]],"merge":[{"ops":[["put","seats",9],["put","x",["copy","absent"]]]},{"ops":[["del","label"]]}]}]
+["write",0,0,{"check":[["absent","label"]],"update":[["put","seats","1"],["put","seats",["plus","seats",1]]],"merge":[{"ops":[["put","seats",9]]}]}]
+["read",0,0,"seats"]
+["read",0,0,"label"]
+["log",0]
+"#,
+        output: "0 wrote 0:1 clock 1 deps 0\n0 read label text \"2\" at 1\n0 wrote 0:2 clock 2 deps 1\n0 wrote 0:3 clock 3 deps 2\n0 wrote 0:4 clock 4 deps 3\n0 read seats num 1 at 4\n0 read label none at 4\nlog 0 0:1 clock 1 updated\nlog 0 0:2 clock 2 merged 1\nlog 0 0:3 clock 3 merged 1\nlog 0 0:4 clock 4 nothing\nlog 0 at 4\n",
+        fault: "",
+        status: 0,
+    },
+    Case {
+        name: "the log of a server that holds nothing",
+        script: "[\"servers\",1]\n[\"log\",0]\n",
+        output: "log 0 at 0\n",
+        fault: "",
+        status: 0,
+    },
+    Case {
+        name: "the log of a server that wasn't started",
+        script: "[\"servers\",1]\n[\"log\",0]\n[\"log\",1]\n",
+        output: "",
+        fault: "bayou: line 3: out of place\n",
+        status: 2,
+    },
+    Case {
+        name: "a log before the servers",
+        script: "[\"log\",0]\n[\"servers\",1]\n",
+        output: "",
+        fault: "bayou: line 1: out of place\n",
+        status: 2,
+    },
 ];
 
+impl Case {
+    /// Whether it was given what it is with memory enough.
+    fn is_whole(&self, given: &Given) -> bool {
+        given.output.as_slice() == self.output.as_bytes()
+            && given.errors.as_slice() == self.fault.as_bytes()
+            && given.status == self.status
+    }
+
+    /// Whether it ended for want of memory, behind a front of what it prints.
+    fn has_ended(&self, given: &Given) -> bool {
+        self.output.as_bytes().starts_with(given.output.as_slice())
+            && given.errors.as_slice() == b"bayou: memory\n".as_slice()
+            && given.status == 3
+    }
+
+    /// Whether it ran to its end with one Write refused for want of memory, which is accepted with memory enough.
+    fn has_refused(&self, given: &Given) -> bool {
+        let Ok(output) = str::from_utf8(given.output.as_slice()) else {
+            return false;
+        };
+        let Some((front, rest)) = output.split_once(" refused memory\n") else {
+            return false;
+        };
+        let Some(instead) = self.output.strip_prefix(front) else {
+            return false;
+        };
+        instead.starts_with(" wrote ")
+            && !rest.contains("memory")
+            && given.errors.is_empty()
+            && given.status == 0
+    }
+}
+
 #[test]
-fn worked_scripts(rt: HostRuntime) {
+fn worked_scripts(rt: HostRuntime) -> Result<(), Fail> {
     for case in CASES.iter() {
         let name = case.name;
-        let given = run(rt.alloc(), case.script.as_bytes());
+        let given = run(rt.alloc(), case.script.as_bytes())?;
         assert!(rt;
             given.output.as_slice() == case.output.as_bytes(),
             "the output of: {name}"
@@ -253,4 +371,20 @@ fn worked_scripts(rt: HostRuntime) {
         );
         assert_eq!(rt; given.status, case.status, "the status of: {name}");
     }
+    Ok(())
+}
+
+/// This is for runs in which any one allocation is refused: each script is answered as ever, or ends for want of memory,
+/// or has a Write refused for it.
+#[test]
+fn want_of_memory_over_the_worked_scripts(rt: HostRuntime) -> Result<(), Fail> {
+    for case in CASES.iter() {
+        let name = case.name;
+        let given = run(rt.alloc(), case.script.as_bytes())?;
+        assert!(rt;
+            case.is_whole(&given) || case.has_ended(&given) || case.has_refused(&given),
+            "the end of: {name}"
+        );
+    }
+    Ok(())
 }

@@ -1,6 +1,7 @@
 //! The program over readers and writers that are slow, fail, or never end.
 use crate::fakes::{BusyWriter, EndlessReader, FullWriter, SlowReader, SlowWriter};
-use bayou_shell::run_main;
+use crate::memory::roomy;
+use bayou_shell::{Input, Output, run_main};
 use std::test::Fail;
 
 const SCRIPT: &str =
@@ -21,14 +22,14 @@ fn readers(rt: HostRuntime) -> Result<(), Fail> {
             turn: 0,
             fails_at,
         };
-        let mut output = Vec::new(alloc);
-        let mut errors = Vec::new(alloc);
+        let mut output = roomy(alloc)?;
+        let mut errors = roomy(alloc)?;
         let status = run_main(
             alloc,
             &["bayou", "run"],
-            &mut reader,
-            &mut output,
-            &mut errors,
+            &mut Input::new(&mut reader),
+            &mut Output::new(&mut output),
+            &mut Output::new(&mut errors),
         );
         if fails_at == NEVER {
             assert!(rt; output.as_slice() == PRINTED.as_bytes());
@@ -52,17 +53,17 @@ fn writers(rt: HostRuntime) -> Result<(), Fail> {
     for fails_at in 0..turns + 1 {
         let mut reader = SCRIPT.as_bytes();
         let mut writer = SlowWriter {
-            bytes: Vec::new(alloc),
+            bytes: roomy(alloc)?,
             turn: 0,
             fails_at,
         };
-        let mut errors = Vec::new(alloc);
+        let mut errors = roomy(alloc)?;
         let status = run_main(
             alloc,
             &["bayou", "run"],
-            &mut reader,
-            &mut writer,
-            &mut errors,
+            &mut Input::new(&mut reader),
+            &mut Output::new(&mut writer),
+            &mut Output::new(&mut errors),
         );
         if fails_at == NEVER {
             assert!(rt; writer.bytes.as_slice() == PRINTED.as_bytes());
@@ -83,29 +84,47 @@ fn writers(rt: HostRuntime) -> Result<(), Fail> {
 #[test]
 fn endless(rt: HostRuntime) -> Result<(), Fail> {
     let alloc = rt.alloc();
-    let mut output = Vec::new(alloc);
-    let mut errors = Vec::new(alloc);
+    let mut output = roomy(alloc)?;
+    let mut errors = roomy(alloc)?;
     let words = ["bayou", "run"];
-    let status = run_main(alloc, &words, &mut EndlessReader, &mut output, &mut errors);
+    let status = run_main(
+        alloc,
+        &words,
+        &mut Input::new(&mut EndlessReader),
+        &mut Output::new(&mut output),
+        &mut Output::new(&mut errors),
+    );
     assert!(rt; errors.as_slice() == b"bayou: input\n".as_slice());
     assert_eq!(rt; (status, output.len()), (3, 0));
-    let mut errors = Vec::new(alloc);
+    let mut errors = roomy(alloc)?;
     let mut reader = SCRIPT.as_bytes();
-    let status = run_main(alloc, &words, &mut reader, &mut BusyWriter, &mut errors);
+    let status = run_main(
+        alloc,
+        &words,
+        &mut Input::new(&mut reader),
+        &mut Output::new(&mut BusyWriter),
+        &mut Output::new(&mut errors),
+    );
     assert!(rt; errors.as_slice() == b"bayou: output\n".as_slice());
     assert_eq!(rt; status, 3);
-    let mut errors = Vec::new(alloc);
+    let mut errors = roomy(alloc)?;
     let mut reader = SCRIPT.as_bytes();
-    let status = run_main(alloc, &words, &mut reader, &mut FullWriter, &mut errors);
+    let status = run_main(
+        alloc,
+        &words,
+        &mut Input::new(&mut reader),
+        &mut Output::new(&mut FullWriter),
+        &mut Output::new(&mut errors),
+    );
     assert!(rt; errors.as_slice() == b"bayou: output\n".as_slice());
     assert_eq!(rt; status, 3);
     // Where the fault can't be told either, the status tells it.
     let status = run_main(
         alloc,
         &words,
-        &mut EndlessReader,
-        &mut FullWriter,
-        &mut FullWriter,
+        &mut Input::new(&mut EndlessReader),
+        &mut Output::new(&mut FullWriter),
+        &mut Output::new(&mut FullWriter),
     );
     assert_eq!(rt; status, 3);
     Ok(())

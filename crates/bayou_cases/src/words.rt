@@ -12,13 +12,13 @@ fn has(text: &[u8], part: &str) -> bool {
 
 #[test]
 fn asked(rt: HostRuntime) -> Result<(), Fail> {
-    let given = call(rt.alloc(), &["bayou", "--help"], b"");
+    let given = call(rt.alloc(), &["bayou", "--help"], b"")?;
     assert!(rt; has(given.output.as_slice(), "bayou run < FILE"));
     assert!(rt; given.errors.is_empty() && given.status == 0);
-    let given = call(rt.alloc(), &["bayou", "run", "--help"], b"");
+    let given = call(rt.alloc(), &["bayou", "run", "--help"], b"")?;
     assert!(rt; has(given.output.as_slice(), "[\"servers\",1,LIMIT]"));
     assert!(rt; given.errors.is_empty() && given.status == 0);
-    let given = call(rt.alloc(), &["bayou", "--version"], b"");
+    let given = call(rt.alloc(), &["bayou", "--version"], b"")?;
     assert!(rt; has(given.output.as_slice(), "bayou 0."));
     assert!(rt; given.errors.is_empty() && given.status == 0);
     Ok(())
@@ -26,13 +26,13 @@ fn asked(rt: HostRuntime) -> Result<(), Fail> {
 
 #[test]
 fn refused(rt: HostRuntime) -> Result<(), Fail> {
-    let given = call(rt.alloc(), &["bayou"], b"");
+    let given = call(rt.alloc(), &["bayou"], b"")?;
     assert!(rt; has(given.errors.as_slice(), "Usage: bayou <COMMAND>"));
     assert!(rt; given.output.is_empty() && given.status == 2);
-    let given = call(rt.alloc(), &["bayou", "walk"], b"");
+    let given = call(rt.alloc(), &["bayou", "walk"], b"")?;
     assert!(rt; has(given.errors.as_slice(), "unrecognized subcommand 'walk'"));
     assert!(rt; given.output.is_empty() && given.status == 2);
-    let given = call(rt.alloc(), &["bayou", "run", "script.jsonl"], b"");
+    let given = call(rt.alloc(), &["bayou", "run", "script.jsonl"], b"")?;
     assert!(rt;
         has(
             given.errors.as_slice(),

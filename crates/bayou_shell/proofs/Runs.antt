@@ -1,15 +1,15 @@
 -- Runs, one step after another.
-use Rattle.std.proofs.Common.{◌≡◌, ℕ, Bool, true, false, ◌&&◌, List, [], ◌∷◌, ◌++◌, Option, None, Some, IfSome, Result, Err, inl, IsTrue, map, take, length, ap, sym, ◌∙◌, refl, subst, append_assoc}
+use Rattle.std.proofs.Common.{◌≡◌, ℕ, Bool, true, false, ◌&&◌, List, [], ◌∷◌, ◌++◌, Option, None, Some, IfSome, IfErr, Result, Err, inl, IsTrue, map, take, length, ap, sym, ◌∙◌, refl, subst, append_assoc}
 use Rattle.std.proofs.lemmas.List.{append-nil}
 use Rattle.std.proofs.lemmas.Grind.{flat_map-append}
 use Rattle.std.proofs.KnownBytes.{Appends-trans, Keeps-refl}
 use Rattle.std.proofs.Math.Seq.{take-append_seam}
 use Rattle.std.specs.Io.KnownBytes.{Appends}
 use Rattle.std.specs.List.{list_all}
-use Rattle.bayou_text.specs.Said.{Said, servers, session, write, read}
+use Rattle.bayou_text.specs.Said.{Said, servers, session, write, read, log}
 use Rattle.bayou_shell.specs.declared.answer.Refusal.TheVariants.{Full, Memory}
 use Rattle.bayou_shell.specs.declared.answer.Answer.{Answer}
-use Rattle.bayou_shell.specs.declared.answer.Answer.TheVariants.{Opened, Wrote, Read, Refused}
+use Rattle.bayou_shell.specs.declared.answer.Answer.TheVariants.{Opened, Wrote, Read, Refused, Logged}
 use Rattle.bayou_shell.specs.declared.fault.Fault.{Fault}
 use Rattle.bayou_shell.specs.declared.fault.Fault.TheVariants.{Line, Input, Output}
 use Rattle.bayou_shell.specs.declared.fault.Fault.TheVariants as faults
@@ -19,6 +19,7 @@ use Rattle.bayou_shell.specs.Held.{Holding}
 use Rattle.bayou_shell.specs.Printed.{answer_text}
 use Rattle.bayou_shell.specs.Run.{Step, Run, RunsAs, Prints, PrintsPart, answers_text, begun}
 use Rattle.bayou_shell.specs.Script.{Plan, IsRefused, RefusedFor, command_said, is_served, lines_of}
+use Rattle.bayou_shell.specs.Turns.{EndsReading, EndsWriting}
 use Rattle.bayou_shell.specs.Written.{AppendsFront}
 
 -- a run goes on by one step
@@ -37,6 +38,7 @@ Step-count old new (write who server program) (Wrote teller accepted) step = ap 
 Step-count old new (write who server program) (Refused teller Full) step = ap (λ holding. holding.count) step.1.1
 Step-count old new (write who server program) (Refused teller Memory) step = ap (λ holding. holding.count) step.1.1
 Step-count old new (read who server key) (Read teller asked seen) step = ap (λ holding. holding.count) step.4
+Step-count old new (log server) (Logged teller listing vector) step = ap (λ holding. holding.count) step.3
 Step-count old new (servers count limit) answer step = absurd step
 Step-count old new (session who asks) (Wrote teller accepted) step = absurd step
 Step-count old new (session who asks) (Read teller asked seen) step = absurd step
@@ -46,6 +48,13 @@ Step-count old new (write who server program) (Read teller asked seen) step = ab
 Step-count old new (read who server key) Opened step = absurd step
 Step-count old new (read who server key) (Wrote teller accepted) step = absurd step
 Step-count old new (read who server key) (Refused teller why) step = absurd step
+Step-count old new (session who asks) (Logged teller listing vector) step = absurd step
+Step-count old new (write who server program) (Logged teller listing vector) step = absurd step
+Step-count old new (read who server key) (Logged teller listing vector) step = absurd step
+Step-count old new (log server) Opened step = absurd step
+Step-count old new (log server) (Wrote teller accepted) step = absurd step
+Step-count old new (log server) (Read teller asked seen) step = absurd step
+Step-count old new (log server) (Refused teller why) step = absurd step
 
 and_right : (a b : Bool) → IsTrue (a && b) → IsTrue b
 and_right true b both = both
@@ -121,6 +130,25 @@ SoFar-part plan store after command rest answer old mid new so_far step (front, 
       Appends-trans old mid new before front so_far.written written,
     )
 
+-- nothing was written for one command more
+pub SoFar-stopped : (plan : Plan) (store : Holding) (rest : List Command) (old mid new : Option (List ℕ))
+    → SoFar plan store rest old mid → new ≡ mid → (text : List ℕ) × PrintsPart plan text × Appends old new text
+SoFar-stopped plan store rest old mid new so_far same =
+    let before = answers_text plan.count so_far.answers in
+    let first : take (length so_far.done) plan.commands ≡ so_far.done =
+    ap (take (length so_far.done)) so_far.whole ∙ take-append_seam so_far.done (map command_said rest) in (
+      before,
+      record {
+        number = length so_far.done;
+        answers = so_far.answers;
+        last = store;
+        run = subst (λ commands. Run (begun plan) commands so_far.answers store) (sym first) so_far.run;
+        missing = [];
+        lines = sym (append-nil before);
+      },
+      subst (λ bytes. Appends old bytes before) (sym same) so_far.written,
+    )
+
 -- a script that is refused is answered with nothing
 pub RunsAs-refused : (known contents : Option (List ℕ)) (text : List ℕ) (fault : Fault) → IfSome known (λ input. text ≡ input) → RefusedFor (lines_of text) fault
     → IfSome known (λ input. RunsAs input (Err fault) contents contents)
@@ -131,7 +159,8 @@ RunsAs-refused (Some input) contents text Input is refused = absurd refused
 RunsAs-refused (Some input) contents text Output is refused = absurd refused
 
 -- want of memory before anything was read is an end of a run
-pub RunsAs-memory : (known contents : Option (List ℕ)) (status : ℕ) → status ≡ status_of faults.Memory
-    → IfSome known (λ input. (ended : Result (Unit {0}) Fault) × RunsAs input ended contents contents × (status ≡ exit_status ended))
-RunsAs-memory None contents status is = tt
-RunsAs-memory (Some input) contents status is = (Err faults.Memory, inl (Keeps-refl contents), is)
+pub RunsAs-memory : (known contents : Option (List ℕ)) (status : ℕ) (read_fails write_fails : Bool) (reads writes : ℕ) → status ≡ status_of faults.Memory
+    → IfSome known (λ input. (ended : Result (Unit {0}) Fault) × RunsAs input ended contents contents × (status ≡ exit_status ended)
+    × IfErr ended (EndsReading read_fails reads) × IfErr ended (EndsWriting write_fails writes))
+RunsAs-memory None contents status read_fails write_fails reads writes is = tt
+RunsAs-memory (Some input) contents status read_fails write_fails reads writes is = (Err faults.Memory, inl (Keeps-refl contents), is, tt, tt)

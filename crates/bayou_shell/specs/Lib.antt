@@ -4,4 +4,5 @@ pub mod Held
 pub mod Printed
 pub mod Run
 pub mod Script
+pub mod Turns
 pub mod Written

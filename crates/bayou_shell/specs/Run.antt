@@ -5,12 +5,13 @@ use Rattle.bayou_base.specs.declared.answer.Accepted.{Accepted}
 use Rattle.bayou_lang.specs.declared.program.Program.{Program}
 use Rattle.bayou_lang.specs.declared.write.Write.{Write}
 use Rattle.bayou_lang.specs.Writes.{greatest_of}
+use Rattle.bayou_log.specs.Listing.{listing_of}
 use Rattle.bayou_log.specs.Replay.{replay}
-use Rattle.bayou_text.specs.Said.{Said, servers, session, write, read}
+use Rattle.bayou_text.specs.Said.{Said, servers, session, write, read, log}
 use Rattle.bayou_shell.specs.declared.answer.Refusal.{Refusal}
 use Rattle.bayou_shell.specs.declared.answer.Refusal.TheVariants.{Full, Memory}
 use Rattle.bayou_shell.specs.declared.answer.Answer.{Answer}
-use Rattle.bayou_shell.specs.declared.answer.Answer.TheVariants.{Opened, Wrote, Read, Refused}
+use Rattle.bayou_shell.specs.declared.answer.Answer.TheVariants.{Opened, Wrote, Read, Refused, Logged}
 use Rattle.bayou_shell.specs.declared.fault.Fault.{Fault}
 use Rattle.bayou_shell.specs.declared.fault.Fault.TheVariants.{Line, Input, Output}
 use Rattle.bayou_shell.specs.declared.fault.Fault.TheVariants as fault
@@ -33,7 +34,8 @@ abbrev pub Declines : Holding → Refusal → Holding → Type 0
 Declines old Full new = (length old.writes ≡ old.limit) × (new ≡ old)
 Declines old Memory new = (length old.writes < old.limit) × (new ≡ old)
 
--- From old, what a line says may get this answer and leave new. Want of memory may refuse a Write that there is room for.
+-- From old, what a line says may get this answer and leave new. Want of memory may refuse a Write that there is room for;
+-- a log has no such answer, and want of memory there ends the run.
 abbrev pub Step : Holding → Said → Answer → Holding → Type 0
 Step old (session who asks) Opened new = new ≡ old
 Step old (write who server program) (Wrote teller accepted) new = (teller.index ≡ who) × Accepts old server program accepted new
@@ -41,16 +43,34 @@ Step old (write who server program) (Refused teller why) new = (teller.index ≡
 -- a read sees the database that the Writes held make, and for each server the greatest of its Writes
 Step old (read who server key) (Read teller asked seen) new =
     (teller.index ≡ who) × (asked ≡ key) × (seen.value ≡ replay old.writes key) × (seen.vector ≡ greatest_of old.writes) × (new ≡ old)
+-- a log tells the Writes held in stamp order, each with the outcome that it has in the replay
+Step old (log server) (Logged teller listing vector) new =
+    (teller.index ≡ server) × (listing.items ≡ listing_of old.writes) × (vector ≡ greatest_of old.writes) × (new ≡ old)
 -- no other answer is given
 Step old (servers count limit) answer new = ⊥
 Step old (session who asks) (Wrote teller accepted) new = ⊥
 Step old (session who asks) (Read teller asked seen) new = ⊥
 Step old (session who asks) (Refused teller why) new = ⊥
+Step old (session who asks) (Logged teller listing vector) new = ⊥
 Step old (write who server program) Opened new = ⊥
 Step old (write who server program) (Read teller asked seen) new = ⊥
+Step old (write who server program) (Logged teller listing vector) new = ⊥
 Step old (read who server key) Opened new = ⊥
 Step old (read who server key) (Wrote teller accepted) new = ⊥
 Step old (read who server key) (Refused teller why) new = ⊥
+Step old (read who server key) (Logged teller listing vector) new = ⊥
+Step old (log server) Opened new = ⊥
+Step old (log server) (Wrote teller accepted) new = ⊥
+Step old (log server) (Read teller asked seen) new = ⊥
+Step old (log server) (Refused teller why) new = ⊥
+
+-- it asks for a log
+abbrev pub IsLog : Said → Type 0
+IsLog (servers count limit) = ⊥
+IsLog (session who asks) = ⊥
+IsLog (write who server program) = ⊥
+IsLog (read who server key) = ⊥
+IsLog (log server) = Unit {0}
 
 -- what is said one after another may get these answers
 abbrev pub Run : Holding → List Said → List Answer → Holding → Type 0

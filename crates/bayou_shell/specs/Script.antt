@@ -5,7 +5,7 @@ use Rattle.bayou_base.specs.declared.limits.TheConstants.{DEFAULT_LIMIT, MAX_LIN
 use Rattle.bayou_text.specs.declared.line.LineFault.{LineFault}
 use Rattle.bayou_text.specs.declared.line.LineFault.TheVariants as line
 use Rattle.bayou_text.specs.Lines.{IsFaultOf}
-use Rattle.bayou_text.specs.Said.{Said, servers, session, write, read}
+use Rattle.bayou_text.specs.Said.{Said, servers, session, write, read, log}
 use Rattle.bayou_text.specs.Table.{Spells}
 use Rattle.bayou_shell.specs.declared.fault.Fault.{Fault}
 use Rattle.bayou_shell.specs.declared.fault.Fault.TheVariants.{Line, Memory, Input, Output}
@@ -19,6 +19,7 @@ abbrev pub command_said : Command → Said
 command_said (command.Session who asks) = session who.index asks
 command_said (command.Write who place program) = write who.index place.index program.value
 command_said (command.Read who place key) = read who.index place.index key
+command_said (command.Log place) = log place.index
 
 -- whether what a line says is said to a server that there is
 abbrev pub is_served : ℕ → Said → Bool
@@ -26,6 +27,7 @@ is_served count (servers number limit) = true
 is_served count (session who asks) = true
 is_served count (write who server program) = nat_lt server count
 is_served count (read who server key) = nat_lt server count
+is_served count (log server) = nat_lt server count
 
 -- what a script says: how many servers it starts, how many Writes each may hold, and what its other lines say
 pub record Plan : Type 0 where
@@ -39,6 +41,7 @@ opens who (servers count limit) = false
 opens who (session opened asks) = opened == who
 opens who (write writer server program) = false
 opens who (read reader server key) = false
+opens who (log server) = false
 
 abbrev pub is_open : ℕ → List Said → Bool
 is_open who front = list_any (opens who) front
@@ -50,6 +53,7 @@ started (servers count limit ∷ others) = count
 started (session who asks ∷ others) = 0
 started (write who server program ∷ others) = 0
 started (read who server key ∷ others) = 0
+started (log server ∷ others) = 0
 
 -- Whether a line may say this behind what was said before: `servers` comes first, and once; a session is opened once,
 -- and before it is used; a server is used that was started.
@@ -58,6 +62,7 @@ has_place front (servers count limit) = length front == 0
 has_place front (session who asks) = nat_lt 0 (length front) && not (is_open who front)
 has_place front (write who server program) = is_open who front && nat_lt server (started front)
 has_place front (read who server key) = is_open who front && nat_lt server (started front)
+has_place front (log server) = nat_lt server (started front)
 
 -- a text's lines, each without its line feed
 abbrev pub lines_of : List ℕ → List (List ℕ)

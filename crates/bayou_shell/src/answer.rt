@@ -1,4 +1,5 @@
-use bayou_base::{Accepted, Key, Seen, SessionId};
+use bayou_base::{Accepted, Key, Seen, ServerId, SessionId, Vector};
+use bayou_log::Listed;
 
 /// Why a Write wasn't accepted.
 #[derive(Clone, Copy, Debug, PartialEq, Eq)]
@@ -10,7 +11,7 @@ pub enum Refusal {
 }
 
 /// What a command is answered.
-#[derive(Debug, Drop, PartialEq, Eq)]
+#[derive(Debug, Drop)]
 pub enum Answer {
     /// The session was opened, of which nothing is printed.
     Opened,
@@ -29,5 +30,11 @@ pub enum Answer {
     Refused {
         session: SessionId,
         refusal: Refusal,
+    },
+    /// What the server holds: its Writes in stamp order, with their outcomes, and its vector.
+    Logged {
+        server: ServerId,
+        listing: Vec<Listed>,
+        vector: Vector,
     },
 }

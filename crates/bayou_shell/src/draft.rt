@@ -61,6 +61,7 @@ impl Draft {
                 server,
                 ..
             } => self.is_open(*session) && server.index < servers.count,
+            Line::Log { server } => server.index < servers.count,
         }
     }
 
@@ -118,6 +119,7 @@ impl Draft {
                 server,
                 key,
             }),
+            Line::Log { server } => self.push(Command::Log { server }),
         }
     }
 

@@ -6,9 +6,13 @@
 //! small machine: what one server holds, with every answer that a command may get. Where the input is refused, nothing is
 //! printed, and the least line with a fault is told; where a fault comes later, a front of those lines is printed.
 //!
-//! A caller owes nothing. The theorem is about readers and writers that tell their bytes, as those over memory do; of
-//! others only safety is promised. It isn't promised that memory suffices, that a stream gives or takes anything, or how
-//! often it is asked: the bound on the turns stands in the loops of `reading` and `writing` alone.
+//! Streams come as an [`Input`] and an [`Output`], which alone call them: an input is read in at most
+//! [`MAX_TURNS`](bayou_base::MAX_TURNS) turns, and each printed line is written in at most as many. That the input or the
+//! output is at fault is told only where a call of it failed, or no turn was left.
+//!
+//! A caller owes nothing. The theorem on what is printed is about readers and writers that tell their bytes, as those over
+//! memory do; of others only safety and the turns are promised. It isn't promised that memory suffices, or that a stream
+//! gives or takes anything.
 #![tactic(auto)]
 
 mod answer;
@@ -21,8 +25,11 @@ mod reading;
 pub mod run;
 mod script;
 mod store;
+mod telling;
+pub mod turns;
 mod writing;
 
 pub use fault::{Fault, ScriptFault};
 pub use program::{refuse_words, run_main};
 pub use run::run_script;
+pub use turns::{Input, Output};

@@ -2,10 +2,12 @@ ghost use Rattle.std.specs.Prelude.{◌≡◌, ◌≤◌, Some, IfOk, string_byt
 ghost use Rattle.serde_json.specs.Data.{string};
 ghost use Rattle.serde_json.specs.Written.{compact_text};
 ghost use Rattle.bayou_base.specs.declared.limits.TheConstants.{SERVERS};
-ghost use Rattle.bayou_shell.specs.Printed.{counts_text, value_text, answer_text};
+ghost use Rattle.bayou_shell.specs.Printed.{counts_text, value_text, last_text, listed_text};
 
 use crate::answer::{Answer, Refusal};
-use bayou_base::{Key, Seen, ServerId, SessionId, Value, Vector};
+use bayou_base::{ServerId, Value, Vector};
+use bayou_lang::Outcome;
+use bayou_log::Listed;
 use serde_json::Value as Json;
 use std::alloc::{AllocError, Global};
 use std::fmt;
@@ -52,10 +54,34 @@ fn found(alloc: Global, value: &Option<Value>) -> Result<String, AllocError>
     }
 }
 
-/// What is printed for an answer where there are so many servers: a line, or nothing.
+/// The line of a Write in the log of a server.
+pub(crate) fn listed_line(
+    alloc: Global,
+    server: ServerId,
+    listed: &Listed,
+) -> Result<String, AllocError>
+    ensures { IfOk result (λ line. string_bytes line ≡ listed_text server.index listed.now) }
+{
+    let server = server.index;
+    let (origin, seq) = (listed.wid.origin.index, listed.wid.seq);
+    let clock = listed.stamp.clock;
+    match listed.outcome {
+        Outcome::Updated => format!(in alloc;
+            "log {server} {origin}:{seq} clock {clock} updated\n"
+        ),
+        Outcome::Merged(index) => {
+            format!(in alloc; "log {server} {origin}:{seq} clock {clock} merged {index}\n")
+        }
+        Outcome::Nothing => format!(in alloc;
+            "log {server} {origin}:{seq} clock {clock} nothing\n"
+        ),
+    }
+}
+
+/// The last line that is printed for an answer where there are so many servers, or nothing.
 pub fn printed(alloc: Global, servers: u8, answer: &Answer) -> Result<String, AllocError>
     requires { servers ≤ SERVERS }
-    ensures { IfOk result (λ text. string_bytes text ≡ answer_text servers answer.now) }
+    ensures { IfOk result (λ text. string_bytes text ≡ last_text servers answer.now) }
 {
     match answer {
         Answer::Opened => Ok(String::new(alloc)),
@@ -85,6 +111,11 @@ pub fn printed(alloc: Global, servers: u8, answer: &Answer) -> Result<String, Al
                 Refusal::Full => format!(in alloc; "{session} refused full\n"),
                 Refusal::Memory => format!(in alloc; "{session} refused memory\n"),
             }
+        }
+        Answer::Logged { server, vector, .. } => {
+            let server = server.index;
+            let counts = Counts { vector, servers };
+            format!(in alloc; "log {server} at {counts}\n")
         }
     }
 }

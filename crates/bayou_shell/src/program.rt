@@ -1,11 +1,13 @@
-ghost use Rattle.std.specs.Prelude.{◌≡◌, IfSome, Result, map};
+ghost use Rattle.std.specs.Prelude.{◌≡◌, ◌≤◌, IfErr, IfSome, Result, map};
 ghost use Rattle.bayou_command.specs.Words.{NamesRun};
 ghost use Rattle.bayou_shell.specs.declared.fault.Fault.{Fault};
 ghost use Rattle.bayou_shell.specs.Fault.{exit_status, status_of};
 ghost use Rattle.bayou_shell.specs.Run.{RunsAs};
+ghost use Rattle.bayou_shell.specs.Turns.{EndsReading, EndsWriting};
 
 use crate::fault::Fault;
 use crate::run::run_script;
+use crate::turns::{Input, Output};
 use crate::writing::write_text;
 use bayou_command::{Stop, Task, read_words};
 use std::alloc::Global;
@@ -17,7 +19,7 @@ use std::io::{ErrorKind, Read, Write};
 const REFUSED: u8 = 2;
 
 /// Tells a fault, as far as that can be written, and gives the exit status.
-fn tell<E: Write>(errors: &mut E, fault: Fault) -> u8
+fn tell<E: Write>(errors: &mut Output<E>, fault: Fault) -> u8
     ensures { result ≡ status_of fault }
 {
     // Where the fault can't be told, the status still tells it.
@@ -26,7 +28,7 @@ fn tell<E: Write>(errors: &mut E, fault: Fault) -> u8
 }
 
 /// Tells how a task ended, where it ended with a fault, and gives the exit status.
-fn finish<E: Write>(errors: &mut E, ended: Result<(), Fault>) -> u8
+fn finish<E: Write>(errors: &mut Output<E>, ended: Result<(), Fault>) -> u8
     ensures { result ≡ exit_status ended }
 {
     match ended {
@@ -36,7 +38,7 @@ fn finish<E: Write>(errors: &mut E, ended: Result<(), Fault>) -> u8
 }
 
 /// Tells that the program's words can't be had, and gives the exit status.
-pub fn refuse_words<E: Write>(errors: &mut E, error: &io::Error) -> u8 {
+pub fn refuse_words<E: Write>(errors: &mut Output<E>, error: &io::Error) -> u8 {
     if error.kind() == ErrorKind::OutOfMemory {
         return tell(errors, Fault::Memory);
     }
@@ -48,12 +50,14 @@ pub fn refuse_words<E: Write>(errors: &mut E, error: &io::Error) -> u8 {
 pub fn run_main<'a, S: AsStr, R: Read, W: Write, E: Write>(
     alloc: Global,
     words: &'a [S],
-    input: &mut R,
-    output: &mut W,
-    errors: &mut E,
+    input: &mut Input<R>,
+    output: &mut Output<W>,
+    errors: &mut Output<E>,
 ) -> u8
-    ensures run { NamesRun (map S.text words.entry.now) → IfSome (R.remaining input.old) (λ text. (ended : Result (Unit {0}) Fault)
-        × RunsAs text ended (W.contents output.old) (W.contents output.new) × (result ≡ exit_status ended)) }
+    ensures run { NamesRun (map S.text words.entry.now) → IfSome (R.remaining input.old.stream) (λ text. (ended : Result (Unit {0}) Fault)
+        × RunsAs text ended (W.contents output.old.stream) (W.contents output.new.stream) × (result ≡ exit_status ended)
+        × IfErr ended (EndsReading input.new.has_failed input.new.turns_left) × IfErr ended (EndsWriting output.new.has_failed output.new.turns_left)) }
+    ensures turns { input.new.turns_left ≤ input.old.turns_left }
 {
     match read_words(alloc, words) {
         Ok(Task::Run) => {

@@ -1,46 +1,50 @@
-ghost use Rattle.std.specs.Prelude.{◌≡◌, List, ℕ, IfErr, IfSome, IsTrue, MatchResult, OnOk};
+ghost use Rattle.std.specs.Prelude.{◌≡◌, ◌≤◌, ◌⊎◌, List, ℕ, IfErr, IfSome, IsTrue, MatchResult, OnOk};
 ghost use Rattle.std.specs.Io.KnownBytes.{Appends};
 ghost use Rattle.bayou_shell.specs.declared.answer.Answer.{Answer};
 ghost use Rattle.bayou_shell.specs.Draft.{plan_of};
 ghost use Rattle.bayou_shell.specs.Printed.{answer_text};
 ghost use Rattle.bayou_shell.specs.Run.{IsRunFault, Prints, PrintsPart, RunsAs, Step};
 ghost use Rattle.bayou_shell.specs.Script.{command_said, is_served};
+ghost use Rattle.bayou_shell.specs.Turns.{EndsReading, EndsWriting};
 ghost use Rattle.bayou_shell.specs.Written.{AppendsFront};
 
 use crate::checking::read_script;
 use crate::fault::Fault;
-use crate::printed::printed;
 use crate::reading::read_text;
 use crate::script::{Command, Script, Servers};
 use crate::store::Store;
-use crate::writing::write_text;
+use crate::telling::write_answer;
+use crate::turns::{Input, Output};
 use std::alloc::Global;
 use std::io::{Read, Write};
 
-/// Answers one command, and writes what is printed for it.
+/// Answers one command, and writes what is printed for it. Where a log wants memory, nothing is written for it.
 fn answer_one<W: Write>(
     alloc: Global,
     servers: Servers,
     store: &mut Store,
     command: Command,
-    writer: &mut W,
+    output: &mut Output<W>,
 ) -> Result<(), Fault>
     requires { IsTrue (is_served store.old.count (command_said command)) }
-    ensures { (answer : Answer) × Step store.old (command_said command) answer store.new
-        × MatchResult result
-        (λ _. Appends (W.contents writer.old) (W.contents writer.new) (answer_text servers.count answer))
-        (λ fault. IsRunFault fault × AppendsFront (W.contents writer.old) (W.contents writer.new) (answer_text servers.count answer)) }
+    ensures answered { MatchResult result
+        (λ _. (answer : Answer) × Step store.old (command_said command) answer store.new
+        × Appends (W.contents output.old.stream) (W.contents output.new.stream) (answer_text servers.count answer))
+        (λ fault. IsRunFault fault × ((W.contents output.new.stream ≡ W.contents output.old.stream)
+        ⊎ (answer : Answer) × Step store.old (command_said command) answer store.new
+        × AppendsFront (W.contents output.old.stream) (W.contents output.new.stream) (answer_text servers.count answer))) }
+    ensures ended { IfErr result (EndsWriting output.new.has_failed output.new.turns_left) }
 {
-    let answer = store.answer(command);
-    let text = printed(alloc, servers.count, &answer)?;
-    write_text(writer, text.as_bytes())
+    let answer = store.answer(alloc, command)?;
+    write_answer(alloc, servers.count, &answer, output)
 }
 
 /// Answers the commands in order, and writes what is printed for each.
-fn answer_all<W: Write>(alloc: Global, script: Script, writer: &mut W) -> Result<(), Fault>
-    ensures ok { OnOk result ((text : List ℕ) × Prints (plan_of script) text × Appends (W.contents writer.old) (W.contents writer.new) text) }
+fn answer_all<W: Write>(alloc: Global, script: Script, output: &mut Output<W>) -> Result<(), Fault>
+    ensures ok { OnOk result ((text : List ℕ) × Prints (plan_of script) text × Appends (W.contents output.old.stream) (W.contents output.new.stream) text) }
     ensures err { IfErr result (λ fault. IsRunFault fault
-        × (text : List ℕ) × PrintsPart (plan_of script) text × Appends (W.contents writer.old) (W.contents writer.new) text) }
+        × (text : List ℕ) × PrintsPart (plan_of script) text × Appends (W.contents output.old.stream) (W.contents output.new.stream) text) }
+    ensures ended { IfErr result (EndsWriting output.new.has_failed output.new.turns_left) }
 {
     let Script {
         servers,
@@ -48,7 +52,7 @@ fn answer_all<W: Write>(alloc: Global, script: Script, writer: &mut W) -> Result
     } = script;
     let mut store = Store::new(alloc, servers);
     while let Some(command) = commands.pop_front() {
-        answer_one(alloc, servers, &mut store, command, writer)?;
+        answer_one(alloc, servers, &mut store, command, output)?;
     }
     Ok(())
 }
@@ -56,13 +60,16 @@ fn answer_all<W: Write>(alloc: Global, script: Script, writer: &mut W) -> Result
 /// Reads a script to its end, checks it, and writes the lines of its answers.
 pub fn run_script<R: Read, W: Write>(
     alloc: Global,
-    reader: &mut R,
-    writer: &mut W,
+    input: &mut Input<R>,
+    output: &mut Output<W>,
 ) -> Result<(), Fault>
-    ensures { IfSome (R.remaining reader.old) (λ input. RunsAs input result (W.contents writer.old) (W.contents writer.new)) }
+    ensures runs { IfSome (R.remaining input.old.stream) (λ text. RunsAs text result (W.contents output.old.stream) (W.contents output.new.stream)) }
+    ensures read { IfErr result (EndsReading input.new.has_failed input.new.turns_left) }
+    ensures written { IfErr result (EndsWriting output.new.has_failed output.new.turns_left) }
+    ensures turns { input.new.turns_left ≤ input.old.turns_left }
 {
-    let text = read_text(alloc, reader)?;
+    let text = read_text(alloc, input)?;
     let script = read_script(alloc, text.as_slice())?;
     drop(text);
-    answer_all(alloc, script, writer)
+    answer_all(alloc, script, output)
 }

@@ -27,6 +27,10 @@ pub enum Command {
         server: ServerId,
         key: Key,
     },
+    /// Lists what the server holds.
+    Log {
+        server: ServerId,
+    },
 }
 
 /// The servers that a script starts.

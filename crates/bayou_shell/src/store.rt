@@ -1,12 +1,12 @@
-ghost use Rattle.std.specs.Prelude.{◌≡◌, ◌<◌, ℕ, [], length, IsTrue, MatchResult};
-ghost use Rattle.bayou_text.specs.Said.{read};
+ghost use Rattle.std.specs.Prelude.{◌≡◌, ◌<◌, ℕ, [], length, IfOk, IsTrue, MatchResult};
+ghost use Rattle.bayou_text.specs.Said.{log, read};
 
 use crate::answer::{Answer, Refusal};
 use crate::script::{Command, Servers};
 use bayou_base::{Accepted, Key, Seen, ServerId, SessionId, Stamp, Wid};
 use bayou_lang::{Program, Write};
 use bayou_log::WriteLog;
-use std::alloc::Global;
+use std::alloc::{AllocError, Global};
 use std::marker::Model;
 
 /// What the servers of a script hold: as yet there is one, which accepted every Write itself.
@@ -29,7 +29,7 @@ impl Model for Store {
 
 impl Store {
     ghost use Rattle.bayou_shell.specs.Held.{Holding, IsNextWrite};
-    ghost use Rattle.bayou_shell.specs.Run.{Accepts, Declines, Step};
+    ghost use Rattle.bayou_shell.specs.Run.{Accepts, Declines, IsLog, Step};
     ghost use Rattle.bayou_shell.specs.Script.{command_said, is_served};
 
     /// The servers of a script as it begins.
@@ -42,23 +42,38 @@ impl Store {
         }
     }
 
-    /// What the command is answered.
-    pub fn answer(&mut self, command: Command) -> Answer
+    /// What the command is answered. Only a log may want memory that it has no answer for.
+    pub fn answer(&mut self, alloc: Global, command: Command) -> Result<Answer, AllocError>
         requires { IsTrue (is_served self.old.count (command_said command)) }
-        ensures { Step self.old (command_said command) result self.new }
+        ensures { MatchResult result
+            (λ answer. Step self.old (command_said command) answer self.new)
+            (λ _. IsLog (command_said command) × (self.new ≡ self.old)) }
     {
         match command {
-            Command::Session { .. } => Answer::Opened,
+            Command::Session { .. } => Ok(Answer::Opened),
             Command::Write {
                 session,
                 server,
                 program,
             } => match self.write(server, Box::into_inner(program)) {
-                Ok(accepted) => Answer::Wrote { session, accepted },
-                Err(refusal) => Answer::Refused { session, refusal },
+                Ok(accepted) => Ok(Answer::Wrote { session, accepted }),
+                Err(refusal) => Ok(Answer::Refused { session, refusal }),
             },
-            Command::Read { session, key, .. } => self.read(session, key),
+            Command::Read { session, key, .. } => Ok(self.read(session, key)),
+            Command::Log { server } => self.log(alloc, server),
         }
+    }
+
+    fn log(&self, alloc: Global, server: ServerId) -> Result<Answer, AllocError>
+        ensures { IfOk result (λ answer. Step self.now (log server.index) answer self.now) }
+    {
+        let listing = self.log.listing(alloc)?;
+        let vector = self.log.vector();
+        Ok(Answer::Logged {
+            server,
+            listing,
+            vector,
+        })
     }
 
     fn read(&self, session: SessionId, key: Key) -> Answer

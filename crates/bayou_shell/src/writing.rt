@@ -1,24 +1,28 @@
-ghost use Rattle.std.specs.Prelude.{◌≡◌, ◌++◌, OnOk, IfErr};
+ghost use Rattle.std.specs.Prelude.{◌≡◌, OnOk, IfErr};
 ghost use Rattle.std.specs.Io.KnownBytes.{Appends};
-ghost use Rattle.bayou_shell.specs.declared.fault.Fault.TheVariants.{Output};
+ghost use Rattle.bayou_shell.specs.declared.fault.Fault.TheVariants.{Output as OutputFault};
+ghost use Rattle.bayou_shell.specs.Turns.{HasEnded};
 ghost use Rattle.bayou_shell.specs.Written.{AppendsFront};
 
 use crate::fault::Fault;
-use bayou_base::MAX_TURNS;
+use crate::turns::Output;
 use std::io::{ErrorKind, Write};
 
-/// Writes the whole text. It calls the writer's `write` at most [`MAX_TURNS`] times.
-pub fn write_text<W: Write>(writer: &mut W, text: &[u8]) -> Result<(), Fault>
-    ensures whole { OnOk result (Appends (W.contents writer.old) (W.contents writer.new) text.now) }
-    ensures fault { IfErr result (λ fault. fault ≡ Output) }
-    ensures part { AppendsFront (W.contents writer.old) (W.contents writer.new) text.now }
+/// Writes the whole text, in at most [`MAX_TURNS`](bayou_base::MAX_TURNS) turns. It ends with `Output` only where a call
+/// of the writer failed or all of them were taken.
+pub(crate) fn write_text<W: Write>(output: &mut Output<W>, text: &[u8]) -> Result<(), Fault>
+    ensures whole { OnOk result (Appends (W.contents output.old.stream) (W.contents output.new.stream) text.now) }
+    ensures fault { IfErr result (λ fault. fault ≡ OutputFault) }
+    ensures ended { IfErr result (λ fault. HasEnded output.new.has_failed output.new.turns_left) }
+    ensures part { AppendsFront (W.contents output.old.stream) (W.contents output.new.stream) text.now }
 {
+    output.begin();
     let mut rest = text;
-    for _turn in 0..MAX_TURNS {
-        if rest.is_empty() {
-            break;
-        }
-        match writer.write(rest) {
+    while !rest.is_empty() {
+        let Some(answer) = output.turn(rest) else {
+            return Err(Fault::Output);
+        };
+        match answer {
             Ok(0) => return Err(Fault::Output),
             Ok(count) => rest = &rest[count..],
             Err(error) => {
@@ -28,9 +32,5 @@ pub fn write_text<W: Write>(writer: &mut W, text: &[u8]) -> Result<(), Fault>
             }
         }
     }
-    if rest.is_empty() {
-        Ok(())
-    } else {
-        Err(Fault::Output)
-    }
+    Ok(())
 }

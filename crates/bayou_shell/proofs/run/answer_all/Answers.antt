@@ -1,9 +1,9 @@
-use Rattle.std.proofs.Common.{List, [], ap, refl, subst}
+use Rattle.std.proofs.Common.{List, [], ◌∷◌, inl, inr, ap, refl, subst}
 use Rattle.std.proofs.KnownBytes.{Appends-nil}
 use Rattle.std.proofs.lemmas.Result.{err_from_is_err_and}
 use Rattle.bayou_shell.specs.declared.script.Command.{Command}
 use Rattle.bayou_shell.specs.Draft.{plan_of}
-use Rattle.bayou_shell.proofs.Runs.{SoFar, SoFar-more, SoFar-part}
+use Rattle.bayou_shell.proofs.Runs.{SoFar, SoFar-more, SoFar-part, SoFar-stopped}
 use Rattle.bayou_shell.proofs.run.answer_all.Goals as goal
 
 pub loop-command-init : goal.loop-command-init
@@ -21,9 +21,9 @@ pub loop-command-preserved : goal.loop-command-preserved
 loop-command-preserved g c =
     let plan = plan_of c.args.script in
     let bytes = g.W.Write.contents in
-    let before = subst (λ (commands : List Command). SoFar plan c.loop-command.store commands (bytes c.args.writer.now) (bytes c.loop-command.writer))
+    let before = subst (λ (commands : List Command). SoFar plan c.loop-command.store commands (bytes c.args.output.now.stream) (bytes c.loop-command.output.stream))
     c.in-Some.ensures.items c.loop-command.invariant in
-    let (answer, step, written) = c.in_ok-answer_one.ensures in
+    let (answer, step, written) = c.in_ok-answer_one.ensures.answered in
     SoFar-more plan c.loop-command.store c.answer_one.new.store c.in-Some.command c.pop_front.new.self.items answer _ _ _ before step written
 
 pub returns-in_err-answer_one-clause-err : goal.returns-in_err-answer_one-clause-err
@@ -31,9 +31,15 @@ returns-in_err-answer_one-clause-err g c =
     let p = err_from_is_err_and c.from_residual.result c.from_residual.ensures.1 in
     let plan = plan_of c.args.script in
     let bytes = g.W.Write.contents in
-    let before = subst (λ (commands : List Command). SoFar plan c.loop-command.store commands (bytes c.args.writer.now) (bytes c.loop-command.writer))
+    let before = subst (λ (commands : List Command). SoFar plan c.loop-command.store commands (bytes c.args.output.now.stream) (bytes c.loop-command.output.stream))
     c.in-Some.ensures.items c.loop-command.invariant in
-    let (answer, step, fault) = c.in_err-answer_one.ensures in
-    let (text, part, written) =
-    SoFar-part plan c.loop-command.store c.answer_one.new.store c.in-Some.command c.pop_front.new.self.items answer _ _ _ before step fault.1 in
-    rw (p.1, p.2) (fault.0, text, part, written)
+    let fault = c.in_err-answer_one.ensures.answered in
+    elim fault.1 [
+      | inl same ↦
+          let (text, part, written) = SoFar-stopped plan c.loop-command.store (c.in-Some.command ∷ c.pop_front.new.self.items) _ _ _ before same in
+          rw (p.1, p.2) (fault.0, text, part, written)
+      | inr (answer, step, some) ↦
+          let (text, part, written) =
+          SoFar-part plan c.loop-command.store c.answer_one.new.store c.in-Some.command c.pop_front.new.self.items answer _ _ _ before step some in
+          rw (p.1, p.2) (fault.0, text, part, written)
+    ]

@@ -3,7 +3,10 @@ use Rattle.std.proofs.Common.{◌≡◌, ℕ, List, ◌++◌}
 use Rattle.std.specs.Io.KnownBytes.{Appends}
 use Rattle.bayou_shell.proofs.writing.write_text.Given as goal
 
-abbrev pub invariant-loop-turn : goal.invariant-loop-turn
-invariant-loop-turn g l =
+abbrev pub invariant-loop-rest : goal.invariant-loop-rest
+invariant-loop-rest g l =
     (front : List ℕ) × (l.initial.rest ≡ front ++ l.rest)
-    × Appends (g.W.Write.contents l.initial.writer) (g.W.Write.contents l.writer) front
+    × Appends (g.W.Write.contents l.initial.output.stream) (g.W.Write.contents l.output.stream) front
+
+abbrev pub decreases-loop-rest : goal.decreases-loop-rest
+decreases-loop-rest g l = l.output.turns_left

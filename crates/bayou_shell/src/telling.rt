@@ -1,0 +1,81 @@
+//! Answers to what is written for them, line by line.
+ghost use Rattle.std.specs.Prelude.{◌≤◌, IfErr, OnOk, flat_map};
+ghost use Rattle.std.specs.Io.KnownBytes.{Appends};
+ghost use Rattle.bayou_base.specs.declared.limits.TheConstants.{SERVERS};
+ghost use Rattle.bayou_shell.specs.Printed.{answer_text, last_text, listed_text};
+ghost use Rattle.bayou_shell.specs.Run.{IsRunFault};
+ghost use Rattle.bayou_shell.specs.Turns.{EndsWriting};
+ghost use Rattle.bayou_shell.specs.Written.{AppendsFront};
+
+use crate::answer::Answer;
+use crate::fault::Fault;
+use crate::printed::{listed_line, printed};
+use crate::turns::Output;
+use crate::writing::write_text;
+use bayou_base::ServerId;
+use bayou_log::Listed;
+use std::alloc::Global;
+use std::io::Write;
+
+/// Writes a line for each Write in the log of a server.
+fn write_listing<W: Write>(
+    alloc: Global,
+    server: ServerId,
+    listing: &[Listed],
+    output: &mut Output<W>,
+) -> Result<(), Fault>
+    ensures whole { OnOk result (Appends (W.contents output.old.stream) (W.contents output.new.stream) (flat_map (listed_text server.index) listing.now)) }
+    ensures fault { IfErr result IsRunFault }
+    ensures ended { IfErr result (EndsWriting output.new.has_failed output.new.turns_left) }
+    ensures part { AppendsFront (W.contents output.old.stream) (W.contents output.new.stream) (flat_map (listed_text server.index) listing.now) }
+{
+    for listed in listing {
+        let line = listed_line(alloc, server, listed)?;
+        write_text(output, line.as_bytes())?;
+    }
+    Ok(())
+}
+
+/// Writes the last line that is printed for an answer where there are so many servers, or nothing.
+fn write_last<W: Write>(
+    alloc: Global,
+    servers: u8,
+    answer: &Answer,
+    output: &mut Output<W>,
+) -> Result<(), Fault>
+    requires { servers ≤ SERVERS }
+    ensures whole { OnOk result (Appends (W.contents output.old.stream) (W.contents output.new.stream) (last_text servers answer.now)) }
+    ensures fault { IfErr result IsRunFault }
+    ensures ended { IfErr result (EndsWriting output.new.has_failed output.new.turns_left) }
+    ensures part { AppendsFront (W.contents output.old.stream) (W.contents output.new.stream) (last_text servers answer.now) }
+{
+    let last = printed(alloc, servers, answer)?;
+    write_text(output, last.as_bytes())
+}
+
+/// Writes what is printed for an answer where there are so many servers.
+pub(crate) fn write_answer<W: Write>(
+    alloc: Global,
+    servers: u8,
+    answer: &Answer,
+    output: &mut Output<W>,
+) -> Result<(), Fault>
+    requires { servers ≤ SERVERS }
+    ensures whole { OnOk result (Appends (W.contents output.old.stream) (W.contents output.new.stream) (answer_text servers answer.now)) }
+    ensures fault { IfErr result IsRunFault }
+    ensures ended { IfErr result (EndsWriting output.new.has_failed output.new.turns_left) }
+    ensures part { AppendsFront (W.contents output.old.stream) (W.contents output.new.stream) (answer_text servers answer.now) }
+{
+    match answer {
+        Answer::Logged {
+            server,
+            listing,
+            ..
+        } => {
+            write_listing(alloc, *server, listing.as_slice(), output)?;
+            write_last(alloc, servers, answer, output)
+        }
+        Answer::Opened | Answer::Wrote { .. } | Answer::Read { .. } | Answer::Refused { .. } =>
+            write_last(alloc, servers, answer, output),
+    }
+}
