@@ -1,0 +1,5 @@
+use Rattle.bayou_wire.proofs.Fronts.{frame_begins_one}
+use Rattle.bayou_wire.proofs.laws.no_frame_begins_another.Goals as goal
+
+pub returns : goal.returns
+returns c a b x y is_a is_b same = frame_begins_one a b x y is_a is_b same

@@ -1,0 +1,5 @@
+use Rattle.bayou_wire.proofs.Fronts.{one_frame_answer as one_answer}
+use Rattle.bayou_wire.proofs.laws.one_frame_answer.Goals as goal
+
+pub returns : goal.returns
+returns c bytes a b x y = one_answer bytes a b x y

@@ -1,0 +1,7 @@
+use Rattle.std.proofs.Common.{◌≡◌, ◌++◌, drop}
+use Rattle.bayou_wire.specs.Spelling.{vector_bytes}
+use Rattle.bayou_wire.proofs.put.put_counts.Given as goal
+
+-- what is written, and what is still to be, are the whole
+abbrev pub invariant-loop-count : goal.invariant-loop-count
+invariant-loop-count l = l.out.items ++ vector_bytes (drop l.count-index l.counts) ≡ l.fn.out.items ++ vector_bytes l.counts

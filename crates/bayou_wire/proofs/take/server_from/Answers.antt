@@ -1,0 +1,5 @@
+use Rattle.bayou_wire.proofs.Readers.{server_of-given}
+use Rattle.bayou_wire.proofs.take.server_from.Goals as goal
+
+pub returns : goal.returns
+returns c = server_of-given _ _ c.new.ensures.within c.new.ensures.value

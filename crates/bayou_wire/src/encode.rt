@@ -1,0 +1,60 @@
+//! Encoders.
+ghost use Rattle.std.specs.Prelude.{◌≡◌, ◌+◌, ◌<◌, ◌≤◌, IfOk, length};
+ghost use Rattle.bayou_base.specs.declared.limits.TheConstants.{MAX_FRAME_BYTES, MAX_WRITE_BYTES};
+ghost use Rattle.bayou_wire.specs.declared.layout.TheConstants.{LENGTH_BYTES};
+ghost use Rattle.bayou_wire.specs.Spelling.{SpellsFrame, SpellsWrite, kind_of};
+
+use crate::frame::Frame;
+use crate::layout::*;
+use crate::put::{put_payload, put_write};
+use bayou_lang::Write;
+use std::alloc::{AllocError, Global};
+
+/// The one spelling of the Write. Want of memory is the only refusal, and leaves nothing behind.
+pub fn encode_write(alloc: Global, write: &Write) -> Result<Vec<u8>, AllocError>
+    ensures spelling { IfOk result (λ bytes. SpellsWrite bytes.items write.now) }
+    ensures size { IfOk result (λ bytes. (0 < length bytes.items) × (length bytes.items ≤ MAX_WRITE_BYTES)) }
+{
+    let mut bytes = Vec::new(alloc);
+    put_write(&mut bytes, write)?;
+    Ok(bytes)
+}
+
+fn kind_byte(frame: &Frame) -> u8
+    ensures { result ≡ kind_of frame.now }
+{
+    match frame {
+        Frame::Read(_, _) => KIND_READ,
+        Frame::Write(_, _) => KIND_WRITE,
+        Frame::Reopen => KIND_REOPEN,
+        Frame::Dump => KIND_DUMP,
+        Frame::Offer(_) => KIND_OFFER,
+        Frame::Seen(_) => KIND_SEEN,
+        Frame::Accepted(_) => KIND_ACCEPTED,
+        Frame::Refused(_) => KIND_REFUSED,
+        Frame::Reopened(_) => KIND_REOPENED,
+        Frame::Item(_) => KIND_ITEM,
+        Frame::End(_) => KIND_END,
+    }
+}
+
+fn framed(alloc: Global, frame: &Frame) -> Result<Vec<u8>, AllocError>
+    ensures { IfOk result (λ bytes. SpellsFrame bytes.items frame.now) }
+{
+    let mut payload = Vec::new(alloc);
+    put_payload(&mut payload, frame)?;
+    let len = (payload.len() + 1) as u16;
+    let mut bytes = Vec::new(alloc);
+    bytes.extend_from_slice(&len.to_be_bytes())?;
+    bytes.push(kind_byte(frame))?;
+    bytes.extend_from_slice(&payload)?;
+    Ok(bytes)
+}
+
+/// The one spelling of the frame, its length first. Want of memory is the only refusal, and leaves nothing behind.
+pub fn encode_frame(alloc: Global, frame: &Frame) -> Result<Vec<u8>, AllocError>
+    ensures spelling { IfOk result (λ bytes. SpellsFrame bytes.items frame.now) }
+    ensures size { IfOk result (λ bytes. length bytes.items ≤ LENGTH_BYTES + MAX_FRAME_BYTES) }
+{
+    framed(alloc, frame)
+}

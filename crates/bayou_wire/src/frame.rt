@@ -1,0 +1,52 @@
+use bayou_base::{Accepted, Key, Seen, Vector, Wid};
+use bayou_lang::{Program, Write};
+
+/// Why a server refuses a request.
+#[derive(Clone, Copy, Debug, PartialEq, Eq)]
+pub enum Refusal {
+    /// It is down.
+    Down,
+    /// It doesn't hold what the request needs. This is what it holds.
+    Behind(Vector),
+    /// Its log is full.
+    LogFull,
+    /// Its journal failed, in a write or as it was opened again.
+    Journal,
+    /// It isn't down, so there is nothing to open again.
+    NotDown,
+    /// The entry at this place of its journal, from 0 on, isn't what may stand there.
+    BadRecord(u32),
+    /// Its journal lost Writes that it holds.
+    Lost,
+    /// Its memory ran out.
+    OutOfMemory,
+}
+
+/// What servers and clients say to each other: the requests, and then their replies.
+///
+/// A frame has about eight thousand bytes, whatever it says: keep it behind a reference, and move it once.
+#[derive(Debug, Drop, PartialEq, Eq)]
+pub enum Frame {
+    /// Read this key, at a server that has what is needed.
+    Read(Vector, Key),
+    /// Accept a Write of this program, at a server that has what is needed.
+    Write(Vector, Program),
+    /// Open the journal again.
+    Reopen,
+    /// Send every held Write.
+    Dump,
+    /// Send the Writes that this vector doesn't cover.
+    Offer(Vector),
+    /// The read was served.
+    Seen(Seen),
+    /// The Write was accepted.
+    Accepted(Accepted),
+    /// The request was refused.
+    Refused(Refusal),
+    /// The journal was opened again, and this Write was adopted, if any.
+    Reopened(Option<Wid>),
+    /// One of the Writes asked for.
+    Item(Write),
+    /// The end of the Writes asked for, with their number.
+    End(u32),
+}

@@ -1,0 +1,41 @@
+//! What the grammar comes to: each law is the contract of a function that does nothing.
+ghost use Rattle.std.specs.Prelude.{◌≡◌, ℕ, List, [], Option, Some, Result, ◌++◌};
+ghost use Rattle.bayou_lang.specs.declared.write.Write.{Write};
+ghost use Rattle.bayou_wire.specs.declared.frame.Frame.{Frame};
+ghost use Rattle.bayou_wire.specs.declared.fault.Fault.{Fault};
+ghost use Rattle.bayou_wire.specs.declared.stream.FeedFault.{FeedFault};
+ghost use Rattle.bayou_wire.specs.Spelling.{IsFrame, IsWrite, WriteAnswer, frame_bytes, write_bytes};
+ghost use Rattle.bayou_wire.specs.Stream.{Feeds, FrameAnswer, IsLeft, Splits, bytes_fed, frames_given};
+
+/// No Write's spelling begins another's, so each spelling is of one Write.
+pub fn no_write_begins_another()
+    ensures { (a b : Write) (x y : List ℕ) → IsWrite a → IsWrite b → write_bytes a ++ x ≡ write_bytes b ++ y → (a ≡ b) × (x ≡ y) }
+{}
+
+/// No frame's spelling begins another's, so each spelling is of one frame.
+pub fn no_frame_begins_another()
+    ensures { (a b : Frame) (x y : List ℕ) → IsFrame a → IsFrame b → frame_bytes a ++ x ≡ frame_bytes b ++ y → (a ≡ b) × (x ≡ y) }
+{}
+
+/// Of each input there is one answer to whoever decodes a Write.
+pub fn one_write_answer()
+    ensures { (bytes : List ℕ) (a b : Result Write Fault) → WriteAnswer bytes a → WriteAnswer bytes b → a ≡ b }
+{}
+
+/// Of each input there is one answer to whoever decodes a frame.
+pub fn one_frame_answer()
+    ensures { (bytes : List ℕ) (a b : Result Frame Fault) → FrameAnswer bytes a → FrameAnswer bytes b → a ≡ b }
+{}
+
+/// A stream is read in one way: its frames, and the rest that is no whole frame, are determined.
+pub fn one_reading()
+    ensures { (stream : List ℕ) (frames others : List Frame) (rest left : List ℕ) → Splits stream frames rest → Splits stream others left
+        → (frames ≡ others) × (rest ≡ left) }
+{}
+
+/// After any calls the stream is the frames given, and then a rest that is no whole frame, however the stream was cut:
+/// what is held back is that rest, or the front of it that has a fault, or the fault that stands there was told.
+pub fn feeds_read_the_stream()
+    ensures { (pieces : List (List ℕ)) (answers : List (Result (List Frame) FeedFault)) (new : Option (List ℕ)) → Feeds (Some []) pieces answers new
+        → (rest : List ℕ) × Splits (bytes_fed pieces answers) (frames_given answers) rest × IsLeft new rest }
+{}

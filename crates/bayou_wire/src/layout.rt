@@ -1,0 +1,74 @@
+//! The facts of the layout, each named once: the tags of values, programs' parts and options, the kinds of frames and
+//! the codes of refusals. This is version 1 of the format. All integers are big-endian.
+
+/// How many bytes a frame's length takes.
+pub const LENGTH_BYTES: usize = 2;
+
+/// A value that is a number.
+pub const VALUE_NUM: u8 = 1;
+/// A value that is a text.
+pub const VALUE_TEXT: u8 = 2;
+
+/// A term that is a value.
+pub const TERM_LIT: u8 = 1;
+/// A term that is what a key has.
+pub const TERM_COPY: u8 = 2;
+/// A term that is a sum.
+pub const TERM_PLUS: u8 = 3;
+
+/// An op that sets a key.
+pub const OP_PUT: u8 = 1;
+/// An op that removes a key.
+pub const OP_DEL: u8 = 2;
+
+/// A condition that a key is present with a value.
+pub const COND_EQUALS: u8 = 1;
+/// A condition that a key is absent.
+pub const COND_ABSENT: u8 = 2;
+/// A condition that a key has a number that isn't less.
+pub const COND_AT_LEAST: u8 = 3;
+
+/// No value, or no Write.
+pub const ABSENT: u8 = 0;
+/// A Write's name follows.
+pub const PRESENT: u8 = 1;
+
+/// A request: read a key.
+pub const KIND_READ: u8 = 0x01;
+/// A request: accept a Write.
+pub const KIND_WRITE: u8 = 0x02;
+/// A request: open the journal again.
+pub const KIND_REOPEN: u8 = 0x03;
+/// A request: send every held Write.
+pub const KIND_DUMP: u8 = 0x04;
+/// A request: send the Writes that a vector doesn't cover.
+pub const KIND_OFFER: u8 = 0x05;
+/// A reply: a read was served.
+pub const KIND_SEEN: u8 = 0x11;
+/// A reply: a Write was accepted.
+pub const KIND_ACCEPTED: u8 = 0x12;
+/// A reply: the request was refused.
+pub const KIND_REFUSED: u8 = 0x13;
+/// A reply: the journal was opened again.
+pub const KIND_REOPENED: u8 = 0x14;
+/// A reply: one of the Writes asked for.
+pub const KIND_ITEM: u8 = 0x15;
+/// A reply: the end of the Writes asked for.
+pub const KIND_END: u8 = 0x16;
+
+/// The server is down.
+pub const CODE_DOWN: u8 = 1;
+/// The server is behind the need.
+pub const CODE_BEHIND: u8 = 2;
+/// The log is full.
+pub const CODE_LOG_FULL: u8 = 3;
+/// The journal failed.
+pub const CODE_JOURNAL: u8 = 4;
+/// The server isn't down.
+pub const CODE_NOT_DOWN: u8 = 5;
+/// An entry of the journal is no Write that may stand there.
+pub const CODE_BAD_RECORD: u8 = 6;
+/// The journal lost Writes that are held.
+pub const CODE_LOST: u8 = 7;
+/// The server's memory ran out.
+pub const CODE_OUT_OF_MEMORY: u8 = 8;

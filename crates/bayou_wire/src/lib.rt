@@ -1,0 +1,34 @@
+//! The bytes of Writes and of frames: what servers and clients say to each other, and what a journal keeps.
+//!
+//! Callers see a Write or a [`Frame`] as the plain value that it is, and its bytes as the one spelling that `specs/Spelling`
+//! gives each value; of what has no spelling nothing is encoded or decoded. [`encode_write`] and [`encode_frame`] give that
+//! spelling. [`decode_write`] and [`decode_frame`] answer a value exactly where the whole input is its spelling, and else the
+//! one fault that the input has. [`Frames`] reads a stream in pieces: callers see it as the bytes that it holds back, or as
+//! nothing once a fault was told. `specs/Stream` says what stands in a frame's place, and what one call makes of what was
+//! held back and the piece; [`laws`] says what that comes to over all calls: the frames of the stream, however it was cut.
+//!
+//! Callers owe nothing: strangers may send any bytes. Want of memory is an answer only where a growth was refused, and
+//! leaves a stream as it was before that call. No clause says how long a call takes or when memory is refused; a call of
+//! [`Frames::feed`] reads what is new and what is held back of a frame that is whole now, and no more. Each fact of the layout
+//! is named once, in [`layout`]. `specs/Reading` is between the readers in `src/` and the grammar: no public clause cites it.
+#![tactic(auto)]
+
+pub mod decode;
+pub mod encode;
+pub mod fault;
+pub mod frame;
+mod front;
+pub mod laws;
+pub mod layout;
+mod payload;
+mod put;
+pub mod stream;
+mod take;
+#[cfg(test)]
+mod tests;
+
+pub use decode::{decode_frame, decode_write};
+pub use encode::{encode_frame, encode_write};
+pub use fault::Fault;
+pub use frame::{Frame, Refusal};
+pub use stream::{FeedFault, Frames};

@@ -1,0 +1,169 @@
+//! Readers of payloads: what a frame says, by its kind.
+ghost use Rattle.std.specs.Prelude.{◌≡◌};
+ghost use Rattle.bayou_wire.specs.Reading.{Gives, is_kind as is_kind_test, optional_value_at, optional_wid_at, payload_at, refusal_at, reply_at, seen_at};
+
+use crate::frame::{Frame, Refusal};
+use crate::layout::*;
+use crate::take::{accepted_of, key_of, program_of, u32_of, value_of, vector_of, wid_of, write_of};
+use bayou_base::{Seen, Value, Wid};
+
+#[tactic(auto, unfolding(crate::specs::Reading::is_kind))]
+pub(crate) fn is_kind(kind: u8) -> bool
+    ensures { result ≡ is_kind_test kind }
+{
+    matches!(
+        kind,
+        KIND_READ
+            | KIND_WRITE
+            | KIND_REOPEN
+            | KIND_DUMP
+            | KIND_OFFER
+            | KIND_SEEN
+            | KIND_ACCEPTED
+            | KIND_REFUSED
+            | KIND_REOPENED
+            | KIND_ITEM
+            | KIND_END
+    )
+}
+
+#[tactic(auto, unfolding(crate::specs::Reading::optional_value_at))]
+fn optional_value_of(bytes: &[u8]) -> Option<(Option<Value>, &[u8])>
+    ensures { Gives (λ x. (x.0, x.1.now)) result (optional_value_at bytes.now) }
+{
+    match bytes {
+        [] => None,
+        [ABSENT, rest @ ..] => Some((None, rest)),
+        [_, ..] => {
+            let (value, rest) = value_of(bytes)?;
+            Some((Some(value), rest))
+        }
+    }
+}
+
+#[tactic(auto, unfolding(crate::specs::Reading::optional_wid_at))]
+fn optional_wid_of(bytes: &[u8]) -> Option<(Option<Wid>, &[u8])>
+    ensures { Gives (λ x. (x.0, x.1.now)) result (optional_wid_at bytes.now) }
+{
+    match bytes {
+        [ABSENT, rest @ ..] => Some((None, rest)),
+        [PRESENT, rest @ ..] => {
+            let Some((wid, rest)) = wid_of(rest) else {
+                return None;
+            };
+            Some((Some(wid), rest))
+        }
+        _ => None,
+    }
+}
+
+#[tactic(auto, unfolding(crate::specs::Reading::refusal_at))]
+fn refusal_of(bytes: &[u8]) -> Option<(Refusal, &[u8])>
+    ensures { Gives (λ x. (x.0, x.1.now)) result (refusal_at bytes.now) }
+{
+    match bytes {
+        [CODE_DOWN, rest @ ..] => Some((Refusal::Down, rest)),
+        [CODE_BEHIND, rest @ ..] => {
+            let Some((vector, rest)) = vector_of(rest) else {
+                return None;
+            };
+            Some((Refusal::Behind(vector), rest))
+        }
+        [CODE_LOG_FULL, rest @ ..] => Some((Refusal::LogFull, rest)),
+        [CODE_JOURNAL, rest @ ..] => Some((Refusal::Journal, rest)),
+        [CODE_NOT_DOWN, rest @ ..] => Some((Refusal::NotDown, rest)),
+        [CODE_BAD_RECORD, rest @ ..] => {
+            let (at, rest) = u32_of(rest)?;
+            Some((Refusal::BadRecord(at), rest))
+        }
+        [CODE_LOST, rest @ ..] => Some((Refusal::Lost, rest)),
+        [CODE_OUT_OF_MEMORY, rest @ ..] => Some((Refusal::OutOfMemory, rest)),
+        _ => None,
+    }
+}
+
+#[tactic(auto, unfolding(crate::specs::Reading::seen_at))]
+fn seen_of(bytes: &[u8]) -> Option<(Seen, &[u8])>
+    ensures { Gives (λ x. (x.0, x.1.now)) result (seen_at bytes.now) }
+{
+    let (value, rest) = optional_value_of(bytes)?;
+    let Some((vector, rest)) = vector_of(rest) else {
+        return None;
+    };
+    Some((Seen { value, vector }, rest))
+}
+
+#[tactic(auto, unfolding(crate::specs::Reading::reply_at))]
+fn reply_of(kind: u8, bytes: &[u8]) -> Option<(Frame, &[u8])>
+    ensures { Gives (λ x. (x.0, x.1.now)) result (reply_at kind bytes.now) }
+{
+    match kind {
+        KIND_SEEN => {
+            let Some((seen, rest)) = seen_of(bytes) else {
+                return None;
+            };
+            Some((Frame::Seen(seen), rest))
+        }
+        KIND_ACCEPTED => {
+            let Some((accepted, rest)) = accepted_of(bytes) else {
+                return None;
+            };
+            Some((Frame::Accepted(accepted), rest))
+        }
+        KIND_REFUSED => {
+            let Some((refusal, rest)) = refusal_of(bytes) else {
+                return None;
+            };
+            Some((Frame::Refused(refusal), rest))
+        }
+        KIND_REOPENED => {
+            let Some((adopted, rest)) = optional_wid_of(bytes) else {
+                return None;
+            };
+            Some((Frame::Reopened(adopted), rest))
+        }
+        KIND_ITEM => {
+            let Some((write, rest)) = write_of(bytes) else {
+                return None;
+            };
+            Some((Frame::Item(write), rest))
+        }
+        KIND_END => {
+            let (number, rest) = u32_of(bytes)?;
+            Some((Frame::End(number), rest))
+        }
+        _ => None,
+    }
+}
+
+/// What a payload of this kind says, and the bytes behind it.
+#[tactic(auto, unfolding(crate::specs::Reading::payload_at))]
+pub(crate) fn payload_of(kind: u8, bytes: &[u8]) -> Option<(Frame, &[u8])>
+    ensures { Gives (λ x. (x.0, x.1.now)) result (payload_at kind bytes.now) }
+{
+    match kind {
+        KIND_READ => {
+            let Some((need, rest)) = vector_of(bytes) else {
+                return None;
+            };
+            let (key, rest) = key_of(rest)?;
+            Some((Frame::Read(need, key), rest))
+        }
+        KIND_WRITE => {
+            let Some((need, rest)) = vector_of(bytes) else {
+                return None;
+            };
+            let (program, rest) = program_of(rest)?;
+            Some((Frame::Write(need, program), rest))
+        }
+        KIND_REOPEN => Some((Frame::Reopen, bytes)),
+        KIND_DUMP => Some((Frame::Dump, bytes)),
+        KIND_OFFER => {
+            let Some((vector, rest)) = vector_of(bytes) else {
+                return None;
+            };
+            Some((Frame::Offer(vector), rest))
+        }
+        _ => reply_of(kind, bytes),
+    }
+}

@@ -1,0 +1,143 @@
+ghost use Rattle.std.specs.Prelude.{◌≡◌, ◌+◌, ◌≤◌, ◌↔◌, [], None, Some, IsTrue, IfSome, length};
+ghost use Rattle.bayou_base.specs.declared.limits.TheConstants.{MAX_FRAME_BYTES};
+ghost use Rattle.bayou_wire.specs.declared.layout.TheConstants.{LENGTH_BYTES};
+ghost use Rattle.bayou_wire.specs.Reading.{FedOpen, IsFaultAt, IsFirst, IsTaken, Keeps};
+ghost use Rattle.bayou_wire.specs.Stream.{Fed, listed};
+
+use crate::fault::Fault;
+use crate::frame::Frame;
+use crate::front::{Front, Taken, front_of, take_frames};
+use crate::layout::LENGTH_BYTES;
+use bayou_base::MAX_FRAME_BYTES;
+use bytes::BytesMut;
+use std::alloc::Global;
+use std::marker::Model;
+
+/// Why [`Frames::feed`] gives no frames.
+#[derive(Clone, Copy, Debug, PartialEq, Eq)]
+pub enum FeedFault {
+    /// This stands in a frame's place, where no frame stands before it.
+    Fault(Fault),
+    /// A fault was told before.
+    Failed,
+    /// A growth was refused. The piece counts as not fed.
+    OutOfMemory,
+}
+
+/// The frames of a stream that comes in pieces, however it is cut.
+#[derive(Drop)]
+pub struct Frames {
+    alloc: Global,
+    held: BytesMut,
+    failed: bool,
+}
+
+impl Model for Frames {
+    ghost use Rattle.std.specs.Prelude.{◌+◌, ◌≤◌, ℕ, List, None, Option, Some, length, if◌then◌else◌};
+    ghost use Rattle.bayou_base.specs.declared.limits.TheConstants.{MAX_FRAME_BYTES};
+    ghost use Rattle.bayou_wire.specs.declared.layout.TheConstants.{LENGTH_BYTES};
+
+    ghost Value = { Option (List ℕ) };
+
+    ghost view = { λ frames. if frames.failed then None else Some frames.held.items };
+
+    ghost invariant = { λ frames. length frames.held.items ≤ LENGTH_BYTES + MAX_FRAME_BYTES };
+}
+
+/// The fault that stands in a frame's place in what is held back, if any.
+fn held_fault(held: &[u8]) -> Option<Fault>
+    ensures { IsFaultAt held.now result }
+{
+    match front_of(held) {
+        Front::Partial => None,
+        Front::Whole(_, _) => None,
+        Front::Faulty(fault) => Some(fault),
+    }
+}
+
+/// The fault that stands first, where no frame was taken before it.
+fn first_fault(taken: &Taken) -> Option<Fault>
+    ensures { IsFirst taken.now.frames.items taken.now.fault result }
+{
+    if taken.frames.is_empty() {
+        taken.fault
+    } else {
+        None
+    }
+}
+
+/// Gives the frames taken, and holds back what they leave, or tells the fault that stands first.
+fn keep(held: &mut BytesMut, taken: Taken) -> Result<Vec<Frame>, FeedFault>
+    requires { IsTaken held.old.items taken.frames.items taken.left taken.fault }
+    ensures kept { Keeps held.old.items (listed result) held.new.items }
+    ensures held_back { length held.new.items ≤ LENGTH_BYTES + MAX_FRAME_BYTES }
+{
+    match first_fault(&taken) {
+        Some(fault) => {
+            held.clear();
+            Err(FeedFault::Fault(fault))
+        }
+        None => {
+            held.advance(held.len() - taken.left);
+            held.truncate(LENGTH_BYTES + MAX_FRAME_BYTES);
+            Ok(taken.frames)
+        }
+    }
+}
+
+/// A call where no fault was told before.
+fn feed_open(alloc: Global, held: &mut BytesMut, piece: &[u8]) -> Result<Vec<Frame>, FeedFault>
+    ensures fed { FedOpen held.old.items piece.now (listed result) held.new.items }
+    ensures held_back { length held.old.items ≤ LENGTH_BYTES + MAX_FRAME_BYTES → length held.new.items ≤ LENGTH_BYTES + MAX_FRAME_BYTES }
+{
+    if let Some(fault) = held_fault(held.as_slice()) {
+        return Err(FeedFault::Fault(fault));
+    }
+    let before = held.len();
+    if held.extend_from_slice(piece).is_err() {
+        return Err(FeedFault::OutOfMemory);
+    }
+    let Ok(taken) = take_frames(alloc, held.as_slice()) else {
+        held.truncate(before);
+        return Err(FeedFault::OutOfMemory);
+    };
+    keep(held, taken)
+}
+
+impl Frames {
+    /// A stream of which nothing has come. It takes no memory.
+    pub fn new(alloc: Global) -> Self
+        ensures { result ≡ Some [] }
+    {
+        Frames {
+            alloc,
+            held: BytesMut::new(alloc),
+            failed: false,
+        }
+    }
+
+    /// Takes the next piece, and gives the frames that are whole now.
+    ///
+    /// A fault is told by the call whose piece completes it, where that call has no frame to give, else by the next call,
+    /// which takes nothing of its piece (an empty one will do). After it every call answers [`FeedFault::Failed`]. Where
+    /// memory is lacking nothing changes, and the piece counts as not fed. Each frame given takes about eight thousand bytes,
+    /// so feed pieces of a moderate size.
+    pub fn feed(&mut self, piece: &[u8]) -> Result<Vec<Frame>, FeedFault>
+        ensures fed { Fed self.old piece.now (listed result) self.new }
+        ensures held_back { IfSome self.new (λ held. length held ≤ LENGTH_BYTES + MAX_FRAME_BYTES) }
+    {
+        if self.failed {
+            return Err(FeedFault::Failed);
+        }
+        let result = feed_open(self.alloc, &mut self.held, piece);
+        self.failed = matches!(result, Err(FeedFault::Fault(_)));
+        result
+    }
+
+    /// Whether no frame is begun, and no fault stands in a frame's place.
+    pub fn is_between(&self) -> bool
+        ensures { IsTrue result ↔ (self.now ≡ Some []) }
+    {
+        !self.failed && self.held.is_empty()
+    }
+}

@@ -1,0 +1,327 @@
+//! Readers: each answers what stands at the front of the bytes and the bytes behind it, or `None` where nothing that
+//! it reads stands there.
+ghost use Rattle.std.specs.Prelude.{◌≡◌, ℕ, ◌≤◌, List, Option, length};
+ghost use Rattle.std.specs.Int.{w16, w32, w64};
+ghost use Rattle.bayou_base.specs.declared.limits.TheConstants.{SERVERS};
+ghost use Rattle.bayou_wire.specs.Reading.{Gives, accepted_at, alt_at, byte_at, cond_at, i64_at, key_at, list_at, number_at, op_at, program_at, accepted_of as accepted_of_parts, server_of as server_of_index, vector_of as vector_of_counts, wid_of as wid_of_parts, short_at, term_at, text_at, times, value_at, vector_at, wid_at, write_at};
+
+use crate::layout::*;
+use arrayvec::ArrayVec;
+use bayou_base::{Accepted, Key, SERVERS, ServerId, Stamp, Text, Value, Vector, Wid};
+use bayou_lang::{Alt, Cond, Op, Program, Term, Write};
+
+/// What stands in lists.
+trait Member: Default + Drop {
+    ghost at: { List ℕ → Option (Self × List ℕ) };
+
+    /// The member at the front.
+    fn take(bytes: &[u8]) -> Option<(Self, &[u8])>
+        ensures { Gives (λ x. (x.0, x.1.now)) result (at bytes.now) };
+}
+
+/// So many members.
+fn members_of<T: Member, const CAP: usize>(
+    count: usize,
+    bytes: &[u8],
+) -> Option<(ArrayVec<T, CAP>, &[u8])>
+    requires { count ≤ CAP }
+    ensures { Gives (λ x. (x.0.items, x.1.now)) result (times count T.at bytes.now) }
+{
+    let mut members = ArrayVec::new();
+    let mut rest = bytes;
+    for _ in 0..count {
+        let (member, behind) = T::take(rest)?;
+        members.push(member);
+        rest = behind;
+    }
+    Some((members, rest))
+}
+
+#[tactic(auto, unfolding(crate::specs::Reading::list_at))]
+fn list_of<T: Member, const CAP: usize>(bytes: &[u8]) -> Option<(ArrayVec<T, CAP>, &[u8])>
+    ensures { Gives (λ x. (x.0.items, x.1.now)) result (list_at CAP T.at bytes.now) }
+{
+    let [count, rest @ ..] = bytes else {
+        return None;
+    };
+    let count = usize::from(*count);
+    if CAP < count {
+        return None;
+    }
+    members_of(count, rest)
+}
+
+fn byte_of(bytes: &[u8]) -> Option<(u8, &[u8])>
+    ensures { Gives (λ x. (x.0, x.1.now)) result (byte_at bytes.now) }
+{
+    match bytes {
+        [] => None,
+        [byte, rest @ ..] => Some((*byte, rest)),
+    }
+}
+
+pub(crate) fn u32_of(bytes: &[u8]) -> Option<(u32, &[u8])>
+    ensures { Gives (λ x. (x.0, x.1.now)) result (number_at w32 bytes.now) }
+{
+    if bytes.len() < 4 {
+        return None;
+    }
+    let (front, rest) = bytes.split_at(4);
+    let number = u32::from_be_bytes([front[0], front[1], front[2], front[3]]);
+    Some((number, rest))
+}
+
+fn i64_of(bytes: &[u8]) -> Option<(i64, &[u8])>
+    ensures { Gives (λ x. (x.0, x.1.now)) result (i64_at bytes.now) }
+{
+    if bytes.len() < 8 {
+        return None;
+    }
+    let (front, rest) = bytes.split_at(8);
+    let number = i64::from_be_bytes([
+        front[0], front[1], front[2], front[3], front[4], front[5], front[6], front[7],
+    ]);
+    Some((number, rest))
+}
+
+fn short_of(bytes: &[u8]) -> Option<(&[u8], &[u8])>
+    ensures { Gives (λ x. (x.0.now, x.1.now)) result (short_at bytes.now) }
+{
+    let [len, rest @ ..] = bytes else {
+        return None;
+    };
+    let len = usize::from(*len);
+    if rest.len() < len {
+        return None;
+    }
+    Some(rest.split_at(len))
+}
+
+#[tactic(auto, unfolding(crate::specs::Reading::key_at))]
+pub(crate) fn key_of(bytes: &[u8]) -> Option<(Key, &[u8])>
+    ensures { Gives (λ x. (x.0, x.1.now)) result (key_at bytes.now) }
+{
+    let (name, rest) = short_of(bytes)?;
+    let Ok(name) = str::from_utf8(name) else {
+        return None;
+    };
+    let Ok(key) = Key::new(name) else {
+        return None;
+    };
+    Some((key, rest))
+}
+
+#[tactic(auto, unfolding(crate::specs::Reading::text_at))]
+fn text_of(bytes: &[u8]) -> Option<(Text, &[u8])>
+    ensures { Gives (λ x. (x.0, x.1.now)) result (text_at bytes.now) }
+{
+    let (text, rest) = short_of(bytes)?;
+    let Ok(text) = str::from_utf8(text) else {
+        return None;
+    };
+    let text = Text::new(text)?;
+    Some((text, rest))
+}
+
+#[tactic(auto, unfolding(crate::specs::Reading::value_at))]
+pub(crate) fn value_of(bytes: &[u8]) -> Option<(Value, &[u8])>
+    ensures { Gives (λ x. (x.0, x.1.now)) result (value_at bytes.now) }
+{
+    match bytes {
+        [VALUE_NUM, rest @ ..] => {
+            let (number, rest) = i64_of(rest)?;
+            Some((Value::Num(number), rest))
+        }
+        [VALUE_TEXT, rest @ ..] => {
+            let (text, rest) = text_of(rest)?;
+            Some((Value::Text(text), rest))
+        }
+        _ => None,
+    }
+}
+
+#[tactic(auto, unfolding(crate::specs::Reading::term_at))]
+fn term_of(bytes: &[u8]) -> Option<(Term, &[u8])>
+    ensures { Gives (λ x. (x.0, x.1.now)) result (term_at bytes.now) }
+{
+    match bytes {
+        [TERM_LIT, rest @ ..] => {
+            let (value, rest) = value_of(rest)?;
+            Some((Term::Lit(value), rest))
+        }
+        [TERM_COPY, rest @ ..] => {
+            let (key, rest) = key_of(rest)?;
+            Some((Term::Copy(key), rest))
+        }
+        [TERM_PLUS, rest @ ..] => {
+            let (key, rest) = key_of(rest)?;
+            let (number, rest) = i64_of(rest)?;
+            Some((Term::Plus(key, number), rest))
+        }
+        _ => None,
+    }
+}
+
+impl Member for Op {
+    ghost at = { op_at };
+
+    #[tactic(auto, unfolding(crate::specs::Reading::op_at))]
+    fn take(bytes: &[u8]) -> Option<(Self, &[u8])> {
+        match bytes {
+            [OP_PUT, rest @ ..] => {
+                let (key, rest) = key_of(rest)?;
+                let (term, rest) = term_of(rest)?;
+                Some((Op::Put(key, term), rest))
+            }
+            [OP_DEL, rest @ ..] => {
+                let (key, rest) = key_of(rest)?;
+                Some((Op::Del(key), rest))
+            }
+            _ => None,
+        }
+    }
+}
+
+impl Member for Cond {
+    ghost at = { cond_at };
+
+    #[tactic(auto, unfolding(crate::specs::Reading::cond_at))]
+    fn take(bytes: &[u8]) -> Option<(Self, &[u8])> {
+        match bytes {
+            [COND_EQUALS, rest @ ..] => {
+                let (key, rest) = key_of(rest)?;
+                let (value, rest) = value_of(rest)?;
+                Some((Cond::Equals(key, value), rest))
+            }
+            [COND_ABSENT, rest @ ..] => {
+                let (key, rest) = key_of(rest)?;
+                Some((Cond::Absent(key), rest))
+            }
+            [COND_AT_LEAST, rest @ ..] => {
+                let (key, rest) = key_of(rest)?;
+                let (number, rest) = i64_of(rest)?;
+                Some((Cond::AtLeast(key, number), rest))
+            }
+            _ => None,
+        }
+    }
+}
+
+impl Member for Alt {
+    ghost at = { alt_at };
+
+    #[tactic(auto, unfolding(crate::specs::Reading::alt_at))]
+    fn take(bytes: &[u8]) -> Option<(Self, &[u8])> {
+        let (when, rest) = list_of(bytes)?;
+        let (ops, rest) = list_of(rest)?;
+        Some((Alt { when, ops }, rest))
+    }
+}
+
+/// A count of a vector.
+impl Member for u32 {
+    ghost at = { number_at w32 };
+
+    fn take(bytes: &[u8]) -> Option<(Self, &[u8])> {
+        u32_of(bytes)
+    }
+}
+
+#[tactic(auto, unfolding(crate::specs::Reading::program_at))]
+pub(crate) fn program_of(bytes: &[u8]) -> Option<(Program, &[u8])>
+    ensures { Gives (λ x. (x.0, x.1.now)) result (program_at bytes.now) }
+{
+    let (check, rest) = list_of(bytes)?;
+    let (update, rest) = list_of(rest)?;
+    let (merge, rest) = list_of(rest)?;
+    Some((
+        Program {
+            check,
+            update,
+            merge,
+        },
+        rest,
+    ))
+}
+
+fn vector_from(list: &[u32]) -> Option<Vector>
+    requires { length list.now ≡ SERVERS }
+    ensures { result ≡ vector_of_counts list.now }
+{
+    let mut counts = [0; SERVERS];
+    counts.copy_from_slice(list);
+    Vector::from_counts(counts)
+}
+
+#[tactic(auto, unfolding(crate::specs::Reading::vector_at))]
+pub(crate) fn vector_of(bytes: &[u8]) -> Option<(Vector, &[u8])>
+    ensures { Gives (λ x. (x.0, x.1.now)) result (vector_at bytes.now) }
+{
+    let (list, rest) = members_of::<u32, SERVERS>(SERVERS, bytes)?;
+    let vector = vector_from(list.as_slice())?;
+    Some((vector, rest))
+}
+
+fn server_from(index: u8) -> Option<ServerId>
+    ensures { result ≡ server_of_index index }
+{
+    ServerId::new(index)
+}
+
+fn wid_from(origin: ServerId, seq: u32) -> Option<Wid>
+    ensures { result ≡ wid_of_parts origin seq }
+{
+    Wid::new(origin, seq)
+}
+
+fn accepted_from(wid: Wid, clock: u32, deps: Vector) -> Option<Accepted>
+    ensures { result ≡ accepted_of_parts wid clock deps }
+{
+    let stamp = Stamp::new(clock, wid.origin)?;
+    Some(Accepted { wid, stamp, deps })
+}
+
+#[tactic(auto, unfolding(crate::specs::Reading::wid_at))]
+pub(crate) fn wid_of(bytes: &[u8]) -> Option<(Wid, &[u8])>
+    ensures { Gives (λ x. (x.0, x.1.now)) result (wid_at bytes.now) }
+{
+    let (index, rest) = byte_of(bytes)?;
+    let origin = server_from(index)?;
+    let (seq, rest) = u32_of(rest)?;
+    let wid = wid_from(origin, seq)?;
+    Some((wid, rest))
+}
+
+#[tactic(auto, unfolding(crate::specs::Reading::accepted_at))]
+pub(crate) fn accepted_of(bytes: &[u8]) -> Option<(Accepted, &[u8])>
+    ensures { Gives (λ x. (x.0, x.1.now)) result (accepted_at bytes.now) }
+{
+    let Some((wid, rest)) = wid_of(bytes) else {
+        return None;
+    };
+    let (clock, rest) = u32_of(rest)?;
+    let Some((deps, rest)) = vector_of(rest) else {
+        return None;
+    };
+    let accepted = accepted_from(wid, clock, deps)?;
+    Some((accepted, rest))
+}
+
+#[tactic(auto, unfolding(crate::specs::Reading::write_at))]
+pub(crate) fn write_of(bytes: &[u8]) -> Option<(Write, &[u8])>
+    ensures { Gives (λ x. (x.0, x.1.now)) result (write_at bytes.now) }
+{
+    let Some((head, rest)) = accepted_of(bytes) else {
+        return None;
+    };
+    let (program, rest) = program_of(rest)?;
+    Some((
+        Write {
+            wid: head.wid,
+            stamp: head.stamp,
+            deps: head.deps,
+            program,
+        },
+        rest,
+    ))
+}
