@@ -1,0 +1,18 @@
+-- What the calls of a device do: this project's own model.
+use Rattle.std.specs.Prelude.{◌≡◌, ℕ, ◌+◌, List, ◌++◌, min}
+
+-- the bytes are this front and something behind it
+abbrev pub BeginsWith : List ℕ → List ℕ → Type 0
+BeginsWith front bytes = (rest : List ℕ) × (bytes ≡ front ++ rest)
+
+-- the greatest count of failures
+abbrev pub most_failures : ℕ
+most_failures = 18446744073709551615
+
+-- the count after one failure more; at its greatest value it stays
+abbrev pub one_more : ℕ → ℕ
+one_more count = min (count + 1) most_failures
+
+-- one failure more is counted
+abbrev pub Rose : ℕ → ℕ → Type 0
+Rose before after = after ≡ one_more before

@@ -1,0 +1,4 @@
+pub mod Ending
+pub mod Heading
+pub mod Reading
+pub mod Walking

@@ -1,0 +1,82 @@
+-- What each exit leaves of the chains, and how many device calls it made.
+use Rattle.std.proofs.Common.{◌≡◌, ℕ, ◌-◌, ◌++◌, List, [], length, take, map, arith, refl, sym, ◌∙◌, ap, subst}
+use Rattle.std.proofs.lemmas.List.{append-nil}
+use Rattle.bayou_device.specs.Device.{BeginsWith, one_more}
+use Rattle.bayou_journal.specs.Chain.{journal}
+use Rattle.bayou_journal.specs.Heads.{missing}
+use Rattle.bayou_journal.specs.Opened.{bytes_at}
+use Rattle.bayou_journal.specs.Opening.{FailsToAdd, FailsToOpen}
+use Rattle.bayou_journal.proofs.Ending.{cut_keeps, fails_to_open, whole_keeps}
+use Rattle.bayou_journal.proofs.restore.restore.Goals as goal
+
+pub returns-in_err-bytes-clause-calls : goal.returns-in_err-bytes-clause-calls
+returns-in_err-bytes-clause-calls g c = g.met.D.Device.goes_on 1 0 4 _ _ _ (omega arith) c.read_all.ensures.calls (g.met.D.Device.stays 0 _)
+
+pub returns-in_err-links-clause-calls : goal.returns-in_err-links-clause-calls
+returns-in_err-links-clause-calls g c = g.met.D.Device.goes_on 1 0 4 _ _ _ (omega arith) c.read_all.ensures.calls (g.met.D.Device.stays 0 _)
+
+pub returns-in_err-drop_tail-clause-safe : goal.returns-in_err-drop_tail-clause-safe
+returns-in_err-drop_tail-clause-safe g c = λ modelled.
+    let links = c.in_ok-links.links in
+    let found = c.in_ok-links.ensures in
+    let read : c.deref.result.now ≡ g.D.Device.content c.args.device.now = c.deref.ensures.value ∙ c.in_ok-bytes.ensures.bytes modelled in
+    let kept : BeginsWith (g.D.Device.kept c.args.device.now) c.deref.result.now =
+    subst (λ (l : List ℕ). BeginsWith (g.D.Device.kept c.args.device.now) l) (sym read) (g.met.D.Device.keeps c.args.device.now) in
+    let front : BeginsWith (take links.end (g.D.Device.kept c.args.device.now)) (g.D.Device.kept c.drop_tail.new.device) =
+    subst (λ (l : List ℕ). BeginsWith (take links.end l) (g.D.Device.kept c.drop_tail.new.device)) c.read_all.ensures.kept c.in_err-drop_tail.ensures.front in
+    cut_keeps c.args.server.index c.deref.result.now (map (bytes_at c.deref.result.now) links.places.items) (length c.deref.result.now - links.end) links.end (g.D.Device.kept c.args.device.now) (g.D.Device.kept c.drop_tail.new.device)
+    found.finds refl found.end.within kept front
+
+pub returns-in-Err-clause-refused : goal.returns-in-Err-clause-refused
+returns-in-Err-clause-refused g c =
+    let links = c.in_ok-links.links in
+    let found = c.in_ok-links.ensures in
+    let counts : g.D.Device.failures c.drop_tail.new.device ≡ g.D.Device.failures c.args.device.now = c.in_ok-drop_tail.ensures.counts ∙ c.in_ok-bytes.ensures.counts in (
+      c.in-Err.ensures.rose ∙ ap one_more counts,
+      λ modelled.
+          let read : c.deref.result.now ≡ g.D.Device.content c.args.device.now = c.deref.ensures.value ∙ c.in_ok-bytes.ensures.bytes modelled in
+          let piece : c.missing_of.result.now ≡ missing c.args.server.index links.end = c.missing_of.ensures c.args.server.index c.header_of-header.ensures in
+          let middle : g.D.Device.content c.drop_tail.new.device ≡ take links.end c.deref.result.now = c.in_ok-drop_tail.ensures.cut modelled ∙ ap (take links.end) (c.in_ok-bytes.ensures.same ∙ sym read) in
+          let new = g.D.Device.content c.write_through.new.device in
+          let left : FailsToAdd g.D.Device.may_leave (missing c.args.server.index links.end) (take links.end c.deref.result.now) new =
+          subst (λ (p : List ℕ). FailsToAdd g.D.Device.may_leave p (take links.end c.deref.result.now) new) piece
+          (subst (λ (b : List ℕ). FailsToAdd g.D.Device.may_leave c.missing_of.result.now b new) middle (c.in-Err.ensures.left modelled)) in
+          let all : FailsToOpen g.D.Device.may_leave c.args.server.index c.deref.result.now new =
+          fails_to_open g.D.Device.may_leave c.args.server.index c.deref.result.now (map (bytes_at c.deref.result.now) links.places.items) (length c.deref.result.now - links.end) links.end new found.finds refl found.end left in
+          subst (λ (b : List ℕ). FailsToOpen g.D.Device.may_leave c.args.server.index b new) read all,
+    )
+
+pub returns-in-Err-clause-safe : goal.returns-in-Err-clause-safe
+returns-in-Err-clause-safe g c = λ modelled.
+    let links = c.in_ok-links.links in
+    let found = c.in_ok-links.ensures in
+    let read : c.deref.result.now ≡ g.D.Device.content c.args.device.now = c.deref.ensures.value ∙ c.in_ok-bytes.ensures.bytes modelled in
+    let kept : BeginsWith (g.D.Device.kept c.args.device.now) c.deref.result.now =
+    subst (λ (l : List ℕ). BeginsWith (g.D.Device.kept c.args.device.now) l) (sym read) (g.met.D.Device.keeps c.args.device.now) in
+    let same : g.D.Device.kept c.write_through.new.device ≡ take links.end (g.D.Device.kept c.args.device.now) =
+    c.in-Err.ensures.kept ∙ c.in_ok-drop_tail.ensures.kept modelled ∙ ap (take links.end) c.read_all.ensures.kept in
+    let front : BeginsWith (take links.end (g.D.Device.kept c.args.device.now)) (g.D.Device.kept c.write_through.new.device) = ([], same ∙ sym (append-nil (take links.end (g.D.Device.kept c.args.device.now)))) in
+    cut_keeps c.args.server.index c.deref.result.now (map (bytes_at c.deref.result.now) links.places.items) (length c.deref.result.now - links.end) links.end (g.D.Device.kept c.args.device.now) (g.D.Device.kept c.write_through.new.device)
+    found.finds refl found.end.within kept front
+
+pub returns-in-Err-clause-calls : goal.returns-in-Err-clause-calls
+returns-in-Err-clause-calls g c =
+    g.met.D.Device.goes_on 2 2 4 _ _ _ (omega arith) (g.met.D.Device.goes_on 1 1 2 _ _ _ (omega arith) c.read_all.ensures.calls c.drop_tail.ensures.calls) c.write_through.ensures.calls
+
+pub returns-in-Ok-clause-safe : goal.returns-in-Ok-clause-safe
+returns-in-Ok-clause-safe g c = λ modelled.
+    let links = c.in_ok-links.links in
+    let found = c.in_ok-links.ensures in
+    let read : c.deref.result.now ≡ g.D.Device.content c.args.device.now = c.deref.ensures.value ∙ c.in_ok-bytes.ensures.bytes modelled in
+    let kept : BeginsWith (g.D.Device.kept c.args.device.now) c.deref.result.now =
+    subst (λ (l : List ℕ). BeginsWith (g.D.Device.kept c.args.device.now) l) (sym read) (g.met.D.Device.keeps c.args.device.now) in
+    let piece : c.missing_of.result.now ≡ missing c.args.server.index links.end = c.missing_of.ensures c.args.server.index c.header_of-header.ensures in
+    let middle : g.D.Device.content c.drop_tail.new.device ≡ take links.end c.deref.result.now = c.in_ok-drop_tail.ensures.cut modelled ∙ ap (take links.end) (c.in_ok-bytes.ensures.same ∙ sym read) in
+    let whole : g.D.Device.kept c.write_through.new.device ≡ journal c.args.server.index (map (bytes_at c.deref.result.now) links.places.items) =
+    c.in-Ok.ensures.synced ∙ c.in-Ok.ensures.added modelled ∙ ap (λ (l : List ℕ). l ++ c.missing_of.result.now) middle ∙ ap (λ (l : List ℕ). take links.end c.deref.result.now ++ l) piece ∙ found.end.whole in
+    whole_keeps c.args.server.index c.deref.result.now (map (bytes_at c.deref.result.now) links.places.items) (length c.deref.result.now - links.end) (g.D.Device.kept c.args.device.now) (g.D.Device.kept c.write_through.new.device)
+    found.finds kept whole
+
+pub returns-in-Ok-clause-calls : goal.returns-in-Ok-clause-calls
+returns-in-Ok-clause-calls g c =
+    g.met.D.Device.goes_on 2 2 4 _ _ _ (omega arith) (g.met.D.Device.goes_on 1 1 2 _ _ _ (omega arith) c.read_all.ensures.calls c.drop_tail.ensures.calls) c.write_through.ensures.calls

@@ -1,0 +1,69 @@
+-- A journal's bytes: this project's own. The digests are those of SHA-256 (FIPS 180-4).
+use Rattle.std.specs.Prelude.{◌≡◌, ℕ, ◌<◌, ◌≤◌, List, [], ◌∷◌, ◌++◌, length}
+use Rattle.std.specs.Int.{w16, to_be_bytes}
+use Rattle.bayou_base.specs.declared.limits.TheConstants.{MAX_BODY_BYTES}
+use Rattle.bayou_device.specs.Device.{BeginsWith}
+use Rattle.bayou_journal.specs.declared.format.TheConstants.{MAGIC, VERSION}
+use Rattle.sha2.specs.Sha256.{sha256}
+
+-- what every journal begins with
+abbrev pub name : List ℕ
+name = MAGIC ++ VERSION ∷ []
+
+-- the header of a server's journal
+abbrev pub header : ℕ → List ℕ
+header server = MAGIC ++ VERSION ∷ server ∷ []
+
+-- what an entry may carry
+pub record IsBody (body : List ℕ) : Type 0 where
+  pub some : 0 < length body
+  pub within : length body ≤ MAX_BODY_BYTES
+
+-- each of them
+abbrev pub AreBodies : List (List ℕ) → Type 0
+AreBodies [] = Unit {0}
+AreBodies (body ∷ bodies) = IsBody body × AreBodies bodies
+
+-- a body behind its length, in two bytes, the high one first
+abbrev pub sized : List ℕ → List ℕ
+sized body = to_be_bytes w16 (length body) ++ body
+
+-- the digest of an entry: over the digest before it, its length and its body
+abbrev pub link : List ℕ → List ℕ → List ℕ
+link before body = sha256 (before ++ sized body)
+
+-- an entry behind the digest before it
+abbrev pub entry : List ℕ → List ℕ → List ℕ
+entry before body = sized body ++ link before body
+
+-- entries of these bodies, one behind the other
+abbrev pub entries : List ℕ → List (List ℕ) → List ℕ
+entries before [] = []
+entries before (body ∷ bodies) = entry before body ++ entries (link before body) bodies
+
+-- the digest of the last of them
+abbrev pub last_link : List ℕ → List (List ℕ) → List ℕ
+last_link before [] = before
+last_link before (body ∷ bodies) = last_link (link before body) bodies
+
+-- the digest that the first entry stands behind
+abbrev pub first_link : ℕ → List ℕ
+first_link server = sha256 (header server)
+
+-- the digest that the next entry stands behind
+abbrev pub chain_end : ℕ → List (List ℕ) → List ℕ
+chain_end server bodies = last_link (first_link server) bodies
+
+-- the journal of a server with these bodies
+abbrev pub journal : ℕ → List (List ℕ) → List ℕ
+journal server bodies = header server ++ entries (first_link server) bodies
+
+-- no entry of any body stands there, behind that digest
+abbrev pub NoEntry : List ℕ → List ℕ → Type 0
+NoEntry before bytes = (body : List ℕ) → IsBody body → BeginsWith (entry before body) bytes → ⊥
+
+-- the bytes are the server's journal with these bodies and a rest at whose front no entry stands
+pub record IsLongestChain (server : ℕ) (bytes : List ℕ) (bodies : List (List ℕ)) (rest : List ℕ) : Type 0 where
+  pub split : bytes ≡ journal server bodies ++ rest
+  pub sizes : AreBodies bodies
+  pub longest : NoEntry (chain_end server bodies) rest

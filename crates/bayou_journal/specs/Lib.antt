@@ -1,0 +1,7 @@
+pub mod Chain
+pub mod ChainLaws
+pub mod Faults
+pub mod Heads
+pub mod Journal
+pub mod Opened
+pub mod Opening

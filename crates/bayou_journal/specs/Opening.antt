@@ -1,0 +1,77 @@
+-- What an opening finds, refuses and leaves: this project's own.
+use Rattle.std.specs.Prelude.{◌≡◌, ◌≢◌, ◌⊎◌, ℕ, List, [], ◌++◌, length}
+use Rattle.bayou_device.specs.Device.{BeginsWith, Rose}
+use Rattle.bayou_journal.specs.Chain.{name, header, journal, chain_end, AreBodies, IsLongestChain}
+use Rattle.bayou_journal.specs.Opened.{Found}
+use Rattle.bayou_journal.specs.declared.fault.OpenFault.{OpenFault}
+use Rattle.bayou_journal.specs.declared.fault.OpenFault.TheVariants.{Device, NotAJournal, OtherServer, OutOfMemory}
+
+-- the bytes are the front of what every journal begins with, and no whole header: a new journal
+abbrev pub IsNew : List ℕ → Type 0
+IsNew bytes = BeginsWith bytes name
+
+-- the bytes are neither a front of what every journal begins with, nor begin with it
+pub record IsForeign (bytes : List ℕ) : Type 0 where
+  pub no_front : IsNew bytes → ⊥
+  pub no_journal : BeginsWith name bytes → ⊥
+
+-- the bytes begin with the header of another server's journal
+pub record IsOfAnother (server : ℕ) (bytes : List ℕ) : Type 0 where
+  pub owner : ℕ
+  pub another : owner ≢ server
+  pub begins : BeginsWith (header owner) bytes
+
+-- what an opening finds in the bytes: nothing, in a new journal, or the longest chain; it drops the rest
+pub record IsNewJournal (bytes : List ℕ) (bodies : List (List ℕ)) (dropped : ℕ) : Type 0 where
+  pub front : IsNew bytes
+  pub empty : bodies ≡ []
+  pub whole : dropped ≡ length bytes
+
+pub record IsOldJournal (server : ℕ) (bytes : List ℕ) (bodies : List (List ℕ)) (dropped : ℕ) : Type 0 where
+  pub rest : List ℕ
+  pub chain : IsLongestChain server bytes bodies rest
+  pub behind : dropped ≡ length rest
+
+abbrev pub Finds : ℕ → List ℕ → List (List ℕ) → ℕ → Type 0
+Finds server bytes bodies dropped = IsNewJournal bytes bodies dropped ⊎ IsOldJournal server bytes bodies dropped
+
+-- each journal with which the one begins the other begins with too
+abbrev pub KeepsChains : List ℕ → List ℕ → Type 0
+KeepsChains before after = (server : ℕ) (bodies : List (List ℕ)) → AreBodies bodies → BeginsWith (journal server bodies) before → BeginsWith (journal server bodies) after
+
+-- a piece was to be added and synced, and one of the two failed
+abbrev pub FailsToAdd : (List ℕ → List ℕ → List ℕ → Type 0) → List ℕ → List ℕ → List ℕ → Type 0
+FailsToAdd may_leave piece before after = may_leave piece before after ⊎ may_leave [] (before ++ piece) after
+
+-- what an opening may leave of the bytes where a device call fails: the read or the cut; the header's append, in a new
+-- journal; or the sync
+abbrev pub FailsToOpen : (List ℕ → List ℕ → List ℕ → Type 0) → ℕ → List ℕ → List ℕ → Type 0
+FailsToOpen may_leave server before after =
+    may_leave [] before after
+    ⊎ ((IsNew before × may_leave (header server) [] after)
+    ⊎ ((bodies : List (List ℕ)) × (dropped : ℕ) × Finds server before bodies dropped × may_leave [] (journal server bodies) after))
+
+-- neither what a read gives, nor what is kept, nor the count of failures has changed
+pub record Unchanged {D : Type 0} (content kept : D → List ℕ) (failures : D → ℕ) (old new : D) : Type 0 where
+  pub same : content new ≡ content old
+  pub as_kept : kept new ≡ kept old
+  pub counts : failures new ≡ failures old
+
+-- What an opening that succeeds found, and what it leaves: the server's header and the bodies found, all of it synced.
+pub record HasOpened {D : Type 0} (is_modelled : Type 0) (content kept : D → List ℕ) (failures : D → ℕ) (server : ℕ) (old new : D) (found : Found) (last : List ℕ) : Type 0 where
+  pub finds : is_modelled → Finds server (content old) found.bodies found.dropped
+  pub leaves : is_modelled → content new ≡ journal server found.bodies
+  pub synced : kept new ≡ content new
+  pub sizes : AreBodies found.bodies
+  pub ends : last ≡ chain_end server found.bodies
+  pub counts : failures new ≡ failures old
+
+-- When each fault of an opening comes, and what it leaves.
+abbrev pub HasRefused : {D : Type 0} → (is_modelled : Type 0) → (content kept : D → List ℕ) → (failures : D → ℕ) → (may_leave : List ℕ → List ℕ → List ℕ → Type 0) → (server : ℕ) → (old new : D) → OpenFault → Type 0
+HasRefused is_modelled content kept failures may_leave server old new Device =
+    Rose (failures old) (failures new) × (is_modelled → FailsToOpen may_leave server (content old) (content new))
+HasRefused is_modelled content kept failures may_leave server old new NotAJournal =
+    Unchanged content kept failures old new × (is_modelled → IsForeign (content old))
+HasRefused is_modelled content kept failures may_leave server old new OtherServer =
+    Unchanged content kept failures old new × (is_modelled → IsOfAnother server (content old))
+HasRefused is_modelled content kept failures may_leave server old new OutOfMemory = Unchanged content kept failures old new

@@ -1,0 +1,72 @@
+ghost use Rattle.std.specs.Prelude.{◌≡◌, ◌-◌, ◌<◌, ◌≤◌, All, length, map, slice_get, Some};
+
+use std::marker::Model;
+
+/// Where a body lies in a journal's bytes.
+#[derive(Clone, Copy, Debug, PartialEq, Eq)]
+pub struct Place {
+    pub start: usize,
+    pub end: usize,
+}
+
+/// What an opening found: the bodies of the longest chain, in order, and how many bytes behind it were cut. It holds the
+/// bytes that were read, once.
+#[derive(Drop)]
+pub struct Opened {
+    bytes: Vec<u8>,
+    places: Vec<Place>,
+    dropped: usize,
+}
+
+impl Model for Opened {
+    ghost use Rattle.std.specs.Prelude.{map, All, vec_len};
+    ghost use Rattle.bayou_journal.specs.Opened.{Found, IsWithin, bytes_at};
+
+    ghost Value = { Found };
+
+    ghost view = { λ o. record { bodies = map (bytes_at o.bytes.items) o.places.items; dropped = o.dropped } };
+
+    ghost invariant = { λ o. All (IsWithin (vec_len o.bytes)) o.places.items };
+}
+
+impl Opened {
+    ghost use Rattle.bayou_journal.specs.Opened.{IsWithin, bytes_at};
+
+    // What was found at these places of the bytes, of which those from `end` on are cut.
+    pub(crate) fn new(bytes: Vec<u8>, places: Vec<Place>, end: usize) -> Self
+        requires within { All (IsWithin (length bytes.items)) places.items }
+        requires end { end ≤ length bytes.items }
+        ensures bodies { result.bodies ≡ map (bytes_at bytes.items) places.items }
+        ensures dropped { result.dropped ≡ length bytes.items - end }
+    {
+        let dropped = bytes.len() - end;
+        Opened {
+            bytes,
+            places,
+            dropped,
+        }
+    }
+
+    /// How many bodies there are.
+    pub fn len(&self) -> usize
+        ensures { result ≡ length self.now.bodies }
+    {
+        self.places.len()
+    }
+
+    /// The body at this index.
+    pub fn body(&self, index: usize) -> &[u8]
+        requires { index < length self.now.bodies }
+        ensures { slice_get self.now.bodies index ≡ Some result.now }
+    {
+        let place = self.places[index];
+        &self.bytes[place.start..place.end]
+    }
+
+    /// How many bytes were cut behind the chain.
+    pub fn dropped(&self) -> usize
+        ensures { result ≡ self.now.dropped }
+    {
+        self.dropped
+    }
+}

@@ -1,0 +1,87 @@
+ghost use Rattle.std.specs.Prelude.{◌≡◌, ◌≤◌, ◌++◌, ℕ, [], length, take, IfOk, OnErr, OnOk, IfErr};
+ghost use Rattle.bayou_device.specs.Device.{BeginsWith, Rose};
+ghost use Rattle.bayou_journal.specs.Chain;
+ghost use Rattle.bayou_journal.specs.Heads.{missing};
+ghost use Rattle.bayou_journal.specs.Opening.{FailsToAdd, HasOpened, HasRefused, KeepsChains};
+
+use crate::chain::links_of;
+use crate::fault::OpenFault;
+use crate::format::{DIGEST_BYTES, HEADER_BYTES, header_of};
+use crate::opened::Opened;
+use bayou_base::ServerId;
+use bayou_device::{Device, Failed};
+use std::alloc::Global;
+
+// An opened chain: what it holds, and the digest that the next entry stands behind.
+#[derive(Drop)]
+pub struct Restored {
+    pub opened: Opened,
+    pub last: [u8; DIGEST_BYTES],
+}
+
+// Adds the piece, if it has any byte, and makes all last.
+pub fn write_through<D: Device>(device: &mut D, piece: &[u8]) -> Result<(), Failed>
+    ensures added { D.is_modelled → OnOk result (D.content device.new ≡ D.content device.old ++ piece.now) }
+    ensures synced { OnOk result (D.kept device.new ≡ D.content device.new) }
+    ensures kept { OnErr result (D.kept device.new ≡ D.kept device.old) }
+    ensures left { D.is_modelled → OnErr result (FailsToAdd D.may_leave piece.now (D.content device.old) (D.content device.new)) }
+    ensures counts { OnOk result (D.failures device.new ≡ D.failures device.old) }
+    ensures rose { OnErr result (Rose (D.failures device.old) (D.failures device.new)) }
+    ensures calls { D.leads_to 2 device.old device.new }
+{
+    if piece.is_empty() {
+        return device.sync();
+    }
+    device.append(piece)?;
+    device.sync()
+}
+
+// Leaves the first `end` of so many bytes.
+pub fn drop_tail<D: Device>(device: &mut D, total: usize, end: usize) -> Result<(), Failed>
+    requires within { end ≤ total }
+    requires total { D.is_modelled → total ≡ length (D.content device.old) }
+    ensures cut { D.is_modelled → OnOk result (D.content device.new ≡ take end (D.content device.old)) }
+    ensures kept { D.is_modelled → OnOk result (D.kept device.new ≡ take end (D.kept device.old)) }
+    ensures front { OnErr result (BeginsWith (take end (D.kept device.old)) (D.kept device.new)) }
+    ensures left { OnErr result (D.may_leave [] (D.content device.old) (D.content device.new)) }
+    ensures counts { OnOk result (D.failures device.new ≡ D.failures device.old) }
+    ensures rose { OnErr result (Rose (D.failures device.old) (D.failures device.new)) }
+    ensures calls { D.leads_to 1 device.old device.new }
+{
+    if end == total {
+        return Ok(());
+    }
+    device.cut(end)
+}
+
+// The header, where nothing is left.
+fn missing_of(end: usize, header: &[u8; HEADER_BYTES]) -> &[u8]
+    ensures { (server : ℕ) → header.now ≡ Chain.header server → result.now ≡ missing server end }
+{
+    if end == 0 { header.as_slice() } else { &[] }
+}
+
+// Reads the journal, cuts what stands behind its longest chain, adds the header where it isn't there, and syncs.
+pub fn restore<D: Device>(
+    alloc: Global,
+    server: ServerId,
+    device: &mut D,
+) -> Result<Restored, OpenFault>
+    ensures opened { IfOk result (λ restored. HasOpened D.is_modelled D.content D.kept D.failures server.index device.old device.new restored.opened restored.last) }
+    ensures refused { IfErr result (λ fault. HasRefused D.is_modelled D.content D.kept D.failures D.may_leave server.index device.old device.new fault) }
+    ensures safe { D.is_modelled → KeepsChains (D.kept device.old) (D.kept device.new) }
+    ensures calls { D.leads_to 4 device.old device.new }
+{
+    let bytes = device.read_all(alloc)?;
+    let links = links_of(alloc, server, &bytes)?;
+    drop_tail(device, bytes.len(), links.end)?;
+    let header = header_of(server);
+    let last = links.last;
+    match write_through(device, missing_of(links.end, &header)) {
+        Err(Failed) => Err(OpenFault::Device),
+        Ok(()) => Ok(Restored {
+            opened: Opened::new(bytes, links.places, links.end),
+            last,
+        }),
+    }
+}
