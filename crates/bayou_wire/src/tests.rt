@@ -82,6 +82,33 @@ fn refused(rt: &impl Abort, alloc: Global, refusal: Refusal, parts: &[&str]) -> 
     is_spelled(rt, alloc, &Frame::Refused(refusal), parts)
 }
 
+/// A frame's length, and what it counts: these parts.
+fn counted(alloc: Global, kind_and_payload: &[u8], more: &[u8]) -> Result<Vec<u8>, Fail> {
+    let mut all = Vec::new(alloc);
+    all.extend_from_slice(kind_and_payload)?;
+    all.extend_from_slice(more)?;
+    let length = u16::try_from(all.len()).ok().ok_or("a length")?;
+    let mut bytes = Vec::new(alloc);
+    bytes.extend_from_slice(&length.to_be_bytes())?;
+    bytes.extend_from_slice(&all)?;
+    Ok(bytes)
+}
+
+/// The payload with a byte less is a bad one, and with a byte more has a trailing one, where the length counts them so.
+fn is_exact(rt: &impl Abort, alloc: Global, bytes: &[u8]) -> Result<(), Fail> {
+    let [_, _, all @ ..] = bytes else {
+        return Err(Fail::from("no length"));
+    };
+    let [shorter @ .., _] = all else {
+        return Err(Fail::from("no kind"));
+    };
+    let shorter = counted(alloc, shorter, &[])?;
+    assert!(rt; decode_frame(&shorter) == Err(Fault::BadBody), "{all:?}");
+    let longer = counted(alloc, all, &[0])?;
+    assert!(rt; decode_frame(&longer) == Err(Fault::Trailing), "{all:?}");
+    Ok(())
+}
+
 /// The frame has these bytes, and they are read as that frame and nothing else.
 fn is_spelled(rt: &impl Abort, alloc: Global, frame: &Frame, parts: &[&str]) -> Result<(), Fail> {
     let mut bytes = bytes_of(alloc, parts)?;
@@ -92,6 +119,7 @@ fn is_spelled(rt: &impl Abort, alloc: Global, frame: &Frame, parts: &[&str]) -> 
     // One byte is missing, and the length counts it.
     let short = &bytes[..bytes.len() - 1];
     assert!(rt; decode_frame(short) == Err(Fault::BadBody), "{frame:?}");
+    is_exact(rt, alloc, &bytes)?;
     // A byte stands behind the frame.
     bytes.push(0)?;
     assert!(rt; decode_frame(&bytes) == Err(Fault::Trailing), "{frame:?}");
