@@ -42,6 +42,15 @@ pub const MAX_FRAME_BYTES: usize = 8_192;
 /// How many bytes the body of a journal's entry has at the most. It has one at the least.
 pub const MAX_BODY_BYTES: usize = 8_192;
 
+/// Which device call from now a fuse makes fail at the latest. The next one is the first.
+pub const MAX_FUSE_CALLS: u32 = 1_000;
+
+/// How many bytes of the piece of an append that a fuse makes fail are added at the most.
+pub const MAX_FUSE_KEPT: u32 = 8_192;
+
+/// How many bytes a device loses at its end in one go at the most.
+pub const MAX_LOST_BYTES: u32 = 1_000_000_000;
+
 /// How often one call of an engine calls a reader's `read` or a writer's `write` at the most.
 pub const MAX_TURNS: u32 = 1_000_000;
 

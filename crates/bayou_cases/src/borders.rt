@@ -31,7 +31,7 @@ impl Told {
 }
 
 /// Lines, and what each is told in the third place.
-static LINES: [(&str, Told); 37] = [
+static LINES: [(&str, Told); 51] = [
     // Numbers of sessions and servers.
     (r#"["session",31,[]]"#, Told::Nothing),
     (r#"["session",32,[]]"#, Told::BadShape),
@@ -46,6 +46,21 @@ static LINES: [(&str, Told); 37] = [
     (r#"["servers",1,65537]"#, Told::BadShape),
     (r#"["log",7]"#, Told::OutOfPlace),
     (r#"["log",8]"#, Told::BadShape),
+    (r#"["servers",8]"#, Told::OutOfPlace),
+    (r#"["servers",9]"#, Told::BadShape),
+    // Faults of a device.
+    (r#"["fuse",0,1000,8192]"#, Told::Nothing),
+    (r#"["fuse",0,0,0]"#, Told::BadShape),
+    (r#"["fuse",0,1001,0]"#, Told::BadShape),
+    (r#"["fuse",0,1,8193]"#, Told::BadShape),
+    (r#"["fuse",1,1,0]"#, Told::OutOfPlace),
+    (r#"["lose",0,1000000000]"#, Told::Nothing),
+    (r#"["lose",0,1000000001]"#, Told::BadShape),
+    (r#"["lose",1,0]"#, Told::OutOfPlace),
+    (r#"["reopen",1]"#, Told::OutOfPlace),
+    (r#"["reopen",0,0]"#, Told::BadShape),
+    (r#"["restart",1]"#, Told::OutOfPlace),
+    (r#"["restart"]"#, Told::BadShape),
     // Values.
     (
         r#"["write",0,0,{"update":[["put","a",9223372036854775808]]}]"#,

@@ -1,14 +1,16 @@
 //! The worked scripts: what each prints, what fault it tells, and its exit status.
 use crate::memory::{Given, run};
+use std::alloc::Global;
+use std::process::Abort;
 use std::str;
 use std::test::Fail;
 
-struct Case {
-    name: &'static str,
-    script: &'static str,
-    output: &'static str,
-    fault: &'static str,
-    status: u8,
+pub struct Case {
+    pub name: &'static str,
+    pub script: &'static str,
+    pub output: &'static str,
+    pub fault: &'static str,
+    pub status: u8,
 }
 
 static CASES: [Case; 32] = [
@@ -142,7 +144,7 @@ static CASES: [Case; 32] = [
     },
     Case {
         name: "a fault of the line comes before its place",
-        script: "[\"servers\",1]\n[\"servers\",2]\n",
+        script: "[\"servers\",1]\n[\"servers\",9]\n",
         output: "",
         fault: "bayou: line 2: bad shape\n",
         status: 2,
@@ -356,35 +358,46 @@ impl Case {
     }
 }
 
+/// The case is answered as it is written.
+pub fn is_answered(rt: &impl Abort, alloc: Global, case: &Case) -> Result<(), Fail> {
+    let name = case.name;
+    let given = run(alloc, case.script.as_bytes())?;
+    assert!(rt;
+        given.output.as_slice() == case.output.as_bytes(),
+        "the output of: {name}"
+    );
+    assert!(rt;
+        given.errors.as_slice() == case.fault.as_bytes(),
+        "the fault of: {name}"
+    );
+    assert_eq!(rt; given.status, case.status, "the status of: {name}");
+    Ok(())
+}
+
 #[test]
 fn worked_scripts(rt: HostRuntime) -> Result<(), Fail> {
     for case in CASES.iter() {
-        let name = case.name;
-        let given = run(rt.alloc(), case.script.as_bytes())?;
-        assert!(rt;
-            given.output.as_slice() == case.output.as_bytes(),
-            "the output of: {name}"
-        );
-        assert!(rt;
-            given.errors.as_slice() == case.fault.as_bytes(),
-            "the fault of: {name}"
-        );
-        assert_eq!(rt; given.status, case.status, "the status of: {name}");
+        is_answered(&rt, rt.alloc(), case)?;
     }
     Ok(())
 }
 
-/// This is for runs in which any one allocation is refused: each script is answered as ever, or ends for want of memory,
-/// or has a Write refused for it.
+/// This is for runs in which any one allocation is refused: the case is answered as ever, or ends for want of memory, or
+/// has a Write refused for it.
+pub fn ends_well(rt: &impl Abort, alloc: Global, case: &Case) -> Result<(), Fail> {
+    let name = case.name;
+    let given = run(alloc, case.script.as_bytes())?;
+    assert!(rt;
+        case.is_whole(&given) || case.has_ended(&given) || case.has_refused(&given),
+        "the end of: {name}"
+    );
+    Ok(())
+}
+
 #[test]
 fn want_of_memory_over_the_worked_scripts(rt: HostRuntime) -> Result<(), Fail> {
     for case in CASES.iter() {
-        let name = case.name;
-        let given = run(rt.alloc(), case.script.as_bytes())?;
-        assert!(rt;
-            case.is_whole(&given) || case.has_ended(&given) || case.has_refused(&given),
-            "the end of: {name}"
-        );
+        ends_well(&rt, rt.alloc(), case)?;
     }
     Ok(())
 }

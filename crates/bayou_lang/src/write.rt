@@ -12,3 +12,17 @@ pub struct Write {
     pub program: Program,
     pub ghost one_origin: { wid.origin ≡ stamp.origin },
 }
+
+impl Write {
+    /// The same Write again, which takes no memory.
+    pub fn copy(&self) -> Self
+        ensures { result ≡ self.now }
+    {
+        Write {
+            wid: self.wid,
+            stamp: self.stamp,
+            deps: self.deps,
+            program: self.program.copy(),
+        }
+    }
+}

@@ -1,46 +1,57 @@
 -- The fields of a log still belong together after its calls.
-use Rattle.std.proofs.Common.{◌≡◌, ◌≢◌, ℕ, ◌<◌, ◌≤◌, ◌-◌, true, false, List, [], ◌∷◌, ◌++◌, length, take, drop, get_or, All, ap, sym, ◌∙◌, refl, subst, arith, length-append}
+use Rattle.std.proofs.Common.{◌≡◌, ℕ, ◌+◌, ◌<◌, ◌≤◌, ◌-◌, max, set, true, false, List, [], ◌∷◌, ◌++◌, length, take, drop, get_or, All, ap, sym, ◌∙◌, refl, subst, arith, length-append}
 use Rattle.std.specs.List.{insert}
 use Rattle.std.proofs.lemmas.List.{take_all, drop_all}
 use Rattle.std.proofs.lemmas.List.Elements.{All-push, All-weaker}
-use Rattle.std.proofs.lemmas.List.Quantifiers.{all_pairs_push}
 use Rattle.bayou_base.specs.Order.{is_before}
 use Rattle.bayou_base.specs.Vector.{raised}
 use Rattle.bayou_lang.specs.declared.write.Write.{Write}
 use Rattle.bayou_lang.specs.Places.{Places, empty}
 use Rattle.bayou_lang.specs.Meaning.{mean}
-use Rattle.bayou_lang.specs.Writes.{in_stamp_order}
+use Rattle.bayou_lang.specs.Writes.{count_of, in_stamp_order, AreFitting, Fits}
 use Rattle.bayou_log.specs.Db.{Slots, places, room, HasRoomFor, KeepsRoom}
-use Rattle.bayou_log.specs.Log.{AreHeld, IsNewStamp, IsNewWid}
-use Rattle.bayou_log.specs.Fields.{AgreesWith, picked}
+use Rattle.bayou_log.specs.Log.{IsNewStamp}
+use Rattle.bayou_log.specs.Fields.{AgreesWith, AreKept, picked}
+use Rattle.bayou_log.specs.FittingLaws.{count_of-most, count_of-push, fits_new_stamp, greatest_clock-push, AreFitting-push}
 use Rattle.bayou_log.specs.Replay.{after_writes, replay}
-use Rattle.bayou_log.proofs.Counts.{greatest_of-push}
 use Rattle.bayou_log.proofs.Picked.{picked-insert, AreInside, AreInside-insert, length-picked}
 use Rattle.bayou_log.proofs.StampOrder.{IsInOrder-in_stamp_order, place_by_stamp-at, in_stamp_order-push, length-in_stamp_order}
 
 -- with more room
-pub AgreesWith-more_room : (writes : List Write) (order : List ℕ) (old new : Slots) (vector : List ℕ) → AgreesWith writes order old vector
-    → places new ≡ places old → KeepsRoom (room old) (room new) → AgreesWith writes order new vector
-AgreesWith-more_room writes order old new vector agrees same keeps = record {
+pub AgreesWith-more_room : (writes : List Write) (order : List ℕ) (old new : Slots) (vector : List ℕ) (clock : ℕ) → AgreesWith writes order old vector clock
+    → places new ≡ places old → KeepsRoom (room old) (room new) → AgreesWith writes order new vector clock
+AgreesWith-more_room writes order old new vector clock agrees same keeps = record {
   in_order = agrees.in_order;
   inside = agrees.inside;
   replayed = same ∙ agrees.replayed;
   room = All-weaker (λ write. HasRoomFor (room old) write.program) (λ write. HasRoomFor (room new) write.program)
       (λ write h k d within. keeps _ (h k d within)) writes agrees.room;
   counted = agrees.counted;
+  latest = agrees.latest;
 }
 
 -- with one more Write
-pub AreHeld-push : (count limit : ℕ) (writes more : List Write) (write : Write) → more ≡ writes ++ write ∷ [] → AreHeld count limit writes
-    → write.wid.origin.index < count → IsNewWid writes write → IsNewStamp writes write → length writes < limit → AreHeld count limit more
-AreHeld-push count limit writes more write same held origin wid stamp below =
-    let pushed : AreHeld count limit (writes ++ write ∷ []) = record {
-      origins = All-push (λ write. write.wid.origin.index < count) writes write held.origins origin;
-      wids = all_pairs_push (λ a b. a.wid ≢ b.wid) writes write held.wids wid;
-      stamps = all_pairs_push (λ a b. a.stamp ≢ b.stamp) writes write held.stamps stamp;
+pub AreKept-push : (count limit : ℕ) (writes more : List Write) (write : Write) → more ≡ writes ++ write ∷ [] → AreKept count limit writes
+    → Fits count writes write → length writes < limit → AreKept count limit more
+AreKept-push count limit writes more write same kept fits below =
+    let pushed : AreKept count limit (writes ++ write ∷ []) = record {
+      servers = kept.servers;
+      limit_in_range = kept.limit_in_range;
+      fitting = AreFitting-push count writes write kept.fitting fits;
       within = omega (arith, length-append writes (write ∷ []));
     } in
-    subst (AreHeld count limit) (sym same) pushed
+    subst (AreKept count limit) (sym same) pushed
+
+-- no count is greater than the number of the Writes
+pub ruleset counts_within = (count_of-most)
+
+-- the counts of the Writes with one more that fits
+raised_vector : (count : ℕ) (writes : List Write) (vector : List ℕ) (write : Write) → vector ≡ count_of writes → Fits count writes write
+    → raised vector write.wid ≡ count_of (writes ++ write ∷ [])
+raised_vector count writes vector write counted fits =
+    let i = write.wid.origin.index in
+    let greater : max (get_or (count_of writes) i 0) write.wid.seq ≡ get_or (count_of writes) i 0 + 1 = omega (arith, fits.0.next) in
+    ap (λ counts. raised counts write.wid) counted ∙ ap (set (count_of writes) i) greater ∙ sym (count_of-push writes write)
 
 -- n is the place of the Write in this order
 pub record IsPlaceOf (write : Write) (ordered : List Write) (n : ℕ) : Type 0 where
@@ -74,11 +85,12 @@ replay-last writes write n others place last =
     ∙ after_writes-append ordered (write ∷ []) empty
 
 -- with one more Write
-pub AgreesWith-insert : (writes : List Write) (order : List ℕ) (old new : Slots) (vector : List ℕ) (write : Write) (n : ℕ) → AgreesWith writes order old vector
-    → IsNewStamp writes write → HasRoomFor (room old) write.program → IsPlaceOf write (picked writes order) n
+pub AgreesWith-insert : (count : ℕ) (writes : List Write) (order : List ℕ) (old new : Slots) (vector : List ℕ) (clock : ℕ) (write : Write) (n : ℕ)
+    → AgreesWith writes order old vector clock → AreFitting count writes → Fits count writes write → HasRoomFor (room old) write.program → IsPlaceOf write (picked writes order) n
     → room new ≡ room old → places new ≡ replay (writes ++ write ∷ [])
-    → AgreesWith (writes ++ write ∷ []) (insert order n (length writes)) new (raised vector write.wid)
-AgreesWith-insert writes order old new vector write n agrees others reserved place same replayed =
+    → AgreesWith (writes ++ write ∷ []) (insert order n (length writes)) new (raised vector write.wid) (max clock write.stamp.clock)
+AgreesWith-insert count writes order old new vector clock write n agrees fitting fits reserved place same replayed =
+    let others = fits_new_stamp count writes write fitting fits in
     let in_order = in_stamp_order-insert writes write n others (subst (λ ordered. IsPlaceOf write ordered n) agrees.in_order place) in
     let P : Write → Type 0 = λ held. HasRoomFor (room old) held.program in
     let kept : (keys : List (List ℕ)) → room old ≡ keys → All (λ held. HasRoomFor keys held.program) (writes ++ write ∷ []) =
@@ -89,7 +101,8 @@ AgreesWith-insert writes order old new vector write n agrees others reserved pla
       inside = AreInside-insert writes write order n agrees.inside;
       replayed = replayed;
       room = kept (room new) (sym same);
-      counted = ap (λ counts. raised counts write.wid) agrees.counted ∙ sym (greatest_of-push writes write);
+      counted = raised_vector count writes vector write agrees.counted fits;
+      latest = omega (arith, agrees.latest, greatest_clock-push writes write);
     }
 
 -- what the search for a place finds
@@ -108,29 +121,36 @@ IsPlaceOf-found writes slice order places write n same_writes same_order inside 
       not_earlier = found.1;
     }
 
-module _ (writes : List Write) (order : List ℕ) (old new : Slots) (vector : List ℕ) (write : Write) (n : ℕ)
-    (agrees : AgreesWith writes order old vector) (others : IsNewStamp writes write)
+module _ (count : ℕ) (writes : List Write) (order : List ℕ) (old new : Slots) (vector : List ℕ) (clock : ℕ) (write : Write) (n : ℕ)
+    (agrees : AgreesWith writes order old vector clock) (fitting : AreFitting count writes) (fits : Fits count writes write)
     (reserved : HasRoomFor (room old) write.program) (place : IsPlaceOf write (picked writes order) n) (same : room new ≡ room old) where
+  others : IsNewStamp writes write
+  others = fits_new_stamp count writes write fitting fits
+
+  placed : IsPlaceOf write (in_stamp_order writes) n
+  placed = subst (λ ordered. IsPlaceOf write ordered n) agrees.in_order place
+
   -- the Write is applied on top, where it goes behind the others
   pub AgreesWith-insert_last : length writes ≤ n → places new ≡ (mean write.program (places old)).1
-      → AgreesWith (writes ++ write ∷ []) (insert order n (length writes)) new (raised vector write.wid)
+      → AgreesWith (writes ++ write ∷ []) (insert order n (length writes)) new (raised vector write.wid) (max clock write.stamp.clock)
   AgreesWith-insert_last last after =
-      AgreesWith-insert writes order old new vector write n agrees others reserved place same
+      AgreesWith-insert count writes order old new vector clock write n agrees fitting fits reserved place same
       (after ∙ ap (λ before. (mean write.program before).1) agrees.replayed
-      ∙ sym (replay-last writes write n others (subst (λ ordered. IsPlaceOf write ordered n) agrees.in_order place) (omega (arith, length-in_stamp_order writes))))
+      ∙ sym (replay-last writes write n others placed (omega (arith, length-in_stamp_order writes))))
 
   -- all are applied again
   pub AgreesWith-insert_late : places new ≡ after_writes (picked (writes ++ write ∷ []) (insert order n (length writes))) empty
-      → AgreesWith (writes ++ write ∷ []) (insert order n (length writes)) new (raised vector write.wid)
+      → AgreesWith (writes ++ write ∷ []) (insert order n (length writes)) new (raised vector write.wid) (max clock write.stamp.clock)
   AgreesWith-insert_late after =
-      let in_order = in_stamp_order-insert writes write n others (subst (λ ordered. IsPlaceOf write ordered n) agrees.in_order place) in
-      AgreesWith-insert writes order old new vector write n agrees others reserved place same
+      let in_order = in_stamp_order-insert writes write n others placed in
+      AgreesWith-insert count writes order old new vector clock write n agrees fitting fits reserved place same
       (after ∙ ap (λ list. after_writes list empty)
       (picked-insert writes write order n agrees.inside ∙ ap (λ ordered. take n ordered ++ write ∷ drop n ordered) agrees.in_order ∙ sym in_order))
 
-pub AgreesWith-same : (writes more : List Write) (order placed : List ℕ) (slots : Slots) (vector counts : List ℕ)
-    → more ≡ writes → placed ≡ order → counts ≡ vector → AgreesWith writes order slots vector → AgreesWith more placed slots counts
-AgreesWith-same writes more order placed slots vector counts same_writes same_order same_vector agrees =
-    subst (λ list. AgreesWith list placed slots counts) (sym same_writes)
-    (subst (λ list. AgreesWith writes list slots counts) (sym same_order)
-    (subst (λ list. AgreesWith writes order slots list) (sym same_vector) agrees))
+pub AgreesWith-same : (writes more : List Write) (order placed : List ℕ) (slots : Slots) (vector counts : List ℕ) (clock later : ℕ)
+    → more ≡ writes → placed ≡ order → counts ≡ vector → later ≡ clock → AgreesWith writes order slots vector clock → AgreesWith more placed slots counts later
+AgreesWith-same writes more order placed slots vector counts clock later same_writes same_order same_vector same_clock agrees =
+    subst (λ list. AgreesWith list placed slots counts later) (sym same_writes)
+    (subst (λ list. AgreesWith writes list slots counts later) (sym same_order)
+    (subst (λ list. AgreesWith writes order slots list later) (sym same_vector)
+    (subst (AgreesWith writes order slots vector) (sym same_clock) agrees)))

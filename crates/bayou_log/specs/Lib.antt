@@ -3,3 +3,5 @@ pub mod Db
 pub mod Log
 pub mod Listing
 pub mod Fields
+pub mod Fitting
+pub mod FittingLaws

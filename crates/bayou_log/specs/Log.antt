@@ -1,7 +1,6 @@
 -- A log of Writes as its callers see it: this project's own.
-use Rattle.std.specs.Prelude.{ℕ, ◌<◌, ◌≤◌, ◌≢◌, List, All, length}
+use Rattle.std.specs.Prelude.{ℕ, ◌<◌, ◌≢◌, List, All}
 use Rattle.bayou_lang.specs.declared.write.Write.{Write}
-use Rattle.bayou_lang.specs.Writes.{HaveDistinctStamps, HaveDistinctWids}
 use Rattle.bayou_log.specs.Db.{HasRoomFor}
 
 -- room taken ahead: for so many more Writes, and for these keys
@@ -27,14 +26,3 @@ IsNewWid writes write = All (λ held. held.wid ≢ write.wid) writes
 -- none of the Writes has its stamp
 abbrev pub IsNewStamp : List Write → Write → Type 0
 IsNewStamp writes write = All (λ held. held.stamp ≢ write.stamp) writes
-
--- the origin of each is one of so many servers
-abbrev pub HaveOriginsBelow : ℕ → List Write → Type 0
-HaveOriginsBelow count writes = All (λ write. write.wid.origin.index < count) writes
-
--- each is of one of the servers, no two have a name or a stamp in common, and they are no more than a log may hold
-pub record AreHeld (count limit : ℕ) (writes : List Write) : Type 0 where
-  pub origins : HaveOriginsBelow count writes
-  pub wids : HaveDistinctWids writes
-  pub stamps : HaveDistinctStamps writes
-  pub within : length writes ≤ limit

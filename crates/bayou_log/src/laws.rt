@@ -1,9 +1,10 @@
 //! What the definitions come to, in the subject's own words: each law is the contract of a function that does nothing.
-ghost use Rattle.std.specs.Prelude.{◌≡◌, ℕ, ◌<◌, ◌≤◌, ◌==◌, false, List, All, AllPairs, Any, filter, length, slice_index};
+ghost use Rattle.std.specs.Prelude.{◌≡◌, ℕ, ◌<◌, ◌==◌, false, List, AllPairs, filter, length, slice_index};
 ghost use Rattle.bayou_base.specs.declared.limits.TheConstants.{SERVERS};
 ghost use Rattle.bayou_base.specs.Order.{is_before};
+ghost use Rattle.bayou_lang.specs.declared.program.Program.{Program};
 ghost use Rattle.bayou_lang.specs.declared.write.Write.{Write};
-ghost use Rattle.bayou_lang.specs.Writes.{count_of, greatest_of, in_stamp_order, HaveDistinctStamps, HaveSameWrites, IsPrefixClosed};
+ghost use Rattle.bayou_lang.specs.Writes.{count_of, in_stamp_order, AreFitting, Fits, HaveDistinctStamps, HaveDistinctWids, HaveSameWrites, IsNextWrite, IsPrefixClosed};
 ghost use Rattle.bayou_log.specs.Replay.{replay};
 
 /// The replay is a function of the set of Writes: the order of their receipt doesn't matter.
@@ -24,14 +25,19 @@ pub fn count_is_the_number_of_writes()
         → slice_index (count_of writes) server ≡ length (filter (λ write. write.wid.origin.index == server) writes) }
 {}
 
-/// The greatest seq of a server is the seq of one of its Writes, and none of them has a greater one.
-pub fn greatest_is_a_seq()
-    ensures none_above { (writes : List Write) → All (λ write. write.wid.seq ≤ slice_index (greatest_of writes) write.wid.origin.index) writes }
-    ensures held { (writes : List Write) (server : ℕ) → 0 < slice_index (greatest_of writes) server
-        → Any (λ write. (write.wid.origin.index ≡ server) × (write.wid.seq ≡ slice_index (greatest_of writes) server)) writes }
+/// Of each server the Writes of a fitting list are its first ones: none is missing.
+pub fn fitting_writes_are_prefix_closed()
+    ensures { (count : ℕ) (writes : List Write) → AreFitting count writes → IsPrefixClosed writes }
 {}
 
-/// Where no Write is missing, the greatest seqs are the counts.
-pub fn greatest_is_the_count()
-    ensures { (writes : List Write) → IsPrefixClosed writes → greatest_of writes ≡ count_of writes }
+/// No two Writes of a fitting list have one name, and no two have one stamp.
+pub fn fitting_writes_are_distinct()
+    ensures wids { (count : ℕ) (writes : List Write) → AreFitting count writes → HaveDistinctWids writes }
+    ensures stamps { (count : ℕ) (writes : List Write) → AreFitting count writes → HaveDistinctStamps writes }
+{}
+
+/// The Write that a server makes next fits those that it holds.
+pub fn own_next_write_fits()
+    ensures { (count : ℕ) (writes : List Write) (server : ℕ) (asked : Program) (write : Write) → AreFitting count writes → server < count
+        → IsNextWrite writes server asked write → Fits count writes write }
 {}

@@ -5,12 +5,17 @@
 //! function of those Writes alone: a key has what `replay` gives, the empty database after the Writes in stamp order.
 //! Nothing that callers see says how Writes are stored.
 //!
-//! A caller reserves before it inserts, inserts a Write whose name and stamp are new, and none into a full log. The
-//! crate doesn't promise that the held Writes of a server have no gap, and its vector only gives the greatest seqs:
-//! where there is no gap these are the counts, which is one of the [`laws`].
+//! A log holds Writes each of which fits those before it: none of its own server's is missing before it, and none that
+//! its server held, and its stamp is the one that its server had to give it. So no two have one name or one stamp, and
+//! the log's vector counts the Writes of each server; what else follows for such Writes is among the [`laws`].
+//!
+//! A caller asks whether a Write fits ([`WriteLog::fits`]), or knows it of one that it makes itself, reserves before it
+//! inserts, and inserts none into a full log. The crate doesn't promise whose log it is: that a server's own Writes
+//! say all that was held before them is for the caller to keep.
 #![tactic(auto)]
 
 pub mod db;
+pub mod fitting;
 pub mod laws;
 pub mod listing;
 mod order;
@@ -20,5 +25,6 @@ mod tests;
 pub mod write_log;
 
 pub use db::Db;
+pub use fitting::Misfit;
 pub use listing::Listed;
 pub use write_log::WriteLog;

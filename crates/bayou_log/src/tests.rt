@@ -1,12 +1,10 @@
-ghost use Rattle.std.specs.Prelude.{IsTrue};
-ghost use Rattle.bayou_log.specs.Log.{IsNewStamp, IsNewWid};
-
 use crate::db::Db;
+use crate::fitting::Misfit;
 use crate::plain::replayed;
 use crate::write_log::WriteLog;
-use bayou_base::{Key, ServerId, Stamp, Value, Vector, Wid};
+use bayou_base::{Key, SERVERS, ServerId, Stamp, Value, Vector, Wid};
 use bayou_lang::{Alt, Cond, Op, Outcome, Program, Term, Write};
-use std::alloc::AllocError;
+use std::alloc::{AllocError, Global};
 use std::process::Abort;
 use std::test::Fail;
 
@@ -17,36 +15,29 @@ fn key(name: &str) -> Result<Key, Fail> {
     }
 }
 
-fn write(origin: u8, seq: u32, clock: u32, program: Program) -> Result<Write, Fail> {
+/// A Write of the server, which held so many Writes of the first two servers.
+fn write(
+    origin: u8,
+    seq: u32,
+    clock: u32,
+    deps: [u32; 2],
+    program: Program,
+) -> Result<Write, Fail> {
     let server = ServerId::new(origin).ok_or("no server")?;
-    let wid = Wid::new(server, seq).ok_or("no wid")?;
-    let stamp = Stamp::new(clock, server).ok_or("no stamp")?;
+    let mut counts = [0; SERVERS];
+    counts[0] = deps[0];
+    counts[1] = deps[1];
     Ok(Write {
-        wid,
-        stamp,
-        deps: Vector::zero(),
+        wid: Wid::new(server, seq).ok_or("no wid")?,
+        stamp: Stamp::new(clock, server).ok_or("no stamp")?,
+        deps: Vector::from_counts(counts).ok_or("no deps")?,
         program,
     })
 }
 
-fn is_new(writes: &[Write], write: &Write) -> bool
-    ensures wid { IsTrue result → IsNewWid writes.now write.now }
-    ensures stamp { IsTrue result → IsNewStamp writes.now write.now }
-{
-    for held in writes {
-        if held.wid == write.wid {
-            return false;
-        }
-        if held.stamp == write.stamp {
-            return false;
-        }
-    }
-    true
-}
-
 /// Reserves and inserts the Write, where it may be inserted.
 fn add(log: &mut WriteLog, write: Write) -> Result<bool, AllocError> {
-    if write.wid.origin.index >= log.count() || log.is_full() || !is_new(log.receipts(), &write) {
+    if log.is_full() || log.fits(&write).is_err() {
         return Ok(false);
     }
     log.reserve(&write)?;
@@ -54,27 +45,26 @@ fn add(log: &mut WriteLog, write: Write) -> Result<bool, AllocError> {
     Ok(true)
 }
 
-/// Three Writes of two servers, in stamp order: `a` becomes 1, then 5, then 10 more than it is.
-fn third(number: u8) -> Result<Write, Fail> {
+/// The first Write of one of three servers, which held none. In stamp order `a` becomes 1, then 5, then 10 more than it is.
+fn first(server: u8) -> Result<Write, Fail> {
     let a = key("a")?;
-    match number {
-        0 => write(
-            0,
-            1,
-            1,
-            Program::new(&[], &[Op::Put(a, Term::Lit(Value::Num(1)))], &[])?,
-        ),
-        1 => write(
-            1,
-            1,
-            1,
-            Program::new(&[], &[Op::Put(a, Term::Lit(Value::Num(5)))], &[])?,
-        ),
-        _ => {
-            let more = Op::Put(a.copy(), Term::Plus(a, 10));
-            write(0, 2, 2, Program::new(&[], &[more], &[])?)
-        }
-    }
+    let op = match server {
+        0 => Op::Put(a, Term::Lit(Value::Num(1))),
+        1 => Op::Put(a, Term::Lit(Value::Num(5))),
+        _ => Op::Put(a.copy(), Term::Plus(a, 10)),
+    };
+    write(server, 1, 1, [0, 0], Program::new(&[], &[op], &[])?)
+}
+
+/// It has all three Writes, and the database that they make.
+fn has_all(rt: &impl Abort, alloc: Global, log: &WriteLog) -> Result<(), Fail> {
+    let a = key("a")?;
+    assert_eq!(rt; log.get(&a), Some(Value::Num(15)));
+    assert_eq!(rt; log.get(&a), replayed(alloc, log.receipts())?.get(&a));
+    assert_eq!(rt; log.vector().counts()[2], 1);
+    assert_eq!(rt; log.clock(), 1);
+    assert!(rt; log.is_full());
+    Ok(())
 }
 
 #[test]
@@ -88,18 +78,11 @@ fn every_order_of_receipt_makes_one_database(rt: HostRuntime) -> Result<(), Fail
         [2, 1, 0],
     ];
     for order in orders {
-        let mut log = WriteLog::new(rt.alloc(), 2, 3);
+        let mut log = WriteLog::new(rt.alloc(), 3, 3);
         for number in order {
-            assert!(rt; add(&mut log, third(number)?)?);
+            assert!(rt; add(&mut log, first(number)?)?, "in {order:?}");
         }
-        assert_eq!(rt; log.get(&key("a")?), Some(Value::Num(15)), "in {order:?}");
-        assert_eq!(rt;
-            log.get(&key("a")?),
-            replayed(rt.alloc(), log.receipts())?.get(&key("a")?)
-        );
-        assert_eq!(rt; log.vector().get(ServerId::new(0).ok_or("no server")?), 2);
-        assert_eq!(rt; log.vector().get(ServerId::new(1).ok_or("no server")?), 1);
-        assert!(rt; log.is_full());
+        has_all(&rt, rt.alloc(), &log)?;
     }
     Ok(())
 }
@@ -109,18 +92,18 @@ fn grows(rt: &impl Abort, log: &mut WriteLog, number: u8) -> Result<(), Fail> {
     let a = key("a")?;
     let held = log.receipts().len();
     let before = log.get(&a);
-    if add(log, third(number)?).is_ok() {
+    if add(log, first(number)?).is_ok() {
         return Ok(());
     }
     assert_eq!(rt; log.receipts().len(), held);
     assert!(rt; log.get(&a) == before);
-    assert!(rt; add(log, third(number)?)?, "there is memory again");
+    assert!(rt; add(log, first(number)?)?, "there is memory again");
     Ok(())
 }
 
 #[test]
 fn a_refused_growth_leaves_the_log(rt: HostRuntime) -> Result<(), Fail> {
-    let mut log = WriteLog::new(rt.alloc(), 2, 3);
+    let mut log = WriteLog::new(rt.alloc(), 3, 3);
     for number in [2, 0, 1] {
         grows(&rt, &mut log, number)?;
     }
@@ -132,9 +115,9 @@ fn a_refused_growth_leaves_the_log(rt: HostRuntime) -> Result<(), Fail> {
 /// The last of the Writes, in stamp order, adds to what the others made, also where it was received first.
 #[test]
 fn a_listing_is_of_the_replay(rt: HostRuntime) -> Result<(), Fail> {
-    let mut log = WriteLog::new(rt.alloc(), 2, 3);
+    let mut log = WriteLog::new(rt.alloc(), 3, 3);
     for number in [2, 1, 0] {
-        assert!(rt; add(&mut log, third(number)?)?);
+        assert!(rt; add(&mut log, first(number)?)?);
     }
     let listing = log.listing(rt.alloc())?;
     assert_eq!(rt; listing.len(), 3);
@@ -148,10 +131,53 @@ fn a_listing_is_of_the_replay(rt: HostRuntime) -> Result<(), Fail> {
 fn a_full_log_takes_no_write(rt: HostRuntime) -> Result<(), Fail> {
     let mut log = WriteLog::new(rt.alloc(), 2, 1);
     assert!(rt; !log.is_full());
-    assert!(rt; add(&mut log, third(0)?)?);
+    assert!(rt; add(&mut log, first(0)?)?);
     assert!(rt; log.is_full());
-    assert!(rt; !add(&mut log, third(1)?)?);
+    assert!(rt; !add(&mut log, first(1)?)?);
     assert_eq!(rt; log.receipts().len(), 1);
+    Ok(())
+}
+
+/// A Write by its origin, its seq, its clock and what its server held, and what a log says of it.
+type Offer = (u8, u32, u32, [u32; 2], Result<(), Misfit>);
+
+/// What is offered to a log of two servers that holds the first Write of the first.
+const OFFERS: [Offer; 8] = [
+    (0, 2, 2, [1, 0], Ok(())),
+    (1, 1, 1, [0, 0], Ok(())),
+    (1, 1, 2, [1, 0], Ok(())),
+    (0, 2, 2, [0, 0], Err(Misfit::BadStamp)),
+    (0, 2, 3, [1, 0], Err(Misfit::BadStamp)),
+    (0, 3, 3, [2, 0], Err(Misfit::Gap)),
+    (1, 1, 2, [2, 0], Err(Misfit::Gap)),
+    (2, 1, 1, [0, 0], Err(Misfit::Gap)),
+];
+
+fn says(rt: &impl Abort, log: &WriteLog, offer: Offer) -> Result<(), Fail> {
+    let (origin, seq, clock, deps, answer) = offer;
+    let write = write(origin, seq, clock, deps, Program::new(&[], &[], &[])?)?;
+    assert_eq!(rt; log.fits(&write), answer, "{:?}", write.wid);
+    Ok(())
+}
+
+#[test]
+fn a_log_tells_which_writes_fit(rt: HostRuntime) -> Result<(), Fail> {
+    let mut log = WriteLog::new(rt.alloc(), 2, 3);
+    assert!(rt; add(&mut log, first(0)?)?);
+    for offer in OFFERS {
+        says(&rt, &log, offer)?;
+    }
+    Ok(())
+}
+
+#[test]
+fn a_write_is_found_by_its_name(rt: HostRuntime) -> Result<(), Fail> {
+    let mut log = WriteLog::new(rt.alloc(), 2, 3);
+    let wid = first(0)?.wid;
+    assert!(rt; log.find(wid).is_none());
+    assert!(rt; add(&mut log, first(0)?)?);
+    assert!(rt; log.find(wid).is_some());
+    assert!(rt; log.find(first(1)?.wid).is_none());
     Ok(())
 }
 

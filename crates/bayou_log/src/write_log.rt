@@ -1,15 +1,17 @@
-ghost use Rattle.std.specs.Prelude.{◌≡◌, ◌<◌, ◌≤◌, ◌↔◌, [], ◌∷◌, ◌++◌, IsTrue, IfOk, OnOk, length};
+ghost use Rattle.std.specs.Prelude.{◌≡◌, ◌≢◌, ℕ, ◌<◌, ◌≤◌, ◌↔◌, [], ◌∷◌, ◌++◌, All, Contains, IsTrue, IfNone, IfOk, IfSome, OnOk, length, slice_index};
 ghost use Rattle.bayou_base.specs.declared.limits.TheConstants.{SERVERS, MAX_WRITES};
 ghost use Rattle.bayou_lang.specs.declared.write.Write.{Write};
-ghost use Rattle.bayou_lang.specs.Writes.{greatest_of};
+ghost use Rattle.bayou_lang.specs.Writes.{count_of, covered_by, greatest_clock, AreFitting, Fits, HasNoGap};
+ghost use Rattle.bayou_log.specs.Fitting.{FitAnswer};
 ghost use Rattle.bayou_log.specs.Listing.{listing_of};
-ghost use Rattle.bayou_log.specs.Log.{AreHeld, IsNewStamp, IsNewWid, IsReserved};
+ghost use Rattle.bayou_log.specs.Log.{IsReserved};
 ghost use Rattle.bayou_log.specs.Replay.{replay};
 
 use crate::db::Db;
+use crate::fitting::{Misfit, clock_of, is_next};
 use crate::listing::{Listed, outcomes_in_turn};
 use crate::order::{apply_in_turn, place_of};
-use bayou_base::{Key, MAX_WRITES, SERVERS, Value, Vector};
+use bayou_base::{Key, MAX_WRITES, SERVERS, Value, Vector, Wid};
 use bayou_lang::Write;
 use std::alloc::{AllocError, Global};
 use std::marker::Model;
@@ -23,14 +25,16 @@ pub struct WriteLog {
     order: Vec<usize>,
     db: Db,
     vector: Vector,
+    // The greatest that a Write has, or 0.
+    clock: u32,
     count: u8,
     limit: u32,
 }
 
 impl Model for WriteLog {
     ghost use Rattle.std.specs.Prelude.{◌-◌, min, vec_len, vec_capacity};
-    ghost use Rattle.bayou_log.specs.Log.{Log, AreHeld};
-    ghost use Rattle.bayou_log.specs.Fields.{AgreesWith};
+    ghost use Rattle.bayou_log.specs.Log.{Log};
+    ghost use Rattle.bayou_log.specs.Fields.{AgreesWith, AreKept};
     ghost use Rattle.bayou_log.specs.Db as database;
 
     ghost Value = { Log };
@@ -45,7 +49,7 @@ impl Model for WriteLog {
       };
     } };
 
-    ghost invariant = { λ l. AreHeld l.count l.limit l.writes.items × AgreesWith l.writes.items l.order.items l.db l.vector };
+    ghost invariant = { λ l. AreKept l.count l.limit l.writes.items × AgreesWith l.writes.items l.order.items l.db l.vector l.clock };
 }
 
 impl WriteLog {
@@ -62,6 +66,7 @@ impl WriteLog {
             order: Vec::new(alloc),
             db: Db::new(alloc),
             vector: Vector::zero(),
+            clock: 0,
             count,
             limit,
         }
@@ -70,21 +75,24 @@ impl WriteLog {
     /// The Writes held, in order of receipt.
     pub fn receipts(&self) -> &[Write]
         ensures value { result.now ≡ self.now.receipts }
-        ensures held { AreHeld self.now.count self.now.limit result.now }
+        ensures fitting { AreFitting self.now.count result.now }
+        ensures within { length result.now ≤ self.now.limit }
     {
         self.writes.as_slice()
     }
 
     /// How many servers there are.
     pub fn count(&self) -> u8
-        ensures { result ≡ self.now.count }
+        ensures value { result ≡ self.now.count }
+        ensures in_range { result ≤ SERVERS }
     {
         self.count
     }
 
     /// How many Writes it may hold.
     pub fn limit(&self) -> u32
-        ensures { result ≡ self.now.limit }
+        ensures value { result ≡ self.now.limit }
+        ensures in_range { result ≤ MAX_WRITES }
     {
         self.limit
     }
@@ -93,6 +101,7 @@ impl WriteLog {
     pub fn is_full(&self) -> bool
         ensures full { IsTrue result ↔ (length self.now.receipts ≡ self.now.limit) }
         ensures within { length self.now.receipts ≤ self.now.limit }
+        ensures in_range { self.now.limit ≤ MAX_WRITES }
     {
         self.writes.len() == self.limit as usize
     }
@@ -104,11 +113,68 @@ impl WriteLog {
         self.db.get(key)
     }
 
-    /// For each server the greatest seq of its Writes that are held.
+    /// For each server the number of its Writes that are held: of the server `s` those from 1 to `vector[s]`.
+    #[tactic(auto, using(crate::proofs::Agrees::counts_within))]
     pub fn vector(&self) -> Vector
-        ensures { result ≡ greatest_of self.now.receipts }
+        ensures value { result ≡ count_of self.now.receipts }
+        ensures within { (server : ℕ) → slice_index result server ≤ length self.now.receipts }
     {
         self.vector
+    }
+
+    /// The greatest clock among the Writes held, 0 where there is none. A Write that is made from them has one more.
+    pub fn clock(&self) -> u32
+        ensures value { result ≡ greatest_clock self.now.receipts }
+        ensures within { result ≤ length self.now.receipts }
+    {
+        self.clock
+    }
+
+    /// The Write of this name, if it is held.
+    pub fn find(&self, wid: Wid) -> Option<&Write>
+        ensures held { IfSome result (λ write. Contains self.now.receipts write.now × (write.now.wid ≡ wid)) }
+        ensures missing { IfNone result (All (λ held. held.wid ≢ wid) self.now.receipts) }
+    {
+        for held in self.receipts() {
+            if held.wid == wid {
+                return Some(held);
+            }
+        }
+        None
+    }
+
+    /// Whether the Write may be inserted, room aside. It takes no memory. Where the Write's server held all that this log
+    /// holds, nothing is sought; else each held Write is looked at.
+    pub fn fits(&self, write: &Write) -> Result<(), Misfit>
+        ensures { FitAnswer self.now.count self.now.receipts write.now result }
+    {
+        if !self.has_no_gap(write) {
+            return Err(Misfit::Gap);
+        }
+        let own_are_held = self.vector.get(write.wid.origin) == write.deps.get(write.wid.origin);
+        if !own_are_held || write.stamp.clock != self.clock_among(&write.deps) + 1 {
+            return Err(Misfit::BadStamp);
+        }
+        Ok(())
+    }
+
+    /// Whether no Write before this one is missing.
+    fn has_no_gap(&self, write: &Write) -> bool
+        ensures { IsTrue result ↔ HasNoGap self.now.count self.now.receipts write.now }
+    {
+        is_next(write, self.count, &self.vector)
+    }
+
+    /// The greatest clock among the held Writes that the vector counts.
+    fn clock_among(&self, counts: &Vector) -> u32
+        ensures value { result ≡ greatest_clock (covered_by counts.now self.now.receipts) }
+        ensures in_range { result ≤ MAX_WRITES }
+    {
+        if counts.dominates(&self.vector) {
+            // It counts all of them.
+            return self.clock;
+        }
+        clock_of(&self.writes, counts)
     }
 
     /// The Writes held, in stamp order, each with the outcome that it has in the replay. It takes time as an insertion
@@ -133,9 +199,7 @@ impl WriteLog {
     /// Adds the Write, which takes no memory. A Write that comes after all others is applied on top; at any other, all are
     /// applied again.
     pub fn insert(&mut self, write: Write)
-        requires known_origin { write.wid.origin.index < self.old.count }
-        requires new_wid { IsNewWid self.old.receipts write }
-        requires new_stamp { IsNewStamp self.old.receipts write }
+        requires fits { Fits self.old.count self.old.receipts write }
         requires reserved { IsReserved self.old.room write }
         requires below_limit { length self.old.receipts < self.old.limit }
         ensures { self.new ≡ record self.old { receipts = self.old.receipts ++ write ∷ []; room = self.new.room } }
@@ -143,6 +207,7 @@ impl WriteLog {
         let at = self.writes.len();
         let place = place_of(write.stamp, &self.writes, &self.order);
         self.vector.raise(write.wid);
+        self.clock = self.clock.max(write.stamp.clock);
         let Ok(()) = self.order.insert(place, at) else {
             unreachable!();
         };

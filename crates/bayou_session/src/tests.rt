@@ -76,3 +76,14 @@ fn places(rt: HostRuntime) -> Result<(), Fail> {
     assert_eq!(rt; session.id().index, 5);
     Ok(())
 }
+
+#[test]
+fn the_last_place(rt: HostRuntime) -> Result<(), Fail> {
+    let mut session = told(Asks::default())?.with_begun(MAX_PLACES - 1);
+    assert_eq!(rt; session.left(), 1);
+    if session.left() > 0 {
+        assert_eq!(rt; session.begin(), MAX_PLACES);
+    }
+    assert_eq!(rt; session.left(), 0);
+    Ok(())
+}

@@ -9,7 +9,7 @@ use Rattle.bayou_text.specs.declared.line.LineFault.TheVariants as line
 use Rattle.bayou_text.specs.Lines.{IsRefusalOf}
 use Rattle.bayou_text.specs.Said.{Said}
 use Rattle.bayou_shell.specs.declared.fault.Fault.{Fault}
-use Rattle.bayou_shell.specs.declared.fault.Fault.TheVariants.{Line, Memory, Input, Output}
+use Rattle.bayou_shell.specs.declared.fault.Fault.TheVariants.{Line, Memory, Device, Input, Output}
 use Rattle.bayou_shell.specs.declared.script.Command.{Command}
 use Rattle.bayou_shell.specs.Draft.{FaultAt}
 use Rattle.bayou_shell.specs.Fault.{fault_of}
@@ -50,5 +50,6 @@ refused_at lines i front bytes (Line number fault) within here in_order (told, h
     (sym (take-append-drop i lines) ∙ ap (λ rest. take i lines ++ rest) (drop-cons lines i [] within ∙ rw (add-one, here) refl))
     in_order (omega (arith, length-take-le i lines (omega arith))) (subst (λ number. HasFault number front bytes fault) (sym told) has)
 refused_at lines i front bytes Memory within here in_order fault = tt
+refused_at lines i front bytes Device within here in_order fault = fault
 refused_at lines i front bytes Input within here in_order fault = fault
 refused_at lines i front bytes Output within here in_order fault = fault

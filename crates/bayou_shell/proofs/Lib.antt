@@ -1,4 +1,5 @@
+pub mod Begun
 pub mod Checked
 pub mod Joined
-pub mod Own
 pub mod Runs
+pub mod Standing

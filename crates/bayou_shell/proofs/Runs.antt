@@ -6,24 +6,22 @@ use Rattle.std.proofs.KnownBytes.{Appends-trans, Keeps-refl}
 use Rattle.std.proofs.Math.Seq.{take-append_seam}
 use Rattle.std.specs.Io.KnownBytes.{Appends}
 use Rattle.std.specs.List.{list_all}
-use Rattle.bayou_text.specs.Said.{Said, servers, session, write, read, log}
-use Rattle.bayou_shell.specs.declared.answer.Refusal.TheVariants.{Full, Memory}
+use Rattle.bayou_text.specs.Said.{Said, servers, session, write, read, log, fuse, lose, reopen, restart}
 use Rattle.bayou_shell.specs.declared.answer.Answer.{Answer}
-use Rattle.bayou_shell.specs.declared.answer.Answer.TheVariants.{Opened, Wrote, Read, Refused, Logged}
 use Rattle.bayou_shell.specs.declared.fault.Fault.{Fault}
-use Rattle.bayou_shell.specs.declared.fault.Fault.TheVariants.{Line, Input, Output}
+use Rattle.bayou_shell.specs.declared.fault.Fault.TheVariants.{Line, Device, Input, Output}
 use Rattle.bayou_shell.specs.declared.fault.Fault.TheVariants as faults
 use Rattle.bayou_shell.specs.declared.script.Command.{Command}
 use Rattle.bayou_shell.specs.Fault.{exit_status, status_of}
-use Rattle.bayou_shell.specs.Held.{Holding}
+use Rattle.bayou_shell.specs.Machine.{HasBegun, Machine}
 use Rattle.bayou_shell.specs.Printed.{answer_text}
-use Rattle.bayou_shell.specs.Run.{Step, Run, RunsAs, Prints, PrintsPart, answers_text, begun}
+use Rattle.bayou_shell.specs.Run.{Step, Run, RunsAs, Prints, PrintsPart, answers_text}
 use Rattle.bayou_shell.specs.Script.{Plan, IsRefused, RefusedFor, command_said, is_served, lines_of}
 use Rattle.bayou_shell.specs.Turns.{EndsReading, EndsWriting}
 use Rattle.bayou_shell.specs.Written.{AppendsFront}
 
 -- a run goes on by one step
-pub Run-more : (old mid new : Holding) (done : List Said) (answers : List Answer) (said : Said) (answer : Answer) → Run old done answers mid
+pub Run-more : (old mid new : Machine) (done : List Said) (answers : List Answer) (said : Said) (answer : Answer) → Run old done answers mid
     → Step mid said answer new → Run old (done ++ said ∷ []) (answers ++ answer ∷ []) new
 Run-more old mid new [] [] said answer run step = (new, subst (λ before. Step before said answer new) run step, refl)
 Run-more old mid new (first ∷ done) (given ∷ answers) said answer (next, taken, run) step =
@@ -32,29 +30,16 @@ Run-more old mid new [] (given ∷ answers) said answer run step = absurd run
 Run-more old mid new (first ∷ done) [] said answer run step = absurd run
 
 -- no step changes how many servers there are
-pub Step-count : (old new : Holding) (said : Said) (answer : Answer) → Step old said answer new → new.count ≡ old.count
-Step-count old new (session who asks) Opened step = ap (λ holding. holding.count) step
-Step-count old new (write who server program) (Wrote teller accepted) step = ap (λ holding. holding.count) step.1.held
-Step-count old new (write who server program) (Refused teller Full) step = ap (λ holding. holding.count) step.1.1
-Step-count old new (write who server program) (Refused teller Memory) step = ap (λ holding. holding.count) step.1.1
-Step-count old new (read who server key) (Read teller asked seen) step = ap (λ holding. holding.count) step.4
-Step-count old new (log server) (Logged teller listing vector) step = ap (λ holding. holding.count) step.3
+pub Step-count : (old new : Machine) (said : Said) (answer : Answer) → Step old said answer new → new.count ≡ old.count
 Step-count old new (servers count limit) answer step = absurd step
-Step-count old new (session who asks) (Wrote teller accepted) step = absurd step
-Step-count old new (session who asks) (Read teller asked seen) step = absurd step
-Step-count old new (session who asks) (Refused teller why) step = absurd step
-Step-count old new (write who server program) Opened step = absurd step
-Step-count old new (write who server program) (Read teller asked seen) step = absurd step
-Step-count old new (read who server key) Opened step = absurd step
-Step-count old new (read who server key) (Wrote teller accepted) step = absurd step
-Step-count old new (read who server key) (Refused teller why) step = absurd step
-Step-count old new (session who asks) (Logged teller listing vector) step = absurd step
-Step-count old new (write who server program) (Logged teller listing vector) step = absurd step
-Step-count old new (read who server key) (Logged teller listing vector) step = absurd step
-Step-count old new (log server) Opened step = absurd step
-Step-count old new (log server) (Wrote teller accepted) step = absurd step
-Step-count old new (log server) (Read teller asked seen) step = absurd step
-Step-count old new (log server) (Refused teller why) step = absurd step
+Step-count old new (session who asks) answer step = ap (λ machine. machine.count) step.only
+Step-count old new (write who place program) answer step = ap (λ machine. machine.count) step.only
+Step-count old new (read who place key) answer step = ap (λ machine. machine.count) step.only
+Step-count old new (log place) answer step = ap (λ machine. machine.count) step.0
+Step-count old new (fuse place calls kept) answer step = let change = step.1 in ap (λ machine. machine.count) change.only
+Step-count old new (lose place count) answer step = let change = step.1 in ap (λ machine. machine.count) change.only
+Step-count old new (reopen place) answer (recovery, is, change) = ap (λ machine. machine.count) change.only
+Step-count old new (restart place) answer (recovery, is, change) = ap (λ machine. machine.count) change.only
 
 and_right : (a b : Bool) → IsTrue (a && b) → IsTrue b
 and_right true b both = both
@@ -65,17 +50,19 @@ answers_more count answers answer =
     flat_map-append (answer_text count) answers (answer ∷ []) ∙ ap (λ line. answers_text count answers ++ line) (append-nil (answer_text count answer))
 
 -- what was answered so far, and what is left
-pub record SoFar (plan : Plan) (store : Holding) (rest : List Command) (old new : Option (List ℕ)) : Type 0 where
+pub record SoFar (plan : Plan) (store : Machine) (rest : List Command) (old new : Option (List ℕ)) : Type 0 where
   pub done : List Said
   pub answers : List Answer
+  pub first : Machine
+  pub begun : HasBegun plan.count plan.limit first
   pub whole : plan.commands ≡ done ++ map command_said rest
-  pub run : Run (begun plan) done answers store
+  pub run : Run first done answers store
   pub count : store.count ≡ plan.count
   pub served : IsTrue (list_all (λ command. is_served plan.count (command_said command)) rest)
   pub written : Appends old new (answers_text plan.count answers)
 
 -- one command more was answered
-pub SoFar-more : (plan : Plan) (store after : Holding) (command : Command) (rest : List Command) (answer : Answer) (old mid new : Option (List ℕ))
+pub SoFar-more : (plan : Plan) (store after : Machine) (command : Command) (rest : List Command) (answer : Answer) (old mid new : Option (List ℕ))
     → SoFar plan store (command ∷ rest) old mid → Step store (command_said command) answer after → Appends mid new (answer_text plan.count answer)
     → SoFar plan after rest old new
 SoFar-more plan store after command rest answer old mid new so_far step written =
@@ -83,8 +70,10 @@ SoFar-more plan store after command rest answer old mid new so_far step written 
     record {
       done = so_far.done ++ said ∷ [];
       answers = so_far.answers ++ answer ∷ [];
+      first = so_far.first;
+      begun = so_far.begun;
       whole = so_far.whole ∙ sym (append_assoc so_far.done (said ∷ []) (map command_said rest));
-      run = Run-more (begun plan) store after so_far.done so_far.answers said answer so_far.run step;
+      run = Run-more so_far.first store after so_far.done so_far.answers said answer so_far.run step;
       count = Step-count store after said answer step ∙ so_far.count;
       served = and_right (is_served plan.count said) _ so_far.served;
       written = subst (Appends old new) (sym (answers_more plan.count so_far.answers answer))
@@ -92,22 +81,24 @@ SoFar-more plan store after command rest answer old mid new so_far step written 
     }
 
 -- all commands were answered
-pub SoFar-all : (plan : Plan) (store : Holding) (old new : Option (List ℕ)) → SoFar plan store [] old new
+pub SoFar-all : (plan : Plan) (store : Machine) (old new : Option (List ℕ)) → SoFar plan store [] old new
     → (text : List ℕ) × Prints plan text × Appends old new text
 SoFar-all plan store old new so_far =
     let all : plan.commands ≡ so_far.done = so_far.whole ∙ append-nil so_far.done in (
       answers_text plan.count so_far.answers,
       record {
         answers = so_far.answers;
+        first = so_far.first;
         last = store;
-        run = subst (λ commands. Run (begun plan) commands so_far.answers store) (sym all) so_far.run;
+        begun = so_far.begun;
+        run = subst (λ commands. Run so_far.first commands so_far.answers store) (sym all) so_far.run;
         lines = refl;
       },
       so_far.written,
     )
 
 -- a part of what is printed for one command more was written
-pub SoFar-part : (plan : Plan) (store after : Holding) (command : Command) (rest : List Command) (answer : Answer) (old mid new : Option (List ℕ))
+pub SoFar-part : (plan : Plan) (store after : Machine) (command : Command) (rest : List Command) (answer : Answer) (old mid new : Option (List ℕ))
     → SoFar plan store (command ∷ rest) old mid → Step store (command_said command) answer after → AppendsFront mid new (answer_text plan.count answer)
     → (text : List ℕ) × PrintsPart plan text × Appends old new text
 SoFar-part plan store after command rest answer old mid new so_far step (front, missing, split, written) =
@@ -121,9 +112,11 @@ SoFar-part plan store after command rest answer old mid new so_far step (front, 
       record {
         number = length done;
         answers = so_far.answers ++ answer ∷ [];
+        first = so_far.first;
         last = after;
-        run = subst (λ commands. Run (begun plan) commands (so_far.answers ++ answer ∷ []) after) (sym first)
-            (Run-more (begun plan) store after so_far.done so_far.answers said answer so_far.run step);
+        begun = so_far.begun;
+        run = subst (λ commands. Run so_far.first commands (so_far.answers ++ answer ∷ []) after) (sym first)
+            (Run-more so_far.first store after so_far.done so_far.answers said answer so_far.run step);
         missing = missing;
         lines = answers_more plan.count so_far.answers answer ∙ ap (λ line. before ++ line) split ∙ sym (append_assoc before front missing);
       },
@@ -131,7 +124,7 @@ SoFar-part plan store after command rest answer old mid new so_far step (front, 
     )
 
 -- nothing was written for one command more
-pub SoFar-stopped : (plan : Plan) (store : Holding) (rest : List Command) (old mid new : Option (List ℕ))
+pub SoFar-stopped : (plan : Plan) (store : Machine) (rest : List Command) (old mid new : Option (List ℕ))
     → SoFar plan store rest old mid → new ≡ mid → (text : List ℕ) × PrintsPart plan text × Appends old new text
 SoFar-stopped plan store rest old mid new so_far same =
     let before = answers_text plan.count so_far.answers in
@@ -141,8 +134,10 @@ SoFar-stopped plan store rest old mid new so_far same =
       record {
         number = length so_far.done;
         answers = so_far.answers;
+        first = so_far.first;
         last = store;
-        run = subst (λ commands. Run (begun plan) commands so_far.answers store) (sym first) so_far.run;
+        begun = so_far.begun;
+        run = subst (λ commands. Run so_far.first commands so_far.answers store) (sym first) so_far.run;
         missing = [];
         lines = sym (append-nil before);
       },
@@ -155,6 +150,7 @@ pub RunsAs-refused : (known contents : Option (List ℕ)) (text : List ℕ) (fau
 RunsAs-refused None contents text fault is refused = tt
 RunsAs-refused (Some input) contents text (Line number why) is refused = (subst (λ bytes. IsRefused (lines_of bytes) number why) is refused, Keeps-refl contents)
 RunsAs-refused (Some input) contents text faults.Memory is refused = inl (Keeps-refl contents)
+RunsAs-refused (Some input) contents text Device is refused = absurd refused
 RunsAs-refused (Some input) contents text Input is refused = absurd refused
 RunsAs-refused (Some input) contents text Output is refused = absurd refused
 

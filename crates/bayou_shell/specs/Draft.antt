@@ -4,7 +4,7 @@ use Rattle.std.specs.List.{list_all, slice_index_or}
 use Rattle.bayou_base.specs.declared.limits.TheConstants.{DEFAULT_LIMIT, SESSIONS}
 use Rattle.bayou_text.specs.Said.{Said, servers}
 use Rattle.bayou_shell.specs.declared.fault.Fault.{Fault}
-use Rattle.bayou_shell.specs.declared.fault.Fault.TheVariants.{Line, Memory, Input, Output}
+use Rattle.bayou_shell.specs.declared.fault.Fault.TheVariants.{Line, Memory, Device, Input, Output}
 use Rattle.bayou_shell.specs.declared.draft.Draft.{Draft}
 use Rattle.bayou_shell.specs.declared.script.Script.{Script}
 use Rattle.bayou_shell.specs.declared.script.Servers.{Servers}
@@ -35,5 +35,6 @@ pub record IsDraftOf (draft : Draft) (front : List Said) : Type 0 where
 abbrev pub FaultAt : ℕ → List Said → List ℕ → Fault → Type 0
 FaultAt number front bytes (Line told fault) = (told ≡ number) × HasFault number front bytes fault
 FaultAt number front bytes Memory = Unit {0}
+FaultAt number front bytes Device = ⊥
 FaultAt number front bytes Input = ⊥
 FaultAt number front bytes Output = ⊥

@@ -4,7 +4,7 @@ use Rattle.bayou_text.specs.declared.line.LineFault.{LineFault}
 use Rattle.bayou_text.specs.declared.line.LineFault.TheVariants as line
 use Rattle.bayou_shell.specs.declared.fault.ScriptFault.TheVariants.{NotJson, BadShape, BadKey, BadProgram}
 use Rattle.bayou_shell.specs.declared.fault.Fault.{Fault}
-use Rattle.bayou_shell.specs.declared.fault.Fault.TheVariants.{Line, Memory, Input, Output}
+use Rattle.bayou_shell.specs.declared.fault.Fault.TheVariants.{Line, Memory, Device, Input, Output}
 
 -- the fault of a script whose line of this number wasn't read
 abbrev pub fault_of : ℕ → LineFault → Fault
@@ -18,6 +18,7 @@ fault_of number (line.Program why) = Line number BadProgram
 abbrev pub status_of : Fault → ℕ
 status_of (Line number fault) = 2
 status_of Memory = 3
+status_of Device = 3
 status_of Input = 3
 status_of Output = 3
 
@@ -30,5 +31,14 @@ exit_status (Err fault) = status_of fault
 abbrev pub IsReadFault : Fault → Type 0
 IsReadFault (Line number fault) = ⊥
 IsReadFault Memory = Unit {0}
+IsReadFault Device = ⊥
 IsReadFault Input = Unit {0}
 IsReadFault Output = ⊥
+
+-- what may keep a script from beginning
+abbrev pub IsStartFault : Fault → Type 0
+IsStartFault (Line number fault) = ⊥
+IsStartFault Memory = Unit {0}
+IsStartFault Device = Unit {0}
+IsStartFault Input = ⊥
+IsStartFault Output = ⊥

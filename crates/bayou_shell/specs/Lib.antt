@@ -1,7 +1,8 @@
 pub mod Draft
 pub mod Fault
-pub mod Held
+pub mod Machine
 pub mod Printed
+pub mod Replica
 pub mod Run
 pub mod Script
 pub mod Turns

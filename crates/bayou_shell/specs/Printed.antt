@@ -9,10 +9,17 @@ use Rattle.bayou_base.specs.declared.value.Value.TheVariants.{Num, Text}
 use Rattle.bayou_lang.specs.declared.eval.Outcome.{Outcome}
 use Rattle.bayou_lang.specs.declared.eval.Outcome.TheVariants.{Updated, Merged, Nothing}
 use Rattle.bayou_log.specs.declared.listing.Listed.{Listed}
-use Rattle.bayou_shell.specs.declared.answer.Refusal.{Refusal}
-use Rattle.bayou_shell.specs.declared.answer.Refusal.TheVariants.{Full, Memory}
+use Rattle.bayou_base.specs.declared.wid.Wid.{Wid}
+use Rattle.bayou_server.specs.declared.fault.ReopenFault.{ReopenFault}
+use Rattle.bayou_server.specs.declared.fault.ReopenFault.TheVariants as reopening
+use Rattle.bayou_server.specs.declared.fault.StartFault.{StartFault}
+use Rattle.bayou_server.specs.declared.fault.StartFault.TheVariants as starting
+use Rattle.bayou_server.specs.declared.fault.WriteFault.{WriteFault}
+use Rattle.bayou_server.specs.declared.fault.WriteFault.TheVariants as writing
 use Rattle.bayou_shell.specs.declared.answer.Answer.{Answer}
-use Rattle.bayou_shell.specs.declared.answer.Answer.TheVariants.{Opened, Wrote, Read, Refused, Logged}
+use Rattle.bayou_shell.specs.declared.answer.Answer.TheVariants.{Done, Wrote, Read, Refused, Lost, Logged, Stopped, Recovered}
+use Rattle.bayou_shell.specs.declared.answer.Recovery.{Recovery}
+use Rattle.bayou_shell.specs.declared.answer.Recovery.TheVariants.{Reopened, NotReopened, NotRunning, Restarted, NotRestarted}
 
 -- the counts of the first servers, in order
 abbrev pub first_counts : ℕ → List ℕ → List ℕ
@@ -29,9 +36,38 @@ value_text None = codes "none"
 value_text (Some (Num number)) = codes "num " ++ signed_decimal number
 value_text (Some (Text text)) = codes "text " ++ compact_text (string text)
 
-abbrev pub refusal_text : Refusal → List ℕ
-refusal_text Full = codes "full"
-refusal_text Memory = codes "memory"
+-- why an operation was refused
+abbrev pub refusal_text : ℕ → WriteFault → List ℕ
+refusal_text servers writing.Down = codes "down"
+refusal_text servers (writing.Behind vector) = codes "behind at " ++ counts_text servers vector
+refusal_text servers writing.LogFull = codes "full"
+refusal_text servers writing.OutOfMemory = codes "memory"
+refusal_text servers writing.Journal = codes "journal"
+
+-- why a server wasn't reopened
+abbrev pub reopening_text : ReopenFault → List ℕ
+reopening_text reopening.NotDown = codes "notdown"
+reopening_text (reopening.Journal why) = codes "journal"
+reopening_text reopening.Lost = codes "lost"
+reopening_text (reopening.BadRecord at) = codes "record"
+reopening_text reopening.OutOfMemory = codes "memory"
+
+-- why a server wasn't started
+abbrev pub starting_text : StartFault → List ℕ
+starting_text (starting.Journal why) = codes "journal"
+starting_text (starting.BadRecord at) = codes "record"
+starting_text (starting.Gap at) = codes "gap"
+starting_text starting.LogFull = codes "full"
+starting_text starting.OutOfMemory = codes "memory"
+
+-- the name of a Write
+abbrev pub wid_text : Wid → List ℕ
+wid_text wid = decimal wid.origin.index ++ (codes ":" ++ decimal wid.seq)
+
+-- the Write that a reopening adopted, if any
+abbrev pub adopted_text : Option Wid → List ℕ
+adopted_text None = codes "none"
+adopted_text (Some wid) = wid_text wid
 
 -- the end of a Write's line: what became of it; alternatives are counted from 0 on
 abbrev pub outcome_text : Outcome → List ℕ
@@ -47,15 +83,28 @@ listed_text server listed =
 
 -- the lines of the Writes in a log
 abbrev pub log_text : Answer → List ℕ
-log_text Opened = []
+log_text (Logged server listing vector) = flat_map (listed_text server.index) listing.items
+log_text Done = []
 log_text (Wrote session accepted) = []
 log_text (Read session key seen) = []
 log_text (Refused session refusal) = []
-log_text (Logged server listing vector) = flat_map (listed_text server.index) listing.items
+log_text (Lost session) = []
+log_text (Stopped server) = []
+log_text (Recovered recovery) = []
 
--- the last line that is printed for an answer, or nothing for a session that was opened
+-- the line of a server that was to be reopened or restarted
+abbrev pub recovery_text : Recovery → List ℕ
+recovery_text (Reopened server adopted) =
+    codes "reopened " ++ (decimal server.index ++ (codes " adopted " ++ (adopted_text adopted ++ codes "\n")))
+recovery_text (NotReopened refusal) = codes "reopen refused " ++ (reopening_text refusal ++ codes "\n")
+recovery_text NotRunning = codes "reopen refused stopped\n"
+recovery_text (Restarted server holds dropped) =
+    codes "restarted " ++ (decimal server.index ++ (codes " holds " ++ (decimal holds ++ (codes " dropped " ++ (decimal dropped ++ codes "\n")))))
+recovery_text (NotRestarted refusal) = codes "restart refused " ++ (starting_text refusal ++ codes "\n")
+
+-- the last line that is printed for an answer, or nothing where there is nothing to tell
 abbrev pub last_text : ℕ → Answer → List ℕ
-last_text servers Opened = []
+last_text servers Done = []
 last_text servers (Wrote session accepted) =
     decimal session.index ++ (codes " wrote " ++ (decimal accepted.wid.origin.index ++ (codes ":" ++ (decimal accepted.wid.seq
     ++ (codes " clock " ++ (decimal accepted.stamp.clock ++ (codes " deps " ++ (counts_text servers accepted.deps ++ codes "\n"))))))))
@@ -63,9 +112,12 @@ last_text servers (Read session key seen) =
     decimal session.index ++ (codes " read " ++ (key ++ (codes " " ++ (value_text seen.value
     ++ (codes " at " ++ (counts_text servers seen.vector ++ codes "\n"))))))
 last_text servers (Refused session refusal) =
-    decimal session.index ++ (codes " refused " ++ (refusal_text refusal ++ codes "\n"))
+    decimal session.index ++ (codes " refused " ++ (refusal_text servers refusal ++ codes "\n"))
+last_text servers (Lost session) = decimal session.index ++ codes " lost\n"
 last_text servers (Logged server listing vector) =
     codes "log " ++ (decimal server.index ++ (codes " at " ++ (counts_text servers vector ++ codes "\n")))
+last_text servers (Stopped server) = codes "stopped " ++ (decimal server.index ++ codes "\n")
+last_text servers (Recovered recovery) = recovery_text recovery
 
 -- what is printed for an answer: a log's lines, one for each Write, go before its last
 abbrev pub answer_text : ℕ → Answer → List ℕ

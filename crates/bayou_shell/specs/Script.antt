@@ -5,10 +5,10 @@ use Rattle.bayou_base.specs.declared.limits.TheConstants.{DEFAULT_LIMIT, MAX_LIN
 use Rattle.bayou_text.specs.declared.line.LineFault.{LineFault}
 use Rattle.bayou_text.specs.declared.line.LineFault.TheVariants as line
 use Rattle.bayou_text.specs.Lines.{IsFaultOf}
-use Rattle.bayou_text.specs.Said.{Said, servers, session, write, read, log}
+use Rattle.bayou_text.specs.Said.{Said, servers, session, write, read, log, fuse, lose, reopen, restart}
 use Rattle.bayou_text.specs.Table.{Spells}
 use Rattle.bayou_shell.specs.declared.fault.Fault.{Fault}
-use Rattle.bayou_shell.specs.declared.fault.Fault.TheVariants.{Line, Memory, Input, Output}
+use Rattle.bayou_shell.specs.declared.fault.Fault.TheVariants.{Line, Memory, Device, Input, Output}
 use Rattle.bayou_shell.specs.declared.fault.ScriptFault.{ScriptFault}
 use Rattle.bayou_shell.specs.declared.fault.ScriptFault.TheVariants.{NotJson, BadShape, BadKey, BadProgram, OutOfPlace}
 use Rattle.bayou_shell.specs.declared.script.Command.{Command}
@@ -20,6 +20,10 @@ command_said (command.Session who asks) = session who.index asks
 command_said (command.Write who place program) = write who.index place.index program.value
 command_said (command.Read who place key) = read who.index place.index key
 command_said (command.Log place) = log place.index
+command_said (command.Fuse place failure) = fuse place.index failure.calls failure.kept
+command_said (command.Lose place count) = lose place.index count
+command_said (command.Reopen place) = reopen place.index
+command_said (command.Restart place) = restart place.index
 
 -- whether what a line says is said to a server that there is
 abbrev pub is_served : ℕ → Said → Bool
@@ -28,6 +32,10 @@ is_served count (session who asks) = true
 is_served count (write who server program) = nat_lt server count
 is_served count (read who server key) = nat_lt server count
 is_served count (log server) = nat_lt server count
+is_served count (fuse server calls kept) = nat_lt server count
+is_served count (lose server bytes) = nat_lt server count
+is_served count (reopen server) = nat_lt server count
+is_served count (restart server) = nat_lt server count
 
 -- what a script says: how many servers it starts, how many Writes each may hold, and what its other lines say
 pub record Plan : Type 0 where
@@ -42,6 +50,10 @@ opens who (session opened asks) = opened == who
 opens who (write writer server program) = false
 opens who (read reader server key) = false
 opens who (log server) = false
+opens who (fuse server calls kept) = false
+opens who (lose server bytes) = false
+opens who (reopen server) = false
+opens who (restart server) = false
 
 abbrev pub is_open : ℕ → List Said → Bool
 is_open who front = list_any (opens who) front
@@ -54,6 +66,10 @@ started (session who asks ∷ others) = 0
 started (write who server program ∷ others) = 0
 started (read who server key ∷ others) = 0
 started (log server ∷ others) = 0
+started (fuse server calls kept ∷ others) = 0
+started (lose server bytes ∷ others) = 0
+started (reopen server ∷ others) = 0
+started (restart server ∷ others) = 0
 
 -- Whether a line may say this behind what was said before: `servers` comes first, and once; a session is opened once,
 -- and before it is used; a server is used that was started.
@@ -63,6 +79,10 @@ has_place front (session who asks) = nat_lt 0 (length front) && not (is_open who
 has_place front (write who server program) = is_open who front && nat_lt server (started front)
 has_place front (read who server key) = is_open who front && nat_lt server (started front)
 has_place front (log server) = nat_lt server (started front)
+has_place front (fuse server calls kept) = nat_lt server (started front)
+has_place front (lose server bytes) = nat_lt server (started front)
+has_place front (reopen server) = nat_lt server (started front)
+has_place front (restart server) = nat_lt server (started front)
 
 -- a text's lines, each without its line feed
 abbrev pub lines_of : List ℕ → List (List ℕ)
@@ -106,5 +126,6 @@ pub record IsScript (lines : List (List ℕ)) (plan : Plan) : Type 0 where
 abbrev pub RefusedFor : List (List ℕ) → Fault → Type 0
 RefusedFor lines (Line number fault) = IsRefused lines number fault
 RefusedFor lines Memory = Unit {0}
+RefusedFor lines Device = ⊥
 RefusedFor lines Input = ⊥
 RefusedFor lines Output = ⊥

@@ -1,20 +1,12 @@
-use bayou_base::{Accepted, Key, Seen, ServerId, SessionId, Vector};
+use bayou_base::{Accepted, Key, Seen, ServerId, SessionId, Vector, Wid};
 use bayou_log::Listed;
-
-/// Why a Write wasn't accepted.
-#[derive(Clone, Copy, Debug, PartialEq, Eq)]
-pub enum Refusal {
-    /// The server's log holds as many Writes as it may.
-    Full,
-    /// An allocation was refused.
-    Memory,
-}
+use bayou_server::{ReopenFault, StartFault, WriteFault};
 
 /// What a command is answered.
 #[derive(Debug, Drop)]
 pub enum Answer {
-    /// The session was opened, of which nothing is printed.
-    Opened,
+    /// It was done, of which nothing is printed.
+    Done,
     /// The session's Write was accepted.
     Wrote {
         session: SessionId,
@@ -26,10 +18,14 @@ pub enum Answer {
         key: Key,
         seen: Seen,
     },
-    /// The session's Write was refused.
+    /// The session's Write or read was refused.
     Refused {
         session: SessionId,
-        refusal: Refusal,
+        refusal: WriteFault,
+    },
+    /// No reply reached the session.
+    Lost {
+        session: SessionId,
     },
     /// What the server holds: its Writes in stamp order, with their outcomes, and its vector.
     Logged {
@@ -37,4 +33,34 @@ pub enum Answer {
         listing: Vec<Listed>,
         vector: Vector,
     },
+    /// The server is stopped, and lists nothing.
+    Stopped {
+        server: ServerId,
+    },
+    /// What became of a server that was to be reopened or restarted.
+    Recovered(Recovery),
+}
+
+/// What became of a server that was to be reopened or restarted.
+#[derive(Clone, Copy, Debug, PartialEq, Eq)]
+pub enum Recovery {
+    /// It is up again, with the Write that was in doubt or without it.
+    Reopened {
+        server: ServerId,
+        adopted: Option<Wid>,
+    },
+    /// It wasn't reopened.
+    NotReopened(ReopenFault),
+    /// It is stopped: it isn't reopened, only started again.
+    NotRunning,
+    /// It was stopped, and started again on what its device has.
+    Restarted {
+        server: ServerId,
+        /// How many Writes it holds.
+        holds: usize,
+        /// How many bytes were cut behind them.
+        dropped: usize,
+    },
+    /// It was stopped, and its start was refused.
+    NotRestarted(StartFault),
 }

@@ -1,5 +1,6 @@
 ghost use Rattle.std.specs.Prelude.{◌≡◌, ◌+◌, [], ◌∷◌, ◌++◌, ℕ, List, false, IfErr, OnOk, IsTrue, MatchResult, length};
 
+use crate::failure::PlannedFailure;
 use crate::fault::{Fault, ScriptFault};
 use crate::script::{Command, Script, Servers};
 use bayou_base::{Asks, DEFAULT_LIMIT, MAX_LINES, SESSIONS, SessionId};
@@ -61,7 +62,11 @@ impl Draft {
                 server,
                 ..
             } => self.is_open(*session) && server.index < servers.count,
-            Line::Log { server } => server.index < servers.count,
+            Line::Log { server }
+            | Line::Fuse { server, .. }
+            | Line::Lose { server, .. }
+            | Line::Reopen { server }
+            | Line::Restart { server } => server.index < servers.count,
         }
     }
 
@@ -120,6 +125,17 @@ impl Draft {
                 key,
             }),
             Line::Log { server } => self.push(Command::Log { server }),
+            Line::Fuse {
+                server,
+                calls,
+                kept,
+            } => self.push(Command::Fuse {
+                server,
+                failure: PlannedFailure { calls, kept },
+            }),
+            Line::Lose { server, count } => self.push(Command::Lose { server, count }),
+            Line::Reopen { server } => self.push(Command::Reopen { server }),
+            Line::Restart { server } => self.push(Command::Restart { server }),
         }
     }
 

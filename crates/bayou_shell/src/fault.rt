@@ -36,6 +36,9 @@ pub enum Fault {
     /// Memory ran out where no printed line can say so.
     #[error("memory")]
     Memory,
+    /// A server's device failed as the server was started first.
+    #[error("device")]
+    Device,
     /// The input couldn't be read, or took too many turns.
     #[error("input")]
     Input,
@@ -68,7 +71,7 @@ impl Fault {
     {
         match self {
             Fault::Line { .. } => 2,
-            Fault::Memory | Fault::Input | Fault::Output => 3,
+            Fault::Memory | Fault::Device | Fault::Input | Fault::Output => 3,
         }
     }
 

@@ -2,12 +2,14 @@ ghost use Rattle.std.specs.Prelude.{◌≡◌, ◌≤◌, Some, IfOk, string_byt
 ghost use Rattle.serde_json.specs.Data.{string};
 ghost use Rattle.serde_json.specs.Written.{compact_text};
 ghost use Rattle.bayou_base.specs.declared.limits.TheConstants.{SERVERS};
-ghost use Rattle.bayou_shell.specs.Printed.{counts_text, value_text, last_text, listed_text};
+ghost use Rattle.bayou_shell.specs.declared.answer.Answer.TheVariants.{Read, Wrote};
+ghost use Rattle.bayou_shell.specs.Printed.{adopted_text, counts_text, last_text, listed_text, recovery_text, refusal_text, reopening_text, starting_text, value_text};
 
-use crate::answer::{Answer, Refusal};
-use bayou_base::{ServerId, Value, Vector};
+use crate::answer::{Answer, Recovery};
+use bayou_base::{Accepted, Key, Seen, ServerId, SessionId, Value, Vector, Wid};
 use bayou_lang::Outcome;
 use bayou_log::Listed;
+use bayou_server::{ReopenFault, StartFault, WriteFault};
 use serde_json::Value as Json;
 use std::alloc::{AllocError, Global};
 use std::fmt;
@@ -78,44 +80,160 @@ pub(crate) fn listed_line(
     }
 }
 
+/// Why an operation was refused.
+fn refusal_words(alloc: Global, servers: u8, refusal: &WriteFault) -> Result<String, AllocError>
+    requires { servers ≤ SERVERS }
+    ensures { IfOk result (λ text. string_bytes text ≡ refusal_text servers refusal.now) }
+{
+    match refusal {
+        WriteFault::Down => String::from_str(alloc, "down"),
+        WriteFault::Behind(vector) => {
+            let counts = Counts { vector, servers };
+            format!(in alloc; "behind at {counts}")
+        }
+        WriteFault::LogFull => String::from_str(alloc, "full"),
+        WriteFault::OutOfMemory => String::from_str(alloc, "memory"),
+        WriteFault::Journal => String::from_str(alloc, "journal"),
+    }
+}
+
+/// Why a server wasn't reopened.
+fn reopening_word(refusal: &ReopenFault) -> &'static str
+    ensures { result.now ≡ reopening_text refusal.now }
+{
+    match refusal {
+        ReopenFault::NotDown => "notdown",
+        ReopenFault::Journal(_) => "journal",
+        ReopenFault::Lost => "lost",
+        ReopenFault::BadRecord(_) => "record",
+        ReopenFault::OutOfMemory => "memory",
+    }
+}
+
+/// Why a server wasn't started.
+fn starting_word(refusal: &StartFault) -> &'static str
+    ensures { result.now ≡ starting_text refusal.now }
+{
+    match refusal {
+        StartFault::Journal(_) => "journal",
+        StartFault::BadRecord(_) => "record",
+        StartFault::Gap(_) => "gap",
+        StartFault::LogFull => "full",
+        StartFault::OutOfMemory => "memory",
+    }
+}
+
+/// The Write that a reopening adopted, if any.
+fn adopted_words(alloc: Global, adopted: &Option<Wid>) -> Result<String, AllocError>
+    ensures { IfOk result (λ text. string_bytes text ≡ adopted_text adopted.now) }
+{
+    match adopted {
+        None => String::from_str(alloc, "none"),
+        Some(wid) => {
+            let (origin, seq) = (wid.origin.index, wid.seq);
+            format!(in alloc; "{origin}:{seq}")
+        }
+    }
+}
+
+/// The line of a Write that was accepted.
+fn wrote_line(
+    alloc: Global,
+    servers: u8,
+    session: SessionId,
+    accepted: &Accepted,
+) -> Result<String, AllocError>
+    requires { servers ≤ SERVERS }
+    ensures { IfOk result (λ text. string_bytes text ≡ last_text servers (Wrote session accepted.now)) }
+{
+    let session = session.index;
+    let (origin, seq) = (accepted.wid.origin.index, accepted.wid.seq);
+    let clock = accepted.stamp.clock;
+    let deps = Counts {
+        vector: &accepted.deps,
+        servers,
+    };
+    format!(in alloc; "{session} wrote {origin}:{seq} clock {clock} deps {deps}\n")
+}
+
+/// The line of a read that was served.
+fn read_line(
+    alloc: Global,
+    servers: u8,
+    session: SessionId,
+    key: &Key,
+    seen: &Seen,
+) -> Result<String, AllocError>
+    requires { servers ≤ SERVERS }
+    ensures { IfOk result (λ text. string_bytes text ≡ last_text servers (Read session key.now seen.now)) }
+{
+    let session = session.index;
+    let key = key.as_str();
+    let found = found(alloc, &seen.value)?;
+    let counts = Counts {
+        vector: &seen.vector,
+        servers,
+    };
+    format!(in alloc; "{session} read {key} {found} at {counts}\n")
+}
+
+/// The line of a server that was to be reopened or restarted.
+fn recovery_line(alloc: Global, recovery: &Recovery) -> Result<String, AllocError>
+    ensures { IfOk result (λ text. string_bytes text ≡ recovery_text recovery.now) }
+{
+    match recovery {
+        Recovery::Reopened { server, adopted } => {
+            let server = server.index;
+            let adopted = adopted_words(alloc, adopted)?;
+            format!(in alloc; "reopened {server} adopted {adopted}\n")
+        }
+        Recovery::NotReopened(refusal) => {
+            let why = reopening_word(refusal);
+            format!(in alloc; "reopen refused {why}\n")
+        }
+        Recovery::NotRunning => String::from_str(alloc, "reopen refused stopped\n"),
+        Recovery::Restarted {
+            server,
+            holds,
+            dropped,
+        } => {
+            let server = server.index;
+            format!(in alloc; "restarted {server} holds {holds} dropped {dropped}\n")
+        }
+        Recovery::NotRestarted(refusal) => {
+            let why = starting_word(refusal);
+            format!(in alloc; "restart refused {why}\n")
+        }
+    }
+}
+
 /// The last line that is printed for an answer where there are so many servers, or nothing.
 pub fn printed(alloc: Global, servers: u8, answer: &Answer) -> Result<String, AllocError>
     requires { servers ≤ SERVERS }
     ensures { IfOk result (λ text. string_bytes text ≡ last_text servers answer.now) }
 {
     match answer {
-        Answer::Opened => Ok(String::new(alloc)),
-        Answer::Wrote { session, accepted } => {
-            let session = session.index;
-            let (origin, seq) = (accepted.wid.origin.index, accepted.wid.seq);
-            let clock = accepted.stamp.clock;
-            let deps = Counts {
-                vector: &accepted.deps,
-                servers,
-            };
-            format!(in alloc; "{session} wrote {origin}:{seq} clock {clock} deps {deps}\n")
-        }
-        Answer::Read { session, key, seen } => {
-            let session = session.index;
-            let key = key.as_str();
-            let found = found(alloc, &seen.value)?;
-            let counts = Counts {
-                vector: &seen.vector,
-                servers,
-            };
-            format!(in alloc; "{session} read {key} {found} at {counts}\n")
-        }
+        Answer::Done => Ok(String::new(alloc)),
+        Answer::Wrote { session, accepted } => wrote_line(alloc, servers, *session, accepted),
+        Answer::Read { session, key, seen } => read_line(alloc, servers, *session, key, seen),
         Answer::Refused { session, refusal } => {
             let session = session.index;
-            match refusal {
-                Refusal::Full => format!(in alloc; "{session} refused full\n"),
-                Refusal::Memory => format!(in alloc; "{session} refused memory\n"),
-            }
+            let why = refusal_words(alloc, servers, refusal)?;
+            format!(in alloc; "{session} refused {why}\n")
+        }
+        Answer::Lost { session } => {
+            let session = session.index;
+            format!(in alloc; "{session} lost\n")
         }
         Answer::Logged { server, vector, .. } => {
             let server = server.index;
             let counts = Counts { vector, servers };
             format!(in alloc; "log {server} at {counts}\n")
         }
+        Answer::Stopped { server } => {
+            let server = server.index;
+            format!(in alloc; "stopped {server}\n")
+        }
+        Answer::Recovered(recovery) => recovery_line(alloc, recovery),
     }
 }

@@ -2,6 +2,7 @@ ghost use Rattle.std.specs.Prelude.{◌≡◌, ◌≤◌, ◌⊎◌, List, ℕ, 
 ghost use Rattle.std.specs.Io.KnownBytes.{Appends};
 ghost use Rattle.bayou_shell.specs.declared.answer.Answer.{Answer};
 ghost use Rattle.bayou_shell.specs.Draft.{plan_of};
+ghost use Rattle.bayou_shell.specs.Machine.{HasBegun};
 ghost use Rattle.bayou_shell.specs.Printed.{answer_text};
 ghost use Rattle.bayou_shell.specs.Run.{IsRunFault, Prints, PrintsPart, RunsAs, Step};
 ghost use Rattle.bayou_shell.specs.Script.{command_said, is_served};
@@ -39,8 +40,14 @@ fn answer_one<W: Write>(
     write_answer(alloc, servers.count, &answer, output)
 }
 
-/// Answers the commands in order, and writes what is printed for each.
-fn answer_all<W: Write>(alloc: Global, script: Script, output: &mut Output<W>) -> Result<(), Fault>
+/// Answers the commands in order, from what the servers hold as a script begins, and writes what is printed for each.
+fn answer_all<W: Write>(
+    alloc: Global,
+    script: Script,
+    store: Store,
+    output: &mut Output<W>,
+) -> Result<(), Fault>
+    requires { HasBegun script.servers.count script.servers.limit store }
     ensures ok { OnOk result ((text : List ℕ) × Prints (plan_of script) text × Appends (W.contents output.old.stream) (W.contents output.new.stream) text) }
     ensures err { IfErr result (λ fault. IsRunFault fault
         × (text : List ℕ) × PrintsPart (plan_of script) text × Appends (W.contents output.old.stream) (W.contents output.new.stream) text) }
@@ -50,7 +57,7 @@ fn answer_all<W: Write>(alloc: Global, script: Script, output: &mut Output<W>) -
         servers,
         mut commands,
     } = script;
-    let mut store = Store::new(alloc, servers);
+    let mut store = store;
     while let Some(command) = commands.pop_front() {
         answer_one(alloc, servers, &mut store, command, output)?;
     }
@@ -71,5 +78,6 @@ pub fn run_script<R: Read, W: Write>(
     let text = read_text(alloc, input)?;
     let script = read_script(alloc, text.as_slice())?;
     drop(text);
-    answer_all(alloc, script, output)
+    let store = Store::new(alloc, script.servers)?;
+    answer_all(alloc, script, store, output)
 }

@@ -1,8 +1,9 @@
-ghost use Rattle.std.specs.Prelude.{◌≤◌, IsTrue};
+ghost use Rattle.std.specs.Prelude.{◌<◌, ◌≤◌, IsTrue};
 ghost use Rattle.std.specs.List.{list_all};
 ghost use Rattle.bayou_base.specs.declared.limits.TheConstants.{SERVERS, MAX_WRITES};
 ghost use Rattle.bayou_shell.specs.Script.{command_said, is_served};
 
+use crate::failure::PlannedFailure;
 use bayou_base::{Asks, Key, ServerId, SessionId};
 use bayou_lang::Program;
 use std::collections::VecDeque;
@@ -31,6 +32,24 @@ pub enum Command {
     Log {
         server: ServerId,
     },
+    /// The server's device is to fail.
+    Fuse {
+        server: ServerId,
+        failure: PlannedFailure,
+    },
+    /// The server's device loses so many bytes at its end.
+    Lose {
+        server: ServerId,
+        count: usize,
+    },
+    /// A server that is down takes its journal up again.
+    Reopen {
+        server: ServerId,
+    },
+    /// The server is stopped, and started again on what its device has.
+    Restart {
+        server: ServerId,
+    },
 }
 
 /// The servers that a script starts.
@@ -40,8 +59,8 @@ pub struct Servers {
     pub count: u8,
     /// How many Writes each may hold.
     pub limit: u32,
-    pub ghost count_in_range: { count ≤ SERVERS },
-    pub ghost limit_in_range: { limit ≤ MAX_WRITES },
+    pub ghost count_in_range: { (0 < count) × (count ≤ SERVERS) },
+    pub ghost limit_in_range: { (0 < limit) × (limit ≤ MAX_WRITES) },
 }
 
 /// A script, each line of which is in its place.

@@ -1,44 +1,67 @@
-ghost use Rattle.std.specs.Prelude.{◌≡◌, ◌<◌, ℕ, [], length, IfOk, IsTrue, MatchResult};
-ghost use Rattle.bayou_text.specs.Said.{log, read};
+ghost use Rattle.std.specs.Prelude.{◌≡◌, ◌<◌, IfOk, IfErr, IsTrue, MatchResult};
+ghost use Rattle.bayou_shell.specs.declared.answer.Answer.TheVariants.{Done, Recovered};
+ghost use Rattle.bayou_text.specs.Said.{fuse, log, lose, read, reopen, restart, session, write};
 
-use crate::answer::{Answer, Refusal};
+use crate::answer::{Answer, Recovery};
+use crate::failure::PlannedFailure;
+use crate::fault::Fault;
+use crate::replica::Replica;
 use crate::script::{Command, Servers};
-use bayou_base::{Accepted, Key, Seen, ServerId, SessionId, Stamp, Wid};
-use bayou_lang::{Program, Write};
-use bayou_log::WriteLog;
+use bayou_base::{Asks, Key, SESSIONS, ServerId, SessionId};
+use bayou_lang::Program;
+use bayou_session::Session;
 use std::alloc::{AllocError, Global};
 use std::marker::Model;
 
-/// What the servers of a script hold: as yet there is one, which accepted every Write itself.
+/// The servers and the sessions of a script.
 #[derive(Drop)]
 pub struct Store {
-    log: WriteLog,
-    /// The greatest clock that is held.
-    clock: u32,
+    servers: Servers,
+    // One for each server.
+    replicas: Vec<Replica>,
+    sessions: [Option<Session>; SESSIONS],
 }
 
 impl Model for Store {
-    ghost use Rattle.bayou_shell.specs.Held.{Holding, KeepsOwn};
+    ghost use Rattle.std.specs.Prelude.{◌≡◌, length};
+    ghost use Rattle.bayou_shell.specs.Machine.{Machine};
 
-    ghost Value = { Holding };
+    ghost Value = { Machine };
 
-    ghost view = { λ s. record { count = s.log.count; limit = s.log.limit; writes = s.log.receipts } };
+    ghost view = { λ s. record { count = s.servers.count; limit = s.servers.limit; servers = s.replicas.items; sessions = s.sessions } };
 
-    ghost invariant = { λ s. KeepsOwn s.log.limit s.log.receipts s.clock };
+    ghost invariant = { λ s. length s.replicas.items ≡ s.servers.count };
 }
 
 impl Store {
-    ghost use Rattle.bayou_shell.specs.Held.{Holding, IsNextWrite};
-    ghost use Rattle.bayou_shell.specs.Run.{Accepts, Declines, IsLog, Step};
+    ghost use Rattle.bayou_shell.specs.Fault.{IsStartFault};
+    ghost use Rattle.bayou_shell.specs.Machine.{HasBegun, session_of};
+    ghost use Rattle.bayou_shell.specs.Run.{IsLog, Step};
     ghost use Rattle.bayou_shell.specs.Script.{command_said, is_served};
 
-    /// The servers of a script as it begins.
-    pub fn new(alloc: Global, servers: Servers) -> Self
-        ensures { result ≡ record { count = servers.count; limit = servers.limit; writes = [] } }
+    /// The servers of a script as it begins, each on an empty device.
+    pub fn new(alloc: Global, servers: Servers) -> Result<Self, Fault>
+        ensures begun { IfOk result (HasBegun servers.count servers.limit) }
+        ensures fault { IfErr result IsStartFault }
     {
-        Store {
-            log: WriteLog::new(alloc, servers.count, servers.limit),
-            clock: 0,
+        let mut replicas = Vec::new(alloc);
+        for index in 0..servers.count {
+            replicas.push(Replica::begin(alloc, servers, ServerId { index })?)?;
+        }
+        Ok(Store {
+            servers,
+            replicas,
+            sessions: [None; SESSIONS],
+        })
+    }
+
+    // The session of this name. One that wasn't opened asks for nothing; no script uses it.
+    fn session(&self, who: SessionId) -> Session
+        ensures { result ≡ session_of self.now who }
+    {
+        match self.sessions[usize::from(who.index)] {
+            Some(session) => session,
+            None => Session::new(who, Asks::default()),
         }
     }
 
@@ -50,84 +73,101 @@ impl Store {
             (λ _. IsLog (command_said command) × (self.new ≡ self.old)) }
     {
         match command {
-            Command::Session { .. } => Ok(Answer::Opened),
+            Command::Session { session, asks } => {
+                self.open(session, asks);
+                Ok(Answer::Done)
+            }
             Command::Write {
                 session,
                 server,
                 program,
-            } => match self.write(server, Box::into_inner(program)) {
-                Ok(accepted) => Ok(Answer::Wrote { session, accepted }),
-                Err(refusal) => Ok(Answer::Refused { session, refusal }),
-            },
-            Command::Read { session, key, .. } => Ok(self.read(session, key)),
-            Command::Log { server } => self.log(alloc, server),
+            } => Ok(self.write(alloc, session, server, Box::into_inner(program))),
+            Command::Read {
+                session,
+                server,
+                key,
+            } => Ok(self.read(session, server, key)),
+            Command::Log { server } => self.list(alloc, server),
+            Command::Fuse { server, failure } => {
+                self.fuse(server, failure);
+                Ok(Answer::Done)
+            }
+            Command::Lose { server, count } => {
+                self.shorten(server, count);
+                Ok(Answer::Done)
+            }
+            Command::Reopen { server } => Ok(Answer::Recovered(self.reopen(alloc, server))),
+            Command::Restart { server } => Ok(Answer::Recovered(self.restart(alloc, server))),
         }
     }
 
-    fn log(&self, alloc: Global, server: ServerId) -> Result<Answer, AllocError>
+    fn open(&mut self, who: SessionId, asks: Asks)
+        ensures { Step self.old (session who.index asks) Done self.new }
+    {
+        self.sessions[usize::from(who.index)] = Some(Session::new(who, asks));
+    }
+
+    fn list(&self, alloc: Global, server: ServerId) -> Result<Answer, AllocError>
+        requires { server.index < self.now.count }
         ensures { IfOk result (λ answer. Step self.now (log server.index) answer self.now) }
     {
-        let listing = self.log.listing(alloc)?;
-        let vector = self.log.vector();
-        Ok(Answer::Logged {
-            server,
-            listing,
-            vector,
-        })
+        self.replicas[usize::from(server.index)].list(alloc, server)
     }
 
-    fn read(&self, session: SessionId, key: Key) -> Answer
-        ensures { (server : ℕ) → Step self.now (read session.index server key) result self.now }
-    {
-        let seen = Seen {
-            value: self.log.get(&key),
-            vector: self.log.vector(),
-        };
-        Answer::Read { session, key, seen }
-    }
-
-    /// The Write that the server makes of the program next.
-    fn next_write(&self, server: ServerId, program: Program) -> Write
-        requires { length self.now.writes < self.now.limit }
-        ensures { IsNextWrite self.now.writes server.index program result }
-    {
-        let deps = self.log.vector();
-        let wid = Wid {
-            origin: server,
-            seq: deps.get(server) + 1,
-        };
-        let stamp = Stamp {
-            clock: self.clock + 1,
-            origin: server,
-        };
-        Write {
-            wid,
-            stamp,
-            deps,
-            program,
-        }
-    }
-
-    fn write(&mut self, server: ServerId, program: Program) -> Result<Accepted, Refusal>
+    fn fuse(&mut self, server: ServerId, failure: PlannedFailure)
         requires { server.index < self.old.count }
-        ensures { MatchResult result
-            (λ accepted. Accepts self.old server.index program accepted self.new)
-            (λ refusal. Declines self.old refusal self.new) }
+        ensures { Step self.old (fuse server.index failure.calls failure.kept) Done self.new }
     {
-        if self.log.is_full() {
-            return Err(Refusal::Full);
-        }
-        let write = self.next_write(server, program);
-        let accepted = Accepted {
-            wid: write.wid,
-            stamp: write.stamp,
-            deps: write.deps,
+        self.replicas[usize::from(server.index)].fuse(failure);
+    }
+
+    fn shorten(&mut self, server: ServerId, count: usize)
+        requires { server.index < self.old.count }
+        ensures { Step self.old (lose server.index count) Done self.new }
+    {
+        self.replicas[usize::from(server.index)].shorten(count);
+    }
+
+    fn reopen(&mut self, alloc: Global, server: ServerId) -> Recovery
+        requires { server.index < self.old.count }
+        ensures { Step self.old (reopen server.index) (Recovered result) self.new }
+    {
+        self.replicas[usize::from(server.index)].reopen(alloc, server)
+    }
+
+    fn write(&mut self, alloc: Global, who: SessionId, server: ServerId, program: Program) -> Answer
+        requires { server.index < self.old.count }
+        ensures { Step self.old (write who.index server.index program) result self.new }
+    {
+        let mut session = self.session(who);
+        let replica = &mut self.replicas[usize::from(server.index)];
+        let answer = replica.write(alloc, who, &mut session, program);
+        self.sessions[usize::from(who.index)] = Some(session);
+        answer
+    }
+
+    fn read(&mut self, who: SessionId, server: ServerId, key: Key) -> Answer
+        requires { server.index < self.old.count }
+        ensures { Step self.old (read who.index server.index key) result self.new }
+    {
+        let mut session = self.session(who);
+        let answer = self.replicas[usize::from(server.index)].read(who, &mut session, key);
+        self.sessions[usize::from(who.index)] = Some(session);
+        answer
+    }
+
+    fn restart(&mut self, alloc: Global, server: ServerId) -> Recovery
+        requires { server.index < self.old.count }
+        ensures { Step self.old (restart server.index) (Recovered result) self.new }
+    {
+        let at = usize::from(server.index);
+        let (replica, recovery) = self
+            .replicas
+            .remove(at)
+            .restart(alloc, self.servers, server);
+        let Ok(()) = self.replicas.insert(at, replica) else {
+            unreachable!();
         };
-        let Ok(()) = self.log.reserve(&write) else {
-            return Err(Refusal::Memory);
-        };
-        self.log.insert(write);
-        self.clock += 1;
-        Ok(accepted)
+        recovery
     }
 }

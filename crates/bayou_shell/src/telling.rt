@@ -75,7 +75,12 @@ pub(crate) fn write_answer<W: Write>(
             write_listing(alloc, *server, listing.as_slice(), output)?;
             write_last(alloc, servers, answer, output)
         }
-        Answer::Opened | Answer::Wrote { .. } | Answer::Read { .. } | Answer::Refused { .. } =>
-            write_last(alloc, servers, answer, output),
+        Answer::Done
+        | Answer::Wrote { .. }
+        | Answer::Read { .. }
+        | Answer::Refused { .. }
+        | Answer::Lost { .. }
+        | Answer::Stopped { .. }
+        | Answer::Recovered(_) => write_last(alloc, servers, answer, output),
     }
 }

@@ -8,7 +8,9 @@ use Rattle.serde_json.specs.Data.{Data, number, string}
 use Rattle.serde_json.specs.Find.{of_integer}
 use Rattle.serde_json.specs.View.{items_of}
 use Rattle.bayou_base.specs.declared.asks.Asks.{Asks}
-use Rattle.bayou_base.specs.declared.limits.TheConstants.{MAX_CONDITIONS, MAX_OPS, MAX_ALTERNATIVES, SERVERS, SESSIONS, MAX_WRITES}
+use Rattle.bayou_base.specs.declared.limits.TheConstants.{MAX_CONDITIONS, MAX_OPS, MAX_ALTERNATIVES, SERVERS, SESSIONS, MAX_WRITES, MAX_FUSE_CALLS, MAX_FUSE_KEPT, MAX_LOST_BYTES}
+use Rattle.bayou_base.specs.declared.server.ServerId.{ServerId}
+use Rattle.bayou_base.specs.declared.session.SessionId.{SessionId}
 use Rattle.bayou_base.specs.declared.value.Value.{Value}
 use Rattle.bayou_base.specs.declared.value.Value.TheVariants.{Num, Text}
 use Rattle.bayou_lang.specs.declared.program.Term.{Term}
@@ -25,8 +27,8 @@ use Rattle.bayou_text.specs.declared.line.Line.{Line}
 use Rattle.bayou_text.specs.declared.line.Line.TheVariants as line
 use Rattle.bayou_text.proofs.Readers.{listed_items}
 use Rattle.bayou_text.specs.Asks.{asks_in}
-use Rattle.bayou_text.specs.Lines.{line_in, servers_in, opening_in, writing_in, reading_in, listing_in}
-use Rattle.bayou_text.specs.Numbers.{number_in, integer_in}
+use Rattle.bayou_text.specs.Lines.{line_in, servers_in, opening_in, writing_in, reading_in, alone_in, fusing_in, losing_in, trial_of}
+use Rattle.bayou_text.specs.Numbers.{number_in, session_in, server_in, integer_in}
 use Rattle.bayou_text.specs.Parts.{named_in, keyed_in, term_in, op_in, cond_in}
 use Rattle.bayou_text.specs.Programs.{few_in, alt_in, program_in}
 use Rattle.bayou_text.specs.Ranges.{IsKey, IsValue, IsTerm, IsOp, IsCond, IsList, IsAlt, IsProgram, IsLine, IsReadable}
@@ -132,34 +134,34 @@ asks_cases false false false false = refl
 asks_again : (asks : Asks) → asks_in (asks_json asks) ≡ Ok asks
 asks_again asks = asks_cases asks.ryw asks.mr asks.wfr asks.mw
 
+session_again : (who : SessionId) → session_in (count_json who.index) ≡ Ok who.index
+session_again who = number_again 0 (SESSIONS - 1) who.index (omega arith) (omega (arith, who.in_range))
+
+server_again : (place : ServerId) → server_in (count_json place.index) ≡ Ok place.index
+server_again place = number_again 0 (SERVERS - 1) place.index (omega arith) (omega (arith, place.in_range))
+
 pub line_again : (l : Line) → IsLine l → IsReadable (said l) → line_in (line_json (said l)) ≡ Ok (said l)
-unfolding line_in servers_in opening_in writing_in reading_in listing_in
-line_again (line.Servers count None) kept readable = rw (readable.0)
+unfolding line_in servers_in opening_in writing_in reading_in alone_in fusing_in losing_in trial_of
+line_again (line.Servers count None) kept readable = rw (
+    number_again 1 SERVERS count readable.0.0 readable.0.1
+    )
 line_again (line.Servers count (Some limit)) kept readable = rw (
-  readable.0,
+  number_again 1 SERVERS count readable.0.0 readable.0.1,
   number_again 1 MAX_WRITES limit readable.1.0 readable.1.1,
 )
-line_again (line.Session who asks) kept readable =
-    rw (number_again 0 (SESSIONS - 1) who.index (omega arith) (omega (arith, who.in_range)), asks_again asks)
+line_again (line.Session who asks) kept readable = rw (session_again who, asks_again asks)
 line_again (line.Write who place program) kept readable =
-    rw (
-      number_again 0 (SESSIONS - 1) who.index (omega arith) (omega (arith, who.in_range)),
-      number_again 0 (SERVERS - 1) place.index (omega arith) (omega (
-        arith,
-        place.in_range,
-      )),
-      program_again program.value kept,
-    )
-line_again (line.Read who place key) kept readable =
-    rw (
-      number_again 0 (SESSIONS - 1) who.index (omega arith) (omega (arith, who.in_range)),
-      number_again 0 (SERVERS - 1) place.index (omega arith) (omega (
-        arith,
-        place.in_range,
-      )),
-      key_again key kept,
-    )
-line_again (line.Log place) kept readable = rw (number_again 0 (SERVERS - 1) place.index (omega arith) (omega (
-  arith,
-  place.in_range,
-)))
+    rw (session_again who, server_again place, program_again program.value kept)
+line_again (line.Read who place key) kept readable = rw (session_again who, server_again place, key_again key kept)
+line_again (line.Log place) kept readable = rw (server_again place)
+line_again (line.Fuse place calls kept) fits readable = rw (
+  server_again place,
+  number_again 1 MAX_FUSE_CALLS calls readable.0.0 readable.0.1,
+  number_again 0 MAX_FUSE_KEPT kept (omega arith) readable.1,
+)
+line_again (line.Lose place count) fits readable = rw (
+  server_again place,
+  number_again 0 MAX_LOST_BYTES count (omega arith) readable,
+)
+line_again (line.Reopen place) kept readable = rw (server_again place)
+line_again (line.Restart place) kept readable = rw (server_again place)

@@ -9,6 +9,7 @@ use Rattle.serde_json.specs.Written.{compact_text, items_text, comma_if}
 use Rattle.serde_json.specs.View.{items_of}
 use Rattle.bayou_base.specs.declared.asks.Asks.{Asks}
 use Rattle.bayou_base.specs.declared.limits.TheConstants.{MAX_KEY_BYTES, MAX_CONDITIONS, MAX_OPS, MAX_ALTERNATIVES, MAX_LINE_BYTES}
+use Rattle.bayou_base.specs.declared.server.ServerId.{ServerId}
 use Rattle.bayou_base.specs.declared.value.Value.{Value}
 use Rattle.bayou_base.specs.declared.value.Value.TheVariants.{Num, Text}
 use Rattle.bayou_lang.specs.declared.program.Term.{Term}
@@ -201,6 +202,17 @@ asks_size asks = asks_cases asks.ryw asks.mr asks.wfr asks.mw
 count_size : (n : ℕ) → n < 2 ^ 32 → size (count_json n) ≤ 10
 count_size n small = length-decimal-le 10 n (lit< tt) (omega arith) (omega arith)
 
+wide_size : (n : ℕ) → n < 2 ^ 64 → size (count_json n) ≤ 20
+wide_size n small = length-decimal-le 20 n (lit< tt) (omega arith) (omega arith)
+
+server_size : (word : List ℕ) (place : ServerId) → length word ≤ 7
+    → size (form word (count_json place.index ∷ [])) ≤ MAX_LINE_BYTES
+server_size word place short = omega (
+  arith,
+  form_one word (count_json place.index),
+  count_size place.index (omega (arith, place.in_range)),
+)
+
 -- no line that is written is too long to be read
 pub line_size : (l : Line) → IsLine l → size (line_json (said l)) ≤ MAX_LINE_BYTES
 line_size (line.Servers count None) kept = omega (
@@ -238,9 +250,21 @@ line_size (line.Read who place key) kept =
       count_size place.index (omega (arith, place.in_range)),
       key_size key kept,
     )
-line_size (line.Log place) kept =
+line_size (line.Log place) kept = server_size (codes "log") place (lit≤ tt)
+line_size (line.Fuse place calls kept) fits =
     omega (
       arith,
-      form_one (codes "log") (count_json place.index),
+      form_three (codes "fuse") (count_json place.index) (count_json calls) (count_json kept),
       count_size place.index (omega (arith, place.in_range)),
+      count_size calls fits.0,
+      wide_size kept fits.1,
     )
+line_size (line.Lose place count) fits =
+    omega (
+      arith,
+      form_two (codes "lose") (count_json place.index) (count_json count),
+      count_size place.index (omega (arith, place.in_range)),
+      wide_size count fits,
+    )
+line_size (line.Reopen place) kept = server_size (codes "reopen") place (lit≤ tt)
+line_size (line.Restart place) kept = server_size (codes "restart") place (lit≤ tt)

@@ -1,21 +1,21 @@
 -- Lines that are read are so spelled, by the table; and those that are so spelled are read.
-use Rattle.std.proofs.Common.{◌≡◌, inl, inr, ℕ, ◌-◌, ◌≤◌, List, [], ◌∷◌, length, None, Some, Ok, Err, IsUtf8, codes, ap, ◌∙◌, subst, arith}
+use Rattle.std.proofs.Common.{◌≡◌, inl, inr, ℕ, ◌-◌, ◌<◌, ◌≤◌, List, [], ◌∷◌, length, None, Some, Ok, Err, IsUtf8, codes, ap, ◌∙◌, subst, arith}
 use Rattle.serde_json.specs.Data.{Data}
 use Rattle.serde_json.specs.Read.{read as json_of}
-use Rattle.bayou_base.specs.declared.limits.TheConstants.{SERVERS, SESSIONS, MAX_WRITES, MAX_LINE_BYTES}
+use Rattle.bayou_base.specs.declared.limits.TheConstants.{SERVERS, SESSIONS, MAX_WRITES, MAX_LINE_BYTES, MAX_FUSE_CALLS, MAX_FUSE_KEPT, MAX_LOST_BYTES}
 use Rattle.bayou_text.specs.declared.line.LineFault.TheVariants.{BadShape, NotJson}
 use Rattle.bayou_text.specs.declared.line.Shape.TheVariants.{Command}
 use Rattle.bayou_text.specs.declared.line.Shape.TheVariants as shape
 use Rattle.bayou_text.proofs.ProgramTable.{program_found, program_read}
 use Rattle.bayou_text.proofs.Readers.{bound, there, word_or, worded_of, listed_items, number_found, number_read, key_found, key_read, asks_found, asks_read}
 use Rattle.bayou_text.specs.Asks.{asks_in}
-use Rattle.bayou_text.specs.Lines.{servers_in, opening_in, writing_in, reading_in, listing_in, command_of, line_in, text_line}
-use Rattle.bayou_text.specs.Numbers.{count_in, limit_in, session_in, server_in}
+use Rattle.bayou_text.specs.Lines.{servers_in, opening_in, writing_in, reading_in, alone_in, fusing_in, losing_in, trial_of, command_of, line_in, text_line}
+use Rattle.bayou_text.specs.Numbers.{count_in, limit_in, session_in, server_in, calls_in, kept_in, lost_in}
 use Rattle.bayou_text.specs.Programs.{program_in}
 use Rattle.bayou_text.specs.Reading.{◌>>=◌, worded}
-use Rattle.bayou_text.specs.Said.{Said, servers, session, write, read, log}
+use Rattle.bayou_text.specs.Said.{Said, servers, session, write, read, log, fuse, lose, reopen, restart}
 use Rattle.bayou_text.specs.Spelling.{form}
-use Rattle.bayou_text.specs.Table.{AtServer, ProgramIs, KeyIs, LineIs, Spells}
+use Rattle.bayou_text.specs.Table.{NumberIs, AtServer, ServerIs, ProgramIs, KeyIs, LineIs, Spells}
 use Rattle.bayou_text.specs.Values.{key_in}
 
 servers_found : (d : Data) (parts : List Data) (s : Said) → d ≡ form (codes "servers") parts
@@ -24,18 +24,18 @@ unfolding servers_in
 servers_found d [] s is e = absurd (cc)
 servers_found d (c ∷ []) s is e =
     let count = bound (count_in c) (λ n. Ok (servers n None)) s e in
-    let counted = number_found 1 1 c count.0 count.1 in
+    let counted = number_found 1 SERVERS c count.0 count.1 in
     let same : servers count.0 None ≡ s = cc in
     subst (λ (t : Said). LineIs d t) same (record {
       count_data = c;
       form_is = is;
       count_is = counted.0;
-      one = omega (arith, counted.1);
+      count_in_range = counted.1;
     })
 servers_found d (c ∷ l ∷ []) s is e =
     let count = bound (count_in c) (λ n. limit_in l >>= λ most. Ok (servers n (Some most))) s e in
     let limit = bound (limit_in l) (λ most. Ok (servers count.0 (Some most))) s count.2 in
-    let counted = number_found 1 1 c count.0 count.1 in
+    let counted = number_found 1 SERVERS c count.0 count.1 in
     let limited = number_found 1 MAX_WRITES l limit.0 limit.1 in
     let same : servers count.0 (Some limit.0) ≡ s = cc in
     subst (λ (t : Said). LineIs d t) same (record {
@@ -43,7 +43,7 @@ servers_found d (c ∷ l ∷ []) s is e =
       limit_data = l;
       form_is = is;
       count_is = counted.0;
-      one = omega (arith, counted.1);
+      count_in_range = counted.1;
       limit_is = limited.0;
       limit_in_range = limited.1;
     })
@@ -120,21 +120,99 @@ reading_found d (w ∷ p ∷ l ∷ []) s is e =
     (key_found l key.0 key.1))
 reading_found d (w ∷ p ∷ l ∷ other ∷ more) s is e = absurd (cc)
 
-listing_found : (d : Data) (parts : List Data) (s : Said) → d ≡ form (codes "log") parts
-    → listing_in parts ≡ Ok s → LineIs d s
-unfolding listing_in
-listing_found d [] s is e = absurd (cc)
-listing_found d (p ∷ []) s is e =
-    let place = bound (server_in p) (λ o. Ok (log o)) s e in
-    let numbered = number_found 0 (SERVERS - 1) p place.0 place.1 in
-    let same : log place.0 ≡ s = cc in
+-- a server's number is read as it stands in the table
+server_found : (d : Data) (n : ℕ) → server_in d ≡ Ok n → NumberIs d n × (n < SERVERS)
+server_found d n e = let found = number_found 0 (SERVERS - 1) d n e in (found.0, omega (arith, found.1))
+
+server_read : (d : Data) (n : ℕ) → NumberIs d n → n < SERVERS → server_in d ≡ Ok n
+server_read d n is low = number_read 0 (SERVERS - 1) d n is (omega arith) (omega arith)
+
+alone_found : (word : List ℕ) (d : Data) (parts : List Data) (place : ℕ) → d ≡ form word parts
+    → alone_in parts ≡ Ok place → ServerIs word d place
+unfolding alone_in
+alone_found word d [] place is e = absurd (cc)
+alone_found word d (p ∷ []) place is e =
+    let numbered = server_found p place e in
+    record { place_data = p; form_is = is; place_is = numbered.0; place_in_range = numbered.1 }
+alone_found word d (p ∷ other ∷ more) place is e = absurd (cc)
+
+-- a command that takes a server alone
+server_line : (word : List ℕ) (d : Data) (parts : List Data) (what : ℕ → Said) (s : Said)
+    → ((place : ℕ) → ServerIs word d place → LineIs d (what place)) → d ≡ form word parts
+    → (alone_in parts >>= λ place. Ok (what place)) ≡ Ok s → LineIs d s
+server_line word d parts what s line_is is e =
+    let place = bound (alone_in parts) (λ n. Ok (what n)) s e in
+    let same : what place.0 ≡ s = cc in
+    subst (λ (t : Said). LineIs d t) same (line_is place.0 (alone_found word d parts place.0 is place.1))
+
+fusing_found : (d : Data) (parts : List Data) (s : Said) → d ≡ form (codes "fuse") parts
+    → fusing_in parts ≡ Ok s → LineIs d s
+unfolding fusing_in
+fusing_found d [] s is e = absurd (cc)
+fusing_found d (p ∷ []) s is e = absurd (cc)
+fusing_found d (p ∷ c ∷ []) s is e = absurd (cc)
+fusing_found d (p ∷ c ∷ k ∷ []) s is e =
+    let place = bound (server_in p)
+    (λ o. calls_in c >>= λ calls. kept_in k >>= λ kept. Ok (fuse o calls kept)) s e in
+    let calls = bound (calls_in c) (λ calls. kept_in k >>= λ kept. Ok (fuse place.0 calls kept)) s place.2 in
+    let kept = bound (kept_in k) (λ kept. Ok (fuse place.0 calls.0 kept)) s calls.2 in
+    let numbered = server_found p place.0 place.1 in
+    let counted = number_found 1 MAX_FUSE_CALLS c calls.0 calls.1 in
+    let measured = number_found 0 MAX_FUSE_KEPT k kept.0 kept.1 in
+    let same : fuse place.0 calls.0 kept.0 ≡ s = cc in
     subst (λ (t : Said). LineIs d t) same (record {
       place_data = p;
+      calls_data = c;
+      kept_data = k;
       form_is = is;
       place_is = numbered.0;
-      place_in_range = omega (arith, numbered.1);
+      place_in_range = numbered.1;
+      calls_are = counted.0;
+      kept_is = measured.0;
+      fuse_in_range = (counted.1, measured.1.1);
     })
-listing_found d (p ∷ other ∷ more) s is e = absurd (cc)
+fusing_found d (p ∷ c ∷ k ∷ other ∷ more) s is e = absurd (cc)
+
+losing_found : (d : Data) (parts : List Data) (s : Said) → d ≡ form (codes "lose") parts
+    → losing_in parts ≡ Ok s → LineIs d s
+unfolding losing_in
+losing_found d [] s is e = absurd (cc)
+losing_found d (p ∷ []) s is e = absurd (cc)
+losing_found d (p ∷ c ∷ []) s is e =
+    let place = bound (server_in p) (λ o. lost_in c >>= λ n. Ok (lose o n)) s e in
+    let count = bound (lost_in c) (λ n. Ok (lose place.0 n)) s place.2 in
+    let numbered = server_found p place.0 place.1 in
+    let counted = number_found 0 MAX_LOST_BYTES c count.0 count.1 in
+    let same : lose place.0 count.0 ≡ s = cc in
+    subst (λ (t : Said). LineIs d t) same (record {
+      place_data = p;
+      count_data = c;
+      form_is = is;
+      place_is = numbered.0;
+      place_in_range = numbered.1;
+      count_is = counted.0;
+      count_in_range = counted.1.1;
+    })
+losing_found d (p ∷ c ∷ other ∷ more) s is e = absurd (cc)
+
+trial_found : (d : Data) (word : List ℕ) (parts : List Data) (s : Said) → d ≡ form word parts
+    → trial_of word parts ≡ Ok s → LineIs d s
+unfolding trial_of
+trial_found d word parts s is e = elim (word_or d word (codes "fuse") parts (fusing_in parts) _ s is e) [
+  | inl h ↦ fusing_found d parts s h.0 h.1
+  | inr h ↦ elim (word_or d word (codes "lose") parts (losing_in parts) _ s is h) [
+    | inl i ↦ losing_found d parts s i.0 i.1
+    | inr i ↦ elim (word_or d word (codes "reopen") parts (alone_in parts >>= λ at. Ok (reopen at)) _ s is i) [
+      | inl j ↦ server_line (codes "reopen") d parts reopen s (λ n h. h) j.0 j.1
+      | inr j ↦ elim
+          (word_or d word (codes "restart") parts (alone_in parts >>= λ at. Ok (restart at)) (Err
+          (BadShape Command)) s is j) [
+            | inl k ↦ server_line (codes "restart") d parts restart s (λ n h. h) k.0 k.1
+            | inr k ↦ absurd (cc)
+          ]
+    ]
+  ]
+]
 
 command_found : (d : Data) (word : List ℕ) (parts : List Data) (s : Said) → d ≡ form word parts
     → command_of word parts ≡ Ok s → LineIs d s
@@ -147,10 +225,11 @@ command_found d word parts s is e = elim
           | inl j ↦ writing_found d parts s j.0 j.1
           | inr j ↦ elim (word_or d word (codes "read") parts (reading_in parts) _ s is j) [
             | inl k ↦ reading_found d parts s k.0 k.1
-            | inr k ↦ elim (word_or d word (codes "log") parts (listing_in parts) (Err (BadShape Command)) s
-                is k) [
-                  | inl l ↦ listing_found d parts s l.0 l.1
-                  | inr l ↦ absurd (cc)
+            | inr k ↦ elim
+                (word_or d word (codes "log") parts (alone_in parts >>= λ at. Ok (log at))
+                (trial_of word parts) s is k) [
+                  | inl l ↦ server_line (codes "log") d parts log s (λ n h. h) l.0 l.1
+                  | inr l ↦ trial_found d word parts s is l
                 ]
           ]
         ]
@@ -168,49 +247,68 @@ formed : (word : List ℕ) (parts : List Data) (s : Said) → command_of word pa
 unfolding line_in
 formed word parts s e = ap (command_of word) (listed_items parts) ∙ e
 
+session_read : (d : Data) (n : ℕ) → NumberIs d n → n < SESSIONS → session_in d ≡ Ok n
+session_read d n is low = number_read 0 (SESSIONS - 1) d n is (omega arith) (omega arith)
+
+alone_read : (place : Data) (n : ℕ) (what : ℕ → Said) → NumberIs place n → n < SERVERS
+    → (alone_in (place ∷ []) >>= λ at. Ok (what at)) ≡ Ok (what n)
+unfolding alone_in
+alone_read place n what is low = rw (server_read place n is low)
+
 pub line_read : (d : Data) (s : Said) → LineIs d s → line_in d ≡ Ok s
-unfolding servers_in opening_in writing_in reading_in listing_in
+unfolding servers_in opening_in writing_in reading_in fusing_in losing_in trial_of
 line_read d (servers count None) is =
     rw is.form_is (formed _ (is.count_data ∷ []) _
-    (rw (number_read 1 1 is.count_data count is.count_is (omega (arith, is.one)) (omega (arith, is.one)))))
+    (rw (number_read 1 SERVERS is.count_data count is.count_is is.count_in_range.0 is.count_in_range.1)))
 line_read d (servers count (Some limit)) is =
     rw is.form_is (formed _ (is.count_data ∷ is.limit_data ∷ []) _
     (rw (
-      number_read 1 1 is.count_data count is.count_is (omega (arith, is.one)) (omega (arith, is.one)),
+      number_read 1 SERVERS is.count_data count is.count_is is.count_in_range.0 is.count_in_range.1,
       number_read 1 MAX_WRITES is.limit_data limit is.limit_is is.limit_in_range.0 is.limit_in_range.1,
     )))
 line_read d (session who asks) is =
     rw is.form_is (formed _ (is.who_data ∷ is.asks_data ∷ []) _
     (rw (
-      number_read 0 (SESSIONS - 1) is.who_data who is.who_is (omega arith) (omega (arith, is.who_in_range)),
+      session_read is.who_data who is.who_is is.who_in_range,
       asks_read is.asks_data asks is.asks_are,
     )))
 line_read d (write who place program) is =
     rw is.form_is (formed _ (is.who_data ∷ is.place_data ∷ is.last_data ∷ []) _
     (rw (
-      number_read 0 (SESSIONS - 1) is.who_data who is.who_is (omega arith) (omega (arith, is.who_in_range)),
-      number_read 0 (SERVERS - 1) is.place_data place is.place_is (omega arith) (omega (
-        arith,
-        is.place_in_range,
-      )),
+      session_read is.who_data who is.who_is is.who_in_range,
+      server_read is.place_data place is.place_is is.place_in_range,
       program_read is.last_data program is.last_is,
     )))
 line_read d (read who place key) is =
     rw is.form_is (formed _ (is.who_data ∷ is.place_data ∷ is.last_data ∷ []) _
     (rw (
-      number_read 0 (SESSIONS - 1) is.who_data who is.who_is (omega arith) (omega (arith, is.who_in_range)),
-      number_read 0 (SERVERS - 1) is.place_data place is.place_is (omega arith) (omega (
-        arith,
-        is.place_in_range,
-      )),
+      session_read is.who_data who is.who_is is.who_in_range,
+      server_read is.place_data place is.place_is is.place_in_range,
       key_read is.last_data key is.last_is,
     )))
 line_read d (log place) is =
     rw is.form_is (formed _ (is.place_data ∷ []) _
-    (rw (number_read 0 (SERVERS - 1) is.place_data place is.place_is (omega arith) (omega (
-      arith,
-      is.place_in_range,
-    )))))
+    (alone_read is.place_data place log is.place_is is.place_in_range))
+line_read d (fuse place calls kept) is =
+    rw is.form_is (formed _ (is.place_data ∷ is.calls_data ∷ is.kept_data ∷ []) _
+    (rw (
+      server_read is.place_data place is.place_is is.place_in_range,
+      number_read 1 MAX_FUSE_CALLS is.calls_data calls is.calls_are is.fuse_in_range.0.0
+          is.fuse_in_range.0.1,
+      number_read 0 MAX_FUSE_KEPT is.kept_data kept is.kept_is (omega arith) is.fuse_in_range.1,
+    )))
+line_read d (lose place count) is =
+    rw is.form_is (formed _ (is.place_data ∷ is.count_data ∷ []) _
+    (rw (
+      server_read is.place_data place is.place_is is.place_in_range,
+      number_read 0 MAX_LOST_BYTES is.count_data count is.count_is (omega arith) is.count_in_range,
+    )))
+line_read d (reopen place) is =
+    rw is.form_is (formed _ (is.place_data ∷ []) _
+    (alone_read is.place_data place reopen is.place_is is.place_in_range))
+line_read d (restart place) is =
+    rw is.form_is (formed _ (is.place_data ∷ []) _
+    (alone_read is.place_data place restart is.place_is is.place_in_range))
 
 -- ---- bytes
 

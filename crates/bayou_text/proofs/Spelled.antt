@@ -16,7 +16,7 @@ use Rattle.bayou_lang.specs.declared.program.Cond.{Cond}
 use Rattle.bayou_lang.specs.declared.program.Cond.TheVariants.{Equals, Absent, AtLeast}
 use Rattle.bayou_lang.specs.declared.program.Alt.{Alt}
 use Rattle.bayou_lang.specs.declared.program.Program.{Program}
-use Rattle.bayou_text.specs.Said.{Said, servers, session, write, read, log}
+use Rattle.bayou_text.specs.Said.{Said, servers, session, write, read, log, fuse, lose, reopen, restart}
 use Rattle.bayou_text.specs.Spelling.{form, word_if, count_json, value_json, term_json, op_json, cond_json, alt_json, program_json, asks_json, list_json, line_json}
 
 -- no float, and at most so deep
@@ -137,6 +137,9 @@ asks_plain asks =
     let mw = word_plain 0 asks.mw (codes "mw") in
     list 0 _ (joined 0 _ _ (joined 0 _ _ (joined 0 _ _ ryw mr) wfr) mw)
 
+server_plain : (word : List ℕ) (place : ℕ) → IsPlainTo 7 (form word (count_json place ∷ []))
+server_plain word place = formed 6 word (count_json place ∷ []) (count 6 place, tt)
+
 pub line_plain : (s : Said) → IsPlainTo 7 (line_json s)
 line_plain (servers n None) = formed 6 _ (count_json n ∷ []) (count 6 n, tt)
 line_plain (servers n (Some limit)) = formed 6 _ (count_json n ∷ count_json limit ∷ []) (
@@ -157,4 +160,15 @@ line_plain (read who place key) =
       count 6 who,
       (count 6 place, (text 6 key, tt)),
     )
-line_plain (log place) = formed 6 _ (count_json place ∷ []) (count 6 place, tt)
+line_plain (log place) = server_plain (codes "log") place
+line_plain (fuse place calls kept) =
+    formed 6 _ (count_json place ∷ count_json calls ∷ count_json kept ∷ []) (
+      count 6 place,
+      (count 6 calls, (count 6 kept, tt)),
+    )
+line_plain (lose place lost) = formed 6 _ (count_json place ∷ count_json lost ∷ []) (
+  count 6 place,
+  (count 6 lost, tt),
+)
+line_plain (reopen place) = server_plain (codes "reopen") place
+line_plain (restart place) = server_plain (codes "restart") place

@@ -9,10 +9,10 @@ use Rattle.bayou_text.specs.declared.line.LineFault.{LineFault}
 use Rattle.bayou_text.specs.declared.line.LineFault.TheVariants.{BadShape, NotJson, OutOfMemory}
 use Rattle.bayou_text.specs.declared.line.Shape.TheVariants.{Arity, Command, Line}
 use Rattle.bayou_text.specs.Asks.{asks_in}
-use Rattle.bayou_text.specs.Numbers.{count_in, limit_in, session_in, server_in}
+use Rattle.bayou_text.specs.Numbers.{count_in, limit_in, session_in, server_in, calls_in, kept_in, lost_in}
 use Rattle.bayou_text.specs.Programs.{program_in}
 use Rattle.bayou_text.specs.Reading.{Reads, ◌>>=◌, worded}
-use Rattle.bayou_text.specs.Said.{Said, servers, session, write, read, log}
+use Rattle.bayou_text.specs.Said.{Said, servers, session, write, read, log, fuse, lose, reopen, restart}
 use Rattle.bayou_text.specs.Values.{key_in}
 
 -- ["servers", count] and ["servers", count, limit], behind the word
@@ -50,10 +50,36 @@ reading_in (who ∷ place ∷ key ∷ []) = do
   Ok (read n at name)
 reading_in _ = Err (BadShape Arity)
 
--- ["log", server]
-unfoldable pub listing_in : List Data → Reads Said
-listing_in (place ∷ []) = server_in place >>= λ at. Ok (log at)
-listing_in _ = Err (BadShape Arity)
+-- ["log", server], ["reopen", server] and ["restart", server]
+unfoldable pub alone_in : List Data → Reads ℕ
+alone_in (place ∷ []) = server_in place
+alone_in _ = Err (BadShape Arity)
+
+-- ["fuse", server, calls, kept]
+unfoldable pub fusing_in : List Data → Reads Said
+fusing_in (place ∷ calls ∷ kept ∷ []) = do
+  at ← server_in place
+  n ← calls_in calls
+  most ← kept_in kept
+  Ok (fuse at n most)
+fusing_in _ = Err (BadShape Arity)
+
+-- ["lose", server, count]
+unfoldable pub losing_in : List Data → Reads Said
+losing_in (place ∷ count ∷ []) = do
+  at ← server_in place
+  n ← lost_in count
+  Ok (lose at n)
+losing_in _ = Err (BadShape Arity)
+
+-- what tries one server: its device fails or loses bytes, and it comes up again
+unfoldable pub trial_of : List ℕ → List Data → Reads Said
+trial_of word parts =
+    if bytes_eq word (codes "fuse") then fusing_in parts
+    else (if bytes_eq word (codes "lose") then losing_in parts
+    else (if bytes_eq word (codes "reopen") then (alone_in parts >>= λ at. Ok (reopen at))
+    else (if bytes_eq word (codes "restart") then (alone_in parts >>= λ at. Ok (restart at))
+    else Err (BadShape Command))))
 
 abbrev pub command_of : List ℕ → List Data → Reads Said
 command_of word parts =
@@ -61,8 +87,8 @@ command_of word parts =
     else (if bytes_eq word (codes "session") then opening_in parts
     else (if bytes_eq word (codes "write") then writing_in parts
     else (if bytes_eq word (codes "read") then reading_in parts
-    else (if bytes_eq word (codes "log") then listing_in parts
-    else Err (BadShape Command)))))
+    else (if bytes_eq word (codes "log") then (alone_in parts >>= λ at. Ok (log at))
+    else trial_of word parts))))
 
 unfoldable pub line_in : Data → Reads Said
 line_in d = ok_or (worded d) (BadShape Line) >>= λ parts. command_of parts.0 parts.1

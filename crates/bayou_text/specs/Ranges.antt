@@ -5,7 +5,7 @@ use Rattle.std.specs.Int.RustNames.{FitsSigned}
 use Rattle.std.specs.List.{AllByRecursion}
 use Rattle.bayou_base.specs.Key.{key_fault}
 use Rattle.bayou_base.specs.Text.{IsShort}
-use Rattle.bayou_base.specs.declared.limits.TheConstants.{MAX_CONDITIONS, MAX_OPS, MAX_ALTERNATIVES, MAX_WRITES}
+use Rattle.bayou_base.specs.declared.limits.TheConstants.{MAX_CONDITIONS, MAX_OPS, MAX_ALTERNATIVES, MAX_WRITES, SERVERS, MAX_FUSE_CALLS, MAX_FUSE_KEPT, MAX_LOST_BYTES}
 use Rattle.bayou_base.specs.declared.value.Value.{Value}
 use Rattle.bayou_base.specs.declared.value.Value.TheVariants.{Num, Text}
 use Rattle.bayou_lang.specs.declared.program.Term.{Term}
@@ -18,7 +18,7 @@ use Rattle.bayou_lang.specs.declared.program.Alt.{Alt}
 use Rattle.bayou_lang.specs.declared.program.Program.{Program}
 use Rattle.bayou_text.specs.declared.line.Line.{Line}
 use Rattle.bayou_text.specs.declared.line.Line.TheVariants as line
-use Rattle.bayou_text.specs.Said.{Said, servers, session, write, read, log}
+use Rattle.bayou_text.specs.Said.{Said, servers, session, write, read, log, fuse, lose, reopen, restart}
 
 abbrev pub IsKey : List ℕ → Type 0
 IsKey name = key_fault name ≡ None
@@ -62,14 +62,30 @@ IsLine (line.Session who asks) = ⊤
 IsLine (line.Write who place program) = IsProgram program.value
 IsLine (line.Read who place key) = IsKey key
 IsLine (line.Log place) = ⊤
+IsLine (line.Fuse place calls kept) = (calls < 2 ^ 32) × (kept < 2 ^ 64)
+IsLine (line.Lose place count) = count < 2 ^ 64
+IsLine (line.Reopen place) = ⊤
+IsLine (line.Restart place) = ⊤
+
+abbrev pub IsCount : ℕ → Type 0
+IsCount count = (1 ≤ count) × (count ≤ SERVERS)
 
 abbrev pub IsLimit : ℕ → Type 0
 IsLimit limit = (1 ≤ limit) × (limit ≤ MAX_WRITES)
 
--- the lines that are read: the type of a line leaves wider only how many servers, and how many Writes
+-- which device call fails, and how much of its piece is added
+abbrev pub IsFuse : ℕ → ℕ → Type 0
+IsFuse calls kept = ((1 ≤ calls) × (calls ≤ MAX_FUSE_CALLS)) × (kept ≤ MAX_FUSE_KEPT)
+
+-- the lines that are read: the type of a line leaves wider only how many servers and Writes there may be, and the
+-- numbers of a fuse and of a loss
 abbrev pub IsReadable : Said → Type 0
-IsReadable (servers count limit) = (count ≡ 1) × IfSome limit IsLimit
+IsReadable (servers count limit) = IsCount count × IfSome limit IsLimit
 IsReadable (session who asks) = ⊤
 IsReadable (write who place program) = ⊤
 IsReadable (read who place key) = ⊤
 IsReadable (log place) = ⊤
+IsReadable (fuse place calls kept) = IsFuse calls kept
+IsReadable (lose place count) = count ≤ MAX_LOST_BYTES
+IsReadable (reopen place) = ⊤
+IsReadable (restart place) = ⊤

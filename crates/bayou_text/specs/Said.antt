@@ -12,6 +12,10 @@ pub data Said : Type 0 where
   write : ℕ → ℕ → Program → Said
   read : ℕ → ℕ → List ℕ → Said
   log : ℕ → Said
+  fuse : ℕ → ℕ → ℕ → Said
+  lose : ℕ → ℕ → Said
+  reopen : ℕ → Said
+  restart : ℕ → Said
 
 abbrev pub said : Line → Said
 said (line.Servers count limit) = servers count limit
@@ -19,3 +23,7 @@ said (line.Session who asks) = session who.index asks
 said (line.Write who place program) = write who.index place.index program.value
 said (line.Read who place key) = read who.index place.index key
 said (line.Log place) = log place.index
+said (line.Fuse place calls kept) = fuse place.index calls kept
+said (line.Lose place count) = lose place.index count
+said (line.Reopen place) = reopen place.index
+said (line.Restart place) = restart place.index

@@ -14,7 +14,7 @@ use Rattle.bayou_lang.specs.declared.program.Cond.{Cond}
 use Rattle.bayou_lang.specs.declared.program.Cond.TheVariants.{Equals, Absent, AtLeast}
 use Rattle.bayou_lang.specs.declared.program.Alt.{Alt}
 use Rattle.bayou_lang.specs.declared.program.Program.{Program}
-use Rattle.bayou_text.specs.Said.{Said, servers, session, write, read, log}
+use Rattle.bayou_text.specs.Said.{Said, servers, session, write, read, log, fuse, lose, reopen, restart}
 
 -- an array that begins with a word
 abbrev pub form : List ℕ → List Data → Data
@@ -78,3 +78,8 @@ line_json (write who place program) = form (codes "write")
     (count_json who ∷ count_json place ∷ program_json program ∷ [])
 line_json (read who place key) = form (codes "read") (count_json who ∷ count_json place ∷ string key ∷ [])
 line_json (log place) = form (codes "log") (count_json place ∷ [])
+line_json (fuse place calls kept) = form (codes "fuse")
+    (count_json place ∷ count_json calls ∷ count_json kept ∷ [])
+line_json (lose place count) = form (codes "lose") (count_json place ∷ count_json count ∷ [])
+line_json (reopen place) = form (codes "reopen") (count_json place ∷ [])
+line_json (restart place) = form (codes "restart") (count_json place ∷ [])

@@ -9,7 +9,7 @@ use Rattle.serde_json.specs.View.{items_of}
 use Rattle.bayou_base.specs.Key.{key_fault}
 use Rattle.bayou_base.specs.Text.{IsShort}
 use Rattle.bayou_base.specs.declared.asks.Asks.{Asks}
-use Rattle.bayou_base.specs.declared.limits.TheConstants.{SERVERS, SESSIONS, MAX_CONDITIONS, MAX_OPS, MAX_ALTERNATIVES, MAX_WRITES, MAX_LINE_BYTES}
+use Rattle.bayou_base.specs.declared.limits.TheConstants.{SERVERS, SESSIONS, MAX_CONDITIONS, MAX_OPS, MAX_ALTERNATIVES, MAX_LINE_BYTES, MAX_LOST_BYTES}
 use Rattle.bayou_base.specs.declared.value.Value.{Value}
 use Rattle.bayou_base.specs.declared.value.Value.TheVariants.{Num as Integer, Text}
 use Rattle.bayou_lang.specs.declared.program.Term.{Term}
@@ -20,8 +20,9 @@ use Rattle.bayou_lang.specs.declared.program.Cond.{Cond}
 use Rattle.bayou_lang.specs.declared.program.Cond.TheVariants.{Equals, Absent, AtLeast}
 use Rattle.bayou_lang.specs.declared.program.Alt.{Alt}
 use Rattle.bayou_lang.specs.declared.program.Program.{Program}
+use Rattle.bayou_text.specs.Ranges.{IsCount, IsLimit, IsFuse}
 use Rattle.bayou_text.specs.Reading.{names}
-use Rattle.bayou_text.specs.Said.{Said, servers, session, write, read, log}
+use Rattle.bayou_text.specs.Said.{Said, servers, session, write, read, log, fuse, lose, reopen, restart}
 use Rattle.bayou_text.specs.Spelling.{form}
 
 -- an integer, and no other number: 1.0 isn't one
@@ -128,7 +129,7 @@ pub record ServersIs (d : Data) (count : ℕ) : Type 0 where
   pub count_data : Data
   pub form_is : d ≡ form (codes "servers") (count_data ∷ [])
   pub count_is : NumberIs count_data count
-  pub one : count ≡ 1
+  pub count_in_range : IsCount count
 
 -- ["servers", count, limit]
 pub record LimitedIs (d : Data) (count limit : ℕ) : Type 0 where
@@ -136,9 +137,9 @@ pub record LimitedIs (d : Data) (count limit : ℕ) : Type 0 where
   pub limit_data : Data
   pub form_is : d ≡ form (codes "servers") (count_data ∷ limit_data ∷ [])
   pub count_is : NumberIs count_data count
-  pub one : count ≡ 1
+  pub count_in_range : IsCount count
   pub limit_is : NumberIs limit_data limit
-  pub limit_in_range : (1 ≤ limit) × (limit ≤ MAX_WRITES)
+  pub limit_in_range : IsLimit limit
 
 -- ["session", session, asks]
 pub record SessionIs (d : Data) (who : ℕ) (asks : Asks) : Type 0 where
@@ -161,12 +162,34 @@ pub record AtServer (word : List ℕ) (Is : Data → Type 0) (d : Data) (who pla
   pub place_in_range : place < SERVERS
   pub last_is : Is last_data
 
--- ["log", server]
-pub record LogIs (d : Data) (place : ℕ) : Type 0 where
+-- an array of exactly a word and a server
+pub record ServerIs (word : List ℕ) (d : Data) (place : ℕ) : Type 0 where
   pub place_data : Data
-  pub form_is : d ≡ form (codes "log") (place_data ∷ [])
+  pub form_is : d ≡ form word (place_data ∷ [])
   pub place_is : NumberIs place_data place
   pub place_in_range : place < SERVERS
+
+-- ["fuse", server, calls, kept]
+pub record FuseIs (d : Data) (place calls kept : ℕ) : Type 0 where
+  pub place_data : Data
+  pub calls_data : Data
+  pub kept_data : Data
+  pub form_is : d ≡ form (codes "fuse") (place_data ∷ calls_data ∷ kept_data ∷ [])
+  pub place_is : NumberIs place_data place
+  pub place_in_range : place < SERVERS
+  pub calls_are : NumberIs calls_data calls
+  pub kept_is : NumberIs kept_data kept
+  pub fuse_in_range : IsFuse calls kept
+
+-- ["lose", server, count]
+pub record LossIs (d : Data) (place count : ℕ) : Type 0 where
+  pub place_data : Data
+  pub count_data : Data
+  pub form_is : d ≡ form (codes "lose") (place_data ∷ count_data ∷ [])
+  pub place_is : NumberIs place_data place
+  pub place_in_range : place < SERVERS
+  pub count_is : NumberIs count_data count
+  pub count_in_range : count ≤ MAX_LOST_BYTES
 
 abbrev pub LineIs : Data → Said → Type 0
 LineIs d (servers count None) = ServersIs d count
@@ -174,7 +197,11 @@ LineIs d (servers count (Some limit)) = LimitedIs d count limit
 LineIs d (session who asks) = SessionIs d who asks
 LineIs d (write who place program) = AtServer (codes "write") (λ last. ProgramIs last program) d who place
 LineIs d (read who place key) = AtServer (codes "read") (λ last. KeyIs last key) d who place
-LineIs d (log place) = LogIs d place
+LineIs d (log place) = ServerIs (codes "log") d place
+LineIs d (fuse place calls kept) = FuseIs d place calls kept
+LineIs d (lose place count) = LossIs d place count
+LineIs d (reopen place) = ServerIs (codes "reopen") d place
+LineIs d (restart place) = ServerIs (codes "restart") d place
 
 -- bytes that say this: at most so many, UTF-8, and the JSON of a line
 pub record Spells (bytes : List ℕ) (s : Said) : Type 0 where

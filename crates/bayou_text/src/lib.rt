@@ -4,8 +4,9 @@
 //! `specs/Table` is the table of the lines: which JSON data spells which command, member by member. [`read_line`]
 //! answers exactly what the bytes spell, or the first fault, which `specs/Lines` and the files below it compute.
 //! [`write_line`] gives the one spelling of `specs/Spelling`, and what it wrote is read as the line that was written.
-//! A new command is an arm of [`Line`], of `line_in` in the reader, of `line_json` in the writer, of `said`, `command_of`
-//! and `line_json` in the grammar, of `LineIs` in the table, and of the ranges that its types keep.
+//! A new command is an arm of [`Line`], of `line_in` or `trial_in` in the reader, of `line_json` in the writer, of `said`,
+//! `command_of` or `trial_of` and `line_json` in the grammar, of `LineIs` in the table, and of the ranges that its types
+//! keep.
 //!
 //! A caller cuts its text into lines: a line feed is no part of one. Nothing is kept between two calls, so a refusal
 //! leaves nothing behind. Not promised here: that a line fits its place in a script (that a session was opened, or a

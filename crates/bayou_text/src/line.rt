@@ -32,6 +32,28 @@ pub enum Line {
     Log {
         server: ServerId,
     },
+    /// The server's device fails, once.
+    Fuse {
+        server: ServerId,
+        /// Which device call from now fails: the first is the next one.
+        calls: u32,
+        /// How many bytes of its piece are added, if it is an append.
+        kept: usize,
+    },
+    /// The server's device loses its last bytes.
+    Lose {
+        server: ServerId,
+        /// How many bytes.
+        count: usize,
+    },
+    /// A server that is down takes its journal up again.
+    Reopen {
+        server: ServerId,
+    },
+    /// The server is stopped, and started again on its device.
+    Restart {
+        server: ServerId,
+    },
 }
 
 /// What of a line has a shape that no line has.

@@ -10,8 +10,9 @@ use crate::line::{Line, LineFault, Shape};
 use crate::read::asks::asks_in;
 use crate::read::number::{count_in, limit_in, server_in, session_in};
 use crate::read::program::program_in;
+use crate::read::trial::trial_in;
 use crate::read::value::{key_in, worded};
-use bayou_base::MAX_LINE_BYTES;
+use bayou_base::{MAX_LINE_BYTES, ServerId};
 use serde_json::Value;
 use std::alloc::Global;
 use std::str;
@@ -20,6 +21,7 @@ mod asks;
 mod number;
 mod part;
 mod program;
+mod trial;
 mod value;
 
 /// What a line says, which has no line feed, or its first fault. Numbers are as `serde_json` keeps them: `1.0`, `1e2`
@@ -77,9 +79,11 @@ fn line_in(alloc: Global, json: &Value) -> Result<Line, LineFault>
         return reading_in(parts);
     }
     if word == "log" {
-        return listing_in(parts);
+        return Ok(Line::Log {
+            server: alone_in(parts)?,
+        });
     }
-    Err(LineFault::BadShape(Shape::Command))
+    trial_in(word, parts)
 }
 
 #[tactic(auto, unfolding(crate::specs::Lines::servers_in))]
@@ -140,14 +144,13 @@ fn reading_in(parts: &[Value]) -> Result<Line, LineFault>
     })
 }
 
-#[tactic(auto, unfolding(crate::specs::Lines::listing_in))]
-fn listing_in(parts: &[Value]) -> Result<Line, LineFault>
-    ensures { Answers said result (grammar.listing_in (map view parts.now)) }
+/// The server that a command takes alone.
+#[tactic(auto, unfolding(crate::specs::Lines::alone_in))]
+fn alone_in(parts: &[Value]) -> Result<ServerId, LineFault>
+    ensures { Answers (λ server. server.index) result (grammar.alone_in (map view parts.now)) }
 {
     let [server] = parts else {
         return Err(LineFault::BadShape(Shape::Arity));
     };
-    Ok(Line::Log {
-        server: server_in(server)?,
-    })
+    server_in(server)
 }

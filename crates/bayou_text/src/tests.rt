@@ -81,7 +81,8 @@ const COMMANDS: &[Row] = &[
     (r#"["servers",1,0]"#, Err(NUMBER)),
     (r#"["servers",1,65537]"#, Err(NUMBER)),
     (r#"["servers",0]"#, Err(NUMBER)),
-    (r#"["servers",2]"#, Err(NUMBER)),
+    (r#"["servers",8]"#, Ok(r#"["servers",8]"#)),
+    (r#"["servers",9]"#, Err(NUMBER)),
     (r#"["servers",2,0,0]"#, Err(ARITY)),
     (r#"["servers"]"#, Err(ARITY)),
     (r#"["servers",1.0]"#, Err(NUMBER)),
@@ -150,6 +151,40 @@ const COMMANDS: &[Row] = &[
 #[test]
 fn commands(rt: HostRuntime) -> Result<(), Fail> {
     assert_eq!(rt; first_wrong(rt.alloc(), COMMANDS)?, None);
+    Ok(())
+}
+
+/// Commands that try one server, each alone.
+const TRIALS: &[Row] = &[
+    (r#"["fuse",7,1,0]"#, Ok(r#"["fuse",7,1,0]"#)),
+    (r#"["fuse",0,1000,8192]"#, Ok(r#"["fuse",0,1000,8192]"#)),
+    (r#"["fuse",8,1,0]"#, Err(NUMBER)),
+    (r#"["fuse",0,0,0]"#, Err(NUMBER)),
+    (r#"["fuse",0,1001,0]"#, Err(NUMBER)),
+    (r#"["fuse",0,1,8193]"#, Err(NUMBER)),
+    (r#"["fuse",0,1,-1]"#, Err(NUMBER)),
+    (r#"["fuse",0,1]"#, Err(ARITY)),
+    (r#"["fuse",0,1,0,0]"#, Err(ARITY)),
+    (r#"["lose",7,0]"#, Ok(r#"["lose",7,0]"#)),
+    (r#"["lose",0,1000000000]"#, Ok(r#"["lose",0,1000000000]"#)),
+    (r#"["lose",8,0]"#, Err(NUMBER)),
+    (r#"["lose",0,1000000001]"#, Err(NUMBER)),
+    (r#"["lose",0,-1]"#, Err(NUMBER)),
+    (r#"["lose",0]"#, Err(ARITY)),
+    (r#"["lose",0,0,0]"#, Err(ARITY)),
+    (r#"["reopen",7]"#, Ok(r#"["reopen",7]"#)),
+    (r#"["reopen",8]"#, Err(NUMBER)),
+    (r#"["reopen"]"#, Err(ARITY)),
+    (r#"["reopen",0,0]"#, Err(ARITY)),
+    (r#"["restart",7]"#, Ok(r#"["restart",7]"#)),
+    (r#"["restart",8]"#, Err(NUMBER)),
+    (r#"["restart"]"#, Err(ARITY)),
+    (r#"["restart",0,0]"#, Err(ARITY)),
+];
+
+#[test]
+fn trials(rt: HostRuntime) -> Result<(), Fail> {
+    assert_eq!(rt; first_wrong(rt.alloc(), TRIALS)?, None);
     Ok(())
 }
 

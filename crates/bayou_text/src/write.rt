@@ -1,4 +1,4 @@
-ghost use Rattle.std.specs.Prelude.{◌≡◌, ◌≤◌, IfOk, OnOk, length, string_bytes};
+ghost use Rattle.std.specs.Prelude.{◌≡◌, ◌≤◌, [], ◌∷◌, IfOk, OnOk, length, map, string_bytes};
 ghost use Rattle.serde_json.specs.View.{view};
 ghost use Rattle.serde_json.specs.Written.{compact_text};
 ghost use Rattle.bayou_text.specs.Ranges.{IsLine, IsReadable};
@@ -10,6 +10,7 @@ ghost use Rattle.bayou_text.specs.Spelling as spelling;
 use crate::line::Line;
 use crate::write::asks::asks_json;
 use crate::write::program::program_json;
+use bayou_base::{ServerId, SessionId};
 use serde_json::{Value, json};
 use std::alloc::{AllocError, Global};
 
@@ -29,16 +30,53 @@ pub fn write_line(alloc: Global, line: &Line) -> Result<String, AllocError>
     line_json(alloc, line)?.to_string(alloc)
 }
 
+/// The spelling of a command that takes numbers alone.
+fn numbers_json(alloc: Global, word: &str, numbers: &[u64]) -> Result<Value, AllocError>
+    ensures { IfOk result (λ json. view json ≡ spelling.form word.now (map spelling.count_json numbers.now)) }
+{
+    let mut list = Vec::new(alloc);
+    list.push(Value::try_from_str(alloc, word)?)?;
+    for number in numbers {
+        list.push(Value::from(*number))?;
+    }
+    Ok(Value::Array(list))
+}
+
+/// The spelling of a command that takes a server alone.
+fn server_json(alloc: Global, word: &str, server: ServerId) -> Result<Value, AllocError>
+    ensures { IfOk result (λ json. view json ≡ spelling.form word.now (spelling.count_json server.index ∷ [])) }
+{
+    numbers_json(alloc, word, &[u64::from(server.index)])
+}
+
+/// The spelling of a command of a session at a server.
+fn at_server_json(
+    alloc: Global,
+    word: &str,
+    session: SessionId,
+    server: ServerId,
+    last: Value,
+) -> Result<Value, AllocError>
+    ensures { IfOk result (λ json. view json
+        ≡ spelling.form word.now (spelling.count_json session.index ∷ spelling.count_json server.index ∷ view last ∷ [])) }
+{
+    json!(in alloc; [word, session.index, server.index, last])
+}
+
 fn line_json(alloc: Global, line: &Line) -> Result<Value, AllocError>
     ensures spelling { IfOk result (λ json. view json ≡ spelling.line_json (said line.now)) }
     ensures kept { OnOk result (IsLine line.now) }
 {
     match line {
-        Line::Servers { count, limit: None } => json!(in alloc; ["servers", *count]),
+        Line::Servers { count, limit: None } => numbers_json(
+            alloc,
+            "servers",
+            &[u64::from(*count)],
+        ),
         Line::Servers {
             count,
             limit: Some(limit),
-        } => json!(in alloc; ["servers", *count, *limit]),
+        } => numbers_json(alloc, "servers", &[u64::from(*count), u64::from(*limit)]),
         Line::Session { session, asks } => {
             let asks = asks_json(alloc, *asks)?;
             json!(in alloc; ["session", session.index, asks])
@@ -49,13 +87,30 @@ fn line_json(alloc: Global, line: &Line) -> Result<Value, AllocError>
             program,
         } => {
             let program = program_json(alloc, program)?;
-            json!(in alloc; ["write", session.index, server.index, program])
+            at_server_json(alloc, "write", *session, *server, program)
         }
         Line::Read {
             session,
             server,
             key,
-        } => json!(in alloc; ["read", session.index, server.index, key.as_str()]),
-        Line::Log { server } => json!(in alloc; ["log", server.index]),
+        } => {
+            let key = Value::try_from_str(alloc, key.as_str())?;
+            at_server_json(alloc, "read", *session, *server, key)
+        }
+        Line::Log { server } => server_json(alloc, "log", *server),
+        Line::Fuse {
+            server,
+            calls,
+            kept,
+        } => numbers_json(
+            alloc,
+            "fuse",
+            &[u64::from(server.index), u64::from(*calls), *kept as u64],
+        ),
+        Line::Lose { server, count } => {
+            numbers_json(alloc, "lose", &[u64::from(server.index), *count as u64])
+        }
+        Line::Reopen { server } => server_json(alloc, "reopen", *server),
+        Line::Restart { server } => server_json(alloc, "restart", *server),
     }
 }

@@ -2,9 +2,10 @@ ghost use Rattle.std.specs.Prelude.{◌≡◌, ◌<◌, ◌≤◌, IfOk};
 ghost use Rattle.serde_json.specs.View.{view};
 ghost use Rattle.bayou_text.specs.Numbers as grammar;
 ghost use Rattle.bayou_text.specs.Reading.{Answers};
-ghost use Rattle.bayou_base.specs.declared.limits.TheConstants.{SERVERS, SESSIONS, MAX_WRITES};
+ghost use Rattle.bayou_base.specs.declared.limits.TheConstants.{SERVERS, SESSIONS, MAX_WRITES, MAX_FUSE_CALLS, MAX_FUSE_KEPT, MAX_LOST_BYTES};
 
 use crate::line::{LineFault, Shape};
+use bayou_base::limits::{MAX_FUSE_CALLS, MAX_FUSE_KEPT, MAX_LOST_BYTES};
 use bayou_base::{MAX_WRITES, SERVERS, SESSIONS, ServerId, SessionId};
 use serde_json::Value;
 
@@ -27,7 +28,7 @@ fn number_in(json: &Value, least: u64, most: u64) -> Result<u64, LineFault>
 pub(crate) fn count_in(json: &Value) -> Result<u8, LineFault>
     ensures { result ≡ grammar.count_in (view json.now) }
 {
-    Ok(number_in(json, 1, 1)? as u8)
+    Ok(number_in(json, 1, SERVERS as u64)? as u8)
 }
 
 /// How many Writes a log holds at the most.
@@ -55,6 +56,27 @@ pub(crate) fn server_in(json: &Value) -> Result<ServerId, LineFault>
         unreachable!();
     };
     Ok(server)
+}
+
+/// Which device call from now fails.
+pub(crate) fn calls_in(json: &Value) -> Result<u32, LineFault>
+    ensures { result ≡ grammar.calls_in (view json.now) }
+{
+    Ok(number_in(json, 1, MAX_FUSE_CALLS as u64)? as u32)
+}
+
+/// How many bytes of its piece a failing append adds.
+pub(crate) fn kept_in(json: &Value) -> Result<usize, LineFault>
+    ensures { result ≡ grammar.kept_in (view json.now) }
+{
+    Ok(number_in(json, 0, MAX_FUSE_KEPT as u64)? as usize)
+}
+
+/// How many bytes a device loses.
+pub(crate) fn lost_in(json: &Value) -> Result<usize, LineFault>
+    ensures { result ≡ grammar.lost_in (view json.now) }
+{
+    Ok(number_in(json, 0, MAX_LOST_BYTES as u64)? as usize)
 }
 
 /// An integer of `i64`.

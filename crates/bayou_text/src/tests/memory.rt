@@ -16,11 +16,15 @@ const LINES: &[&str] = &[
     r#"["write",0,0,{"check":[["equals","a","x"],["absent","b"]],"merge":[{"ops":[["del","a"],["put","b","y"]],"when":[["equals","a",1]]}],"update":[["put","a","\u0000\""]]}]"#,
     r#"["read",3,7,"a"]"#,
     r#"["log",7]"#,
+    r#"["fuse",7,1000,8192]"#,
+    r#"["lose",0,1000000000]"#,
+    r#"["reopen",0]"#,
+    r#"["restart",7]"#,
 ];
 
 /// Texts that are no lines, and the first fault of each.
 const FAULTS: &[(&str, LineFault)] = &[
-    (r#"["servers",2]"#, LineFault::BadShape(Shape::Number)),
+    (r#"["servers",9]"#, LineFault::BadShape(Shape::Number)),
     (r#"["read",0,0,"A"]"#, LineFault::Key(KeyFault::BadByte(0))),
     (r#"["x",""#, LineFault::NotJson),
     (

@@ -1,13 +1,30 @@
-ghost use Rattle.std.specs.Prelude.{◌≡◌, IfOk, OnOk};
+ghost use Rattle.std.specs.Prelude.{◌≡◌, [], ◌∷◌, IfOk, OnOk};
+ghost use Rattle.serde_json.specs.Data.{string};
 ghost use Rattle.serde_json.specs.View.{view};
 ghost use Rattle.std.specs.List.{AllByRecursion};
 ghost use Rattle.bayou_text.specs.Ranges as ranges;
 ghost use Rattle.bayou_text.specs.Spelling as spelling;
 
-use bayou_base::Value as Stored;
+use bayou_base::{Key, Value as Stored};
 use bayou_lang::{Alt, Cond, Op, Program, Term};
 use serde_json::{Value, json};
 use std::alloc::{AllocError, Global};
+
+/// A word and a key.
+fn named_json(alloc: Global, word: &str, key: &Key) -> Result<Value, AllocError>
+    ensures spelling { IfOk result (λ json. view json ≡ spelling.form word.now (string key.now ∷ [])) }
+    ensures kept { OnOk result (ranges.IsKey key.now) }
+{
+    json!(in alloc; [word, key.as_str()])
+}
+
+/// A word, a key and one more member.
+fn keyed_json(alloc: Global, word: &str, key: &Key, last: Value) -> Result<Value, AllocError>
+    ensures spelling { IfOk result (λ json. view json ≡ spelling.form word.now (string key.now ∷ view last ∷ [])) }
+    ensures kept { OnOk result (ranges.IsKey key.now) }
+{
+    json!(in alloc; [word, key.as_str(), last])
+}
 
 fn value_json(alloc: Global, value: &Stored) -> Result<Value, AllocError>
     ensures spelling { IfOk result (λ json. view json ≡ spelling.value_json value.now) }
@@ -25,8 +42,8 @@ fn term_json(alloc: Global, term: &Term) -> Result<Value, AllocError>
 {
     match term {
         Term::Lit(value) => value_json(alloc, value),
-        Term::Copy(key) => json!(in alloc; ["copy", key.as_str()]),
-        Term::Plus(key, number) => json!(in alloc; ["plus", key.as_str(), *number]),
+        Term::Copy(key) => named_json(alloc, "copy", key),
+        Term::Plus(key, number) => keyed_json(alloc, "plus", key, Value::from(*number)),
     }
 }
 
@@ -35,11 +52,8 @@ fn op_json(alloc: Global, op: &Op) -> Result<Value, AllocError>
     ensures kept { OnOk result (ranges.IsOp op.now) }
 {
     match op {
-        Op::Put(key, term) => {
-            let term = term_json(alloc, term)?;
-            json!(in alloc; ["put", key.as_str(), term])
-        }
-        Op::Del(key) => json!(in alloc; ["del", key.as_str()]),
+        Op::Put(key, term) => keyed_json(alloc, "put", key, term_json(alloc, term)?),
+        Op::Del(key) => named_json(alloc, "del", key),
     }
 }
 
@@ -48,12 +62,9 @@ fn cond_json(alloc: Global, condition: &Cond) -> Result<Value, AllocError>
     ensures kept { OnOk result (ranges.IsCond condition.now) }
 {
     match condition {
-        Cond::Equals(key, value) => {
-            let value = value_json(alloc, value)?;
-            json!(in alloc; ["equals", key.as_str(), value])
-        }
-        Cond::Absent(key) => json!(in alloc; ["absent", key.as_str()]),
-        Cond::AtLeast(key, number) => json!(in alloc; ["atleast", key.as_str(), *number]),
+        Cond::Equals(key, value) => keyed_json(alloc, "equals", key, value_json(alloc, value)?),
+        Cond::Absent(key) => named_json(alloc, "absent", key),
+        Cond::AtLeast(key, number) => keyed_json(alloc, "atleast", key, Value::from(*number)),
     }
 }
 

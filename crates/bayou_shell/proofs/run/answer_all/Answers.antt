@@ -1,4 +1,4 @@
-use Rattle.std.proofs.Common.{List, [], ◌∷◌, inl, inr, ap, refl, subst}
+use Rattle.std.proofs.Common.{List, [], ◌∷◌, inl, inr, refl, subst}
 use Rattle.std.proofs.KnownBytes.{Appends-nil}
 use Rattle.std.proofs.lemmas.Result.{err_from_is_err_and}
 use Rattle.bayou_shell.specs.declared.script.Command.{Command}
@@ -10,9 +10,11 @@ pub loop-command-init : goal.loop-command-init
 loop-command-init g c = record {
   done = [];
   answers = [];
+  first = c.args.store;
+  begun = c.requires;
   whole = refl;
-  run = c.new-store.ensures;
-  count = ap (λ holding. holding.count) c.new-store.ensures;
+  run = refl;
+  count = let begun = c.requires in begun.count_is;
   served = c.args.script.served;
   written = Appends-nil _;
 }

@@ -1,15 +1,16 @@
-use Rattle.std.proofs.Common.{◌≡◌, ◌++◌, ◌∷◌, [], ◌<◌, ◌≤◌, length, sym, ◌∙◌, ap, subst, arith, All, get_or}
+use Rattle.std.proofs.Common.{◌≡◌, ◌++◌, ◌∷◌, [], ◌<◌, ◌≤◌, length, max, sym, ◌∙◌, ap, subst, arith, All, get_or}
 use Rattle.std.specs.List.{insert}
 use Rattle.std.proofs.lemmas.List.{get_or_push}
 use Rattle.std.proofs.lemmas.List.Elements.{All-push}
 use Rattle.bayou_base.specs.Vector.{raised}
 use Rattle.bayou_lang.specs.declared.write.Write.{Write}
 use Rattle.bayou_lang.specs.Meaning.{mean}
+use Rattle.bayou_lang.specs.Writes.{Fits}
 use Rattle.bayou_log.specs.Db.{places, room, HasRoomFor}
-use Rattle.bayou_log.specs.Log.{IsNewStamp, IsNewWid, IsReserved}
+use Rattle.bayou_log.specs.Log.{IsReserved}
 use Rattle.bayou_log.specs.Fields.{picked}
 use Rattle.bayou_log.specs.Replay.{after_writes}
-use Rattle.bayou_log.proofs.Agrees.{IsPlaceOf-found, AgreesWith-insert_last, AgreesWith-insert_late, AgreesWith-same, AreHeld-push}
+use Rattle.bayou_log.proofs.Agrees.{IsPlaceOf-found, AgreesWith-insert_last, AgreesWith-insert_late, AgreesWith-same, AreKept-push}
 use Rattle.bayou_log.proofs.write_log.WriteLog.insert.Goals as goal
 
 pub apply-requires : goal.apply-requires
@@ -33,10 +34,8 @@ invariant_of-self c =
     let length_writes : length writes ≡ c.len-at.result = sym (ap length c.deref.ensures.value) ∙ c.deref.ensures.len ∙ sym c.len-at.ensures in
     let is : here ≡ write = c.index.ensures ∙ ap (λ list. get_or list c.len-at.result here) c.push_reserved.ensures.items ∙ get_or_push writes write here c.len-at.result length_writes in
     let reserved = (subst (λ log. IsReserved log.room write) (sym c.self.view_is) c.requires.reserved).1 in
-    let others = subst (λ log. IsNewStamp log.receipts write) (sym c.self.view_is) c.requires.new_stamp in
-    let held = AreHeld-push inside.count inside.limit writes c.push_reserved.new.self.items write c.push_reserved.ensures.items c.self.invariant.0
-    (subst (λ log. write.wid.origin.index < log.count) (sym c.self.view_is) c.requires.known_origin)
-    (subst (λ log. IsNewWid log.receipts write) (sym c.self.view_is) c.requires.new_wid) others
+    let fits = subst (λ log. Fits log.count log.receipts write) (sym c.self.view_is) c.requires.fits in
+    let kept = AreKept-push inside.count inside.limit writes c.push_reserved.new.self.items write c.push_reserved.ensures.items c.self.invariant.0 fits
     (subst (λ log. length log.receipts < log.limit) (sym c.self.view_is) c.requires.below_limit) in
     let place = IsPlaceOf-found writes c.deref.result.now order c.deref-2.result.now write n
     c.deref.ensures.value c.deref-2.ensures.value c.self.invariant.1.inside
@@ -44,12 +43,12 @@ invariant_of-self c =
     let last : length writes ≤ n = omega (arith, length_writes, c.if-place-at.true) in
     let after : places c.apply.new.self ≡ (mean write.program (places inside.db)).1 =
     c.apply.ensures.places ∙ ap (λ write. (mean write.program (places inside.db)).1) is in
-    let agrees = AgreesWith-insert_last writes order inside.db c.apply.new.self inside.vector write n
-    c.self.invariant.1 others reserved place c.apply.ensures.room last after in (
-      held,
+    let agrees = AgreesWith-insert_last inside.count writes order inside.db c.apply.new.self inside.vector inside.clock write n
+    c.self.invariant.1 c.self.invariant.0.fitting fits reserved place c.apply.ensures.room last after in (
+      kept,
       AgreesWith-same (writes ++ write ∷ []) c.push_reserved.new.self.items (insert order n (length writes)) c.insert.new.self.items c.apply.new.self
-          (raised inside.vector write.wid) c.raise.new.self
-          c.push_reserved.ensures.items (c.in-Ok.ensures.items ∙ ap (insert order n) (sym length_writes)) c.raise.ensures agrees,
+          (raised inside.vector write.wid) c.raise.new.self (max inside.clock write.stamp.clock) c.max-self-inside.result
+          c.push_reserved.ensures.items (c.in-Ok.ensures.items ∙ ap (insert order n) (sym length_writes)) c.raise.ensures c.max-self-inside.ensures agrees,
     )
 
 pub apply_in_turn-requires-clause-room : goal.apply_in_turn-requires-clause-room
@@ -70,10 +69,8 @@ invariant_of-self-else-place-at c =
     let n = c.place_of-place.result in
     let length_writes : length writes ≡ c.len-at.result = sym (ap length c.deref.ensures.value) ∙ c.deref.ensures.len ∙ sym c.len-at.ensures in
     let reserved = (subst (λ log. IsReserved log.room write) (sym c.self.view_is) c.requires.reserved).1 in
-    let others = subst (λ log. IsNewStamp log.receipts write) (sym c.self.view_is) c.requires.new_stamp in
-    let held = AreHeld-push inside.count inside.limit writes c.push_reserved.new.self.items write c.push_reserved.ensures.items c.self.invariant.0
-    (subst (λ log. write.wid.origin.index < log.count) (sym c.self.view_is) c.requires.known_origin)
-    (subst (λ log. IsNewWid log.receipts write) (sym c.self.view_is) c.requires.new_wid) others
+    let fits = subst (λ log. Fits log.count log.receipts write) (sym c.self.view_is) c.requires.fits in
+    let kept = AreKept-push inside.count inside.limit writes c.push_reserved.new.self.items write c.push_reserved.ensures.items c.self.invariant.0 fits
     (subst (λ log. length log.receipts < log.limit) (sym c.self.view_is) c.requires.below_limit) in
     let place = IsPlaceOf-found writes c.deref.result.now order c.deref-2.result.now write n
     c.deref.ensures.value c.deref-2.ensures.value c.self.invariant.1.inside
@@ -82,11 +79,11 @@ invariant_of-self-else-place-at c =
     let picks : picked c.deref-else-place-at.result.now c.deref-else-place-at-2.result.now ≡ picked (writes ++ write ∷ []) (insert order n (length writes)) =
     ap (λ list. picked list c.deref-else-place-at-2.result.now) (c.deref-else-place-at.ensures.value ∙ c.push_reserved.ensures.items)
     ∙ ap (picked (writes ++ write ∷ [])) (c.deref-else-place-at-2.ensures.value ∙ placed) in
-    let agrees = AgreesWith-insert_late writes order inside.db c.apply_in_turn.new.db inside.vector write n
-    c.self.invariant.1 others reserved place (c.apply_in_turn.ensures.room ∙ c.clear.ensures.room)
+    let agrees = AgreesWith-insert_late inside.count writes order inside.db c.apply_in_turn.new.db inside.vector inside.clock write n
+    c.self.invariant.1 c.self.invariant.0.fitting fits reserved place (c.apply_in_turn.ensures.room ∙ c.clear.ensures.room)
     (c.apply_in_turn.ensures.places ∙ ap (λ list. after_writes list (places c.clear.new.self)) picks
     ∙ ap (after_writes (picked (writes ++ write ∷ []) (insert order n (length writes)))) c.clear.ensures.places) in (
-      held,
+      kept,
       AgreesWith-same (writes ++ write ∷ []) c.push_reserved.new.self.items (insert order n (length writes)) c.insert.new.self.items c.apply_in_turn.new.db
-          (raised inside.vector write.wid) c.raise.new.self c.push_reserved.ensures.items placed c.raise.ensures agrees,
+          (raised inside.vector write.wid) c.raise.new.self (max inside.clock write.stamp.clock) c.max-self-inside.result c.push_reserved.ensures.items placed c.raise.ensures c.max-self-inside.ensures agrees,
     )

@@ -1,15 +1,16 @@
 use Rattle.std.proofs.Common.{sym, subst, arith, refl}
-use Rattle.bayou_log.specs.Log.{AreHeld, IsReserved}
+use Rattle.bayou_log.specs.Log.{IsReserved}
+use Rattle.bayou_log.specs.Fields.{AreKept}
 use Rattle.bayou_log.proofs.Agrees.{AgreesWith-more_room, AgreesWith-same}
 use Rattle.bayou_log.proofs.write_log.WriteLog.reserve.Goals as goal
 
 pub invariant_of-self-2 : goal.invariant_of-self-2
 invariant_of-self-2 c =
     let inside = c.self.inside in
-    let more = AgreesWith-more_room inside.writes.items inside.order.items inside.db c.prepare.new.self inside.vector c.self.invariant.1 c.prepare.ensures.same c.prepare.ensures.keeps in (
-      subst (AreHeld inside.count inside.limit) (sym c.in_ok-try_reserve.ensures.items) c.self.invariant.0,
-      AgreesWith-same inside.writes.items c.try_reserve.new.self.items inside.order.items c.try_reserve-2.new.self.items c.prepare.new.self inside.vector inside.vector
-          c.in_ok-try_reserve.ensures.items c.in_ok-try_reserve-2.ensures.items refl more,
+    let more = AgreesWith-more_room inside.writes.items inside.order.items inside.db c.prepare.new.self inside.vector inside.clock c.self.invariant.1 c.prepare.ensures.same c.prepare.ensures.keeps in (
+      subst (AreKept inside.count inside.limit) (sym c.in_ok-try_reserve.ensures.items) c.self.invariant.0,
+      AgreesWith-same inside.writes.items c.try_reserve.new.self.items inside.order.items c.try_reserve-2.new.self.items c.prepare.new.self inside.vector inside.vector inside.clock inside.clock
+          c.in_ok-try_reserve.ensures.items c.in_ok-try_reserve-2.ensures.items refl refl more,
     )
 
 pub returns-clause-kept : goal.returns-clause-kept

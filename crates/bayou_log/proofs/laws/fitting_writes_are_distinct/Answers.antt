@@ -1,0 +1,8 @@
+use Rattle.bayou_log.specs.FittingLaws.{fitting_distinct_wids, fitting_distinct_stamps}
+use Rattle.bayou_log.proofs.laws.fitting_writes_are_distinct.Goals as goal
+
+pub returns-clause-wids : goal.returns-clause-wids
+returns-clause-wids c = fitting_distinct_wids
+
+pub returns-clause-stamps : goal.returns-clause-stamps
+returns-clause-stamps c = fitting_distinct_stamps

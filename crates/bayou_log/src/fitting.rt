@@ -1,0 +1,40 @@
+//! Whether a Write may follow those that are held.
+ghost use Rattle.std.specs.Prelude.{◌≡◌, ℕ, ◌+◌, ◌<◌, ◌↔◌, IsTrue, slice_index};
+ghost use Rattle.bayou_base.specs.Vector.{Dominates};
+ghost use Rattle.bayou_lang.specs.Writes.{covered_by, greatest_clock};
+
+use bayou_base::Vector;
+use bayou_lang::Write;
+
+/// Why a Write may not follow those that are held.
+#[derive(Clone, Copy, Debug, PartialEq, Eq)]
+pub enum Misfit {
+    /// A Write before it is missing, or its origin is none of the servers.
+    Gap,
+    /// None is missing, but its server didn't hold all of its own before it, or its clock isn't one more than the
+    /// greatest that its server held.
+    BadStamp,
+}
+
+/// Whether it is of one of the servers, the next of its origin's, and all that its server held is counted.
+pub(crate) fn is_next(write: &Write, count: u8, held: &Vector) -> bool
+    ensures { IsTrue result ↔ ((write.now.wid.origin.index < count)
+        × (write.now.wid.seq ≡ slice_index held.now write.now.wid.origin.index + 1) × Dominates held.now write.now.deps) }
+{
+    write.wid.origin.index < count
+        && write.wid.seq == held.get(write.wid.origin) + 1
+        && held.dominates(&write.deps)
+}
+
+/// The greatest clock among those of the Writes that the vector counts, 0 where there is none.
+pub(crate) fn clock_of(writes: &[Write], counts: &Vector) -> u32
+    ensures { result ≡ greatest_clock (covered_by counts.now writes.now) }
+{
+    let mut clock = 0;
+    for held in writes {
+        if counts.covers(held.wid) {
+            clock = clock.max(held.stamp.clock);
+        }
+    }
+    clock
+}

@@ -1,0 +1,6 @@
+pub mod Adding
+pub mod Bodies
+pub mod Deciding
+pub mod Entries
+pub mod Following
+pub mod Recovering

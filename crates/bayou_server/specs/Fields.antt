@@ -1,0 +1,24 @@
+-- How the fields of a server belong together, which its callers don't see.
+use Rattle.std.specs.Prelude.{◌≡◌, ◌<◌, ◌≤◌, ℕ, Option, None, Some, false, length}
+use Rattle.bayou_base.specs.declared.limits.TheConstants.{MAX_WRITES}
+use Rattle.bayou_journal.specs.Chain.{chain_end}
+use Rattle.bayou_journal.specs.Journal.{JournalState}
+use Rattle.bayou_lang.specs.declared.write.Write.{Write}
+use Rattle.bayou_lang.specs.Writes.{IsNextWrite}
+use Rattle.bayou_log.specs.Log.{Log, IsReserved}
+use Rattle.bayou_server.specs.Server.{MayHold, bodies_of}
+
+-- While it is up, the journal's next entry stands behind those of the Writes held. While it is down nothing is known of the
+-- journal; the Write in doubt is the server's next, and the log has room for it.
+abbrev pub Stands : {D : Type 0} → JournalState D → Log → Option Write → Type 0
+Stands journal log None = (journal.is_down ≡ false) × (journal.last ≡ chain_end journal.server (bodies_of log.receipts))
+Stands journal log (Some write) =
+    IsNextWrite log.receipts journal.server write.program write × IsReserved log.room write × (length log.receipts < log.limit)
+
+-- the journal is the server's, its log is what it may hold, and they stand as the Write in doubt says
+pub record BelongTogether {D : Type 0} (journal : JournalState D) (log : Log) (id : ℕ) (doubt : Option Write) : Type 0 where
+  pub owner : journal.server ≡ id
+  pub known : id < log.count
+  pub limit : log.limit ≤ MAX_WRITES
+  pub holds : MayHold id log.count log.limit log.receipts
+  pub stands : Stands journal log doubt

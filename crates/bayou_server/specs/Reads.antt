@@ -1,0 +1,24 @@
+-- What a server answers to a read. It compares the need with what it holds as it serves (Terry et al. 1994).
+use Rattle.std.specs.Prelude.{◌≡◌, ℕ, List, Result, Ok, Err}
+use Rattle.bayou_base.specs.declared.answer.Seen.{Seen}
+use Rattle.bayou_base.specs.Vector.{Dominates}
+use Rattle.bayou_lang.specs.Writes.{count_of}
+use Rattle.bayou_log.specs.Replay.{replay}
+use Rattle.bayou_server.specs.declared.fault.Behind.{Behind}
+use Rattle.bayou_server.specs.Server.{ServerState}
+
+-- the read is served: what the key has in the database of the Writes held, and what was held
+pub record Serves {D : Type 0} (server : ServerState D) (need key : List ℕ) (seen : Seen) : Type 0 where
+  pub covered : Dominates (count_of server.held) need
+  pub value : seen.value ≡ replay server.held key
+  pub vector : seen.vector ≡ count_of server.held
+
+-- the server doesn't hold all that the session needs, and tells what it holds
+pub record IsBehind {D : Type 0} (server : ServerState D) (need : List ℕ) (vector : List ℕ) : Type 0 where
+  pub not_covered : ¬ Dominates (count_of server.held) need
+  pub held : vector ≡ count_of server.held
+
+-- a read and its answer; the server is as it was
+abbrev pub Reads : {D : Type 0} → ServerState D → (need key : List ℕ) → Result Seen Behind → Type 0
+Reads server need key (Ok seen) = Serves server need key seen
+Reads server need key (Err behind) = IsBehind server need behind.vector

@@ -1,0 +1,20 @@
+use bayou_base::Wid;
+use bayou_lang::Write;
+use bayou_log::WriteLog;
+
+/// A server that is up again.
+#[derive(Clone, Copy, Debug, PartialEq, Eq)]
+pub struct Reopened {
+    /// The Write that was in doubt, where its journal had it.
+    pub adopted: Option<Wid>,
+}
+
+/// A server that was stopped.
+#[derive(Drop)]
+pub struct Stopped<D> {
+    pub device: D,
+    /// The Writes that it held.
+    pub log: WriteLog,
+    /// The Write in doubt, where it was down.
+    pub doubt: Option<Write>,
+}

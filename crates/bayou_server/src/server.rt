@@ -1,0 +1,317 @@
+ghost use Rattle.std.specs.Prelude.{◌≡◌, ◌≢◌, ◌<◌, ◌≤◌, ◌↔◌, ℕ, All, Contains, IfErr, IfOk, IsSome, IsTrue, MatchOption, MatchResult, OnOk, length};
+ghost use Rattle.std.specs.Borrow.{Lends, sem};
+ghost use Rattle.bayou_base.specs.declared.limits.TheConstants.{SERVERS, MAX_WRITES};
+ghost use Rattle.bayou_journal.specs.Opening.{KeepsChains};
+ghost use Rattle.bayou_lang.specs.Writes.{IsNextWrite, IsSound, count_of};
+ghost use Rattle.bayou_log.specs.Listing.{listing_of};
+ghost use Rattle.bayou_server.specs.contracts.server.Server.{the_row};
+ghost use Rattle.bayou_server.specs.Reads.{Reads};
+ghost use Rattle.bayou_server.specs.Reopens.{Reopens};
+ghost use Rattle.bayou_server.specs.Server.{IsStored, IsUp, with_device};
+ghost use Rattle.bayou_server.specs.Starts.{FailsToStart, Starts};
+ghost use Rattle.bayou_server.specs.Writes.{Writes};
+
+use crate::answer::{Reopened, Stopped};
+use crate::fault::{Behind, NotStarted, ReopenFault, StartFault, WriteFault};
+use crate::reopen::has_doubt;
+use crate::start::log_of;
+use bayou_base::{Accepted, Key, Seen, ServerId, Stamp, Vector, Wid};
+use bayou_device::Device;
+use bayou_journal::Journal;
+use bayou_lang::{Program, Write};
+use bayou_log::{Listed, WriteLog};
+use bayou_wire::encode_write;
+use std::alloc::{AllocError, Global};
+use std::marker::Model;
+
+/// One server of the store, over its device.
+#[derive(Drop)]
+pub struct Server<D> {
+    journal: Journal<D>,
+    log: WriteLog,
+    id: ServerId,
+    doubt: Option<Write>,
+}
+
+impl<D> Model for Server<D> {
+    ghost use Rattle.bayou_server.specs.Fields.{BelongTogether};
+    ghost use Rattle.bayou_server.specs.Server.{ServerState};
+
+    ghost Value = { ServerState D };
+
+    ghost view = { λ s. record {
+      device = s.journal.device;
+      id = s.id.index;
+      count = s.log.count;
+      limit = s.log.limit;
+      held = s.log.receipts;
+      doubt = s.doubt;
+    } };
+
+    ghost invariant = { λ s. BelongTogether s.journal s.log s.id.index s.doubt };
+}
+
+// The Write that a server with this log makes of the program.
+fn next_write(log: &WriteLog, id: ServerId, program: Program) -> Write
+    requires room { length log.now.receipts < log.now.limit }
+    requires limit { log.now.limit ≤ MAX_WRITES }
+    ensures { IsNextWrite log.now.receipts id.index program result }
+{
+    let deps = log.vector();
+    let wid = Wid {
+        origin: id,
+        seq: deps.get(id) + 1,
+    };
+    let stamp = Stamp {
+        clock: log.clock() + 1,
+        origin: id,
+    };
+    Write {
+        wid,
+        stamp,
+        deps,
+        program,
+    }
+}
+
+impl<D: Device> Server<D> {
+    /// Starts the server `id`, one of `count`, with the Writes that its journal on the device has; it is to hold `limit`
+    /// at the most. It gives, beside the server, how many bytes were cut behind the journal's entries. Device calls: those
+    /// of the journal's opening alone. A refusal hands the device back.
+    pub fn start(
+        alloc: Global,
+        id: ServerId,
+        count: u8,
+        limit: u32,
+        device: D,
+    ) -> Result<(Server<D>, usize), NotStarted<D>>
+        requires known { id.index < count }
+        requires count { count ≤ SERVERS }
+        requires limit { limit ≤ MAX_WRITES }
+        ensures starts { MatchResult result
+            (λ started. Starts D.is_modelled D.content D.kept D.failures id.index count limit device started.0 started.1)
+            (λ refused. FailsToStart D.is_modelled D.content D.kept D.failures D.may_leave id.index count limit device refused.device refused.fault) }
+        ensures stored { D.is_modelled → IfOk result (λ started. IsStored D.content started.0) }
+        ensures safe { D.is_modelled → MatchResult result
+            (λ started. KeepsChains (D.kept device) (D.kept started.0.device))
+            (λ refused. KeepsChains (D.kept device) (D.kept refused.device)) }
+        ensures calls { MatchResult result
+            (λ started. D.leads_to 4 device started.0.device)
+            (λ refused. D.leads_to 4 device refused.device) }
+    {
+        let (journal, opened) = match Journal::open(alloc, id, device) {
+            Ok(opened) => opened,
+            Err(refused) => {
+                return Err(NotStarted {
+                    fault: StartFault::from(refused.fault),
+                    device: refused.device,
+                });
+            }
+        };
+        match log_of(alloc, id, count, limit, &opened) {
+            Err(fault) => Err(NotStarted {
+                fault,
+                device: journal.close(),
+            }),
+            Ok(log) => {
+                let server = Server {
+                    journal,
+                    log,
+                    id,
+                    doubt: None,
+                };
+                Ok((server, opened.dropped()))
+            }
+        }
+    }
+
+    /// What the key has in the database of the Writes held, and what is held; also while the server is down. It takes no
+    /// memory.
+    pub fn read(&self, need: &Vector, key: &Key) -> Result<Seen, Behind>
+        ensures { Reads self.now need.now key.now result }
+    {
+        let vector = self.log.vector();
+        if vector.dominates(need) {
+            let value = self.log.get(key);
+            Ok(Seen { value, vector })
+        } else {
+            Err(Behind { vector })
+        }
+    }
+
+    /// Makes the program the server's next Write, stores its entry, and then holds it. Device calls: those of the journal's
+    /// append alone.
+    pub fn write(
+        &mut self,
+        alloc: Global,
+        need: &Vector,
+        program: Program,
+    ) -> Result<Accepted, WriteFault>
+        ensures writes { Writes D.is_modelled D.content D.kept D.failures D.may_leave self.old need.now program result self.new }
+        // A device that had the journal of the Writes held, and nothing else, has that of those held then.
+        ensures stored { D.is_modelled → OnOk result (IsStored D.content self.old → IsStored D.content self.new) }
+        ensures safe { D.is_modelled → KeepsChains (D.kept self.old.device) (D.kept self.new.device) }
+        ensures calls { D.leads_to 2 self.old.device self.new.device }
+    {
+        if self.doubt.is_some() {
+            return Err(WriteFault::Down);
+        }
+        let vector = self.log.vector();
+        if !vector.dominates(need) {
+            return Err(WriteFault::Behind(vector));
+        }
+        if self.log.is_full() {
+            return Err(WriteFault::LogFull);
+        }
+        let write = next_write(&self.log, self.id, program);
+        self.log.reserve(&write)?;
+        let body = encode_write(alloc, &write)?;
+        match self.journal.append(&body) {
+            Ok(()) => {
+                let accepted = Accepted {
+                    wid: write.wid,
+                    stamp: write.stamp,
+                    deps: write.deps,
+                };
+                self.log.insert(write);
+                Ok(accepted)
+            }
+            Err(_) => {
+                self.doubt = Some(write);
+                Err(WriteFault::Journal)
+            }
+        }
+    }
+
+    /// Brings the server up again: it opens its journal again, and compares what it finds there with the Writes held. Device
+    /// calls: those of the journal's opening alone. A refusal leaves the server down; what was cut of the journal stays cut.
+    /// To adopt the Write in doubt takes no memory.
+    pub fn reopen(&mut self, alloc: Global) -> Result<Reopened, ReopenFault>
+        ensures reopens { Reopens D.is_modelled D.content D.kept D.failures D.may_leave self.old result self.new }
+        ensures stored { D.is_modelled → OnOk result (IsStored D.content self.new) }
+        ensures safe { D.is_modelled → KeepsChains (D.kept self.old.device) (D.kept self.new.device) }
+        ensures calls { D.leads_to 4 self.old.device self.new.device }
+    {
+        let Some(doubt) = &self.doubt else {
+            return Err(ReopenFault::NotDown);
+        };
+        let opened = self.journal.reopen(alloc)?;
+        let adopts = has_doubt(alloc, &opened, self.log.receipts(), doubt)?;
+        let Some(write) = self.doubt.take() else {
+            unreachable!();
+        };
+        if !adopts {
+            return Ok(Reopened { adopted: None });
+        }
+        let wid = write.wid;
+        self.log.insert(write);
+        Ok(Reopened { adopted: Some(wid) })
+    }
+
+    /// For each server the number of its Writes that are held.
+    pub fn vector(&self) -> Vector
+        ensures { result ≡ count_of self.now.held }
+    {
+        self.log.vector()
+    }
+
+    /// Whether a Write is in doubt.
+    pub fn is_down(&self) -> bool
+        ensures { IsTrue result ↔ IsSome self.now.doubt }
+    {
+        self.doubt.is_some()
+    }
+
+    /// Which server it is.
+    pub fn id(&self) -> ServerId
+        ensures value { result.index ≡ self.now.id }
+        ensures known { result.index < self.now.count }
+    {
+        self.id
+    }
+
+    /// How many servers there are.
+    pub fn count(&self) -> u8
+        ensures value { result ≡ self.now.count }
+        ensures in_range { result ≤ SERVERS }
+    {
+        self.log.count()
+    }
+
+    /// How many Writes it may hold.
+    pub fn limit(&self) -> u32
+        ensures value { result ≡ self.now.limit }
+        ensures in_range { result ≤ MAX_WRITES }
+    {
+        self.log.limit()
+    }
+
+    /// The Write of this name, if it is held.
+    pub fn find(&self, wid: Wid) -> Option<&Write>
+        ensures { MatchOption result (All (λ write. write.wid ≢ wid) self.now.held) (λ write. Contains self.now.held write.now × (write.now.wid ≡ wid)) }
+    {
+        self.log.find(wid)
+    }
+
+    /// The Writes held, in order of receipt.
+    pub fn receipts(&self) -> &[Write]
+        ensures value { result.now ≡ self.now.held }
+        ensures sound { IsSound self.now.id self.now.count result.now }
+        ensures within { length result.now ≤ self.now.limit }
+    {
+        self.log.receipts()
+    }
+
+    /// The Writes held, in stamp order, each with the outcome that it has in the replay.
+    pub fn listing(&self, alloc: Global) -> Result<Vec<Listed>, AllocError>
+        ensures { IfOk result (λ list. list.items ≡ listing_of self.now.held) }
+    {
+        self.log.listing(alloc)
+    }
+
+    /// Copies of the Writes held, in order of receipt.
+    pub fn dump(&self, alloc: Global) -> Result<Vec<Write>, AllocError>
+        ensures { IfOk result (λ writes. writes.items ≡ self.now.held) }
+    {
+        copies(alloc, self.log.receipts())
+    }
+
+    /// Ends the server, which takes no memory and makes no device call.
+    pub fn stop(self) -> Stopped<D>
+        ensures device { result.device ≡ self.device }
+        ensures held { result.log.receipts ≡ self.held }
+        ensures sound { IsSound self.id self.count result.log.receipts }
+        ensures doubt { result.doubt ≡ self.doubt }
+    {
+        let Server {
+            journal,
+            log,
+            id: _,
+            doubt,
+        } = self;
+        Stopped {
+            device: journal.close(),
+            log,
+            doubt,
+        }
+    }
+
+    /// Its device, for what only the device can do, as to set a fuse in a test.
+    pub fn device(&mut self) -> &mut D
+        ensures value { result.now ≡ self.old.device }
+        ensures* writes_back { sem 𝓛 (Lends (the_row D.row) D.row self.entry result (with_device self.old)) }
+    {
+        self.journal.device()
+    }
+}
+
+// The Writes again.
+fn copies(alloc: Global, writes: &[Write]) -> Result<Vec<Write>, AllocError>
+    ensures { IfOk result (λ copies. copies.items ≡ writes.now) }
+{
+    let mut copies = Vec::new(alloc);
+    for write in writes {
+        copies.push(write.copy())?;
+    }
+    Ok(copies)
+}

@@ -1,0 +1,68 @@
+ghost use Rattle.std.specs.Prelude.{◌≡◌, ◌<◌, ◌≤◌, ◌⊎◌, ◌↔◌, IsTrue, MatchResult};
+ghost use Rattle.bayou_base.specs.declared.limits.TheConstants.{SERVERS, MAX_WRITES};
+ghost use Rattle.bayou_server.specs.declared.fault.StartFault.TheVariants.{OutOfMemory};
+ghost use Rattle.bayou_server.specs.Server.{MayFollow};
+ghost use Rattle.bayou_server.specs.Replaying.{IsAdmitted, Replays};
+ghost use Rattle.bayou_server.specs.Starts.{RefusesBody, RefusesEntry};
+
+use crate::fault::StartFault;
+use bayou_base::ServerId;
+use bayou_journal::Opened;
+use bayou_lang::Write;
+use bayou_log::WriteLog;
+use bayou_wire::decode_write;
+use std::alloc::Global;
+
+// Whether the Write may be added to those of the log of the server `id`.
+fn may_follow(log: &WriteLog, id: ServerId, write: &Write) -> bool
+    ensures { IsTrue result ↔ MayFollow id.index log.now.count log.now.receipts write.now }
+{
+    let Ok(()) = log.fits(write) else {
+        return false;
+    };
+    write.wid.origin != id || write.deps == log.vector()
+}
+
+// The Write that the body of the next entry spells, if the log of the server `id` takes it.
+fn next_of(log: &WriteLog, id: ServerId, body: &[u8]) -> Result<Write, StartFault>
+    requires { log.now.limit ≤ MAX_WRITES }
+    ensures { MatchResult result
+        (IsAdmitted id.index log.now body.now)
+        (RefusesBody id.index log.now.count log.now.limit log.now.receipts body.now) }
+{
+    let at = log.receipts().len() as u32;
+    let Ok(write) = decode_write(body) else {
+        return Err(StartFault::BadRecord(at));
+    };
+    if !may_follow(log, id, &write) {
+        return Err(StartFault::Gap(at));
+    }
+    if log.is_full() {
+        return Err(StartFault::LogFull);
+    }
+    Ok(write)
+}
+
+// The log of the Writes that the bodies spell, in their order.
+pub fn log_of(
+    alloc: Global,
+    id: ServerId,
+    count: u8,
+    limit: u32,
+    opened: &Opened,
+) -> Result<WriteLog, StartFault>
+    requires known { id.index < count }
+    requires count { count ≤ SERVERS }
+    requires limit { limit ≤ MAX_WRITES }
+    ensures { MatchResult result
+        (Replays id.index count limit opened.now.bodies)
+        (λ fault. (fault ≡ OutOfMemory) ⊎ RefusesEntry id.index count limit opened.now.bodies fault) }
+{
+    let mut log = WriteLog::new(alloc, count, limit);
+    for at in 0..opened.len() {
+        let write = next_of(&log, id, opened.body(at))?;
+        log.reserve(&write)?;
+        log.insert(write);
+    }
+    Ok(log)
+}

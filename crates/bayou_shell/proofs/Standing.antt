@@ -1,0 +1,18 @@
+-- The servers of a machine, each in its place.
+use Rattle.std.proofs.Common.{◌≡◌, ℕ, zero, suc, ◌<◌, List, [], ◌∷◌, Some, set, length, get_or, ap, sym, ◌∙◌, subst, refl, arith}
+use Rattle.std.proofs.lemmas.Option.{slice_get_read}
+use Rattle.std.specs.List.{insert, remove, slice_get}
+use Rattle.bayou_shell.specs.declared.replica.Replica.{Replica}
+
+-- the server that is found at its place stands there
+pub stands_at : (replicas servers : List Replica) (count place at : ℕ) (replica : Replica) → replicas ≡ servers → length replicas ≡ count → at ≡ place
+    → place < count → replica ≡ get_or replicas at replica → slice_get servers place ≡ Some replica
+stands_at replicas servers count place at replica same many here within found =
+    subst (λ (list : List Replica). slice_get list place ≡ Some replica) same
+    (slice_get_read replicas count place replica (sym many) within (found ∙ ap (λ i. get_or replicas i replica) here))
+
+-- what is taken out of its place and put back there, changed
+pub put_back : (replicas : List Replica) (place : ℕ) (replica : Replica) → place < length replicas → insert (remove replicas place) place replica ≡ set replicas place replica
+put_back [] place replica within = absurd (omega arith)
+put_back (first ∷ replicas) zero replica within = refl
+put_back (first ∷ replicas) (suc place) replica within = ap (λ (list : List Replica). first ∷ list) (put_back replicas place replica (omega arith))

@@ -1,0 +1,173 @@
+-- What a server of a script makes of each command, and what a session is told of it.
+use Rattle.std.specs.Prelude.{◌≡◌, ℕ, ◌+◌, ◌-◌, ◌<◌, ◌⊎◌, List, [], Option, None, Some, Result, Ok, Err, false, length, min, take}
+use Rattle.bayou_base.specs.declared.answer.Accepted.{Accepted}
+use Rattle.bayou_base.specs.declared.answer.Seen.{Seen}
+use Rattle.bayou_base.specs.declared.limits.TheConstants.{MAX_PLACES}
+use Rattle.bayou_base.specs.declared.server.ServerId.{ServerId}
+use Rattle.bayou_base.specs.declared.session.SessionId.{SessionId}
+use Rattle.bayou_base.specs.Vector.{joined, raised}
+use Rattle.bayou_device.specs.Memory.{Memory, AddsFront, LeadsTo, kept_bytes}
+use Rattle.bayou_lang.specs.declared.program.Program.{Program}
+use Rattle.bayou_lang.specs.declared.write.Write.{Write}
+use Rattle.bayou_lang.specs.Writes.{count_of}
+use Rattle.bayou_log.specs.Listing.{listing_of}
+use Rattle.bayou_server.specs.declared.answer.Stopped.{Stopped as Left}
+use Rattle.bayou_server.specs.declared.fault.Behind.{Behind}
+use Rattle.bayou_server.specs.declared.fault.WriteFault.{WriteFault}
+use Rattle.bayou_server.specs.declared.fault.WriteFault.TheVariants as writing
+use Rattle.bayou_server.specs.Reads.{Reads}
+use Rattle.bayou_server.specs.Reopens.{Reopens}
+use Rattle.bayou_server.specs.Server.{ServerState}
+use Rattle.bayou_server.specs.Starts.{FailsToStart, Starts}
+use Rattle.bayou_server.specs.Writes.{Writes}
+use Rattle.bayou_session.specs.Needs.{Told, read_need, write_need}
+use Rattle.bayou_shell.specs.declared.answer.Answer.{Answer}
+use Rattle.bayou_shell.specs.declared.answer.Answer.TheVariants.{Done, Wrote, Read, Refused, Lost, Logged, Stopped, Recovered}
+use Rattle.bayou_shell.specs.declared.answer.Recovery.{Recovery}
+use Rattle.bayou_shell.specs.declared.answer.Recovery.TheVariants.{Reopened, NotReopened, NotRunning, Restarted, NotRestarted}
+use Rattle.bayou_shell.specs.declared.replica.Replica.{Replica}
+use Rattle.bayou_shell.specs.declared.replica.Replica.TheVariants.{Running, Halted}
+
+-- ---- servers on devices in memory
+
+-- a server that serves
+abbrev pub Serving : Type 0
+Serving = ServerState Memory
+
+abbrev pub content_of : Memory → List ℕ
+content_of device = device.bytes
+
+abbrev pub failures_of : Memory → ℕ
+failures_of device = device.failures
+
+abbrev pub empty_device : Memory
+empty_device = record { bytes = []; synced = 0; fuse = None; failures = 0; lacked_memory = false }
+
+-- the device of a server that runs or is stopped, the Writes that it holds, and the one in doubt
+abbrev pub device_of : Replica → Memory
+device_of (Running server) = server.device
+device_of (Halted left) = left.device
+
+abbrev pub held_by : Replica → List Write
+held_by (Running server) = server.held
+held_by (Halted left) = left.log.receipts
+
+abbrev pub doubt_of : Replica → Option Write
+doubt_of (Running server) = server.doubt
+doubt_of (Halted left) = left.doubt
+
+-- the server, on another device
+abbrev pub on_device : Replica → Memory → Replica
+on_device (Running server) device = Running (record server { device = device })
+on_device (Halted left) device = Halted (record left { device = device })
+
+-- ---- operations of sessions
+
+-- the session has begun one place more
+abbrev pub one_place_more : Told → Told
+one_place_more told = record told { begun = told.begun + 1 }
+
+-- what a session makes of what its Write was answered: it is told of no refusal
+abbrev pub after_write : Told → Result Accepted WriteFault → Told
+after_write told (Ok accepted) = record (one_place_more told) { writes = raised told.writes accepted.wid }
+after_write told (Err refusal) = one_place_more told
+
+-- and of what its read was answered
+abbrev pub after_read : Told → Result Seen Behind → Told
+after_read told (Ok seen) = record (one_place_more told) { reads = joined told.reads seen.vector }
+after_read told (Err behind) = one_place_more told
+
+abbrev pub write_answer : SessionId → Result Accepted WriteFault → Answer
+write_answer who (Ok accepted) = Wrote who accepted
+write_answer who (Err refusal) = Refused who refusal
+
+abbrev pub read_answer : SessionId → List ℕ → Result Seen Behind → Answer
+read_answer who key (Ok seen) = Read who key seen
+read_answer who key (Err behind) = Refused who (writing.Behind behind.vector)
+
+-- No reply reaches a session that has no place left, nor one whose server is stopped.
+pub data GetsNoReply (who : SessionId) (replica : Replica) (told : Told) (answer : Answer) (now : Told) : Type 0 where
+  no_place : told.begun ≡ MAX_PLACES → answer ≡ Lost who → now ≡ told → GetsNoReply who replica told answer now
+  stopped : (left : Left Memory) → replica ≡ Halted left → told.begun < MAX_PLACES → answer ≡ Lost who → now ≡ one_place_more told
+      → GetsNoReply who replica told answer now
+
+-- The server answers the session's Write, by what the session needs of it.
+pub record AnswersWrite (who : SessionId) (program : Program) (before : Replica) (told : Told) (answer : Answer) (after : Replica) (now : Told) : Type 0 where
+  pub old : Serving
+  pub new : Serving
+  pub result : Result Accepted WriteFault
+  pub was : before ≡ Running old
+  pub left : told.begun < MAX_PLACES
+  pub writes : Writes (Unit {0}) content_of kept_bytes failures_of AddsFront old (write_need told) program result new
+  pub calls : LeadsTo 2 old.device new.device
+  pub answered : answer ≡ write_answer who result
+  pub is : after ≡ Running new
+  pub told_of : now ≡ after_write told result
+
+abbrev pub IsWritten : SessionId → Program → Replica → Told → Answer → Replica → Told → Type 0
+IsWritten who program before told answer after now =
+    (GetsNoReply who before told answer now × (after ≡ before)) ⊎ AnswersWrite who program before told answer after now
+
+-- The server answers the session's read, by what the session needs of it.
+pub record AnswersRead (who : SessionId) (key : List ℕ) (replica : Replica) (told : Told) (answer : Answer) (now : Told) : Type 0 where
+  pub server : Serving
+  pub result : Result Seen Behind
+  pub runs : replica ≡ Running server
+  pub left : told.begun < MAX_PLACES
+  pub reads : Reads server (read_need told) key result
+  pub answered : answer ≡ read_answer who key result
+  pub told_of : now ≡ after_read told result
+
+abbrev pub IsRead : SessionId → List ℕ → Replica → Told → Answer → Told → Type 0
+IsRead who key replica told answer now = GetsNoReply who replica told answer now ⊎ AnswersRead who key replica told answer now
+
+-- ---- what is asked of servers alone
+
+-- the server was started first, on an empty device
+abbrev pub IsBegun : ℕ → ℕ → ℕ → Replica → Type 0
+IsBegun count limit place replica = (server : Serving) × (dropped : ℕ) × (replica ≡ Running server)
+    × Starts (Unit {0}) content_of kept_bytes failures_of place count limit empty_device server dropped
+
+-- A log tells the Writes held in stamp order, each with the outcome that it has in the replay, and how many of each server
+-- are held; a stopped server has none.
+abbrev pub IsListed : ServerId → Replica → Answer → Type 0
+IsListed id replica (Logged name listing vector) =
+    (name ≡ id) × ((server : Serving) × (replica ≡ Running server) × (listing.items ≡ listing_of server.held) × (vector ≡ count_of server.held))
+IsListed id replica (Stopped name) = (name ≡ id) × ((left : Left Memory) × (replica ≡ Halted left))
+IsListed id replica Done = ⊥
+IsListed id replica (Wrote who accepted) = ⊥
+IsListed id replica (Read who key seen) = ⊥
+IsListed id replica (Refused who refusal) = ⊥
+IsListed id replica (Lost who) = ⊥
+IsListed id replica (Recovered recovery) = ⊥
+
+-- its device is to fail
+abbrev pub IsFused : ℕ → ℕ → Replica → Replica → Type 0
+IsFused calls kept before after = after ≡ on_device before (record (device_of before) { fuse = Some (record { calls = calls; kept = kept }) })
+
+-- its device lost so many bytes at its end
+abbrev pub IsShortened : ℕ → Replica → Replica → Type 0
+IsShortened count before after = let device = device_of before in let left = length device.bytes - count in
+    after ≡ on_device before (record device { bytes = take left device.bytes; synced = min device.synced left })
+
+-- a server that runs was to be reopened, and a stopped one isn't
+abbrev pub IsReopened : ServerId → Replica → Recovery → Replica → Type 0
+IsReopened id before (Reopened name adopted) after = (name ≡ id) × ((old new : Serving) × (before ≡ Running old) × (after ≡ Running new)
+    × Reopens (Unit {0}) content_of kept_bytes failures_of AddsFront old (Ok (record { adopted = adopted })) new × LeadsTo 4 old.device new.device)
+IsReopened id before (NotReopened refusal) after = (old new : Serving) × (before ≡ Running old) × (after ≡ Running new)
+    × Reopens (Unit {0}) content_of kept_bytes failures_of AddsFront old (Err refusal) new × LeadsTo 4 old.device new.device
+IsReopened id before NotRunning after = (left : Left Memory) × (before ≡ Halted left) × (after ≡ before)
+IsReopened id before (Restarted name holds dropped) after = ⊥
+IsReopened id before (NotRestarted refusal) after = ⊥
+
+-- The server was stopped, and started on what its device has. Where that was refused, it keeps what it held.
+abbrev pub IsRestarted : ℕ → ℕ → ServerId → Replica → Recovery → Replica → Type 0
+IsRestarted count limit id before (Restarted name holds dropped) after = (name ≡ id) × ((new : Serving) × (after ≡ Running new) × (holds ≡ length new.held)
+    × Starts (Unit {0}) content_of kept_bytes failures_of id.index count limit (device_of before) new dropped × LeadsTo 4 (device_of before) new.device)
+IsRestarted count limit id before (NotRestarted refusal) after = (left : Left Memory) × (after ≡ Halted left)
+    × (held_by after ≡ held_by before) × (doubt_of after ≡ doubt_of before)
+    × FailsToStart (Unit {0}) content_of kept_bytes failures_of AddsFront id.index count limit (device_of before) left.device refusal
+    × LeadsTo 4 (device_of before) left.device
+IsRestarted count limit id before (Reopened name adopted) after = ⊥
+IsRestarted count limit id before (NotReopened refusal) after = ⊥
+IsRestarted count limit id before NotRunning after = ⊥
