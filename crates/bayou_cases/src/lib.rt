@@ -12,6 +12,8 @@ mod memory;
 #[cfg(test)]
 mod scripts;
 #[cfg(test)]
+mod servers;
+#[cfg(test)]
 mod sessions;
 #[cfg(test)]
 mod streams;

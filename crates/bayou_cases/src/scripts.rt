@@ -333,28 +333,38 @@ impl Case {
             && given.status == self.status
     }
 
-    /// Whether it ended for want of memory, behind a front of what it prints.
+    /// Whether it ended for want of memory, behind a front of what it prints, or because a device found none as a server was
+    /// started on it.
     fn has_ended(&self, given: &Given) -> bool {
+        let for_memory = given.errors.as_slice() == b"bayou: memory\n".as_slice();
+        let for_device = given.errors.as_slice() == b"bayou: device\n".as_slice();
         self.output.as_bytes().starts_with(given.output.as_slice())
-            && given.errors.as_slice() == b"bayou: memory\n".as_slice()
+            && (for_memory || for_device && given.output.is_empty())
             && given.status == 3
     }
 
-    /// Whether it ran to its end with one Write refused for want of memory, which is accepted with memory enough.
-    fn has_refused(&self, given: &Given) -> bool {
+    /// Whether it ran to its end with one Write refused so, which is accepted with memory enough, and behind that none of these
+    /// words.
+    fn has_refused(&self, given: &Given, refusal: &str, no_more: &str) -> bool {
         let Ok(output) = str::from_utf8(given.output.as_slice()) else {
             return false;
         };
-        let Some((front, rest)) = output.split_once(" refused memory\n") else {
+        let Some((front, rest)) = output.split_once(refusal) else {
             return false;
         };
         let Some(instead) = self.output.strip_prefix(front) else {
             return false;
         };
         instead.starts_with(" wrote ")
-            && !rest.contains("memory")
+            && !rest.contains(no_more)
             && given.errors.is_empty()
             && given.status == 0
+    }
+
+    /// Whether a Write was refused for want of memory: the server's, or the device's, after which it is down.
+    fn has_lacked(&self, given: &Given) -> bool {
+        self.has_refused(given, " refused memory\n", "memory")
+            || self.has_refused(given, " refused journal\n", " wrote ")
     }
 }
 
@@ -388,7 +398,7 @@ pub fn ends_well(rt: &impl Abort, alloc: Global, case: &Case) -> Result<(), Fail
     let name = case.name;
     let given = run(alloc, case.script.as_bytes())?;
     assert!(rt;
-        case.is_whole(&given) || case.has_ended(&given) || case.has_refused(&given),
+        case.is_whole(&given) || case.has_ended(&given) || case.has_lacked(&given),
         "the end of: {name}"
     );
     Ok(())
