@@ -1,8 +1,8 @@
 //! A server on a device in memory, for runs in which any one allocation is refused: what it acknowledged it keeps, and what
 //! was refused can be done again.
-use bayou_base::{Key, ServerId, Value, Vector};
+use crate::sessions::put;
+use bayou_base::{ServerId, Vector};
 use bayou_device::{MemoryDevice, OpenGate};
-use bayou_lang::{Op, Program, Term};
 use bayou_server::Server;
 use std::alloc::Global;
 use std::process::Abort;
@@ -12,12 +12,6 @@ type Served = Server<MemoryDevice<OpenGate>>;
 
 /// How many Writes are accepted.
 const WRITES: u8 = 3;
-
-fn put(number: u8) -> Result<Program, Fail> {
-    let key = Key::new("a").ok().ok_or("no key")?;
-    let op = Op::Put(key, Term::Lit(Value::Num(i64::from(number))));
-    Ok(Program::new(&[], &[op], &[]).ok().ok_or("no program")?)
-}
 
 /// Starts a server on the device, again where that was refused.
 fn start(alloc: Global, device: MemoryDevice<OpenGate>) -> Result<Served, Fail> {
@@ -35,7 +29,10 @@ fn start(alloc: Global, device: MemoryDevice<OpenGate>) -> Result<Served, Fail> 
 /// Writes, again where that was refused; a Write in doubt is settled first.
 fn write(rt: &impl Abort, alloc: Global, server: &mut Served, number: u8) -> Result<(), Fail> {
     let held = server.receipts().len();
-    if server.write(alloc, &Vector::zero(), put(number)?).is_ok() {
+    if server
+        .write(alloc, &Vector::zero(), put(i64::from(number))?)
+        .is_ok()
+    {
         return Ok(());
     }
     assert!(rt; server.receipts().len() == held, "a refused Write is held");
@@ -43,7 +40,7 @@ fn write(rt: &impl Abort, alloc: Global, server: &mut Served, number: u8) -> Res
         server.reopen(alloc).ok().ok_or("not reopened")?;
     }
     server
-        .write(alloc, &Vector::zero(), put(number)?)
+        .write(alloc, &Vector::zero(), put(i64::from(number))?)
         .ok()
         .ok_or("not written")?;
     Ok(())

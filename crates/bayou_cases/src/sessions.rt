@@ -8,7 +8,8 @@ use std::alloc::Global;
 use std::process::Abort;
 use std::test::Fail;
 
-fn put(number: i64) -> Result<Program, Fail> {
+/// A program that puts the number at one key.
+pub fn put(number: i64) -> Result<Program, Fail> {
     let key = Key::new("a").ok().ok_or("no key")?;
     let op = Op::Put(key, Term::Lit(Value::Num(number)));
     Ok(Program::new(&[], &[op], &[]).ok().ok_or("no program")?)
