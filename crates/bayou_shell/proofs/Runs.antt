@@ -11,12 +11,15 @@ use Rattle.bayou_shell.specs.declared.answer.Answer.{Answer}
 use Rattle.bayou_shell.specs.declared.fault.Fault.{Fault}
 use Rattle.bayou_shell.specs.declared.fault.Fault.TheVariants.{Line, Device, Input, Output}
 use Rattle.bayou_shell.specs.declared.fault.Fault.TheVariants as faults
-use Rattle.bayou_shell.specs.declared.script.Command.{Command}
-use Rattle.bayou_shell.specs.Fault.{exit_status, status_of}
+use Rattle.bayou_text.specs.declared.command.Command.{Command}
+use Rattle.bayou_script.specs.declared.fault.Refusal.{Refusal}
+use Rattle.bayou_script.specs.declared.fault.Refusal.TheVariants as refusals
+use Rattle.bayou_shell.specs.Fault.{exit_status, fault_of, status_of}
 use Rattle.bayou_shell.specs.Machine.{HasBegun, Machine}
 use Rattle.bayou_shell.specs.Printed.{answer_text}
 use Rattle.bayou_shell.specs.Run.{Step, Run, RunsAs, Prints, PrintsPart, answers_text}
-use Rattle.bayou_shell.specs.Script.{Plan, IsRefused, RefusedFor, command_said, is_served, lines_of}
+use Rattle.bayou_script.specs.Script.{Plan, IsRefused, RefusedFor, is_served, lines_of}
+use Rattle.bayou_text.specs.Said.{command_said}
 use Rattle.bayou_shell.specs.Turns.{EndsReading, EndsWriting}
 use Rattle.bayou_shell.specs.Written.{AppendsFront}
 
@@ -145,14 +148,11 @@ SoFar-stopped plan store rest old mid new so_far same =
     )
 
 -- a script that is refused is answered with nothing
-pub RunsAs-refused : (known contents : Option (List ℕ)) (text : List ℕ) (fault : Fault) → IfSome known (λ input. text ≡ input) → RefusedFor (lines_of text) fault
-    → IfSome known (λ input. RunsAs input (Err fault) contents contents)
-RunsAs-refused None contents text fault is refused = tt
-RunsAs-refused (Some input) contents text (Line number why) is refused = (subst (λ bytes. IsRefused (lines_of bytes) number why) is refused, Keeps-refl contents)
-RunsAs-refused (Some input) contents text faults.Memory is refused = inl (Keeps-refl contents)
-RunsAs-refused (Some input) contents text Device is refused = absurd refused
-RunsAs-refused (Some input) contents text Input is refused = absurd refused
-RunsAs-refused (Some input) contents text Output is refused = absurd refused
+pub RunsAs-refused : (known contents : Option (List ℕ)) (text : List ℕ) (refusal : Refusal) → IfSome known (λ input. text ≡ input) → RefusedFor (lines_of text) refusal
+    → IfSome known (λ input. RunsAs input (Err (fault_of refusal)) contents contents)
+RunsAs-refused None contents text refusal is refused = tt
+RunsAs-refused (Some input) contents text (refusals.Line number why) is refused = (subst (λ bytes. IsRefused (lines_of bytes) number why) is refused, Keeps-refl contents)
+RunsAs-refused (Some input) contents text refusals.OutOfMemory is refused = inl (Keeps-refl contents)
 
 -- want of memory before anything was read is an end of a run
 pub RunsAs-memory : (known contents : Option (List ℕ)) (status : ℕ) (read_fails write_fails : Bool) (reads writes : ℕ) → status ≡ status_of faults.Memory

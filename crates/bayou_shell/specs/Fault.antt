@@ -1,18 +1,14 @@
 -- How a run ends.
 use Rattle.std.specs.Prelude.{ℕ, Result, Ok, Err}
-use Rattle.bayou_text.specs.declared.line.LineFault.{LineFault}
-use Rattle.bayou_text.specs.declared.line.LineFault.TheVariants as line
-use Rattle.bayou_shell.specs.declared.fault.ScriptFault.TheVariants.{NotJson, BadShape, BadKey, BadProgram}
+use Rattle.bayou_script.specs.declared.fault.Refusal.{Refusal}
+use Rattle.bayou_script.specs.declared.fault.Refusal.TheVariants as refusal
 use Rattle.bayou_shell.specs.declared.fault.Fault.{Fault}
 use Rattle.bayou_shell.specs.declared.fault.Fault.TheVariants.{Line, Memory, Device, Input, Output}
 
--- the fault of a script whose line of this number wasn't read
-abbrev pub fault_of : ℕ → LineFault → Fault
-fault_of number line.OutOfMemory = Memory
-fault_of number line.NotJson = Line number NotJson
-fault_of number (line.BadShape what) = Line number BadShape
-fault_of number (line.Key why) = Line number BadKey
-fault_of number (line.Program why) = Line number BadProgram
+-- what a run ends with whose script is refused
+abbrev pub fault_of : Refusal → Fault
+fault_of (refusal.Line number fault) = Line number fault
+fault_of refusal.OutOfMemory = Memory
 
 -- 2 for a script that is refused, 3 for what its author can't help
 abbrev pub status_of : Fault → ℕ

@@ -1,9 +1,7 @@
-pub mod Draft
 pub mod Fault
 pub mod Machine
 pub mod Printed
 pub mod Replica
 pub mod Run
-pub mod Script
 pub mod Turns
 pub mod Written

@@ -16,7 +16,7 @@ use Rattle.bayou_shell.specs.declared.replica.Replica.{Replica}
 use Rattle.bayou_shell.specs.Machine.{HasBegun, Machine, StandsAt, new_session, session_of, with_server, with_session}
 use Rattle.bayou_shell.specs.Printed.{answer_text}
 use Rattle.bayou_shell.specs.Replica.{IsFused, IsListed, IsRead, IsReopened, IsRestarted, IsShortened, IsWritten}
-use Rattle.bayou_shell.specs.Script.{IsRefused, IsScript, Plan, lines_of}
+use Rattle.bayou_script.specs.Script.{IsRefused, IsScript, Plan, lines_of}
 
 -- the session is opened
 pub record Opens (old : Machine) (who : ℕ) (asks : Asks) (answer : Answer) (new : Machine) : Type 0 where

@@ -1,31 +1,11 @@
 use arrayvec::ArrayString;
-use bayou_text::LineFault;
+use bayou_script::{Refusal, ScriptFault};
 use std::alloc::{AllocError, AllocFailed};
 use std::fmt::Write;
 use thiserror::Error;
 
 /// How many bytes a fault's line has at the most.
 const MAX_FAULT_BYTES: usize = 128;
-
-/// What is wrong with a line of a script.
-#[derive(Clone, Copy, Debug, PartialEq, Eq, Error)]
-pub enum ScriptFault {
-    /// It isn't UTF-8, or isn't JSON.
-    #[error("not JSON")]
-    NotJson,
-    /// It is JSON of another shape than a command's.
-    #[error("bad shape")]
-    BadShape,
-    /// A key in it is none.
-    #[error("bad key")]
-    BadKey,
-    /// A program in it has a list that is too long.
-    #[error("bad program")]
-    BadProgram,
-    /// It is a command, which can't stand there.
-    #[error("out of place")]
-    OutOfPlace,
-}
 
 /// Why a run ended early.
 #[derive(Clone, Copy, Debug, PartialEq, Eq, Error)]
@@ -49,21 +29,7 @@ pub enum Fault {
 
 impl Fault {
     ghost use Rattle.std.specs.Prelude.{◌≡◌};
-    ghost use Rattle.bayou_shell.specs.Fault.{fault_of, status_of};
-
-    /// The fault of a script whose line of this number wasn't read.
-    pub fn of_line(number: u64, fault: LineFault) -> Self
-        ensures { result ≡ fault_of number fault }
-    {
-        let fault = match fault {
-            LineFault::OutOfMemory => return Fault::Memory,
-            LineFault::NotJson => ScriptFault::NotJson,
-            LineFault::BadShape(_) => ScriptFault::BadShape,
-            LineFault::Key(_) => ScriptFault::BadKey,
-            LineFault::Program(_) => ScriptFault::BadProgram,
-        };
-        Fault::Line { number, fault }
-    }
+    ghost use Rattle.bayou_shell.specs.Fault.{status_of};
 
     /// What the program's exit status is after this fault.
     pub fn status(self) -> u8
@@ -103,5 +69,19 @@ impl<T: Drop> From<AllocFailed<T>> for Fault {
 
     fn from(_error: AllocFailed<T>) -> Fault {
         Fault::Memory
+    }
+}
+
+impl From<Refusal> for Fault {
+    ghost use Rattle.std.specs.Prelude.{◌≡◌};
+    ghost use Rattle.bayou_shell.specs.Fault.{fault_of};
+
+    ghost from_gives = { λ refusal fault. fault ≡ fault_of refusal };
+
+    fn from(refusal: Refusal) -> Fault {
+        match refusal {
+            Refusal::Line { number, fault } => Fault::Line { number, fault },
+            Refusal::OutOfMemory => Fault::Memory,
+        }
     }
 }

@@ -1,11 +1,10 @@
 //! Scripts to printed lines: what the program does between the bytes that come in and the bytes that go out.
 //!
 //! Callers see a run as a relation (`RunsAs` in `specs/`) between the bytes that the reader has left, how the run ended,
-//! and what the writer holds before and after. The script's lines are read by the table of the lines, each in its place;
-//! the whole input is read and checked before anything runs. What is printed are the lines of the answers of a run of a
-//! small machine: its servers, each on a device in memory, and its sessions, with every answer that a command may get. Where
-//! the input is refused, nothing is printed, and the least line with a fault is told; where a fault comes later, a front of
-//! those lines is printed.
+//! and what the writer holds before and after. The whole input is read, and checked by `bayou_script`, before anything runs.
+//! What is printed are the lines of the answers of a run of a small machine: its servers, each on a device in memory, and its
+//! sessions, with every answer that a command may get. Where the input is refused, nothing is printed, and the least line with
+//! a fault is told; where a fault comes later, a front of those lines is printed.
 //!
 //! Streams come as an [`Input`] and an [`Output`], which alone call them: an input is read in at most
 //! [`MAX_TURNS`](bayou_base::MAX_TURNS) turns, and each printed line is written in at most as many. That the input or the
@@ -17,22 +16,18 @@
 #![tactic(auto)]
 
 mod answer;
-mod checking;
-mod draft;
-mod failure;
 pub mod fault;
 mod printed;
 pub mod program;
 mod reading;
 mod replica;
 pub mod run;
-mod script;
 mod store;
 mod telling;
 pub mod turns;
 mod writing;
 
-pub use fault::{Fault, ScriptFault};
+pub use fault::Fault;
 pub use program::{refuse_words, run_main};
 pub use run::run_script;
 pub use turns::{Input, Output};

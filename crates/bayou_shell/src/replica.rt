@@ -2,14 +2,14 @@
 ghost use Rattle.std.specs.Prelude.{◌≡◌, ◌<◌, IfOk, IfErr};
 
 use crate::answer::{Answer, Recovery};
-use crate::failure::PlannedFailure;
 use crate::fault::Fault;
-use crate::script::Servers;
 use bayou_base::{Key, ServerId, SessionId};
 use bayou_device::{MemoryDevice, OpenGate};
 use bayou_lang::Program;
+use bayou_script::Servers;
 use bayou_server::{NotStarted, Server, StartFault, Stopped, WriteFault};
 use bayou_session::Session;
+use bayou_text::PlannedFailure;
 use std::alloc::{AllocError, Global};
 
 /// A server of a script, on a device in memory.

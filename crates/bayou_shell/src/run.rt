@@ -1,21 +1,22 @@
 ghost use Rattle.std.specs.Prelude.{◌≡◌, ◌≤◌, ◌⊎◌, List, ℕ, IfErr, IfSome, IsTrue, MatchResult, OnOk};
 ghost use Rattle.std.specs.Io.KnownBytes.{Appends};
+ghost use Rattle.bayou_script.specs.Plan.{plan_of};
+ghost use Rattle.bayou_script.specs.Script.{is_served};
+ghost use Rattle.bayou_text.specs.Said.{command_said};
 ghost use Rattle.bayou_shell.specs.declared.answer.Answer.{Answer};
-ghost use Rattle.bayou_shell.specs.Draft.{plan_of};
 ghost use Rattle.bayou_shell.specs.Machine.{HasBegun};
 ghost use Rattle.bayou_shell.specs.Printed.{answer_text};
 ghost use Rattle.bayou_shell.specs.Run.{IsRunFault, Prints, PrintsPart, RunsAs, Step};
-ghost use Rattle.bayou_shell.specs.Script.{command_said, is_served};
 ghost use Rattle.bayou_shell.specs.Turns.{EndsReading, EndsWriting};
 ghost use Rattle.bayou_shell.specs.Written.{AppendsFront};
 
-use crate::checking::read_script;
 use crate::fault::Fault;
 use crate::reading::read_text;
-use crate::script::{Command, Script, Servers};
 use crate::store::Store;
 use crate::telling::write_answer;
 use crate::turns::{Input, Output};
+use bayou_script::{Script, Servers, read_script};
+use bayou_text::Command;
 use std::alloc::Global;
 use std::io::{Read, Write};
 

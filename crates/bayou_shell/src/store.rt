@@ -3,13 +3,13 @@ ghost use Rattle.bayou_shell.specs.declared.answer.Answer.TheVariants.{Done, Rec
 ghost use Rattle.bayou_text.specs.Said.{fuse, log, lose, read, reopen, restart, session, write};
 
 use crate::answer::{Answer, Recovery};
-use crate::failure::PlannedFailure;
 use crate::fault::Fault;
 use crate::replica::Replica;
-use crate::script::{Command, Servers};
 use bayou_base::{Asks, Key, SESSIONS, ServerId, SessionId};
 use bayou_lang::Program;
+use bayou_script::Servers;
 use bayou_session::Session;
+use bayou_text::{Command, PlannedFailure};
 use std::alloc::{AllocError, Global};
 use std::marker::Model;
 
@@ -37,7 +37,8 @@ impl Store {
     ghost use Rattle.bayou_shell.specs.Fault.{IsStartFault};
     ghost use Rattle.bayou_shell.specs.Machine.{HasBegun, session_of};
     ghost use Rattle.bayou_shell.specs.Run.{IsLog, Step};
-    ghost use Rattle.bayou_shell.specs.Script.{command_said, is_served};
+    ghost use Rattle.bayou_script.specs.Script.{is_served};
+    ghost use Rattle.bayou_text.specs.Said.{command_said};
 
     /// The servers of a script as it begins, each on an empty device.
     pub fn new(alloc: Global, servers: Servers) -> Result<Self, Fault>

@@ -23,6 +23,7 @@ use Rattle.bayou_lang.specs.declared.program.Alt.{Alt}
 use Rattle.bayou_lang.specs.declared.program.Program.{Program}
 use Rattle.bayou_lang.specs.declared.program.ProgramFault.{ProgramFault}
 use Rattle.bayou_lang.specs.declared.program.ProgramFault.TheVariants.{TooManyConds, TooManyOps, TooManyAlts}
+use Rattle.bayou_text.specs.declared.command.Command.TheVariants as command
 use Rattle.bayou_text.specs.declared.line.Line.{Line}
 use Rattle.bayou_text.specs.declared.line.Line.TheVariants as line
 use Rattle.bayou_text.proofs.Readers.{listed_items}
@@ -149,19 +150,19 @@ line_again (line.Servers count (Some limit)) kept readable = rw (
   number_again 1 SERVERS count readable.0.0 readable.0.1,
   number_again 1 MAX_WRITES limit readable.1.0 readable.1.1,
 )
-line_again (line.Session who asks) kept readable = rw (session_again who, asks_again asks)
-line_again (line.Write who place program) kept readable =
+line_again (line.Command (command.Session who asks)) kept readable = rw (session_again who, asks_again asks)
+line_again (line.Command (command.Write who place program)) kept readable =
     rw (session_again who, server_again place, program_again program.value kept)
-line_again (line.Read who place key) kept readable = rw (session_again who, server_again place, key_again key kept)
-line_again (line.Log place) kept readable = rw (server_again place)
-line_again (line.Fuse place calls kept) fits readable = rw (
+line_again (line.Command (command.Read who place key)) kept readable = rw (session_again who, server_again place, key_again key kept)
+line_again (line.Command (command.Log place)) kept readable = rw (server_again place)
+line_again (line.Command (command.Fuse place failure)) fits readable = rw (
   server_again place,
-  number_again 1 MAX_FUSE_CALLS calls readable.0.0 readable.0.1,
-  number_again 0 MAX_FUSE_KEPT kept (omega arith) readable.1,
+  number_again 1 MAX_FUSE_CALLS failure.calls readable.0.0 readable.0.1,
+  number_again 0 MAX_FUSE_KEPT failure.kept (omega arith) readable.1,
 )
-line_again (line.Lose place count) fits readable = rw (
+line_again (line.Command (command.Lose place count)) fits readable = rw (
   server_again place,
   number_again 0 MAX_LOST_BYTES count (omega arith) readable,
 )
-line_again (line.Reopen place) kept readable = rw (server_again place)
-line_again (line.Restart place) kept readable = rw (server_again place)
+line_again (line.Command (command.Reopen place)) kept readable = rw (server_again place)
+line_again (line.Command (command.Restart place)) kept readable = rw (server_again place)

@@ -22,6 +22,7 @@ use Rattle.bayou_lang.specs.declared.program.Alt.{Alt}
 use Rattle.bayou_lang.specs.declared.program.Program.{Program}
 use Rattle.std.specs.Int.{w64}
 use Rattle.std.specs.Int.RustNames.{FitsSigned}
+use Rattle.bayou_text.specs.declared.command.Command.TheVariants as command
 use Rattle.bayou_text.specs.declared.line.Line.{Line}
 use Rattle.bayou_text.specs.declared.line.Line.TheVariants as line
 use Rattle.bayou_text.specs.Ranges.{IsKey, IsValue, IsTerm, IsOp, IsCond, IsAlt, IsList, IsProgram, IsLine}
@@ -227,14 +228,14 @@ line_size (line.Servers count (Some limit)) kept =
       count_size count kept.0,
       count_size limit kept.1,
     )
-line_size (line.Session who asks) kept =
+line_size (line.Command (command.Session who asks)) kept =
     omega (
       arith,
       form_two (codes "session") (count_json who.index) (asks_json asks),
       count_size who.index (omega (arith, who.in_range)),
       asks_size asks,
     )
-line_size (line.Write who place program) kept =
+line_size (line.Command (command.Write who place program)) kept =
     omega (
       arith,
       form_three (codes "write") (count_json who.index) (count_json place.index) (program_json program.value),
@@ -242,7 +243,7 @@ line_size (line.Write who place program) kept =
       count_size place.index (omega (arith, place.in_range)),
       program_size program.value kept,
     )
-line_size (line.Read who place key) kept =
+line_size (line.Command (command.Read who place key)) kept =
     omega (
       arith,
       form_three (codes "read") (count_json who.index) (count_json place.index) (string key),
@@ -250,21 +251,21 @@ line_size (line.Read who place key) kept =
       count_size place.index (omega (arith, place.in_range)),
       key_size key kept,
     )
-line_size (line.Log place) kept = server_size (codes "log") place (lit≤ tt)
-line_size (line.Fuse place calls kept) fits =
+line_size (line.Command (command.Log place)) kept = server_size (codes "log") place (lit≤ tt)
+line_size (line.Command (command.Fuse place failure)) fits =
     omega (
       arith,
-      form_three (codes "fuse") (count_json place.index) (count_json calls) (count_json kept),
+      form_three (codes "fuse") (count_json place.index) (count_json failure.calls) (count_json failure.kept),
       count_size place.index (omega (arith, place.in_range)),
-      count_size calls fits.0,
-      wide_size kept fits.1,
+      count_size failure.calls fits.0,
+      wide_size failure.kept fits.1,
     )
-line_size (line.Lose place count) fits =
+line_size (line.Command (command.Lose place count)) fits =
     omega (
       arith,
       form_two (codes "lose") (count_json place.index) (count_json count),
       count_size place.index (omega (arith, place.in_range)),
       wide_size count fits,
     )
-line_size (line.Reopen place) kept = server_size (codes "reopen") place (lit≤ tt)
-line_size (line.Restart place) kept = server_size (codes "restart") place (lit≤ tt)
+line_size (line.Command (command.Reopen place)) kept = server_size (codes "reopen") place (lit≤ tt)
+line_size (line.Command (command.Restart place)) kept = server_size (codes "restart") place (lit≤ tt)

@@ -16,6 +16,8 @@ use Rattle.bayou_lang.specs.declared.program.Cond.{Cond}
 use Rattle.bayou_lang.specs.declared.program.Cond.TheVariants.{Equals, Absent, AtLeast}
 use Rattle.bayou_lang.specs.declared.program.Alt.{Alt}
 use Rattle.bayou_lang.specs.declared.program.Program.{Program}
+use Rattle.bayou_text.specs.declared.command.Command.{Command}
+use Rattle.bayou_text.specs.declared.command.Command.TheVariants as command
 use Rattle.bayou_text.specs.declared.line.Line.{Line}
 use Rattle.bayou_text.specs.declared.line.Line.TheVariants as line
 use Rattle.bayou_text.specs.Said.{Said, servers, session, write, read, log, fuse, lose, reopen, restart}
@@ -55,17 +57,21 @@ pub record IsProgram (program : Program) : Type 0 where
   pub merge : IsList IsAlt MAX_ALTERNATIVES program.merge.items
   pub update : IsList IsOp MAX_OPS program.update.items
 
--- what each line keeps by its type
+-- what each command keeps by its type
+abbrev pub IsCommand : Command → Type 0
+IsCommand (command.Session who asks) = ⊤
+IsCommand (command.Write who place program) = IsProgram program.value
+IsCommand (command.Read who place key) = IsKey key
+IsCommand (command.Log place) = ⊤
+IsCommand (command.Fuse place failure) = (failure.calls < 2 ^ 32) × (failure.kept < 2 ^ 64)
+IsCommand (command.Lose place count) = count < 2 ^ 64
+IsCommand (command.Reopen place) = ⊤
+IsCommand (command.Restart place) = ⊤
+
+-- and each line
 abbrev pub IsLine : Line → Type 0
 IsLine (line.Servers count limit) = (count < 2 ^ 32) × IfSome limit (λ most. most < 2 ^ 32)
-IsLine (line.Session who asks) = ⊤
-IsLine (line.Write who place program) = IsProgram program.value
-IsLine (line.Read who place key) = IsKey key
-IsLine (line.Log place) = ⊤
-IsLine (line.Fuse place calls kept) = (calls < 2 ^ 32) × (kept < 2 ^ 64)
-IsLine (line.Lose place count) = count < 2 ^ 64
-IsLine (line.Reopen place) = ⊤
-IsLine (line.Restart place) = ⊤
+IsLine (line.Command command) = IsCommand command
 
 abbrev pub IsCount : ℕ → Type 0
 IsCount count = (1 ≤ count) × (count ≤ SERVERS)

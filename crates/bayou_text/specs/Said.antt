@@ -2,6 +2,8 @@
 use Rattle.std.specs.Prelude.{ℕ, List, Option}
 use Rattle.bayou_base.specs.declared.asks.Asks.{Asks}
 use Rattle.bayou_lang.specs.declared.program.Program.{Program}
+use Rattle.bayou_text.specs.declared.command.Command.{Command}
+use Rattle.bayou_text.specs.declared.command.Command.TheVariants as command
 use Rattle.bayou_text.specs.declared.line.Line.{Line}
 use Rattle.bayou_text.specs.declared.line.Line.TheVariants as line
 
@@ -17,13 +19,17 @@ pub data Said : Type 0 where
   reopen : ℕ → Said
   restart : ℕ → Said
 
+-- what a command says
+abbrev pub command_said : Command → Said
+command_said (command.Session who asks) = session who.index asks
+command_said (command.Write who place program) = write who.index place.index program.value
+command_said (command.Read who place key) = read who.index place.index key
+command_said (command.Log place) = log place.index
+command_said (command.Fuse place failure) = fuse place.index failure.calls failure.kept
+command_said (command.Lose place count) = lose place.index count
+command_said (command.Reopen place) = reopen place.index
+command_said (command.Restart place) = restart place.index
+
 abbrev pub said : Line → Said
 said (line.Servers count limit) = servers count limit
-said (line.Session who asks) = session who.index asks
-said (line.Write who place program) = write who.index place.index program.value
-said (line.Read who place key) = read who.index place.index key
-said (line.Log place) = log place.index
-said (line.Fuse place calls kept) = fuse place.index calls kept
-said (line.Lose place count) = lose place.index count
-said (line.Reopen place) = reopen place.index
-said (line.Restart place) = restart place.index
+said (line.Command command) = command_said command

@@ -1,5 +1,6 @@
-use bayou_base::{Asks, Key, KeyFault, ServerId, SessionId};
-use bayou_lang::{Program, ProgramFault};
+use crate::command::Command;
+use bayou_base::KeyFault;
+use bayou_lang::ProgramFault;
 use std::alloc::{AllocError, AllocFailed};
 
 /// A line of a script.
@@ -11,49 +12,8 @@ pub enum Line {
         /// `None` where the line doesn't say.
         limit: Option<u32>,
     },
-    /// Opens a session that asks for these guarantees.
-    Session {
-        session: SessionId,
-        asks: Asks,
-    },
-    /// The session writes at the server.
-    Write {
-        session: SessionId,
-        server: ServerId,
-        program: Box<Program>,
-    },
-    /// The session reads the key at the server.
-    Read {
-        session: SessionId,
-        server: ServerId,
-        key: Key,
-    },
-    /// Lists the Writes that the server holds, with the outcome of each.
-    Log {
-        server: ServerId,
-    },
-    /// The server's device fails, once.
-    Fuse {
-        server: ServerId,
-        /// Which device call from now fails: the first is the next one.
-        calls: u32,
-        /// How many bytes of its piece are added, if it is an append.
-        kept: usize,
-    },
-    /// The server's device loses its last bytes.
-    Lose {
-        server: ServerId,
-        /// How many bytes.
-        count: usize,
-    },
-    /// A server that is down takes its journal up again.
-    Reopen {
-        server: ServerId,
-    },
-    /// The server is stopped, and started again on its device.
-    Restart {
-        server: ServerId,
-    },
+    /// Asks something of the servers and the sessions.
+    Command(Command),
 }
 
 /// What of a line has a shape that no line has.

@@ -6,6 +6,7 @@ ghost use Rattle.bayou_text.specs.Lines as grammar;
 ghost use Rattle.bayou_text.specs.Lines.{IsRefusalOf};
 ghost use Rattle.bayou_text.specs.Table.{Spells};
 
+use crate::command::Command;
 use crate::line::{Line, LineFault, Shape};
 use crate::read::asks::asks_in;
 use crate::read::number::{count_in, limit_in, server_in, session_in};
@@ -79,9 +80,9 @@ fn line_in(alloc: Global, json: &Value) -> Result<Line, LineFault>
         return reading_in(parts);
     }
     if word == "log" {
-        return Ok(Line::Log {
+        return Ok(Line::Command(Command::Log {
             server: alone_in(parts)?,
-        });
+        }));
     }
     trial_in(word, parts)
 }
@@ -110,10 +111,10 @@ fn opening_in(parts: &[Value]) -> Result<Line, LineFault>
     let [session, asks] = parts else {
         return Err(LineFault::BadShape(Shape::Arity));
     };
-    Ok(Line::Session {
+    Ok(Line::Command(Command::Session {
         session: session_in(session)?,
         asks: asks_in(asks)?,
-    })
+    }))
 }
 
 #[tactic(auto, unfolding(crate::specs::Lines::writing_in))]
@@ -123,11 +124,11 @@ fn writing_in(alloc: Global, parts: &[Value]) -> Result<Line, LineFault>
     let [session, server, program] = parts else {
         return Err(LineFault::BadShape(Shape::Arity));
     };
-    Ok(Line::Write {
+    Ok(Line::Command(Command::Write {
         session: session_in(session)?,
         server: server_in(server)?,
         program: Box::new(alloc, program_in(program)?)?,
-    })
+    }))
 }
 
 #[tactic(auto, unfolding(crate::specs::Lines::reading_in))]
@@ -137,11 +138,11 @@ fn reading_in(parts: &[Value]) -> Result<Line, LineFault>
     let [session, server, key] = parts else {
         return Err(LineFault::BadShape(Shape::Arity));
     };
-    Ok(Line::Read {
+    Ok(Line::Command(Command::Read {
         session: session_in(session)?,
         server: server_in(server)?,
         key: key_in(key)?,
-    })
+    }))
 }
 
 /// The server that a command takes alone.

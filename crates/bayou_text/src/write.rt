@@ -7,6 +7,7 @@ ghost use Rattle.bayou_text.specs.Lines.{line_of};
 ghost use Rattle.bayou_text.specs.Said.{said};
 ghost use Rattle.bayou_text.specs.Spelling as spelling;
 
+use crate::command::Command;
 use crate::line::Line;
 use crate::write::asks::asks_json;
 use crate::write::program::program_json;
@@ -77,40 +78,44 @@ fn line_json(alloc: Global, line: &Line) -> Result<Value, AllocError>
             count,
             limit: Some(limit),
         } => numbers_json(alloc, "servers", &[u64::from(*count), u64::from(*limit)]),
-        Line::Session { session, asks } => {
+        Line::Command(Command::Session { session, asks }) => {
             let asks = asks_json(alloc, *asks)?;
             json!(in alloc; ["session", session.index, asks])
         }
-        Line::Write {
-            session,
-            server,
-            program,
-        } => {
+        Line::Command(
+            Command::Write {
+                session,
+                server,
+                program,
+            },
+        ) => {
             let program = program_json(alloc, program)?;
             at_server_json(alloc, "write", *session, *server, program)
         }
-        Line::Read {
-            session,
-            server,
-            key,
-        } => {
+        Line::Command(
+            Command::Read {
+                session,
+                server,
+                key,
+            },
+        ) => {
             let key = Value::try_from_str(alloc, key.as_str())?;
             at_server_json(alloc, "read", *session, *server, key)
         }
-        Line::Log { server } => server_json(alloc, "log", *server),
-        Line::Fuse {
-            server,
-            calls,
-            kept,
-        } => numbers_json(
+        Line::Command(Command::Log { server }) => server_json(alloc, "log", *server),
+        Line::Command(Command::Fuse { server, failure }) => numbers_json(
             alloc,
             "fuse",
-            &[u64::from(server.index), u64::from(*calls), *kept as u64],
+            &[
+                u64::from(server.index),
+                u64::from(failure.calls),
+                failure.kept as u64,
+            ],
         ),
-        Line::Lose { server, count } => {
+        Line::Command(Command::Lose { server, count }) => {
             numbers_json(alloc, "lose", &[u64::from(server.index), *count as u64])
         }
-        Line::Reopen { server } => server_json(alloc, "reopen", *server),
-        Line::Restart { server } => server_json(alloc, "restart", *server),
+        Line::Command(Command::Reopen { server }) => server_json(alloc, "reopen", *server),
+        Line::Command(Command::Restart { server }) => server_json(alloc, "restart", *server),
     }
 }

@@ -60,7 +60,8 @@ pub(crate) fn server_in(json: &Value) -> Result<ServerId, LineFault>
 
 /// Which device call from now fails.
 pub(crate) fn calls_in(json: &Value) -> Result<u32, LineFault>
-    ensures { result ≡ grammar.calls_in (view json.now) }
+    ensures value { result ≡ grammar.calls_in (view json.now) }
+    ensures to_come { IfOk result (λ calls. 0 < calls) }
 {
     Ok(number_in(json, 1, MAX_FUSE_CALLS as u64)? as u32)
 }

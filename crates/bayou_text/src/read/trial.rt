@@ -4,6 +4,7 @@ ghost use Rattle.bayou_text.specs.Lines as grammar;
 ghost use Rattle.bayou_text.specs.Reading.{Answers};
 ghost use Rattle.bayou_text.specs.Said.{said};
 
+use crate::command::{Command, PlannedFailure};
 use crate::line::{Line, LineFault, Shape};
 use crate::read::alone_in;
 use crate::read::number::{calls_in, kept_in, lost_in, server_in};
@@ -21,14 +22,14 @@ pub(crate) fn trial_in(word: &str, parts: &[Value]) -> Result<Line, LineFault>
         return losing_in(parts);
     }
     if word == "reopen" {
-        return Ok(Line::Reopen {
+        return Ok(Line::Command(Command::Reopen {
             server: alone_in(parts)?,
-        });
+        }));
     }
     if word == "restart" {
-        return Ok(Line::Restart {
+        return Ok(Line::Command(Command::Restart {
             server: alone_in(parts)?,
-        });
+        }));
     }
     Err(LineFault::BadShape(Shape::Command))
 }
@@ -40,11 +41,13 @@ fn fusing_in(parts: &[Value]) -> Result<Line, LineFault>
     let [server, calls, kept] = parts else {
         return Err(LineFault::BadShape(Shape::Arity));
     };
-    Ok(Line::Fuse {
+    Ok(Line::Command(Command::Fuse {
         server: server_in(server)?,
-        calls: calls_in(calls)?,
-        kept: kept_in(kept)?,
-    })
+        failure: PlannedFailure {
+            calls: calls_in(calls)?,
+            kept: kept_in(kept)?,
+        },
+    }))
 }
 
 #[tactic(auto, unfolding(crate::specs::Lines::losing_in))]
@@ -54,8 +57,8 @@ fn losing_in(parts: &[Value]) -> Result<Line, LineFault>
     let [server, count] = parts else {
         return Err(LineFault::BadShape(Shape::Arity));
     };
-    Ok(Line::Lose {
+    Ok(Line::Command(Command::Lose {
         server: server_in(server)?,
         count: lost_in(count)?,
-    })
+    }))
 }

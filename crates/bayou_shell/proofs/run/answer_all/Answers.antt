@@ -1,8 +1,8 @@
 use Rattle.std.proofs.Common.{List, [], ◌∷◌, inl, inr, refl, subst}
 use Rattle.std.proofs.KnownBytes.{Appends-nil}
 use Rattle.std.proofs.lemmas.Result.{err_from_is_err_and}
-use Rattle.bayou_shell.specs.declared.script.Command.{Command}
-use Rattle.bayou_shell.specs.Draft.{plan_of}
+use Rattle.bayou_text.specs.declared.command.Command.{Command}
+use Rattle.bayou_script.specs.Plan.{plan_of}
 use Rattle.bayou_shell.proofs.Runs.{SoFar, SoFar-more, SoFar-part, SoFar-stopped}
 use Rattle.bayou_shell.proofs.run.answer_all.Goals as goal
 

@@ -1,6 +1,6 @@
 -- what was answered so far is a run, and what was written is what is printed for it
 use Rattle.std.proofs.Common.{length}
-use Rattle.bayou_shell.specs.Draft.{plan_of}
+use Rattle.bayou_script.specs.Plan.{plan_of}
 use Rattle.bayou_shell.proofs.Runs.{SoFar}
 use Rattle.bayou_shell.proofs.run.answer_all.Given as goal
 

@@ -7,17 +7,16 @@ use Rattle.std.specs.List.{list_all}
 use Rattle.bayou_text.specs.declared.line.LineFault.{LineFault}
 use Rattle.bayou_text.specs.declared.line.LineFault.TheVariants as line
 use Rattle.bayou_text.specs.Lines.{IsRefusalOf}
-use Rattle.bayou_text.specs.Said.{Said}
-use Rattle.bayou_shell.specs.declared.fault.Fault.{Fault}
-use Rattle.bayou_shell.specs.declared.fault.Fault.TheVariants.{Line, Memory, Device, Input, Output}
-use Rattle.bayou_shell.specs.declared.script.Command.{Command}
-use Rattle.bayou_shell.specs.Draft.{FaultAt}
-use Rattle.bayou_shell.specs.Fault.{fault_of}
-use Rattle.bayou_shell.specs.Script.{InOrder, HasFault, RefusedFor, at_line, command_said, in_itself, is_served}
+use Rattle.bayou_text.specs.Said.{Said, command_said}
+use Rattle.bayou_script.specs.declared.fault.Refusal.{Refusal}
+use Rattle.bayou_script.specs.declared.fault.Refusal.TheVariants.{Line, OutOfMemory}
+use Rattle.bayou_text.specs.declared.command.Command.{Command}
+use Rattle.bayou_script.specs.Inner.Draft.{FaultAt, refusal_of}
+use Rattle.bayou_script.specs.Script.{InOrder, HasFault, RefusedFor, at_line, in_itself, is_served}
 
 -- a line's own fault is told under its number
 pub own_fault : (number : ℕ) (front : List Said) (bytes : List ℕ) (why : LineFault) → bytes ≢ [] → IsRefusalOf bytes why
-    → FaultAt number front bytes (fault_of number why)
+    → FaultAt number front bytes (refusal_of number why)
 own_fault number front bytes line.OutOfMemory some known = tt
 own_fault number front bytes line.NotJson some (inl e) = let bad = e.0 in absurd (cc)
 own_fault number front bytes line.NotJson some (inr is) = (refl, in_itself line.NotJson some is refl)
@@ -43,13 +42,10 @@ lines_more lines i d within =
     ∙ ap (λ line. take i bytes ++ line ∷ []) (get_or-map (λ (line : Bor (List ℕ)). line.now) lines i d))
 
 -- the lines are refused for the first that is at fault
-pub refused_at : (lines : List (List ℕ)) (i : ℕ) (front : List Said) (bytes : List ℕ) (fault : Fault) → i < length lines → get_or lines i [] ≡ bytes
-    → InOrder (take i lines) front → FaultAt (i + 1) front bytes fault → RefusedFor lines fault
+pub refused_at : (lines : List (List ℕ)) (i : ℕ) (front : List Said) (bytes : List ℕ) (refusal : Refusal) → i < length lines → get_or lines i [] ≡ bytes
+    → InOrder (take i lines) front → FaultAt (i + 1) front bytes refusal → RefusedFor lines refusal
 refused_at lines i front bytes (Line number fault) within here in_order (told, has) =
     at_line (take i lines) bytes (drop (i + 1) lines) front
     (sym (take-append-drop i lines) ∙ ap (λ rest. take i lines ++ rest) (drop-cons lines i [] within ∙ rw (add-one, here) refl))
     in_order (omega (arith, length-take-le i lines (omega arith))) (subst (λ number. HasFault number front bytes fault) (sym told) has)
-refused_at lines i front bytes Memory within here in_order fault = tt
-refused_at lines i front bytes Device within here in_order fault = fault
-refused_at lines i front bytes Input within here in_order fault = fault
-refused_at lines i front bytes Output within here in_order fault = fault
+refused_at lines i front bytes OutOfMemory within here in_order fault = tt

@@ -1,9 +1,9 @@
 ghost use Rattle.std.specs.Prelude.{◌≡◌, IfOk, MatchResult, map};
-ghost use Rattle.bayou_shell.specs.Draft.{plan_of};
-ghost use Rattle.bayou_shell.specs.Script.{IsScript, RefusedFor, lines_of};
+ghost use Rattle.bayou_script.specs.Plan.{plan_of};
+ghost use Rattle.bayou_script.specs.Script.{IsScript, RefusedFor, lines_of};
 
 use crate::draft::Draft;
-use crate::fault::Fault;
+use crate::fault::Refusal;
 use crate::script::Script;
 use std::alloc::{AllocError, Global};
 
@@ -14,7 +14,7 @@ fn split_lines(alloc: Global, text: &[u8]) -> Result<Vec<&[u8]>, AllocError>
 }
 
 /// The script that the text is, or its least line with a fault. A fault within the line comes before its place.
-pub fn read_script(alloc: Global, text: &[u8]) -> Result<Script, Fault>
+pub fn read_script(alloc: Global, text: &[u8]) -> Result<Script, Refusal>
     ensures { MatchResult result (λ script. IsScript (lines_of text.now) (plan_of script)) (RefusedFor (lines_of text.now)) }
 {
     let lines = split_lines(alloc, text)?;

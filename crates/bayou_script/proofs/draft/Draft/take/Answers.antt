@@ -3,12 +3,12 @@ use Rattle.std.proofs.lemmas.Grind.{common_steps}
 use Rattle.std.proofs.lemmas.Result.{MatchResult-from_both, on_ok_weaker, IfErr-weaker}
 use Rattle.bayou_base.specs.declared.limits.TheConstants.{MAX_LINES}
 use Rattle.bayou_text.specs.Said.{Said, said}
-use Rattle.bayou_shell.specs.declared.fault.Fault.TheVariants.{Memory}
-use Rattle.bayou_shell.specs.Draft.{FaultAt, IsDraftOf}
-use Rattle.bayou_shell.specs.Script.{skipped, added, too_late, misplaced, InOrder, has_place}
-use Rattle.bayou_shell.proofs.Checked.{own_fault}
-use Rattle.bayou_shell.proofs.draft.Draft.take.Goals as goal
-use Rattle.bayou_shell.proofs.draft.Draft.take.Goals.{then-number-gt-MAX_LINES-via-then-number-gt-MAX_LINES, then-number-gt-MAX_LINES-via-else-number-gt-MAX_LINES+then-not-has_place}
+use Rattle.bayou_script.specs.declared.fault.Refusal.TheVariants.{OutOfMemory}
+use Rattle.bayou_script.specs.Inner.Draft.{FaultAt, IsDraftOf}
+use Rattle.bayou_script.specs.Script.{skipped, added, too_late, misplaced, InOrder, has_place}
+use Rattle.bayou_script.proofs.Checked.{own_fault}
+use Rattle.bayou_script.proofs.draft.Draft.take.Goals as goal
+use Rattle.bayou_script.proofs.draft.Draft.take.Goals.{then-number-gt-MAX_LINES-via-then-number-gt-MAX_LINES, then-number-gt-MAX_LINES-via-else-number-gt-MAX_LINES+then-not-has_place}
 
 pub returns-then-is_empty : goal.returns-then-is_empty
 returns-then-is_empty c before front number in_order draft =
@@ -41,4 +41,4 @@ returns c before front number in_order draft =
     (on_ok_weaker c.add.result
     (λ drafted. (front ++ told ∷ [], added before front c.args.bytes.now told in_order c.in-Ok.ensures.found in_line place, drafted))
     (c.add.ensures.ok front draft place))
-    (IfErr-weaker c.add.result (λ fault. fault ≡ Memory) (FaultAt c.args.number front c.args.bytes.now) (λ fault e. rw e tt) c.add.ensures.err)
+    (IfErr-weaker c.add.result (λ fault. fault ≡ OutOfMemory) (FaultAt c.args.number front c.args.bytes.now) (λ fault e. rw e tt) c.add.ensures.err)

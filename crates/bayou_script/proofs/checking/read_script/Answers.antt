@@ -3,9 +3,9 @@ use Rattle.std.proofs.lemmas.Grind.{common_steps}
 use Rattle.std.proofs.lemmas.Result.{err_from_is_err_and}
 use Rattle.std.proofs.Math.ListN.{get_or-map}
 use denote.Ref.{Bor}
-use Rattle.bayou_shell.specs.Script.{InOrder, RefusedFor, nothing, lines_of}
-use Rattle.bayou_shell.proofs.Checked.{lines_more, refused_at}
-use Rattle.bayou_shell.proofs.checking.read_script.Goals as goal
+use Rattle.bayou_script.specs.Script.{InOrder, RefusedFor, nothing, lines_of}
+use Rattle.bayou_script.proofs.Checked.{lines_more, refused_at}
+use Rattle.bayou_script.proofs.checking.read_script.Goals as goal
 
 pub loop-index-init : goal.loop-index-init
 loop-index-init c = ([], nothing, c.new-draft.ensures)

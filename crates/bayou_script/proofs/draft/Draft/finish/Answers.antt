@@ -1,9 +1,9 @@
 use Rattle.std.proofs.Common.{Option, map, subst, sym, ◌∙◌}
-use Rattle.bayou_shell.specs.declared.script.Servers.{Servers}
-use Rattle.bayou_shell.specs.Draft.{Begins}
-use Rattle.bayou_shell.specs.Script.{command_said}
-use Rattle.bayou_shell.proofs.Checked.{list_all-said}
-use Rattle.bayou_shell.proofs.draft.Draft.finish.Goals as goal
+use Rattle.bayou_script.specs.declared.script.Servers.{Servers}
+use Rattle.bayou_script.specs.Inner.Draft.{Begins}
+use Rattle.bayou_text.specs.Said.{command_said}
+use Rattle.bayou_script.proofs.Checked.{list_all-said}
+use Rattle.bayou_script.proofs.draft.Draft.finish.Goals as goal
 
 pub invariant_of-result : goal.invariant_of-result
 invariant_of-result c =

@@ -1,7 +1,7 @@
 use Rattle.std.proofs.Common.{false, refl}
 use Rattle.std.proofs.lemmas.List.{get_or-replicate}
 use Rattle.bayou_base.specs.declared.limits.TheConstants.{SESSIONS}
-use Rattle.bayou_shell.proofs.draft.Draft.new.Goals as goal
+use Rattle.bayou_script.proofs.draft.Draft.new.Goals as goal
 
 pub returns : goal.returns
 returns c = record {

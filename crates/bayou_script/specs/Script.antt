@@ -1,0 +1,114 @@
+-- Scripts: what their lines say, each in its place.
+use Rattle.std.specs.Prelude.{◌≡◌, ◌≢◌, if◌then◌else◌, ℕ, ◌+◌, ◌<◌, ◌==◌, Bool, false, not, ◌&&◌, List, [], ◌∷◌, ◌++◌, Option, None, Some, IsTrue, length, nat_lt, unwrap_or}
+use Rattle.std.specs.List.{list_all, list_any, slice_split}
+use Rattle.std.specs.Option.{is_some}
+use Rattle.bayou_base.specs.declared.limits.TheConstants.{DEFAULT_LIMIT, MAX_LINES}
+use Rattle.bayou_text.specs.declared.line.LineFault.{LineFault}
+use Rattle.bayou_text.specs.declared.line.LineFault.TheVariants as line
+use Rattle.bayou_text.specs.Lines.{IsFaultOf}
+use Rattle.bayou_text.specs.Said.{Said, servers, session, write, read, log, fuse, lose, reopen, restart}
+use Rattle.bayou_text.specs.Table.{Spells}
+use Rattle.bayou_script.specs.declared.fault.Refusal.{Refusal}
+use Rattle.bayou_script.specs.declared.fault.Refusal.TheVariants.{Line, OutOfMemory}
+use Rattle.bayou_script.specs.declared.fault.ScriptFault.{ScriptFault}
+use Rattle.bayou_script.specs.declared.fault.ScriptFault.TheVariants.{NotJson, BadShape, BadKey, BadProgram, OutOfPlace}
+
+-- What a line uses: how many servers it starts, which sessions it opens, for which of those that are open it speaks, and which
+-- servers it speaks to.
+pub record Use : Type 0 where
+  pub starts : Option ℕ
+  pub opens : List ℕ
+  pub sessions : List ℕ
+  pub servers : List ℕ
+
+abbrev pub at_server : ℕ → Use
+at_server place = record { starts = None; opens = []; sessions = []; servers = place ∷ [] }
+
+abbrev pub of_session : ℕ → ℕ → Use
+of_session who place = record { starts = None; opens = []; sessions = who ∷ []; servers = place ∷ [] }
+
+abbrev pub use_of : Said → Use
+use_of (servers count limit) = record { starts = Some count; opens = []; sessions = []; servers = [] }
+use_of (session who asks) = record { starts = None; opens = who ∷ []; sessions = []; servers = [] }
+use_of (write who place program) = of_session who place
+use_of (read who place key) = of_session who place
+use_of (log place) = at_server place
+use_of (fuse place calls kept) = at_server place
+use_of (lose place count) = at_server place
+use_of (reopen place) = at_server place
+use_of (restart place) = at_server place
+
+-- whether what a line says is said to servers that there are
+abbrev pub is_served : ℕ → Said → Bool
+is_served count said = list_all (λ place. nat_lt place count) (use_of said).servers
+
+-- what a script says: how many servers it starts, how many Writes each may hold, and what its other lines say
+pub record Plan : Type 0 where
+  pub count : ℕ
+  pub limit : ℕ
+  pub commands : List Said
+
+-- whether what is said opens this session
+abbrev pub opens : ℕ → Said → Bool
+opens who said = list_any (λ opened. opened == who) (use_of said).opens
+
+abbrev pub is_open : ℕ → List Said → Bool
+is_open who front = list_any (opens who) front
+
+-- how many servers are started by what is said first
+abbrev pub started : List Said → ℕ
+started [] = 0
+started (first ∷ others) = unwrap_or (use_of first).starts 0
+
+-- whether a line that starts no servers may stand behind this: something was said before, a session is opened once, and before it
+-- is used, and servers are used that were started
+abbrev pub is_behind : List Said → Use → Bool
+is_behind front used = nat_lt 0 (length front) && (list_all (λ who. not (is_open who front)) used.opens
+    && (list_all (λ who. is_open who front) used.sessions && list_all (λ place. nat_lt place (started front)) used.servers))
+
+-- Whether a line may say this behind what was said before: `servers` comes first, and once.
+abbrev pub has_place : List Said → Said → Bool
+has_place front said = if is_some (use_of said).starts then length front == 0 else is_behind front (use_of said)
+
+-- a text's lines, each without its line feed
+abbrev pub lines_of : List ℕ → List (List ℕ)
+lines_of text = slice_split (λ byte. byte == 10) text
+
+-- These lines are in order, and say this: each is empty, or says something that has its place there.
+pub data InOrder : List (List ℕ) → List Said → Type 0 where
+  nothing : InOrder [] []
+  skipped : (lines : List (List ℕ)) (front : List Said) → InOrder lines front → InOrder (lines ++ [] ∷ []) front
+  added : (lines : List (List ℕ)) (front : List Said) (line : List ℕ) (said : Said) → InOrder lines front
+      → Spells line said → length lines < MAX_LINES → IsTrue (has_place front said) → InOrder (lines ++ line ∷ []) (front ++ said ∷ [])
+
+-- the kind of a line's own fault; want of memory is none
+abbrev pub kind_of : LineFault → Option ScriptFault
+kind_of line.OutOfMemory = None
+kind_of line.NotJson = Some NotJson
+kind_of (line.BadShape what) = Some BadShape
+kind_of (line.Key why) = Some BadKey
+kind_of (line.Program why) = Some BadProgram
+
+-- the fault of the line of this number behind what was said: its own, or that it is out of place
+pub data HasFault (number : ℕ) (front : List Said) (bytes : List ℕ) (fault : ScriptFault) : Type 0 where
+  in_itself : (why : LineFault) → bytes ≢ [] → IsFaultOf bytes why → kind_of why ≡ Some fault → HasFault number front bytes fault
+  too_late : (said : Said) → Spells bytes said → MAX_LINES < number → fault ≡ OutOfPlace → HasFault number front bytes fault
+  misplaced : (said : Said) → Spells bytes said → has_place front said ≡ false → fault ≡ OutOfPlace → HasFault number front bytes fault
+
+-- The lines are refused for this one: those before it are in order, and it has the fault. Lines that say nothing are
+-- refused for line 1.
+pub data IsRefused (lines : List (List ℕ)) (number : ℕ) (fault : ScriptFault) : Type 0 where
+  at_line : (before : List (List ℕ)) (bytes : List ℕ) (after : List (List ℕ)) (front : List Said) → lines ≡ before ++ bytes ∷ after
+      → InOrder before front → number ≡ length before + 1 → HasFault number front bytes fault → IsRefused lines number fault
+  at_end : InOrder lines [] → number ≡ 1 → fault ≡ OutOfPlace → IsRefused lines number fault
+
+-- the lines are a script that says this
+pub record IsScript (lines : List (List ℕ)) (plan : Plan) : Type 0 where
+  pub most : Option ℕ
+  pub in_order : InOrder lines (servers plan.count most ∷ plan.commands)
+  pub limit : plan.limit ≡ unwrap_or most DEFAULT_LIMIT
+
+-- why the lines aren't taken as a script, where memory didn't run out
+abbrev pub RefusedFor : List (List ℕ) → Refusal → Type 0
+RefusedFor lines (Line number fault) = IsRefused lines number fault
+RefusedFor lines OutOfMemory = Unit {0}

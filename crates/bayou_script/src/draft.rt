@@ -1,0 +1,151 @@
+ghost use Rattle.std.specs.Prelude.{◌≡◌, ◌+◌, [], ◌∷◌, ◌++◌, ℕ, List, Some, IfErr, OnOk, IsTrue, MatchResult, length};
+
+use crate::fault::{Refusal, ScriptFault};
+use crate::script::{Script, Servers};
+use crate::uses::{Uses, used_by};
+use bayou_base::{DEFAULT_LIMIT, MAX_LINES, SESSIONS, SessionId};
+use bayou_text::{Command, Line, read_line};
+use std::alloc::Global;
+use std::collections::VecDeque;
+
+/// The front of a script, while its lines are checked.
+#[derive(Drop)]
+pub struct Draft {
+    /// `None` before the first line that isn't empty.
+    servers: Option<Servers>,
+    /// Which sessions were opened.
+    opened: [bool; SESSIONS],
+    commands: VecDeque<Command>,
+}
+
+impl Draft {
+    ghost use Rattle.bayou_base.specs.declared.limits.TheConstants.{SESSIONS};
+    ghost use Rattle.bayou_text.specs.Said.{Said, command_said, said};
+    ghost use Rattle.bayou_text.specs.Table.{Spells};
+    ghost use Rattle.bayou_script.specs.declared.fault.Refusal.TheVariants.{OutOfMemory};
+    ghost use Rattle.bayou_script.specs.Inner.Draft.{FaultAt, IsDraftOf};
+    ghost use Rattle.bayou_script.specs.Inner.Using.{AreUses};
+    ghost use Rattle.bayou_script.specs.Script.{InOrder, IsScript, RefusedFor, Use, has_place, is_behind, is_open};
+    ghost use Rattle.bayou_script.specs.Plan.{plan_of};
+
+    pub fn new(alloc: Global) -> Self
+        ensures { IsDraftOf result [] }
+    {
+        Draft {
+            servers: None,
+            opened: [false; SESSIONS],
+            commands: VecDeque::new(alloc),
+        }
+    }
+
+    fn is_open(&self, session: SessionId) -> bool
+        ensures { (front : List Said) → IsDraftOf self.now front → result ≡ is_open session.index front }
+    {
+        self.opened[usize::from(session.index)]
+    }
+
+    /// Whether a command that uses this may stand behind the line that started the servers.
+    fn is_behind(&self, servers: Servers, uses: Uses) -> bool
+        requires { self.now.servers ≡ Some servers }
+        ensures { (front : List Said) (used : Use) → IsDraftOf self.now front → AreUses uses used → result ≡ is_behind front used }
+    {
+        let opens_once = match uses.opens {
+            Some(session) => !self.is_open(session),
+            None => true,
+        };
+        let speaks_for_one_that_is_open = match uses.session {
+            Some(session) => self.is_open(session),
+            None => true,
+        };
+        let speaks_to_one_that_is_started = match uses.server {
+            Some(server) => server.index < servers.count,
+            None => true,
+        };
+        opens_once && speaks_for_one_that_is_open && speaks_to_one_that_is_started
+    }
+
+    /// Whether the line may stand behind this front.
+    fn has_place(&self, line: &Line) -> bool
+        ensures { (front : List Said) → IsDraftOf self.now front → result ≡ has_place front (said line.now) }
+    {
+        match line {
+            Line::Servers { .. } => self.servers.is_none(),
+            Line::Command(command) => match self.servers {
+                Some(servers) => self.is_behind(servers, used_by(command)),
+                None => false,
+            },
+        }
+    }
+
+    /// Adds a command that has its place.
+    fn push(&mut self, command: Command) -> Result<(), Refusal>
+        ensures ok { (front : List Said) → IsDraftOf self.old front → IsTrue (has_place front (command_said command))
+            → OnOk result (IsDraftOf self.new (front ++ command_said command ∷ [])) }
+        ensures err { IfErr result (λ refusal. refusal ≡ OutOfMemory) }
+    {
+        let opens = used_by(&command).opens;
+        self.commands.push_back(command)?;
+        if let Some(session) = opens {
+            self.opened[usize::from(session.index)] = true;
+        }
+        Ok(())
+    }
+
+    /// Adds a line that has its place.
+    fn add(&mut self, line: Line) -> Result<(), Refusal>
+        requires { (bytes : List ℕ) × Spells bytes (said line) }
+        ensures ok { (front : List Said) → IsDraftOf self.old front → IsTrue (has_place front (said line))
+            → OnOk result (IsDraftOf self.new (front ++ said line ∷ [])) }
+        ensures err { IfErr result (λ refusal. refusal ≡ OutOfMemory) }
+    {
+        match line {
+            Line::Servers { count, limit } => {
+                let limit = limit.unwrap_or(DEFAULT_LIMIT);
+                self.servers = Some(Servers { count, limit });
+                Ok(())
+            }
+            Line::Command(command) => self.push(command),
+        }
+    }
+
+    /// Adds what the line of this number says. An empty line says nothing.
+    pub fn take(&mut self, alloc: Global, number: u64, bytes: &[u8]) -> Result<(), Refusal>
+        ensures { (before : List (List ℕ)) (front : List Said) → number ≡ length before + 1 → InOrder before front → IsDraftOf self.old front
+            → MatchResult result
+            (λ _. (after : List Said) × InOrder (before ++ bytes.now ∷ []) after × IsDraftOf self.new after)
+            (FaultAt number front bytes.now) }
+    {
+        if bytes.is_empty() {
+            return Ok(());
+        }
+        let line = match read_line(alloc, bytes) {
+            Ok(line) => line,
+            Err(fault) => return Err(Refusal::of_line(number, fault)),
+        };
+        if number > MAX_LINES || !self.has_place(&line) {
+            return Err(Refusal::Line {
+                number,
+                fault: ScriptFault::OutOfPlace,
+            });
+        }
+        self.add(line)
+    }
+
+    /// The script of which this is all.
+    pub fn finish(self) -> Result<Script, Refusal>
+        requires { (front : List Said) × IsDraftOf self front }
+        ensures { (lines : List (List ℕ)) (front : List Said) → InOrder lines front → IsDraftOf self front
+            → MatchResult result (λ script. IsScript lines (plan_of script)) (RefusedFor lines) }
+    {
+        match self.servers {
+            Some(servers) => Ok(Script {
+                servers,
+                commands: self.commands,
+            }),
+            None => Err(Refusal::Line {
+                number: 1,
+                fault: ScriptFault::OutOfPlace,
+            }),
+        }
+    }
+}

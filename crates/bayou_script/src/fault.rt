@@ -1,0 +1,73 @@
+use bayou_text::LineFault;
+use std::alloc::{AllocError, AllocFailed};
+use thiserror::Error;
+
+/// What is wrong with a line of a script.
+#[derive(Clone, Copy, Debug, PartialEq, Eq, Error)]
+pub enum ScriptFault {
+    /// It isn't UTF-8, or isn't JSON.
+    #[error("not JSON")]
+    NotJson,
+    /// It is JSON of another shape than a command's.
+    #[error("bad shape")]
+    BadShape,
+    /// A key in it is none.
+    #[error("bad key")]
+    BadKey,
+    /// A program in it has a list that is too long.
+    #[error("bad program")]
+    BadProgram,
+    /// It is a command, which can't stand there.
+    #[error("out of place")]
+    OutOfPlace,
+}
+
+/// Why a text wasn't taken as a script.
+#[derive(Clone, Copy, Debug, PartialEq, Eq)]
+pub enum Refusal {
+    /// Its line of this number, counted from 1 on, has this fault.
+    Line { number: u64, fault: ScriptFault },
+    /// An allocation was refused. It says nothing of the text.
+    OutOfMemory,
+}
+
+impl Refusal {
+    ghost use Rattle.std.specs.Prelude.{◌≡◌};
+    ghost use Rattle.bayou_script.specs.Inner.Draft.{refusal_of};
+
+    /// The refusal of a script whose line of this number wasn't read.
+    pub(crate) fn of_line(number: u64, fault: LineFault) -> Self
+        ensures { result ≡ refusal_of number fault }
+    {
+        let fault = match fault {
+            LineFault::OutOfMemory => return Refusal::OutOfMemory,
+            LineFault::NotJson => ScriptFault::NotJson,
+            LineFault::BadShape(_) => ScriptFault::BadShape,
+            LineFault::Key(_) => ScriptFault::BadKey,
+            LineFault::Program(_) => ScriptFault::BadProgram,
+        };
+        Refusal::Line { number, fault }
+    }
+}
+
+impl From<AllocError> for Refusal {
+    ghost use Rattle.std.specs.Prelude.{◌≡◌};
+    ghost use Rattle.bayou_script.specs.declared.fault.Refusal.TheVariants.{OutOfMemory};
+
+    ghost from_gives = { λ _ refusal. refusal ≡ OutOfMemory };
+
+    fn from(_error: AllocError) -> Refusal {
+        Refusal::OutOfMemory
+    }
+}
+
+impl<T: Drop> From<AllocFailed<T>> for Refusal {
+    ghost use Rattle.std.specs.Prelude.{◌≡◌};
+    ghost use Rattle.bayou_script.specs.declared.fault.Refusal.TheVariants.{OutOfMemory};
+
+    ghost from_gives = { λ _ refusal. refusal ≡ OutOfMemory };
+
+    fn from(_error: AllocFailed<T>) -> Refusal {
+        Refusal::OutOfMemory
+    }
+}
