@@ -1,12 +1,15 @@
 -- Lists of changes: a new one in the place of an older one of its key.
-use Rattle.std.proofs.Common.{◌≡◌, ℕ, zero, suc, ◌<◌, Bool, true, false, cond, not, List, [], ◌∷◌, length, map, Contains, ap, sym, ◌∙◌, refl, arith, Decides, get_or}
+use Rattle.std.proofs.Common.{◌≡◌, ℕ, zero, suc, ◌+◌, ◌<◌, Bool, true, false, cond, not, List, [], ◌∷◌, length, drop, map, Contains, Option, ap, sym, ◌∙◌, refl, arith, Decides, get_or}
 use Rattle.std.specs.List.{filter, flat_map, IsDistinct, AllByRecursion}
 use Rattle.std.specs.Cmp.Lexicographic.{bytes_decides}
+use Rattle.std.proofs.lemmas.List.{at_drop_more}
 use Rattle.std.proofs.lemmas.List.Elements.{All-cons, All-filter, All-nil, Contains-append_left, Contains-append_right}
 use Rattle.std.proofs.lemmas.List.Concat.{flat_map-cons}
 use Rattle.std.proofs.lemmas.Map.Keys.{IsDistinct-cons, IsDistinct-head, IsDistinct-tail}
 use Rattle.bayou_lang.specs.declared.change.Change.{Change}
-use Rattle.bayou_lang.specs.Places.{Places, changed, same_key}
+use Rattle.bayou_base.specs.declared.value.Value.{Value}
+use Rattle.bayou_lang.specs.Places.{Places, changed, same_key, value_at}
+use Rattle.bayou_lang.specs.PlacesLaws.{same_key-turned, same_places, value_at-changed}
 use Rattle.bayou_lang.specs.declared.program.Alt.{Alt}
 use Rattle.bayou_lang.specs.declared.program.Program.{Program}
 use Rattle.bayou_lang.specs.Changes.{after_changes, op_key, program_writes, ChangeOnly}
@@ -18,35 +21,52 @@ others key changes = filter (λ change. not (same_key change.key key)) changes
 same_key-decides : (a b : List ℕ) → Decides (same_key a b) (a ≡ b)
 same_key-decides = bytes_decides
 
-pub same_key-sym : (a b : List ℕ) → same_key a b ≡ false → same_key b a ≡ false
-same_key-sym a b h =
-    elim (same_key b a) as (λ t. same_key b a ≡ t → t ≡ false) [
-      | true ↦ λ e. sym ((same_key-decides a b).1 (sym ((same_key-decides b a).0 e))) ∙ h
-      | false ↦ λ e. refl
-    ] refl
+same_key-sym : (a b : List ℕ) → same_key a b ≡ false → same_key b a ≡ false
+same_key-sym a b h = sym (same_key-turned a b) ∙ h
+
+-- what the key has after the changes, where it had this before
+abbrev pub value_after : List Change → List ℕ → Option Value → Option Value
+value_after [] key before = before
+value_after (change ∷ changes) key before = cond (same_key change.key key) change.value (value_after changes key before)
+
+pub value_at-after_changes : (changes : List Change) (places : Places) (key : List ℕ) → value_at (after_changes changes places) key ≡ value_after changes key (value_at places key)
+value_at-after_changes [] places key = refl
+value_at-after_changes (change ∷ changes) places key =
+    value_at-changed change.key change.value (after_changes changes places) key
+    ∙ ap (cond (same_key change.key key) change.value) (value_at-after_changes changes places key)
+
+-- the first of the changes that is of the key counts
+pub value_after-at : (changes : List Change) (index : ℕ) (change : Change) (key : List ℕ) (before : Option Value) → index < length changes → change ≡ get_or changes index change → same_key change.key key ≡ true → value_after (drop index changes) key before ≡ change.value
+value_after-at changes index change key before within is same =
+    at_drop_more (λ left. value_after left key before) changes index change within
+    ∙ ap (λ (first : Change). cond (same_key first.key key) first.value (value_after (drop (index + 1) changes) key before)) (sym is)
+    ∙ ap (λ t. cond t change.value (value_after (drop (index + 1) changes) key before)) same
 
 -- at another key the changes of that key don't count
-after_changes-others : (key : List ℕ) (changes : List Change) (places : Places) (other : List ℕ) → same_key key other ≡ false → after_changes (others key changes) places other ≡ after_changes changes places other
-after_changes-others key [] places other differs = refl
-after_changes-others key (change ∷ changes) places other differs =
-    let rest = after_changes-others key changes places other differs in
-    elim (same_key change.key key) as (λ t. same_key change.key key ≡ t → after_changes (cond (not t) (change ∷ others key changes) (others key changes)) places other ≡ cond (same_key change.key other) change.value (after_changes changes places other)) [
+value_after-others : (key : List ℕ) (changes : List Change) (other : List ℕ) (before : Option Value) → same_key key other ≡ false → value_after (others key changes) other before ≡ value_after changes other before
+value_after-others key [] other before differs = refl
+value_after-others key (change ∷ changes) other before differs =
+    let rest = value_after-others key changes other before differs in
+    elim (same_key change.key key) as (λ t. same_key change.key key ≡ t → value_after (cond (not t) (change ∷ others key changes) (others key changes)) other before ≡ cond (same_key change.key other) change.value (value_after changes other before)) [
       | true ↦ λ e.
           let one : change.key ≡ key = (same_key-decides change.key key).0 e in
           let apart : same_key change.key other ≡ false = ap (λ k. same_key k other) one ∙ differs in
-          rest ∙ sym (ap (λ t. cond t change.value (after_changes changes places other)) apart)
+          rest ∙ sym (ap (λ t. cond t change.value (value_after changes other before)) apart)
       | false ↦ λ e. ap (cond (same_key change.key other) change.value) rest
     ] refl
 
 -- a change put first, in the place of an older one of its key, is the change of the database
 pub after_changes-set : (change : Change) (changes : List Change) (places : Places) → after_changes (change ∷ others change.key changes) places ≡ changed change.key change.value (after_changes changes places)
 after_changes-set change changes places =
-    let at : (other : List ℕ) → changed change.key change.value (after_changes (others change.key changes) places) other ≡ changed change.key change.value (after_changes changes places) other = λ other.
-    elim (same_key change.key other) as (λ t. same_key change.key other ≡ t → cond t change.value (after_changes (others change.key changes) places other) ≡ cond t change.value (after_changes changes places other)) [
+    let set = change ∷ others change.key changes in
+    let after = changed change.key change.value (after_changes changes places) in
+    let at : (other : List ℕ) → value_after set other (value_at places other) ≡ cond (same_key change.key other) change.value (value_after changes other (value_at places other)) = λ other.
+    elim (same_key change.key other) as (λ t. same_key change.key other ≡ t → cond t change.value (value_after (others change.key changes) other (value_at places other)) ≡ cond t change.value (value_after changes other (value_at places other))) [
       | true ↦ λ e. refl
-      | false ↦ λ e. after_changes-others change.key changes places other e
+      | false ↦ λ e. value_after-others change.key changes other (value_at places other) e
     ] refl in
-    λ i other. at other i
+    same_places (after_changes set places) after (λ other.
+    value_at-after_changes set places other ∙ at other ∙ sym (value_at-after_changes (change ∷ changes) places other))
 
 not_true : (b : Bool) → not b ≡ true → b ≡ false
 not_true true h = sym h

@@ -1,4 +1,5 @@
 pub mod Places
+pub mod PlacesLaws
 pub mod Meaning
 pub mod Changes
 pub mod Program

@@ -16,7 +16,7 @@ use Rattle.bayou_lang.specs.declared.program.Alt.{Alt}
 use Rattle.bayou_lang.specs.declared.program.Program.{Program}
 use Rattle.bayou_lang.specs.declared.eval.Outcome.{Outcome}
 use Rattle.bayou_lang.specs.declared.eval.Outcome.TheVariants.{Updated, Merged, Nothing}
-use Rattle.bayou_lang.specs.Places.{Places, changed}
+use Rattle.bayou_lang.specs.Places.{Places, changed, value_at}
 
 -- whether two values are one
 abbrev pub same_value : Value → Value → Bool
@@ -32,9 +32,9 @@ is_at_least number (Text a) = false
 
 -- Equals: the key is present with the value. Absent: the key is absent. AtLeast: the key has a number not less than this one.
 abbrev pub holds : Cond → Places → Bool
-holds (Equals key value) places = option_map_or (same_value value) (places key) false
-holds (Absent key) places = is_none (places key)
-holds (AtLeast key number) places = option_map_or (is_at_least number) (places key) false
+holds (Equals key value) places = option_map_or (same_value value) (value_at places key) false
+holds (Absent key) places = is_none (value_at places key)
+holds (AtLeast key number) places = option_map_or (is_at_least number) (value_at places key) false
 
 -- every condition holds
 abbrev pub all_hold : List Cond → Places → Bool
@@ -54,8 +54,8 @@ sum_with number (Text a) = None
 -- Lit: the value. Copy: what the key has. Plus: the sum of the key's number and this one.
 abbrev pub term_value : Term → Places → Option Value
 term_value (Lit value) places = Some value
-term_value (Copy key) places = places key
-term_value (Plus key number) places = option_and_then (sum_with number) (places key)
+term_value (Copy key) places = value_at places key
+term_value (Plus key number) places = option_and_then (sum_with number) (value_at places key)
 
 -- Put sets the key to the term's value, where the term has one; Del removes the key, and always has a value
 abbrev pub after_op : Op → Places → Option Places

@@ -1,15 +1,21 @@
--- Databases, as what they have at each key.
-use Rattle.std.specs.Prelude.{◌≡◌, ℕ, Bool, List, Option, None, nat_eq, if◌then◌else◌}
-use Rattle.std.specs.Cmp.Lexicographic.{pointwise}
+-- Databases: what they have at each key.
+use Rattle.std.specs.Prelude.{ℕ, Bool, List, Option, None, Some, nat_eq}
+use Rattle.std.specs.FinMap as map
+use Rattle.std.specs.Ordering.{nat_cmp}
+use Rattle.std.specs.Cmp.Lexicographic.{pointwise, slice_cmp}
 use Rattle.bayou_base.specs.declared.value.Value.{Value}
 
--- what a database has at each key, if anything
+-- a database: finitely many keys, each with its value
 abbrev pub Places : Type 0
-Places = List ℕ → Option Value
+Places = map.FinMap (slice_cmp nat_cmp) Value
 
 -- the database that has nothing
 abbrev pub empty : Places
-empty key = None
+empty = map.empty
+
+-- what the key has, if anything
+abbrev pub value_at : Places → List ℕ → Option Value
+value_at places key = map.get places key
 
 -- whether two keys are one
 abbrev pub same_key : List ℕ → List ℕ → Bool
@@ -17,8 +23,5 @@ same_key = pointwise nat_eq
 
 -- the database in which the key has this, or nothing, and each other key what it had
 abbrev pub changed : List ℕ → Option Value → Places → Places
-changed key value places other = if same_key key other then value else places other
-
--- two databases have the same at each key
-abbrev pub SamePlaces : Places → Places → Type 0
-SamePlaces a b = (key : List ℕ) → a key ≡ b key
+changed key None places = map.remove places key
+changed key (Some value) places = map.insert places key value

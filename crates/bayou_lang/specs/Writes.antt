@@ -1,6 +1,7 @@
 -- Lists and sets of Writes.
 use Rattle.std.specs.Prelude.{◌≡◌, ◌≢◌, ◌↔◌, ℕ, ◌+◌, ◌<◌, ◌≤◌, List, [], ◌∷◌, ◌++◌, All, AllPairs, Any, Contains, filter, max, nat_le, replicate, slice_index, slice_set, if◌then◌else◌}
 use Rattle.bayou_base.specs.declared.limits.TheConstants.{SERVERS}
+use Rattle.bayou_base.specs.declared.stamp.Stamp.{Stamp}
 use Rattle.bayou_base.specs.declared.wid.Wid.{Wid}
 use Rattle.bayou_base.specs.Order.{is_before}
 use Rattle.bayou_base.specs.Vector.{Dominates}
@@ -17,6 +18,10 @@ place_by_stamp write (next ∷ writes) =
 abbrev pub in_stamp_order : List Write → List Write
 in_stamp_order [] = []
 in_stamp_order (write ∷ writes) = place_by_stamp write (in_stamp_order writes)
+
+-- those of the Writes that come before the stamp
+abbrev pub earlier_than : Stamp → List Write → List Write
+earlier_than stamp writes = filter (λ write. is_before write.stamp stamp) writes
 
 -- no two of the Writes have one stamp
 abbrev pub HaveDistinctStamps : List Write → Type 0

@@ -3,7 +3,7 @@ ghost use Rattle.std.specs.List.{filter, flat_map};
 ghost use Rattle.std.specs.Option.{option_map};
 ghost use Rattle.arrayvec.specs.ArrayVec.{array_vec_len};
 ghost use Rattle.bayou_base.specs.declared.limits.TheConstants.{MAX_ALTERNATIVES, MAX_OPS};
-ghost use Rattle.bayou_lang.specs.Places.{Places, changed, same_key};
+ghost use Rattle.bayou_lang.specs.Places.{Places, changed, same_key, value_at};
 ghost use Rattle.bayou_lang.specs.Changes.{ChangeOnly, after_changes, op_key, program_writes};
 ghost use Rattle.bayou_lang.specs.Meaning as meaning;
 
@@ -29,7 +29,7 @@ pub trait Look {
 
     /// What the key has, if anything.
     fn look(&self, key: &Key) -> Option<Value>
-        ensures { result ≡ places self.now key.now };
+        ensures { result ≡ value_at (places self.now) key.now };
 }
 
 /// A database with changes over it, which the next op sees.

@@ -1,6 +1,6 @@
 //! What the definitions of meaning come to, in the subject's own words: each law is the contract of a function that
 //! does nothing.
-ghost use Rattle.std.specs.Prelude.{◌≡◌, ℕ, ◌<◌, ℤ, ◌+ℤ◌, ◌≤ℤ◌, ◌↔◌, List, None, Some, true, false, FitsSigned, slice_get};
+ghost use Rattle.std.specs.Prelude.{◌≡◌, ℕ, ◌<◌, ℤ, ◌+ℤ◌, ◌≤ℤ◌, ◌↔◌, List, Option, None, Some, true, false, FitsSigned, slice_get, if◌then◌else◌};
 ghost use Rattle.std.specs.Int.{w64};
 ghost use Rattle.bayou_base.specs.declared.value.Value.{Value};
 ghost use Rattle.bayou_base.specs.declared.value.Value.TheVariants.{Num};
@@ -10,28 +10,44 @@ ghost use Rattle.bayou_lang.specs.declared.program.Cond.TheVariants.{Equals, Abs
 ghost use Rattle.bayou_lang.specs.declared.program.Program.{Program};
 ghost use Rattle.bayou_lang.specs.declared.program.Term.TheVariants.{Plus};
 ghost use Rattle.bayou_lang.specs.Meaning.{after_alternative, after_ops, all_hold, holds, mean, term_value};
-ghost use Rattle.bayou_lang.specs.Places.{Places};
+ghost use Rattle.bayou_lang.specs.Places.{Places, changed, empty, same_key, value_at};
+
+/// Two databases that have the same at each key are one.
+pub fn databases_are_what_they_have()
+    ensures { (a b : Places) → ((key : List ℕ) → value_at a key ≡ value_at b key) → a ≡ b }
+{}
+
+/// The empty database has nothing at any key.
+pub fn the_empty_database_has_nothing()
+    ensures { (key : List ℕ) → value_at empty key ≡ None }
+{}
+
+/// A change gives its key the value, or takes it away, and leaves what each other key had.
+pub fn a_change_is_of_its_key()
+    ensures { (key : List ℕ) (value : Option Value) (places : Places) (other : List ℕ)
+        → value_at (changed key value places) other ≡ (if same_key key other then value else value_at places other) }
+{}
 
 /// Equals holds exactly where the key is present with the value.
 pub fn equals_asks_for_the_value()
-    ensures { (key : List ℕ) (value : Value) (places : Places) → (holds (Equals key value) places ≡ true) ↔ (places key ≡ Some value) }
+    ensures { (key : List ℕ) (value : Value) (places : Places) → (holds (Equals key value) places ≡ true) ↔ (value_at places key ≡ Some value) }
 {}
 
 /// Absent holds exactly where the key is absent.
 pub fn absent_asks_for_no_value()
-    ensures { (key : List ℕ) (places : Places) → (holds (Absent key) places ≡ true) ↔ (places key ≡ None) }
+    ensures { (key : List ℕ) (places : Places) → (holds (Absent key) places ≡ true) ↔ (value_at places key ≡ None) }
 {}
 
 /// AtLeast holds exactly where the key has a number that isn't less.
 pub fn at_least_asks_for_a_number()
     ensures { (key : List ℕ) (number : ℤ) (places : Places) → (holds (AtLeast key number) places ≡ true)
-        ↔ ((found : ℤ) × (places key ≡ Some (Num found)) × (number ≤ℤ found)) }
+        ↔ ((found : ℤ) × (value_at places key ≡ Some (Num found)) × (number ≤ℤ found)) }
 {}
 
 /// Plus has a value exactly where the key has a number and the sum is an `i64`, and that value is the sum.
 pub fn plus_is_a_sum_that_fits()
     ensures { (key : List ℕ) (number : ℤ) (places : Places) (value : Value) → (term_value (Plus key number) places ≡ Some value)
-        ↔ ((found : ℤ) × (places key ≡ Some (Num found)) × FitsSigned w64 (found +ℤ number) × (value ≡ Num (found +ℤ number))) }
+        ↔ ((found : ℤ) × (value_at places key ≡ Some (Num found)) × FitsSigned w64 (found +ℤ number) × (value ≡ Num (found +ℤ number))) }
 {}
 
 /// Where nothing is applied the database is as it was.

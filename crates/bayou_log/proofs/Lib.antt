@@ -1,5 +1,6 @@
 pub mod Agrees
 pub mod Counts
+pub mod ListingLaws
 pub mod Picked
 pub mod SetOfWrites
 pub mod Slots

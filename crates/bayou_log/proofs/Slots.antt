@@ -10,7 +10,8 @@ use Rattle.std.proofs.lemmas.List.{take_more, take_all, flat_map_more}
 use Rattle.std.proofs.lemmas.List.Elements.{All-append, All-weaker}
 use Rattle.std.proofs.lemmas.Map.Text.{is_eq-slice_cmp}
 use Rattle.bayou_base.specs.declared.value.Value.{Value}
-use Rattle.bayou_lang.specs.Places.{Places, same_key, changed, empty}
+use Rattle.bayou_lang.specs.Places.{Places, same_key, changed, empty, value_at}
+use Rattle.bayou_lang.specs.PlacesLaws.{changed-same, same_key-turned, same_places, value_at-changed, value_at-empty}
 use Rattle.bayou_lang.specs.declared.program.Op.{Op}
 use Rattle.bayou_lang.specs.declared.change.Change.{Change}
 use Rattle.bayou_lang.specs.Changes.{op_key, after_changes}
@@ -30,8 +31,16 @@ slot_at slots key = lookup (map_test key) slots
 abbrev pub value_in : Option (Option Value) → Option Value
 value_in slot = option_and_then (λ value. value) slot
 
-pub places-slot_at : (slots : Slots) (key : List ℕ) → places slots key ≡ value_in (slot_at slots key)
-places-slot_at slots key = ap (λ test. value_in (lookup test slots)) (sym (map_test_is_same_key key))
+pub places-slot_at : (slots : Slots) (key : List ℕ) → value_at (places slots) key ≡ value_in (slot_at slots key)
+places-slot_at [] key = value_at-empty key
+places-slot_at (slot ∷ slots) key =
+    value_at-changed slot.0 slot.1 (places slots) key
+    ∙ ap (cond (same_key slot.0 key) slot.1) (places-slot_at slots key)
+    ∙ ap (λ same. cond same slot.1 (value_in (slot_at slots key))) (same_key-turned slot.0 key ∙ ap (λ test. test slot.0) (sym (map_test_is_same_key key)))
+    ∙ elim (map_test key slot.0) as (λ same. cond same slot.1 (value_in (slot_at slots key)) ≡ value_in (cond same (Some slot.1) (slot_at slots key))) [
+      | true ↦ refl
+      | false ↦ refl
+    ]
 
 has_room-lookup : (test : List ℕ → Bool) (slots : Slots) → list_any test (keys_of slots) ≡ is_some (lookup test slots)
 has_room-lookup test [] = refl
@@ -50,21 +59,14 @@ abbrev pub SetsSlot : Slots → List ℕ → Option Value → Slots → Type 0
 SetsSlot old key value new = (other : List ℕ) → slot_at new other ≡ cond (map_test key other) (Some value) (slot_at old other)
 
 pub places-set : (old new : Slots) (key : List ℕ) (value : Option Value) → SetsSlot old key value new → places new ≡ changed key value (places old)
-places-set old new key value sets = fun_ext (λ other.
+places-set old new key value sets = same_places (places new) (changed key value (places old)) (λ other.
     places-slot_at new other ∙ ap value_in (sets other)
     ∙ ap (λ test. value_in (cond (test other) (Some value) (slot_at old other))) (map_test_is_same_key key)
-    ∙ elim (same_key key other) as (λ t. value_in (cond t (Some value) (slot_at old other)) ≡ cond t value (places old other)) [
+    ∙ elim (same_key key other) as (λ same. value_in (cond same (Some value) (slot_at old other)) ≡ cond same value (value_at (places old) other)) [
       | true ↦ refl
       | false ↦ sym (places-slot_at old other)
-    ])
-
--- a key that has nothing is made to have nothing
-pub changed-none : (before : Places) (key : List ℕ) → before key ≡ None → changed key None before ≡ before
-changed-none before key none = fun_ext (λ other.
-    elim (same_key key other) as (λ t. same_key key other ≡ t → cond t None (before other) ≡ before other) [
-      | true ↦ λ e. sym none ∙ ap before ((bytes_decides key other).0 e)
-      | false ↦ λ e. refl
-    ] refl)
+    ]
+    ∙ sym (value_at-changed key value (places old) other))
 
 -- there is room for what there was room for, and for the key
 pub has_room-set : (old new : Slots) (key : List ℕ) (value : Option Value) → SetsSlot old key value new → (other : List ℕ) → IsTrue (has_room (room old) other) → IsTrue (has_room (room new) other)
@@ -79,22 +81,15 @@ has_room-set_same old new key value sets =
     has_room-slot_at new key ∙ ap is_some (sets key) ∙ ap (λ t. is_some (cond t (Some value) (slot_at old key))) same
 
 -- a key that has no slot has nothing
-pub places-no_slot : (slots : Slots) (key : List ℕ) → is_some (slot_at slots key) ≡ false → places slots key ≡ None
+pub places-no_slot : (slots : Slots) (key : List ℕ) → is_some (slot_at slots key) ≡ false → value_at (places slots) key ≡ None
 places-no_slot slots key none =
     places-slot_at slots key
     ∙ elim (slot_at slots key) as (λ slot. is_some slot ≡ false → value_in slot ≡ None) [ Some value ↦ λ e. cc | None ↦ λ e. refl ] none
 
 -- the slots with every value taken away
 pub places-emptied : (slots : Slots) → places (map (λ slot. (slot.0, None)) slots) ≡ empty
-places-emptied slots = fun_ext (λ key. at key slots)
-  where
-    at : (key : List ℕ) (slots : Slots) → places (map (λ slot. (slot.0, None)) slots) key ≡ None
-    at key [] = refl
-    at key (slot ∷ slots) =
-        elim (same_key key slot.0) as (λ t. value_in (cond t (Some None) (lookup (same_key key) (map (λ slot. (slot.0, None)) slots))) ≡ None) [
-          | true ↦ refl
-          | false ↦ at key slots
-        ]
+places-emptied [] = refl
+places-emptied (slot ∷ slots) = ap (changed slot.0 None) (places-emptied slots) ∙ changed-same slot.0 None empty (value_at-empty slot.0)
 
 pub room-emptied : (slots : Slots) → room (map (λ slot. (slot.0, None)) slots) ≡ room slots
 room-emptied [] = refl

@@ -1,19 +1,20 @@
 -- A database with room for keys ahead of their values: this project's own.
-use Rattle.std.specs.Prelude.{ℕ, Bool, List, Option, All, IsTrue, option_and_then}
+use Rattle.std.specs.Prelude.{ℕ, Bool, List, [], ◌∷◌, Option, All, IsTrue}
 use Rattle.std.specs.List.{list_any}
-use Rattle.std.specs.Map.{keys_of, lookup}
+use Rattle.std.specs.Map.{keys_of}
 use Rattle.bayou_base.specs.declared.value.Value.{Value}
 use Rattle.bayou_lang.specs.declared.program.Program.{Program}
-use Rattle.bayou_lang.specs.Places.{Places, same_key}
+use Rattle.bayou_lang.specs.Places.{Places, changed, empty, same_key}
 use Rattle.bayou_lang.specs.Changes.{program_writes}
 
 -- the keys that there is room for, each with what it has, if anything
 abbrev pub Slots : Type 0
 Slots = List (List ℕ × Option Value)
 
--- what the database has at each key
+-- the database with what the slots have
 abbrev pub places : Slots → Places
-places slots key = option_and_then (λ value. value) (lookup (same_key key) slots)
+places [] = empty
+places (slot ∷ slots) = changed slot.0 slot.1 (places slots)
 
 -- the keys that there is room for
 abbrev pub room : Slots → List (List ℕ)

@@ -2,7 +2,7 @@ ghost use Rattle.std.specs.Prelude.{◌≡◌, IsTrue, OnOk, IfOk, All, map};
 ghost use Rattle.std.specs.List.{flat_map};
 ghost use Rattle.bayou_lang.specs.Changes.{after_changes, op_key, ChangeOnly};
 ghost use Rattle.bayou_lang.specs.Meaning.{mean};
-ghost use Rattle.bayou_lang.specs.Places.{changed, empty};
+ghost use Rattle.bayou_lang.specs.Places.{changed, empty, value_at};
 ghost use Rattle.bayou_log.specs.Db.{places, room, has_room, HasRoomAt, HasRoomFor, KeepsRoom};
 
 use bayou_base::{Key, Value};
@@ -134,7 +134,7 @@ impl Db {
 
     /// What the key has, if anything.
     pub fn get(&self, key: &Key) -> Option<Value>
-        ensures { result ≡ places self.now key.now }
+        ensures { result ≡ value_at (places self.now) key.now }
     {
         match self.slots.get(key) {
             Some(slot) => copy_of(slot),

@@ -1,10 +1,11 @@
 //! What the definitions come to, in the subject's own words: each law is the contract of a function that does nothing.
-ghost use Rattle.std.specs.Prelude.{◌≡◌, ℕ, ◌<◌, ◌==◌, false, List, AllPairs, filter, length, slice_index};
+ghost use Rattle.std.specs.Prelude.{◌≡◌, ℕ, ◌<◌, ◌==◌, false, List, Some, AllPairs, filter, length, slice_get, slice_index};
 ghost use Rattle.bayou_base.specs.declared.limits.TheConstants.{SERVERS};
 ghost use Rattle.bayou_base.specs.Order.{is_before};
 ghost use Rattle.bayou_lang.specs.declared.program.Program.{Program};
 ghost use Rattle.bayou_lang.specs.declared.write.Write.{Write};
-ghost use Rattle.bayou_lang.specs.Writes.{count_of, in_stamp_order, AreFitting, Fits, HaveDistinctStamps, HaveDistinctWids, HaveSameWrites, IsNextWrite, IsPrefixClosed};
+ghost use Rattle.bayou_lang.specs.Writes.{count_of, earlier_than, in_stamp_order, AreFitting, Fits, HaveDistinctStamps, HaveDistinctWids, HaveSameWrites, IsNextWrite, IsPrefixClosed};
+ghost use Rattle.bayou_log.specs.Listing.{listed_at, listing_of};
 ghost use Rattle.bayou_log.specs.Replay.{replay};
 
 /// The replay is a function of the set of Writes: the order of their receipt doesn't matter.
@@ -17,6 +18,13 @@ pub fn stamp_order_is_of_the_writes()
     ensures same { (writes : List Write) → HaveSameWrites writes (in_stamp_order writes) }
     ensures as_many { (writes : List Write) → length (in_stamp_order writes) ≡ length writes }
     ensures ordered { (writes : List Write) → AllPairs (λ a b. is_before b.stamp a.stamp ≡ false) (in_stamp_order writes) }
+{}
+
+/// A listing has the Writes in stamp order, each with the outcome that its program has on the replay of those before it.
+pub fn listing_is_of_the_replay()
+    ensures as_many { (writes : List Write) → length (listing_of writes) ≡ length writes }
+    ensures outcomes { (writes : List Write) (place : ℕ) (write : Write) → HaveDistinctStamps writes → slice_get (in_stamp_order writes) place ≡ Some write
+        → slice_get (listing_of writes) place ≡ Some (listed_at (replay (earlier_than write.stamp writes)) write) }
 {}
 
 /// A count is the number of Writes of the server.

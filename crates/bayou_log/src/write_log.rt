@@ -1,6 +1,7 @@
 ghost use Rattle.std.specs.Prelude.{◌≡◌, ◌≢◌, ℕ, ◌<◌, ◌≤◌, ◌↔◌, [], ◌∷◌, ◌++◌, All, Contains, IsTrue, IfNone, IfOk, IfSome, OnOk, length, slice_index};
 ghost use Rattle.bayou_base.specs.declared.limits.TheConstants.{SERVERS, MAX_WRITES};
 ghost use Rattle.bayou_lang.specs.declared.write.Write.{Write};
+ghost use Rattle.bayou_lang.specs.Places.{value_at};
 ghost use Rattle.bayou_lang.specs.Writes.{count_of, covered_by, greatest_clock, AreFitting, Fits, HasNoGap};
 ghost use Rattle.bayou_log.specs.Fitting.{FitAnswer};
 ghost use Rattle.bayou_log.specs.Listing.{listing_of};
@@ -108,7 +109,7 @@ impl WriteLog {
 
     /// What the key has in the database that the Writes make, if anything.
     pub fn get(&self, key: &Key) -> Option<Value>
-        ensures { result ≡ replay self.now.receipts key.now }
+        ensures { result ≡ value_at (replay self.now.receipts) key.now }
     {
         self.db.get(key)
     }

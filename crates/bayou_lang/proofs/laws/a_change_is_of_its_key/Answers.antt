@@ -1,0 +1,5 @@
+use Rattle.bayou_lang.specs.PlacesLaws.{value_at-changed}
+use Rattle.bayou_lang.proofs.laws.a_change_is_of_its_key.Goals as goal
+
+pub returns : goal.returns
+returns c = value_at-changed
