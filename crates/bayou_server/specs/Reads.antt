@@ -2,6 +2,7 @@
 use Rattle.std.specs.Prelude.{◌≡◌, ℕ, List, Result, Ok, Err}
 use Rattle.bayou_base.specs.declared.answer.Seen.{Seen}
 use Rattle.bayou_base.specs.Vector.{Dominates}
+use Rattle.bayou_lang.specs.Places.{value_at}
 use Rattle.bayou_lang.specs.Writes.{count_of}
 use Rattle.bayou_log.specs.Replay.{replay}
 use Rattle.bayou_server.specs.declared.fault.Behind.{Behind}
@@ -10,7 +11,7 @@ use Rattle.bayou_server.specs.Server.{ServerState}
 -- the read is served: what the key has in the database of the Writes held, and what was held
 pub record Serves {D : Type 0} (server : ServerState D) (need key : List ℕ) (seen : Seen) : Type 0 where
   pub covered : Dominates (count_of server.held) need
-  pub value : seen.value ≡ replay server.held key
+  pub value : seen.value ≡ value_at (replay server.held) key
   pub vector : seen.vector ≡ count_of server.held
 
 -- the server doesn't hold all that the session needs, and tells what it holds
