@@ -1,9 +1,11 @@
 -- What a session has read and written, and what it needs of a server (Terry et al. 1994).
-use Rattle.std.specs.Prelude.{ℕ, Bool, true, false, List, replicate}
+use Rattle.std.specs.Prelude.{ℕ, ◌+◌, Bool, true, false, List, replicate}
 use Rattle.bayou_base.specs.declared.limits.TheConstants.{SERVERS}
+use Rattle.bayou_base.specs.declared.answer.Accepted.{Accepted}
+use Rattle.bayou_base.specs.declared.answer.Seen.{Seen}
 use Rattle.bayou_base.specs.declared.asks.Asks.{Asks}
 use Rattle.bayou_base.specs.declared.session.SessionId.{SessionId}
-use Rattle.bayou_base.specs.Vector.{joined}
+use Rattle.bayou_base.specs.Vector.{AreCounts, joined, raised}
 
 -- A session: its name, what it asks for, how many places it has begun, the join of the vectors that its served reads saw
 -- (read-set), and the counts raised to each Write that it was told of (write-set).
@@ -13,6 +15,26 @@ pub record Told : Type 0 where
   pub begun : ℕ
   pub reads : List ℕ
   pub writes : List ℕ
+
+-- each of its two vectors has one count for each server, within what a log can hold
+abbrev pub HasCounts : Told → Type 0
+HasCounts session = AreCounts session.reads × AreCounts session.writes
+
+-- a session that has tried nothing yet
+abbrev pub new_session : SessionId → Asks → Told
+new_session id asks = record { id = id; asks = asks; begun = 0; reads = replicate SERVERS 0; writes = replicate SERVERS 0 }
+
+-- it has begun one place more
+abbrev pub one_place_more : Told → Told
+one_place_more session = record session { begun = session.begun + 1 }
+
+-- it was told what a read was served: its read-set has all that the server held
+abbrev pub after_read : Told → Seen → Told
+after_read session seen = record session { reads = joined session.reads seen.vector }
+
+-- it was told that a Write was accepted, which its write-set then has
+abbrev pub after_write : Told → Accepted → Told
+after_write session accepted = record session { writes = raised session.writes accepted.wid }
 
 -- the counts where they are asked for, else of no Write
 abbrev pub if_asked : Bool → List ℕ → List ℕ

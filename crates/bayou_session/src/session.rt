@@ -1,7 +1,6 @@
-ghost use Rattle.std.specs.Prelude.{◌≡◌, ◌+◌, ◌<◌, replicate};
-ghost use Rattle.bayou_base.specs.declared.limits.TheConstants.{MAX_PLACES, SERVERS};
-ghost use Rattle.bayou_base.specs.Vector.{joined, raised};
-ghost use Rattle.bayou_session.specs.Needs.{if_asked, read_need, write_need};
+ghost use Rattle.std.specs.Prelude.{◌≡◌, ◌+◌, ◌<◌};
+ghost use Rattle.bayou_base.specs.declared.limits.TheConstants.{MAX_PLACES};
+ghost use Rattle.bayou_session.specs.Needs.{HasCounts, after_read, after_write, if_asked, new_session, one_place_more, read_need, write_need};
 
 use bayou_base::{Accepted, Asks, MAX_PLACES, Seen, SessionId, Vector};
 use std::marker::Model;
@@ -20,6 +19,7 @@ pub struct Session {
 impl Model for Session {
     ghost use Rattle.std.specs.Prelude.{◌≤◌};
     ghost use Rattle.bayou_base.specs.declared.limits.TheConstants.{MAX_PLACES};
+    ghost use Rattle.bayou_base.specs.Vector.{AreCounts};
     ghost use Rattle.bayou_session.specs.Needs.{Told};
 
     ghost Value = { Told };
@@ -28,7 +28,7 @@ impl Model for Session {
 
     ghost inverse = { λ told. record { id = told.id; asks = told.asks; begun = told.begun; reads = told.reads; writes = told.writes } };
 
-    ghost invariant = { λ s. s.begun ≤ MAX_PLACES };
+    ghost invariant = { λ s. (s.begun ≤ MAX_PLACES) × AreCounts s.reads × AreCounts s.writes };
 }
 
 /// The vector where it is asked for, else one that counts no Write.
@@ -41,7 +41,8 @@ fn where_asked(is_asked: bool, vector: Vector) -> Vector
 impl Session {
     /// A session that has tried nothing yet.
     pub fn new(id: SessionId, asks: Asks) -> Self
-        ensures { result ≡ record { id = id; asks = asks; begun = 0; reads = replicate SERVERS 0; writes = replicate SERVERS 0 } }
+        ensures value { result ≡ new_session id asks }
+        ensures counts { HasCounts result }
     {
         Session {
             id,
@@ -59,6 +60,13 @@ impl Session {
         self.id
     }
 
+    /// What it asks for.
+    pub fn asks(&self) -> Asks
+        ensures { result ≡ self.now.asks }
+    {
+        self.asks
+    }
+
     /// How many places are left to it, of [`MAX_PLACES`].
     pub fn left(&self) -> u32
         ensures { result + self.now.begun ≡ MAX_PLACES }
@@ -70,7 +78,7 @@ impl Session {
     pub fn begin(&mut self) -> u32
         requires { self.old.begun < MAX_PLACES }
         ensures place { result ≡ self.old.begun + 1 }
-        ensures begun { self.new ≡ record self.old { begun = self.old.begun + 1 } }
+        ensures begun { self.new ≡ one_place_more self.old }
     {
         self.begun += 1;
         self.begun
@@ -78,28 +86,32 @@ impl Session {
 
     /// What a server has to hold to serve it a read.
     pub fn need_read(&self) -> Vector
-        ensures { result ≡ read_need self.now }
+        ensures value { result ≡ read_need self.now }
+        ensures counts { HasCounts self.now }
     {
         where_asked(self.asks.ryw, self.writes).join(&where_asked(self.asks.mr, self.reads))
     }
 
     /// What a server has to hold to accept a Write of it.
     pub fn need_write(&self) -> Vector
-        ensures { result ≡ write_need self.now }
+        ensures value { result ≡ write_need self.now }
+        ensures counts { HasCounts self.now }
     {
         where_asked(self.asks.wfr, self.reads).join(&where_asked(self.asks.mw, self.writes))
     }
 
     /// It was told what a read was served.
     pub fn saw(&mut self, seen: &Seen)
-        ensures { self.new ≡ record self.old { reads = joined self.old.reads seen.now.vector } }
+        ensures told { self.new ≡ after_read self.old seen.now }
+        ensures counts { HasCounts self.new }
     {
         self.reads = self.reads.join(&seen.vector);
     }
 
     /// It was told that a Write was accepted.
     pub fn wrote(&mut self, accepted: &Accepted)
-        ensures { self.new ≡ record self.old { writes = raised self.old.writes accepted.now.wid } }
+        ensures told { self.new ≡ after_write self.old accepted.now }
+        ensures counts { HasCounts self.new }
     {
         self.writes.raise(accepted.wid);
     }

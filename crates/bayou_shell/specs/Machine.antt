@@ -2,9 +2,9 @@
 use Rattle.std.specs.Prelude.{◌≡◌, ℕ, ◌<◌, List, Option, None, Some, false, length, replicate, slice_set, unwrap_or}
 use Rattle.std.specs.List.{slice_get, slice_index_or}
 use Rattle.bayou_base.specs.declared.asks.Asks.{Asks}
-use Rattle.bayou_base.specs.declared.limits.TheConstants.{SERVERS, SESSIONS}
+use Rattle.bayou_base.specs.declared.limits.TheConstants.{SESSIONS}
 use Rattle.bayou_base.specs.declared.session.SessionId.{SessionId}
-use Rattle.bayou_session.specs.Needs.{Told}
+use Rattle.bayou_session.specs.Needs.{Told, new_session}
 use Rattle.bayou_shell.specs.declared.replica.Replica.{Replica}
 use Rattle.bayou_shell.specs.Replica.{IsBegun}
 
@@ -15,10 +15,6 @@ pub record Machine : Type 0 where
   pub limit : ℕ
   pub servers : List Replica
   pub sessions : List (Option Told)
-
--- a session that has tried nothing yet
-abbrev pub new_session : SessionId → Asks → Told
-new_session who asks = record { id = who; asks = asks; begun = 0; reads = replicate SERVERS 0; writes = replicate SERVERS 0 }
 
 abbrev pub nothing_asked : Asks
 nothing_asked = record { ryw = false; mr = false; wfr = false; mw = false }

@@ -1,11 +1,10 @@
 -- What a server of a script makes of each command, and what a session is told of it.
-use Rattle.std.specs.Prelude.{◌≡◌, ℕ, ◌+◌, ◌-◌, ◌<◌, ◌⊎◌, List, [], Option, None, Some, Result, Ok, Err, false, length, min, take}
+use Rattle.std.specs.Prelude.{◌≡◌, ℕ, ◌-◌, ◌<◌, ◌⊎◌, List, [], Option, None, Some, Result, Ok, Err, false, length, min, take}
 use Rattle.bayou_base.specs.declared.answer.Accepted.{Accepted}
 use Rattle.bayou_base.specs.declared.answer.Seen.{Seen}
 use Rattle.bayou_base.specs.declared.limits.TheConstants.{MAX_PLACES}
 use Rattle.bayou_base.specs.declared.server.ServerId.{ServerId}
 use Rattle.bayou_base.specs.declared.session.SessionId.{SessionId}
-use Rattle.bayou_base.specs.Vector.{joined, raised}
 use Rattle.bayou_device.specs.Memory.{Memory, AddsFront, LeadsTo, kept_bytes}
 use Rattle.bayou_lang.specs.declared.program.Program.{Program}
 use Rattle.bayou_lang.specs.declared.write.Write.{Write}
@@ -20,7 +19,7 @@ use Rattle.bayou_server.specs.Reopens.{Reopens}
 use Rattle.bayou_server.specs.Server.{ServerState}
 use Rattle.bayou_server.specs.Starts.{FailsToStart, Starts}
 use Rattle.bayou_server.specs.Writes.{Writes}
-use Rattle.bayou_session.specs.Needs.{Told, read_need, write_need}
+use Rattle.bayou_session.specs.Needs.{Told, after_read, after_write, one_place_more, read_need, write_need}
 use Rattle.bayou_shell.specs.declared.answer.Answer.{Answer}
 use Rattle.bayou_shell.specs.declared.answer.Answer.TheVariants.{Done, Wrote, Read, Refused, Lost, Logged, Stopped, Recovered}
 use Rattle.bayou_shell.specs.declared.answer.Recovery.{Recovery}
@@ -63,19 +62,15 @@ on_device (Halted left) device = Halted (record left { device = device })
 
 -- ---- operations of sessions
 
--- the session has begun one place more
-abbrev pub one_place_more : Told → Told
-one_place_more told = record told { begun = told.begun + 1 }
-
--- what a session makes of what its Write was answered: it is told of no refusal
-abbrev pub after_write : Told → Result Accepted WriteFault → Told
-after_write told (Ok accepted) = record (one_place_more told) { writes = raised told.writes accepted.wid }
-after_write told (Err refusal) = one_place_more told
+-- what a session is told of what its Write was answered, once it has begun its place: nothing of a refusal
+abbrev pub told_of_write : Told → Result Accepted WriteFault → Told
+told_of_write told (Ok accepted) = after_write (one_place_more told) accepted
+told_of_write told (Err refusal) = one_place_more told
 
 -- and of what its read was answered
-abbrev pub after_read : Told → Result Seen Behind → Told
-after_read told (Ok seen) = record (one_place_more told) { reads = joined told.reads seen.vector }
-after_read told (Err behind) = one_place_more told
+abbrev pub told_of_read : Told → Result Seen Behind → Told
+told_of_read told (Ok seen) = after_read (one_place_more told) seen
+told_of_read told (Err behind) = one_place_more told
 
 abbrev pub write_answer : SessionId → Result Accepted WriteFault → Answer
 write_answer who (Ok accepted) = Wrote who accepted
@@ -102,7 +97,7 @@ pub record AnswersWrite (who : SessionId) (program : Program) (before : Replica)
   pub calls : LeadsTo 2 old.device new.device
   pub answered : answer ≡ write_answer who result
   pub is : after ≡ Running new
-  pub told_of : now ≡ after_write told result
+  pub told_of : now ≡ told_of_write told result
 
 abbrev pub IsWritten : SessionId → Program → Replica → Told → Answer → Replica → Told → Type 0
 IsWritten who program before told answer after now =
@@ -116,7 +111,7 @@ pub record AnswersRead (who : SessionId) (key : List ℕ) (replica : Replica) (t
   pub left : told.begun < MAX_PLACES
   pub reads : Reads server (read_need told) key result
   pub answered : answer ≡ read_answer who key result
-  pub told_of : now ≡ after_read told result
+  pub told_of : now ≡ told_of_read told result
 
 abbrev pub IsRead : SessionId → List ℕ → Replica → Told → Answer → Told → Type 0
 IsRead who key replica told answer now = GetsNoReply who replica told answer now ⊎ AnswersRead who key replica told answer now

@@ -4,7 +4,7 @@ use Rattle.std.specs.Io.KnownBytes.{Appends, Keeps}
 use Rattle.bayou_base.specs.declared.asks.Asks.{Asks}
 use Rattle.bayou_base.specs.declared.server.ServerId.{ServerId}
 use Rattle.bayou_base.specs.declared.session.SessionId.{SessionId}
-use Rattle.bayou_session.specs.Needs.{Told}
+use Rattle.bayou_session.specs.Needs.{Told, new_session}
 use Rattle.bayou_text.specs.Said.{Said, servers, session, write, read, log, fuse, lose, reopen, restart}
 use Rattle.bayou_shell.specs.declared.answer.Answer.{Answer}
 use Rattle.bayou_shell.specs.declared.answer.Answer.TheVariants.{Done, Recovered}
@@ -13,7 +13,7 @@ use Rattle.bayou_shell.specs.declared.fault.Fault.{Fault}
 use Rattle.bayou_shell.specs.declared.fault.Fault.TheVariants.{Line, Device, Input, Output}
 use Rattle.bayou_shell.specs.declared.fault.Fault.TheVariants as fault
 use Rattle.bayou_shell.specs.declared.replica.Replica.{Replica}
-use Rattle.bayou_shell.specs.Machine.{HasBegun, Machine, StandsAt, new_session, session_of, with_server, with_session}
+use Rattle.bayou_shell.specs.Machine.{HasBegun, Machine, StandsAt, session_of, with_server, with_session}
 use Rattle.bayou_shell.specs.Printed.{answer_text}
 use Rattle.bayou_shell.specs.Replica.{IsFused, IsListed, IsRead, IsReopened, IsRestarted, IsShortened, IsWritten}
 use Rattle.bayou_script.specs.Script.{IsRefused, IsScript, Plan, lines_of}
