@@ -1,2 +1,3 @@
 pub mod ChangeLists
+pub mod Counts
 pub mod MeaningLaws

@@ -4,3 +4,6 @@ pub mod Meaning
 pub mod Changes
 pub mod Program
 pub mod Writes
+pub mod StampOrderLaws
+pub mod SetOfWritesLaws
+pub mod FittingLaws

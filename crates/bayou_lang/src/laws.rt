@@ -1,16 +1,19 @@
-//! What the definitions of meaning come to, in the subject's own words: each law is the contract of a function that
-//! does nothing.
-ghost use Rattle.std.specs.Prelude.{◌≡◌, ℕ, ◌<◌, ℤ, ◌+ℤ◌, ◌≤ℤ◌, ◌↔◌, List, Option, None, Some, true, false, FitsSigned, slice_get, if◌then◌else◌};
+//! What the definitions come to, in the subject's own words: each law is the contract of a function that does nothing.
+ghost use Rattle.std.specs.Prelude.{◌≡◌, ℕ, ◌<◌, ◌==◌, ℤ, ◌+ℤ◌, ◌≤ℤ◌, ◌↔◌, All, AllPairs, List, Option, None, Some, true, false, FitsSigned, filter, length, slice_get, slice_index, if◌then◌else◌};
 ghost use Rattle.std.specs.Int.{w64};
+ghost use Rattle.bayou_base.specs.declared.limits.TheConstants.{SERVERS};
 ghost use Rattle.bayou_base.specs.declared.value.Value.{Value};
 ghost use Rattle.bayou_base.specs.declared.value.Value.TheVariants.{Num};
+ghost use Rattle.bayou_base.specs.Order.{is_before};
 ghost use Rattle.bayou_lang.specs.declared.eval.Outcome.TheVariants.{Updated, Merged, Nothing};
 ghost use Rattle.bayou_lang.specs.declared.program.Alt.{Alt};
 ghost use Rattle.bayou_lang.specs.declared.program.Cond.TheVariants.{Equals, Absent, AtLeast};
 ghost use Rattle.bayou_lang.specs.declared.program.Program.{Program};
 ghost use Rattle.bayou_lang.specs.declared.program.Term.TheVariants.{Plus};
+ghost use Rattle.bayou_lang.specs.declared.write.Write.{Write};
 ghost use Rattle.bayou_lang.specs.Meaning.{after_alternative, after_ops, all_hold, holds, mean, term_value};
 ghost use Rattle.bayou_lang.specs.Places.{Places, changed, empty, same_key, value_at};
+ghost use Rattle.bayou_lang.specs.Writes.{count_of, in_stamp_order, AreFitting, Fits, HaveDistinctStamps, HaveDistinctWids, HaveSameWrites, IsNextWrite, IsPrefixClosed};
 
 /// Two databases that have the same at each key are one.
 pub fn databases_are_what_they_have()
@@ -67,4 +70,46 @@ pub fn merged_means_the_first_that_fits()
         → (all_hold program.check.items places ≡ false)
         × ((alt : Alt) × (slice_get program.merge.items number ≡ Some alt) × (after_alternative alt places ≡ Some (mean program places).1))
         × ((earlier : ℕ) (alt : Alt) → earlier < number → slice_get program.merge.items earlier ≡ Some alt → after_alternative alt places ≡ None) }
+{}
+
+/// The Writes in stamp order are those of the list, and none comes before one that stands before it.
+pub fn stamp_order_is_of_the_writes()
+    ensures same { (writes : List Write) → HaveSameWrites writes (in_stamp_order writes) }
+    ensures as_many { (writes : List Write) → length (in_stamp_order writes) ≡ length writes }
+    ensures ordered { (writes : List Write) → AllPairs (λ a b. is_before b.stamp a.stamp ≡ false) (in_stamp_order writes) }
+{}
+
+/// A count is the number of Writes of the server.
+pub fn count_is_the_number_of_writes()
+    ensures { (writes : List Write) (server : ℕ) → server < SERVERS
+        → slice_index (count_of writes) server ≡ length (filter (λ write. write.wid.origin.index == server) writes) }
+{}
+
+/// Of each server the Writes of a fitting list are its first ones: none is missing.
+pub fn fitting_writes_are_prefix_closed()
+    ensures { (count : ℕ) (writes : List Write) → AreFitting count writes → IsPrefixClosed writes }
+{}
+
+/// No two Writes of a fitting list have one name, and no two have one stamp.
+pub fn fitting_writes_are_distinct()
+    ensures wids { (count : ℕ) (writes : List Write) → AreFitting count writes → HaveDistinctWids writes }
+    ensures stamps { (count : ℕ) (writes : List Write) → AreFitting count writes → HaveDistinctStamps writes }
+{}
+
+/// The Write that a server makes next fits those that it holds.
+pub fn own_next_write_fits()
+    ensures { (count : ℕ) (writes : List Write) (server : ℕ) (asked : Program) (write : Write) → AreFitting count writes → server < count
+        → IsNextWrite writes server asked write → Fits count writes write }
+{}
+
+/// The Write that a server makes next comes after every Write that it holds.
+pub fn own_next_write_is_the_latest()
+    ensures { (writes : List Write) (server : ℕ) (asked : Program) (write : Write) → IsNextWrite writes server asked write
+        → All (λ held. is_before held.stamp write.stamp ≡ true) writes }
+{}
+
+/// Of two Writes of one server the later one has the greater clock.
+pub fn own_clocks_rise()
+    ensures { (count : ℕ) (writes : List Write) → AreFitting count writes
+        → All (λ one. All (λ other. one.wid.origin ≡ other.wid.origin → one.wid.seq < other.wid.seq → one.stamp.clock < other.stamp.clock) writes) writes }
 {}

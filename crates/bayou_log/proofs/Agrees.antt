@@ -1,5 +1,5 @@
 -- The fields of a log still belong together after its calls.
-use Rattle.std.proofs.Common.{◌≡◌, ℕ, ◌+◌, ◌<◌, ◌≤◌, ◌-◌, max, set, true, false, List, [], ◌∷◌, ◌++◌, length, take, drop, get_or, All, ap, sym, ◌∙◌, refl, subst, arith, length-append}
+use Rattle.std.proofs.Common.{◌≡◌, ◌≢◌, ℕ, ◌+◌, ◌<◌, ◌≤◌, ◌-◌, max, set, true, false, List, [], ◌∷◌, ◌++◌, length, take, drop, get_or, All, ap, sym, ◌∙◌, refl, subst, arith, length-append}
 use Rattle.std.specs.List.{insert}
 use Rattle.std.proofs.lemmas.List.{take_all, drop_all}
 use Rattle.std.proofs.lemmas.List.Elements.{All-push, All-weaker}
@@ -10,12 +10,11 @@ use Rattle.bayou_lang.specs.Places.{Places, empty}
 use Rattle.bayou_lang.specs.Meaning.{mean}
 use Rattle.bayou_lang.specs.Writes.{count_of, in_stamp_order, AreFitting, Fits}
 use Rattle.bayou_log.specs.Db.{Slots, places, room, HasRoomFor, KeepsRoom}
-use Rattle.bayou_log.specs.Log.{IsNewStamp}
 use Rattle.bayou_log.specs.Fields.{AgreesWith, AreKept, picked}
-use Rattle.bayou_log.specs.FittingLaws.{count_of-most, count_of-push, fits_new_stamp, greatest_clock-push, AreFitting-push}
+use Rattle.bayou_lang.specs.FittingLaws.{count_of-most, count_of-push, fits_new_stamp, greatest_clock-push, AreFitting-push}
 use Rattle.bayou_log.specs.Replay.{after_writes, replay}
 use Rattle.bayou_log.proofs.Picked.{picked-insert, AreInside, AreInside-insert, length-picked}
-use Rattle.bayou_log.proofs.StampOrder.{IsInOrder-in_stamp_order, place_by_stamp-at, in_stamp_order-push, length-in_stamp_order}
+use Rattle.bayou_lang.specs.StampOrderLaws.{IsInOrder-in_stamp_order, place_by_stamp-at, in_stamp_order-push, length-in_stamp_order}
 
 -- with more room
 pub AgreesWith-more_room : (writes : List Write) (order : List ℕ) (old new : Slots) (vector : List ℕ) (clock : ℕ) → AgreesWith writes order old vector clock
@@ -60,7 +59,7 @@ pub record IsPlaceOf (write : Write) (ordered : List Write) (n : ℕ) : Type 0 w
   pub not_earlier : (d : Write) → 0 < n → is_before write.stamp (get_or ordered (n - 1) d).stamp ≡ false
 
 -- the Writes in stamp order, with one more
-pub in_stamp_order-insert : (writes : List Write) (write : Write) (n : ℕ) → IsNewStamp writes write → IsPlaceOf write (in_stamp_order writes) n
+pub in_stamp_order-insert : (writes : List Write) (write : Write) (n : ℕ) → All (λ held. held.stamp ≢ write.stamp) writes → IsPlaceOf write (in_stamp_order writes) n
     → in_stamp_order (writes ++ write ∷ []) ≡ take n (in_stamp_order writes) ++ write ∷ drop n (in_stamp_order writes)
 in_stamp_order-insert writes write n others place =
     in_stamp_order-push writes write others
@@ -74,7 +73,7 @@ after_writes-append [] ys before = refl
 after_writes-append (write ∷ xs) ys before = after_writes-append xs ys (mean write.program before).1
 
 -- a Write behind all the others is applied on top
-pub replay-last : (writes : List Write) (write : Write) (n : ℕ) → IsNewStamp writes write → IsPlaceOf write (in_stamp_order writes) n → length (in_stamp_order writes) ≤ n
+pub replay-last : (writes : List Write) (write : Write) (n : ℕ) → All (λ held. held.stamp ≢ write.stamp) writes → IsPlaceOf write (in_stamp_order writes) n → length (in_stamp_order writes) ≤ n
     → replay (writes ++ write ∷ []) ≡ (mean write.program (replay writes)).1
 replay-last writes write n others place last =
     let ordered = in_stamp_order writes in
@@ -124,7 +123,7 @@ IsPlaceOf-found writes slice order places write n same_writes same_order inside 
 module _ (count : ℕ) (writes : List Write) (order : List ℕ) (old new : Slots) (vector : List ℕ) (clock : ℕ) (write : Write) (n : ℕ)
     (agrees : AgreesWith writes order old vector clock) (fitting : AreFitting count writes) (fits : Fits count writes write)
     (reserved : HasRoomFor (room old) write.program) (place : IsPlaceOf write (picked writes order) n) (same : room new ≡ room old) where
-  others : IsNewStamp writes write
+  others : All (λ held. held.stamp ≢ write.stamp) writes
   others = fits_new_stamp count writes write fitting fits
 
   placed : IsPlaceOf write (in_stamp_order writes) n

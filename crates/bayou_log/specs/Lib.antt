@@ -4,4 +4,3 @@ pub mod Log
 pub mod Listing
 pub mod Fields
 pub mod Fitting
-pub mod FittingLaws

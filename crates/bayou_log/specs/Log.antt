@@ -1,5 +1,5 @@
 -- A log of Writes as its callers see it: this project's own.
-use Rattle.std.specs.Prelude.{ℕ, ◌<◌, ◌≢◌, List, All}
+use Rattle.std.specs.Prelude.{ℕ, ◌<◌, List}
 use Rattle.bayou_lang.specs.declared.write.Write.{Write}
 use Rattle.bayou_log.specs.Db.{HasRoomFor}
 
@@ -18,11 +18,3 @@ pub record Log : Type 0 where
 -- the room is enough for the Write to be inserted
 abbrev pub IsReserved : Room → Write → Type 0
 IsReserved room write = (0 < room.writes) × HasRoomFor room.keys write.program
-
--- none of the Writes has its name
-abbrev pub IsNewWid : List Write → Write → Type 0
-IsNewWid writes write = All (λ held. held.wid ≢ write.wid) writes
-
--- none of the Writes has its stamp
-abbrev pub IsNewStamp : List Write → Write → Type 0
-IsNewStamp writes write = All (λ held. held.stamp ≢ write.stamp) writes

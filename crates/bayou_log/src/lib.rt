@@ -7,7 +7,8 @@
 //!
 //! A log holds Writes each of which fits those before it: none of its own server's is missing before it, and none that
 //! its server held, and its stamp is the one that its server had to give it. So no two have one name or one stamp, and
-//! the log's vector counts the Writes of each server; what else follows for such Writes is among the [`laws`].
+//! the log's vector counts the Writes of each server; what else follows for such Writes is among
+//! `bayou_lang`'s laws.
 //!
 //! A caller asks whether a Write fits ([`WriteLog::fits`]), or knows it of one that it makes itself, reserves before it
 //! inserts, and inserts none into a full log. The crate doesn't promise whose log it is: that a server's own Writes

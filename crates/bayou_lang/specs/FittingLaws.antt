@@ -1,5 +1,5 @@
 -- Laws of lists of Writes each of which fits those before it: what such a list keeps as one more is added.
-use Rattle.std.proofs.Common.{◌≡◌, ◌≢◌, ℕ, zero, suc, ◌+◌, ◌<◌, ◌≤◌, Bool, true, false, cond, max, nat_le, replicate, All, Any, List, [], ◌∷◌, ◌++◌, length, drop, set, get_or, slice_index, ◌⊎◌, inl, inr, ap, sym, ◌∙◌, refl, subst, arith, append_assoc, length-append}
+use Rattle.std.proofs.Common.{◌≡◌, ◌≢◌, ℕ, zero, suc, ◌+◌, ◌<◌, ◌≤◌, Bool, true, false, cond, max, nat_le, nat_lt, replicate, All, Any, List, [], ◌∷◌, ◌++◌, length, drop, set, get_or, slice_index, ◌⊎◌, inl, inr, ap, sym, ◌∙◌, refl, subst, arith, append_assoc, length-append}
 use Rattle.std.specs.List.{filter}
 use Rattle.std.proofs.lemmas.Bool.{cases_eq, cases_lt}
 use Rattle.std.proofs.lemmas.Bool.Decides.{nat_tests}
@@ -10,11 +10,11 @@ use Rattle.bayou_base.specs.declared.limits.TheConstants.{SERVERS}
 use Rattle.bayou_base.specs.declared.wid.Wid.{Wid}
 use Rattle.bayou_base.specs.declared.server.ServerId.{ServerId}
 use Rattle.bayou_base.specs.declared.stamp.Stamp.{Stamp}
+use Rattle.bayou_base.specs.Order.{is_before}
 use Rattle.bayou_base.specs.Vector.{Dominates}
 use Rattle.bayou_lang.specs.declared.program.Program.{Program}
 use Rattle.bayou_lang.specs.declared.write.Write.{Write}
 use Rattle.bayou_lang.specs.Writes.{counted, count_of, covered_by, greatest_clock, AreFitting, Fits, HaveDistinctStamps, HaveDistinctWids, IsNextWrite, IsPrefixClosed, IsSound}
-use Rattle.bayou_log.specs.Log.{IsNewStamp, IsNewWid}
 
 -- one more Write of each of two servers, in either order
 counted-comm : (counts : List ℕ) (a b : Wid) → counted (counted counts a) b ≡ counted (counted counts b) a
@@ -110,6 +110,14 @@ filter_clock-least p (write ∷ writes) =
     All-cons (Early (write ∷ writes)) write writes (λ kept. rw kept (omega arith))
     (All-weaker (Early writes) (Early (write ∷ writes))
     (λ held early kept. omega (arith, early kept, filter_clock-grows p write writes)) writes (filter_clock-least p writes))
+
+-- no clock is greater than the greatest
+pub greatest_clock-least : (writes : List Write) → All (λ held. held.stamp.clock ≤ greatest_clock writes) writes
+greatest_clock-least [] = λ k d within. absurd (omega arith)
+greatest_clock-least (write ∷ writes) =
+    let Early : List Write → Write → Type 0 = λ list held. held.stamp.clock ≤ greatest_clock list in
+    All-cons (Early (write ∷ writes)) write writes (omega arith)
+    (All-weaker (Early writes) (Early (write ∷ writes)) (λ held early. omega (arith, early)) writes (greatest_clock-least writes))
 
 -- counts that no seq is beyond cover all Writes
 pub covered_by-all : (counts : List ℕ) (writes : List Write) → All (λ write. write.wid.seq ≤ slice_index counts write.wid.origin.index) writes → covered_by counts writes ≡ writes
@@ -231,7 +239,7 @@ fitting_is_prefix_closed count =
     fitting-induction count IsPrefixClosed prefix_closed-empty (λ held write fitting fits closed. prefix_closed-push count held write fits closed)
 
 -- a Write that fits has another name than each that is held
-pub fits_new_wid : (count : ℕ) (held : List Write) (write : Write) → AreFitting count held → Fits count held write → IsNewWid held write
+pub fits_new_wid : (count : ℕ) (held : List Write) (write : Write) → AreFitting count held → Fits count held write → All (λ other. other.wid ≢ write.wid) held
 fits_new_wid count held write fitting fits k d within same =
     let other = get_or held k d in
     let below : other.wid.seq ≤ slice_index (count_of held) other.wid.origin.index = (fitting_is_prefix_closed count held fitting).none_beyond k d within in
@@ -241,7 +249,7 @@ fits_new_wid count held write fitting fits k d within same =
     omega (arith, fits.0.next)
 
 -- and another stamp: its server held all of its own before it, and its clock is greater than theirs
-pub fits_new_stamp : (count : ℕ) (held : List Write) (write : Write) → AreFitting count held → Fits count held write → IsNewStamp held write
+pub fits_new_stamp : (count : ℕ) (held : List Write) (write : Write) → AreFitting count held → Fits count held write → All (λ other. other.stamp ≢ write.stamp) held
 fits_new_stamp count held write fitting fits k d within same =
     let other = get_or held k d in
     let at : other.wid.origin ≡ write.wid.origin = other.one_origin ∙ ap (λ (stamp : Stamp). stamp.origin) same ∙ sym write.one_origin in
@@ -269,6 +277,41 @@ fitting_distinct_stamps count =
     fitting-induction count HaveDistinctStamps (λ i j d before within. absurd (omega arith))
     (λ held write fitting fits distinct. all_pairs_push (λ a b. a.stamp ≢ b.stamp) held write distinct (fits_new_stamp count held write fitting fits))
 
+-- of two Writes of one origin the later one has the greater clock
+abbrev pub Rises : Write → Write → Type 0
+Rises one other = one.wid.origin ≡ other.wid.origin → one.wid.seq < other.wid.seq → one.stamp.clock < other.stamp.clock
+
+-- a Write that fits has a greater clock than each of its origin before it
+rises-fits : (count : ℕ) (held : List Write) (write : Write) → AreFitting count held → Fits count held write → All (λ other. Rises other write) held
+rises-fits count held write fitting fits k d within at earlier =
+    let other = get_or held k d in
+    let own_dep : slice_index write.deps other.wid.origin.index ≡ slice_index write.deps write.wid.origin.index =
+    ap (λ (server : ServerId). slice_index write.deps server.index) at in
+    let within_deps : other.wid.seq ≤ slice_index write.deps other.wid.origin.index = omega (arith, earlier, fits.1.own, own_dep) in
+    let covered : nat_le other.wid.seq (slice_index write.deps other.wid.origin.index) ≡ true = grind (arith, nat_tests) in
+    let early : other.stamp.clock ≤ greatest_clock (covered_by write.deps held) =
+    filter_clock-least (λ (held : Write). nat_le held.wid.seq (slice_index write.deps held.wid.origin.index)) held k d within covered in
+    omega (arith, fits.1.clock, early)
+
+-- and none before it is of a greater seq
+rises-held : (count : ℕ) (held : List Write) (write : Write) → AreFitting count held → Fits count held write → All (λ other. Rises write other) held
+rises-held count held write fitting fits k d within at later =
+    let other = get_or held k d in
+    let below : other.wid.seq ≤ slice_index (count_of held) other.wid.origin.index = (fitting_is_prefix_closed count held fitting).none_beyond k d within in
+    let own_count : slice_index (count_of held) write.wid.origin.index ≡ slice_index (count_of held) other.wid.origin.index =
+    ap (λ (server : ServerId). slice_index (count_of held) server.index) at in
+    absurd (omega (arith, later, below, own_count, fits.0.next))
+
+-- within one origin clocks rise with the seq
+pub fitting_clocks_rise : (count : ℕ) (writes : List Write) → AreFitting count writes → All (λ one. All (Rises one) writes) writes
+fitting_clocks_rise count =
+    fitting-induction count (λ writes. All (λ one. All (Rises one) writes) writes) (λ k d within. absurd (omega arith))
+    (λ held write fitting fits rise.
+    let all = held ++ write ∷ [] in
+    All-push (λ one. All (Rises one) all) held write
+    (λ k d within. All-push (Rises (get_or held k d)) held write (rise k d within) (rises-fits count held write fitting fits k d within))
+    (All-push (Rises write) held write (rises-held count held write fitting fits) (λ at later. absurd (omega (arith, later)))))
+
 -- the counts that are no smaller than a fitting list's own cover all of it
 pub covered_by-fitting : (count : ℕ) (writes : List Write) (counts : List ℕ) → AreFitting count writes → Dominates counts (count_of writes) → covered_by counts writes ≡ writes
 covered_by-fitting count writes counts fitting greater =
@@ -295,6 +338,15 @@ next_fits count writes server asked write fitting known next =
         clock = next.clock ∙ sym (ap (λ list. greatest_clock list + 1) all);
       },
     )
+
+-- the next Write of a server comes after every Write that it holds
+pub next_is_latest : (writes : List Write) (server : ℕ) (asked : Program) (write : Write) → IsNextWrite writes server asked write
+    → All (λ held. is_before held.stamp write.stamp ≡ true) writes
+next_is_latest writes server asked write next k d within =
+    let held = get_or writes k d in
+    let early : held.stamp.clock < write.stamp.clock = omega (arith, greatest_clock-least writes k d within, next.clock) in
+    let less : nat_lt held.stamp.clock write.stamp.clock ≡ true = grind (arith, nat_tests) in
+    rw less refl
 
 pub IsSound-empty : (server count : ℕ) → IsSound server count []
 IsSound-empty server count = record {

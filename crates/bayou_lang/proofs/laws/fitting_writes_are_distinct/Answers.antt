@@ -1,5 +1,5 @@
-use Rattle.bayou_log.specs.FittingLaws.{fitting_distinct_wids, fitting_distinct_stamps}
-use Rattle.bayou_log.proofs.laws.fitting_writes_are_distinct.Goals as goal
+use Rattle.bayou_lang.specs.FittingLaws.{fitting_distinct_wids, fitting_distinct_stamps}
+use Rattle.bayou_lang.proofs.laws.fitting_writes_are_distinct.Goals as goal
 
 pub returns-clause-wids : goal.returns-clause-wids
 returns-clause-wids c = fitting_distinct_wids

@@ -1,0 +1,5 @@
+use Rattle.bayou_lang.specs.FittingLaws.{fitting_clocks_rise}
+use Rattle.bayou_lang.proofs.laws.own_clocks_rise.Goals as goal
+
+pub returns : goal.returns
+returns c = fitting_clocks_rise

@@ -1,0 +1,5 @@
+use Rattle.bayou_lang.specs.FittingLaws.{next_fits}
+use Rattle.bayou_lang.proofs.laws.own_next_write_fits.Goals as goal
+
+pub returns : goal.returns
+returns c = next_fits

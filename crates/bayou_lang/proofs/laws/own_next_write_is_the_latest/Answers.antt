@@ -1,0 +1,5 @@
+use Rattle.bayou_lang.specs.FittingLaws.{next_is_latest}
+use Rattle.bayou_lang.proofs.laws.own_next_write_is_the_latest.Goals as goal
+
+pub returns : goal.returns
+returns c = next_is_latest

@@ -1,5 +1,0 @@
-use Rattle.bayou_log.proofs.Counts.{count_of-filter}
-use Rattle.bayou_log.proofs.laws.count_is_the_number_of_writes.Goals as goal
-
-pub returns : goal.returns
-returns c = count_of-filter

@@ -1,5 +1,0 @@
-use Rattle.bayou_log.specs.FittingLaws.{fitting_is_prefix_closed}
-use Rattle.bayou_log.proofs.laws.fitting_writes_are_prefix_closed.Goals as goal
-
-pub returns : goal.returns
-returns c = fitting_is_prefix_closed

@@ -1,5 +1,0 @@
-use Rattle.bayou_log.specs.FittingLaws.{next_fits}
-use Rattle.bayou_log.proofs.laws.own_next_write_fits.Goals as goal
-
-pub returns : goal.returns
-returns c = next_fits
