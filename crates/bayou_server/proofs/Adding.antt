@@ -11,7 +11,7 @@ use Rattle.bayou_journal.specs.Journal.{JournalState}
 use Rattle.bayou_lang.specs.declared.program.Program.{Program}
 use Rattle.bayou_lang.specs.declared.write.Write.{Write}
 use Rattle.bayou_lang.specs.Writes.{IsNextWrite}
-use Rattle.bayou_log.specs.FittingLaws.{IsSound-next}
+use Rattle.bayou_lang.specs.FittingLaws.{IsSound-next}
 use Rattle.bayou_log.specs.Log.{Log}
 use Rattle.bayou_wire.specs.Spelling.{write_bytes}
 use Rattle.bayou_server.specs.Fields.{BelongTogether, Stands}

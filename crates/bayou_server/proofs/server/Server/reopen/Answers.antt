@@ -2,7 +2,7 @@ use Rattle.std.proofs.Common.{◌≡◌, ℕ, List, [], ◌∷◌, ◌++◌, Boo
 use Rattle.std.proofs.lemmas.Result.{err_from_is_err_and}
 use Rattle.bayou_journal.specs.Opening.{HasRefused}
 use Rattle.bayou_lang.specs.declared.write.Write.{Write}
-use Rattle.bayou_log.specs.FittingLaws.{next_fits}
+use Rattle.bayou_lang.specs.FittingLaws.{next_fits}
 use Rattle.bayou_server.specs.Replaying.{AreHeldAnd, AreOthers}
 use Rattle.bayou_server.specs.Server.{bodies_of}
 use Rattle.bayou_server.specs.Starts.{OpensWith}

@@ -1,7 +1,7 @@
 use Rattle.std.proofs.Common.{◌≢◌, ◌<◌, ℕ, List, ◌++◌, length, refl, sym, ◌∙◌, ap, subst, arith}
 use Rattle.std.specs.Prelude.{is_err}
 use Rattle.bayou_base.specs.Vector.{Dominates}
-use Rattle.bayou_log.specs.FittingLaws.{next_fits}
+use Rattle.bayou_lang.specs.FittingLaws.{next_fits}
 use Rattle.bayou_server.proofs.Adding.{after_adding, device_fault, entry_is, none_of, stands_up, stored_after}
 use Rattle.bayou_server.proofs.server.Server.write.Goals as goal
 
