@@ -4,6 +4,8 @@ pub mod Meaning
 pub mod Changes
 pub mod Program
 pub mod Writes
+pub mod Equality
+pub mod EqualityLaws
 pub mod StampOrderLaws
 pub mod SetOfWritesLaws
 pub mod FittingLaws

@@ -11,6 +11,7 @@ ghost use Rattle.bayou_lang.specs.declared.program.Cond.TheVariants.{Equals, Abs
 ghost use Rattle.bayou_lang.specs.declared.program.Program.{Program};
 ghost use Rattle.bayou_lang.specs.declared.program.Term.TheVariants.{Plus};
 ghost use Rattle.bayou_lang.specs.declared.write.Write.{Write};
+ghost use Rattle.bayou_lang.specs.Equality.{same_program, same_write};
 ghost use Rattle.bayou_lang.specs.Meaning.{after_alternative, after_ops, all_hold, holds, mean, term_value};
 ghost use Rattle.bayou_lang.specs.Places.{Places, changed, empty, same_key, value_at};
 ghost use Rattle.bayou_lang.specs.Writes.{count_of, in_stamp_order, AreFitting, Fits, HaveDistinctStamps, HaveDistinctWids, HaveSameWrites, IsNextWrite, IsPrefixClosed};
@@ -112,4 +113,10 @@ pub fn own_next_write_is_the_latest()
 pub fn own_clocks_rise()
     ensures { (count : ℕ) (writes : List Write) → AreFitting count writes
         → All (λ one. All (λ other. one.wid.origin ≡ other.wid.origin → one.wid.seq < other.wid.seq → one.stamp.clock < other.stamp.clock) writes) writes }
+{}
+
+/// `==` on programs and on Writes is true exactly where the two are one.
+pub fn equality_decides()
+    ensures programs { (a b : Program) → (same_program a b ≡ true) ↔ (a ≡ b) }
+    ensures writes { (a b : Write) → (same_write a b ≡ true) ↔ (a ≡ b) }
 {}
