@@ -8,7 +8,7 @@
 ghost use Rattle.std.specs.Prelude.{◌≡◌, ◌∷◌, [], IfOk, MatchResult, codes, false, map};
 ghost use Rattle.clap.specs.declared.builder.command.Command.TheViews.{out-Command as fields_of};
 ghost use Rattle.clap.specs.Words.{app_of, kind_of};
-ghost use Rattle.bayou_command.specs.Words.{NamesRun, bayou_app, run_app};
+ghost use Rattle.bayou_command.specs.Words.{Names, NamesRun, StopsAt, bayou_app, run_app};
 
 use clap::error::ErrorKind;
 use clap::{Command, Error};
@@ -88,6 +88,7 @@ impl From<AllocError> for Stop {
 impl Stop {
     fn of(alloc: Global, error: &Error) -> Stop
         ensures memory { kind_of error.now ≡ ErrorKind.OutOfMemory → result ≡ Stop.Memory }
+        ensures kind { StopsAt (kind_of error.now) result }
     {
         if let ErrorKind::OutOfMemory = error.kind() {
             return Stop::Memory;
@@ -123,8 +124,8 @@ fn bayou_command<'a>(alloc: Global) -> Result<Command<'a>, AllocError>
 
 /// What the words name. The first of them is the program's own name.
 pub fn read_words<'a, S: AsStr>(alloc: Global, words: &'a [S]) -> Result<Task, Stop>
-    // Words that ask for `run` and nothing else are taken, unless memory runs out.
-    ensures run { NamesRun (map S.text words.entry.now) → MatchResult result (λ task. task ≡ Task.Run) (λ stop. stop ≡ Stop.Memory) }
+    // Words are taken exactly where they ask for `run` and nothing else; others ask for a text, or are a mistake. Memory may run out.
+    ensures { Names (map S.text words.entry.now) result }
 {
     match bayou_command(alloc)?.try_get_matches_from(words) {
         Ok(_) => Ok(Task::Run),

@@ -1,3 +1,4 @@
+pub mod Asked
 pub mod Begun
 pub mod Joined
 pub mod Runs

@@ -1,6 +1,7 @@
 pub mod Fault
 pub mod Machine
 pub mod Printed
+pub mod Program
 pub mod Replica
 pub mod Run
 pub mod Turns

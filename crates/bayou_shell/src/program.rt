@@ -1,7 +1,10 @@
-ghost use Rattle.std.specs.Prelude.{◌≡◌, ◌≤◌, IfErr, IfSome, Result, map};
+ghost use Rattle.std.specs.IoError.{error_kind};
+ghost use Rattle.std.specs.Prelude.{◌≡◌, ◌≢◌, ◌≤◌, IfErr, IfSome, Result, map, true};
 ghost use Rattle.bayou_command.specs.Words.{NamesRun};
 ghost use Rattle.bayou_shell.specs.declared.fault.Fault.{Fault};
+ghost use Rattle.bayou_shell.specs.declared.fault.Fault.TheVariants.{Memory};
 ghost use Rattle.bayou_shell.specs.Fault.{exit_status, status_of};
+ghost use Rattle.bayou_shell.specs.Program.{TellsOf, refused_status};
 ghost use Rattle.bayou_shell.specs.Run.{RunsAs};
 ghost use Rattle.bayou_shell.specs.Turns.{EndsReading, EndsWriting};
 
@@ -38,7 +41,10 @@ fn finish<E: Write>(errors: &mut Output<E>, ended: Result<(), Fault>) -> u8
 }
 
 /// Tells that the program's words can't be had, and gives the exit status.
-pub fn refuse_words<E: Write>(errors: &mut Output<E>, error: &io::Error) -> u8 {
+pub fn refuse_words<E: Write>(errors: &mut Output<E>, error: &io::Error) -> u8
+    ensures memory { error_kind error.now ≡ ErrorKind.OutOfMemory → result ≡ status_of Memory }
+    ensures others { error_kind error.now ≢ ErrorKind.OutOfMemory → result ≡ refused_status }
+{
     if error.kind() == ErrorKind::OutOfMemory {
         return tell(errors, Fault::Memory);
     }
@@ -57,6 +63,11 @@ pub fn run_main<'a, S: AsStr, R: Read, W: Write, E: Write>(
     ensures run { NamesRun (map S.text words.entry.now) → IfSome (R.remaining input.old.stream) (λ text. (ended : Result (Unit {0}) Fault)
         × RunsAs text ended (W.contents output.old.stream) (W.contents output.new.stream) × (result ≡ exit_status ended)
         × IfErr ended (EndsReading input.new.has_failed input.new.turns_left) × IfErr ended (EndsWriting output.new.has_failed output.new.turns_left)) }
+    // Words that name no run: nothing is read.
+    ensures unread { ¬ (NamesRun (map S.text words.entry.now)) → input.new ≡ input.old }
+    ensures others { ¬ (NamesRun (map S.text words.entry.now)) → TellsOf (map S.text words.entry.now) result (W.contents output.old.stream) (W.contents output.new.stream) }
+    // A text that was asked for is not lost in silence.
+    ensures clean { ¬ (NamesRun (map S.text words.entry.now)) → result ≡ 0 → output.new.has_failed ≡ true → output.old.has_failed ≡ true }
     ensures turns { input.new.turns_left ≤ input.old.turns_left }
 {
     match read_words(alloc, words) {

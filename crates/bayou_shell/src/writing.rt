@@ -1,4 +1,4 @@
-ghost use Rattle.std.specs.Prelude.{◌≡◌, OnOk, IfErr};
+ghost use Rattle.std.specs.Prelude.{◌≡◌, true, OnOk, IfErr};
 ghost use Rattle.std.specs.Io.KnownBytes.{Appends};
 ghost use Rattle.bayou_shell.specs.declared.fault.Fault.TheVariants.{Output as OutputFault};
 ghost use Rattle.bayou_shell.specs.Turns.{HasEnded};
@@ -14,6 +14,8 @@ pub(crate) fn write_text<W: Write>(output: &mut Output<W>, text: &[u8]) -> Resul
     ensures whole { OnOk result (Appends (W.contents output.old.stream) (W.contents output.new.stream) text.now) }
     ensures fault { IfErr result (λ fault. fault ≡ OutputFault) }
     ensures ended { IfErr result (λ fault. HasEnded output.new.has_failed output.new.turns_left) }
+    // No call of it failed where the whole was written.
+    ensures clean { OnOk result (output.new.has_failed ≡ true → output.old.has_failed ≡ true) }
     ensures part { AppendsFront (W.contents output.old.stream) (W.contents output.new.stream) text.now }
 {
     output.begin();

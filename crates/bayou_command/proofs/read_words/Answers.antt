@@ -1,9 +1,17 @@
-use Rattle.std.proofs.Common.{map, ap, ◌∙◌}
-use Rattle.clap.specs.Words.{App, takes}
+use Rattle.std.proofs.Common.{◌≡◌, [], map, true, subst}
+use Rattle.clap.specs.Kinds.{HasKind}
+use Rattle.clap.specs.Words.{App, fault_of, is_simple_and_free}
+use Rattle.bayou_command.proofs.Named.{simple, stopped}
 use Rattle.bayou_command.proofs.read_words.Goals as goal
 
+pub returns-in-Ok : goal.returns-in-Ok
+returns-in-Ok g c =
+    let words = map g.S.AsStr.text c.args.words.now in
+    subst (λ (app : App). is_simple_and_free app ≡ true → fault_of app words ≡ []) c.in_ok-bayou_command.ensures c.in-Ok.ensures.kinds simple
+
 pub returns : goal.returns
-returns g c = record {
-  run = λ named. c.of.ensures.memory (c.in-Err.ensures.passes
-      (ap (λ (app : App). takes app (map g.S.AsStr.text c.args.words.now)) c.in_ok-bayou_command.ensures ∙ named));
-}
+returns g c =
+    let words = map g.S.AsStr.text c.args.words.now in
+    stopped words c.in-Err.error c.of.result
+    (subst (λ (app : App). is_simple_and_free app ≡ true → HasKind (fault_of app words) c.in-Err.error) c.in_ok-bayou_command.ensures c.in-Err.ensures.kinds simple)
+    c.of.ensures.memory c.of.ensures.kind
