@@ -3,6 +3,7 @@ pub mod PlacesLaws
 pub mod Meaning
 pub mod Changes
 pub mod Program
+pub mod Ranges
 pub mod Writes
 pub mod Equality
 pub mod EqualityLaws

@@ -32,7 +32,8 @@ use Rattle.bayou_text.specs.Lines.{line_in, servers_in, opening_in, writing_in, 
 use Rattle.bayou_text.specs.Numbers.{number_in, session_in, server_in, integer_in}
 use Rattle.bayou_text.specs.Parts.{named_in, keyed_in, term_in, op_in, cond_in}
 use Rattle.bayou_text.specs.Programs.{few_in, alt_in, program_in}
-use Rattle.bayou_text.specs.Ranges.{IsKey, IsValue, IsTerm, IsOp, IsCond, IsList, IsAlt, IsProgram, IsLine, IsReadable}
+use Rattle.bayou_lang.specs.Ranges.{IsKey, IsValue, IsTerm, IsOp, IsCond, AreAtMost, IsAlt, IsProgram}
+use Rattle.bayou_text.specs.Ranges.{IsLine, IsReadable}
 use Rattle.bayou_text.specs.Reading.{Reads, listed, all_in}
 use Rattle.bayou_text.specs.Said.{said}
 use Rattle.bayou_text.specs.Spelling.{count_json, value_json, term_json, op_json, cond_json, alt_json, program_json, asks_json, line_json}
@@ -47,7 +48,7 @@ key_again key valid = rw valid
 value_again : (v : Value) → IsValue v → value_in (value_json v) ≡ Ok v
 value_again (Num (pos n)) fits = let small : n < 2 ^ 63 = omega (arith, fits) in grind (arith, tests)
 value_again (Num (negsuc n)) fits = refl
-value_again (Text text) short = grind (arith, tests, short)
+value_again (Text text) kept = grind (arith, tests, kept.0)
 
 integer_again : (n : ℤ) → FitsSigned w64 n → integer_in (number (of_integer n)) ≡ Ok n
 integer_again (pos n) fits = let small : n < 2 ^ 63 = omega (arith, fits) in grind (arith, tests)
@@ -86,27 +87,27 @@ module _ {A : Type 0} (Is : A → Type 0) (one_in : Data → Reads A) (one_json 
   each_again again (x ∷ xs) kept = rw (again x kept.0, each_again again xs kept.1)
 
   few_again : ((x : A) → Is x → one_in (one_json x) ≡ Ok x) → (most : ℕ) (many : ProgramFault) (xs : List A)
-      → IsList Is most xs → few_in most many one_in (listed (items_of (map one_json xs))) ≡ Ok xs
+      → AreAtMost most Is xs → few_in most many one_in (listed (items_of (map one_json xs))) ≡ Ok xs
   few_again again most many xs kept =
       let short : nat_lt most (length (map one_json xs)) ≡ false = simp length-map (grind (
         arith,
         tests,
-        kept.fits,
+        kept.0,
       )) in
-      rw (listed_items (map one_json xs)) (rw short (each_again again xs kept.each))
+      rw (listed_items (map one_json xs)) (rw short (each_again again xs kept.1))
 
 alt_again : (a : Alt) → IsAlt a → alt_in (alt_json a) ≡ Ok a
 unfolding alt_in
 alt_again a kept =
-    rw (few_again IsCond cond_in cond_json cond_again MAX_CONDITIONS TooManyConds a.when.items kept.when)
-    (rw (few_again IsOp op_in op_json op_again MAX_OPS TooManyOps a.ops.items kept.ops))
+    rw (few_again IsCond cond_in cond_json cond_again MAX_CONDITIONS TooManyConds a.when.items kept.0)
+    (rw (few_again IsOp op_in op_json op_again MAX_OPS TooManyOps a.ops.items kept.1))
 
 program_again : (p : Program) → IsProgram p → program_in (program_json p) ≡ Ok p
 unfolding program_in program_json
 program_again p kept =
-    rw (few_again IsCond cond_in cond_json cond_again MAX_CONDITIONS TooManyConds p.check.items kept.check)
-    (rw (few_again IsOp op_in op_json op_again MAX_OPS TooManyOps p.update.items kept.update)
-    (rw (few_again IsAlt alt_in alt_json alt_again MAX_ALTERNATIVES TooManyAlts p.merge.items kept.merge)))
+    rw (few_again IsCond cond_in cond_json cond_again MAX_CONDITIONS TooManyConds p.check.items kept.0)
+    (rw (few_again IsOp op_in op_json op_again MAX_OPS TooManyOps p.update.items kept.1.0)
+    (rw (few_again IsAlt alt_in alt_json alt_again MAX_ALTERNATIVES TooManyAlts p.merge.items kept.1.1)))
 
 asks_cases : (ryw mr wfr mw : Bool)
     → asks_in (asks_json (record { ryw = ryw; mr = mr; wfr = wfr; mw = mw })) ≡ Ok (record {

@@ -25,7 +25,8 @@ use Rattle.std.specs.Int.RustNames.{FitsSigned}
 use Rattle.bayou_text.specs.declared.command.Command.TheVariants as command
 use Rattle.bayou_text.specs.declared.line.Line.{Line}
 use Rattle.bayou_text.specs.declared.line.Line.TheVariants as line
-use Rattle.bayou_text.specs.Ranges.{IsKey, IsValue, IsTerm, IsOp, IsCond, IsAlt, IsList, IsProgram, IsLine}
+use Rattle.bayou_lang.specs.Ranges.{IsKey, IsValue, IsTerm, IsOp, IsCond, IsAlt, AreAtMost, IsProgram}
+use Rattle.bayou_text.specs.Ranges.{IsLine}
 use Rattle.bayou_text.specs.Said.{said}
 use Rattle.bayou_text.specs.Spelling.{form, count_json, value_json, term_json, op_json, cond_json, alt_json, program_json, asks_json, list_json, line_json}
 
@@ -68,7 +69,7 @@ integer_size (negsuc n) fits = length_signed_le 19 (negsuc n) (omega (arith, fit
 
 value_size : (v : Value) → IsValue v → size (value_json v) ≤ 194
 value_size (Num n) fits = omega (arith, integer_size n fits)
-value_size (Text text) short = omega (arith, string_size text, short)
+value_size (Text text) kept = omega (arith, string_size text, kept.0)
 
 form_one : (word : List ℕ) (d : Data) → size (form word (d ∷ [])) ≤ 6 * length word + size d + 5
 form_one word d = simp length-append (omega (arith, simp length-append at (string_size word)))
@@ -136,33 +137,33 @@ list_size : {A : Type 0} (Is : A → Type 0) (one_json : A → Data) (most : ℕ
     → (xs : List A) → AllByRecursion Is xs → size (list_json one_json xs) ≤ (most + 1) * length xs + 2
 list_size Is one_json most each xs kept = omega (arith, items_size Is one_json most each false xs kept)
 
-ops_size : (ops : List Op) → IsList IsOp MAX_OPS ops → size (list_json op_json ops) ≤ 4010
-ops_size ops kept = omega (arith, list_size IsOp op_json 500 op_size ops kept.each, kept.fits)
+ops_size : (ops : List Op) → AreAtMost MAX_OPS IsOp ops → size (list_json op_json ops) ≤ 4010
+ops_size ops kept = omega (arith, list_size IsOp op_json 500 op_size ops kept.1, kept.0)
 
-conds_size : (conditions : List Cond) → IsList IsCond MAX_CONDITIONS conditions
+conds_size : (conditions : List Cond) → AreAtMost MAX_CONDITIONS IsCond conditions
     → size (list_json cond_json conditions) ≤ 4010
 conds_size conditions kept = omega (
   arith,
-  list_size IsCond cond_json 500 cond_size conditions kept.each,
-  kept.fits,
+  list_size IsCond cond_json 500 cond_size conditions kept.1,
+  kept.0,
 )
 
 alt_size : (a : Alt) → IsAlt a → size (alt_json a) ≤ 8100
 alt_size a kept =
     simp length-append (omega (
       arith,
-      ops_size a.ops.items kept.ops,
-      conds_size a.when.items kept.when,
+      ops_size a.ops.items kept.1,
+      conds_size a.when.items kept.0,
       simp length-append at (string_size (codes "ops")),
       simp length-append at (string_size (codes "when")),
     ))
 
-alts_size : (alternatives : List Alt) → IsList IsAlt MAX_ALTERNATIVES alternatives
+alts_size : (alternatives : List Alt) → AreAtMost MAX_ALTERNATIVES IsAlt alternatives
     → size (list_json alt_json alternatives) ≤ 32500
 alts_size alternatives kept = omega (
   arith,
-  list_size IsAlt alt_json 8100 alt_size alternatives kept.each,
-  kept.fits,
+  list_size IsAlt alt_json 8100 alt_size alternatives kept.1,
+  kept.0,
 )
 
 program_size : (p : Program) → IsProgram p → size (program_json p) ≤ 41000
@@ -170,9 +171,9 @@ unfolding program_json
 program_size p kept =
     simp length-append (omega (
       arith,
-      conds_size p.check.items kept.check,
-      alts_size p.merge.items kept.merge,
-      ops_size p.update.items kept.update,
+      conds_size p.check.items kept.0,
+      alts_size p.merge.items kept.1.1,
+      ops_size p.update.items kept.1.0,
       simp length-append at (string_size (codes "check")),
       simp length-append at (string_size (codes "merge")),
       simp length-append at (string_size (codes "update")),

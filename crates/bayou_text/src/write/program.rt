@@ -2,7 +2,7 @@ ghost use Rattle.std.specs.Prelude.{◌≡◌, [], ◌∷◌, IfOk, OnOk};
 ghost use Rattle.serde_json.specs.Data.{string};
 ghost use Rattle.serde_json.specs.View.{view};
 ghost use Rattle.std.specs.List.{AllByRecursion};
-ghost use Rattle.bayou_text.specs.Ranges as ranges;
+ghost use Rattle.bayou_lang.specs.Ranges as ranges;
 ghost use Rattle.bayou_text.specs.Spelling as spelling;
 
 use bayou_base::{Key, Value as Stored};

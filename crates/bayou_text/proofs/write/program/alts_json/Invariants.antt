@@ -1,7 +1,7 @@
 use Rattle.std.proofs.Common.{◌≡◌, map, take}
 use Rattle.std.specs.List.{AllByRecursion}
 use Rattle.serde_json.specs.View.{view}
-use Rattle.bayou_text.specs.Ranges.{IsAlt}
+use Rattle.bayou_lang.specs.Ranges.{IsAlt}
 use Rattle.bayou_text.specs.Spelling.{alt_json}
 use Rattle.bayou_text.proofs.write.program.alts_json.Given as goal
 

@@ -1,7 +1,7 @@
 use Rattle.std.proofs.Common.{◌≡◌, map, take}
 use Rattle.std.specs.List.{AllByRecursion}
 use Rattle.serde_json.specs.View.{view}
-use Rattle.bayou_text.specs.Ranges.{IsOp}
+use Rattle.bayou_lang.specs.Ranges.{IsOp}
 use Rattle.bayou_text.specs.Spelling.{op_json}
 use Rattle.bayou_text.proofs.write.program.ops_json.Given as goal
 
