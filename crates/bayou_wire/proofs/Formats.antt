@@ -30,7 +30,9 @@ use Rattle.bayou_lang.specs.declared.program.Term.{Term}
 use Rattle.bayou_lang.specs.declared.program.Term.TheVariants.{Lit, Copy, Plus}
 use Rattle.bayou_lang.specs.declared.write.Write.{Write}
 use Rattle.bayou_wire.specs.declared.layout.TheConstants as layout
-use Rattle.bayou_wire.specs.Spelling.{u32_bytes, i64_bytes, short_bytes, value_bytes, term_bytes, op_bytes, cond_bytes, list_bytes, alt_bytes, program_bytes, vector_bytes, wid_bytes, accepted_bytes, write_bytes, IsKey, IsText, IsI64, IsValue, IsTerm, IsOp, IsCond, AreAtMost, IsAlt, IsProgram, IsWrite}
+use Rattle.bayou_lang.specs.Ranges.{IsKey, IsText, IsI64, IsValue, IsTerm, IsOp, IsCond, AreAtMost, IsAlt, IsProgram, IsWrite}
+use Rattle.bayou_wire.proofs.Vectors.{vector_bytes-is}
+use Rattle.bayou_wire.specs.Spelling.{u32_bytes, i64_bytes, short_bytes, value_bytes, term_bytes, op_bytes, cond_bytes, list_bytes, alt_bytes, program_bytes, vector_bytes, wid_bytes, accepted_bytes, write_bytes}
 use Rattle.bayou_wire.specs.Reading.{Read, ◌>>=◌, both, made, times, byte_at, number_at, i64_at, short_at, key_at, text_at, value_at, term_at, op_at, cond_at, list_at, alt_at, program_at, vector_of, vector_at, server_of, wid_of, wid_at, accepted_of, accepted_at, write_at}
 use Rattle.bayou_wire.proofs.Readers.{server_of-is, wid_of-is, accepted_of-is, server_of-from, wid_of-from, accepted_of-from}
 
@@ -451,24 +453,33 @@ vector_of-from counts vector e =
       | inr h ↦ absurd (none-some vector h.1)
     ]
 
-pub vector_format : IsFormat AreCounts vector_bytes vector_at
+-- each count of a list has its place
+counts_format : IsFormat AreCounts (flat_map u32_bytes) vector_at
 unfolding vector_at
-vector_format = record { takes = takes; again = again }
+counts_format = record { takes = takes; again = again }
   where
-    takes : (bytes : List ℕ) (x : List ℕ × List ℕ) → IsBytes bytes → vector_at bytes ≡ Some x → AreCounts x.0 × (bytes ≡ vector_bytes x.0 ++ x.1)
+    takes : (bytes : List ℕ) (x : List ℕ × List ℕ) → IsBytes bytes → vector_at bytes ≡ Some x → AreCounts x.0 × (bytes ≡ flat_map u32_bytes x.0 ++ x.1)
     takes bytes x fits e =
         option_and_then_some (λ y. vector_of y.0 >>= λ vector. Some (vector, y.1)) (times SERVERS (number_at w32) bytes) x e (λ y read named.
         option_and_then_some (λ vector. Some (vector, y.1)) (vector_of y.0) x named (λ vector of same.
         let t = times_takes u32_format SERVERS bytes y fits read in
         let v = vector_of-from y.0 vector of in
-        subst (λ (w : List ℕ × List ℕ). AreCounts w.0 × (bytes ≡ vector_bytes w.0 ++ w.1)) (same_Some (vector, y.1) x same)
+        subst (λ (w : List ℕ × List ℕ). AreCounts w.0 × (bytes ≡ flat_map u32_bytes w.0 ++ w.1)) (same_Some (vector, y.1) x same)
         (rw v.0 (record { one_each = t.0; in_range = v.1 }, t.2))))
 
-    again : (counts rest : List ℕ) → AreCounts counts → vector_at (vector_bytes counts ++ rest) ≡ Some (counts, rest)
+    again : (counts rest : List ℕ) → AreCounts counts → vector_at (flat_map u32_bytes counts ++ rest) ≡ Some (counts, rest)
     again counts rest are =
-        let read : times SERVERS (number_at w32) (vector_bytes counts ++ rest) ≡ Some (counts, rest) =
-        ap (λ n. times n (number_at w32) (vector_bytes counts ++ rest)) (sym are.one_each) ∙ times_again u32_format counts rest (small_counts counts are.in_range) in
+        let read : times SERVERS (number_at w32) (flat_map u32_bytes counts ++ rest) ≡ Some (counts, rest) =
+        ap (λ n. times n (number_at w32) (flat_map u32_bytes counts ++ rest)) (sym are.one_each) ∙ times_again u32_format counts rest (small_counts counts are.in_range) in
         rw (read, vector_of-is counts are.in_range) refl
+
+pub vector_format : IsFormat AreCounts vector_bytes vector_at
+vector_format = record {
+  takes = λ bytes x fits e.
+      let took = counts_format.takes bytes x fits e in (took.0, took.1 ∙ ap (λ spelled. spelled ++ x.1) (sym (vector_bytes-is x.0 took.0)));
+  again = λ counts rest are.
+      ap (λ spelled. vector_at (spelled ++ rest)) (vector_bytes-is counts are) ∙ counts_format.again counts rest are;
+}
 
 -- ---- Writes
 

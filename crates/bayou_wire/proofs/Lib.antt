@@ -1,4 +1,5 @@
 pub mod Readers
+pub mod Vectors
 pub mod Formats
 pub mod Payloads
 pub mod Sizes

@@ -6,7 +6,7 @@ use Rattle.std.proofs.lemmas.Bool.Decides.{nat_tests}
 use Rattle.std.proofs.Math.Nat.{mul-le-mul_right}
 use Rattle.std.proofs.lemmas.List.{length-append}
 use Rattle.bayou_base.specs.Vector.{AreCounts}
-use Rattle.bayou_base.specs.declared.limits.TheConstants.{MAX_FRAME_BYTES, MAX_WRITE_BYTES, MAX_KEY_BYTES, MAX_OPS, MAX_CONDITIONS, MAX_ALTERNATIVES}
+use Rattle.bayou_base.specs.declared.limits.TheConstants.{SERVERS, MAX_FRAME_BYTES, MAX_WRITE_BYTES, MAX_KEY_BYTES, MAX_OPS, MAX_CONDITIONS, MAX_ALTERNATIVES}
 use Rattle.bayou_base.specs.declared.stamp.Stamp.{Stamp}
 use Rattle.bayou_base.specs.declared.value.Value.{Value}
 use Rattle.bayou_base.specs.declared.value.Value.TheVariants.{Num, Text}
@@ -25,7 +25,9 @@ use Rattle.bayou_wire.specs.declared.frame.Frame.TheVariants as frames
 use Rattle.bayou_wire.specs.declared.frame.Refusal.{Refusal}
 use Rattle.bayou_wire.specs.declared.frame.Refusal.TheVariants as refusals
 use Rattle.bayou_wire.specs.declared.layout.TheConstants.{LENGTH_BYTES}
-use Rattle.bayou_wire.specs.Spelling.{i64_bytes, short_bytes, value_bytes, term_bytes, op_bytes, cond_bytes, list_bytes, alt_bytes, program_bytes, vector_bytes, accepted_bytes, write_bytes, optional_value_bytes, optional_wid_bytes, refusal_bytes, payload_bytes, IsKey, IsValue, IsTerm, IsOp, IsCond, AreAtMost, IsAlt, IsProgram, IsWrite, IsRefusal, IsFrame, SpellsFrame}
+use Rattle.bayou_lang.specs.Ranges.{IsKey, IsValue, IsTerm, IsOp, IsCond, AreAtMost, IsAlt, IsProgram, IsWrite}
+use Rattle.bayou_wire.proofs.Vectors.{length-vector_bytes}
+use Rattle.bayou_wire.specs.Spelling.{i64_bytes, short_bytes, value_bytes, term_bytes, op_bytes, cond_bytes, list_bytes, alt_bytes, program_bytes, vector_bytes, accepted_bytes, write_bytes, optional_value_bytes, optional_wid_bytes, refusal_bytes, payload_bytes, IsRefusal, IsFrame, SpellsFrame}
 
 pub key_is_short : (key : List ℕ) → IsKey key → length key ≤ MAX_KEY_BYTES
 key_is_short key is = grind (arith, nat_tests)
@@ -83,19 +85,12 @@ program_size program is =
     let all = length-append (list_bytes cond_bytes program.check.items) (list_bytes op_bytes program.update.items ++ list_bytes alt_bytes program.merge.items) in
     omega (arith, conds, ops, alts, later, all)
 
-counts_size : (counts : List ℕ) → length (vector_bytes counts) ≡ length counts * 4
-counts_size [] = refl
-counts_size (count ∷ counts) = omega (arith, counts_size counts)
-
-vector_size : (counts : List ℕ) → AreCounts counts → length (vector_bytes counts) ≡ 32
-vector_size counts are = omega (arith, counts_size counts, are.one_each)
-
-accepted_size : (wid : Wid) (stamp : Stamp) (deps : List ℕ) → AreCounts deps → length (accepted_bytes wid stamp deps) ≡ 41
-accepted_size wid stamp deps are = omega (arith, vector_size deps are)
+accepted_size : (wid : Wid) (stamp : Stamp) (deps : List ℕ) → length (accepted_bytes wid stamp deps) ≡ SERVERS * 4 + 9
+accepted_size wid stamp deps = omega (arith, length-vector_bytes deps)
 
 pub write_size : (write : Write) → IsWrite write → length (write_bytes write) ≤ MAX_WRITE_BYTES
 write_size write is =
-    let head = accepted_size write.wid write.stamp write.deps is.0 in
+    let head = accepted_size write.wid write.stamp write.deps in
     let body = program_size write.program is.1 in
     let all = length-append (accepted_bytes write.wid write.stamp write.deps) (program_bytes write.program) in
     omega (arith, head, body, all)
@@ -106,7 +101,7 @@ optional_value_size (Some value) is = value_size value is
 
 refusal_size : (refusal : Refusal) → IsRefusal refusal → length (refusal_bytes refusal) ≤ 33
 refusal_size refusals.Down is = omega arith
-refusal_size (refusals.Behind vector) is = omega (arith, vector_size vector is)
+refusal_size (refusals.Behind vector) is = omega (arith, length-vector_bytes vector)
 refusal_size refusals.LogFull is = omega arith
 refusal_size refusals.Journal is = omega arith
 refusal_size refusals.NotDown is = omega arith
@@ -119,13 +114,13 @@ reopened_size None = omega arith
 reopened_size (Some wid) = omega arith
 
 pub payload_is_short : (frame : Frame) → IsFrame frame → length (payload_bytes frame) < MAX_FRAME_BYTES
-payload_is_short (frames.Read need key) is = omega (arith, vector_size need is.0, key_is_short key is.1, length-append (vector_bytes need) (short_bytes key))
-payload_is_short (frames.Write need program) is = omega (arith, vector_size need is.0, program_size program is.1, length-append (vector_bytes need) (program_bytes program))
+payload_is_short (frames.Read need key) is = omega (arith, length-vector_bytes need, key_is_short key is.1, length-append (vector_bytes need) (short_bytes key))
+payload_is_short (frames.Write need program) is = omega (arith, length-vector_bytes need, program_size program is.1, length-append (vector_bytes need) (program_bytes program))
 payload_is_short frames.Reopen is = omega arith
 payload_is_short frames.Dump is = omega arith
-payload_is_short (frames.Offer vector) is = omega (arith, vector_size vector is)
-payload_is_short (frames.Seen seen) is = omega (arith, optional_value_size seen.value is.0, vector_size seen.vector is.1, length-append (optional_value_bytes seen.value) (vector_bytes seen.vector))
-payload_is_short (frames.Accepted accepted) is = omega (arith, accepted_size accepted.wid accepted.stamp accepted.deps is)
+payload_is_short (frames.Offer vector) is = omega (arith, length-vector_bytes vector)
+payload_is_short (frames.Seen seen) is = omega (arith, optional_value_size seen.value is.0, length-vector_bytes seen.vector, length-append (optional_value_bytes seen.value) (vector_bytes seen.vector))
+payload_is_short (frames.Accepted accepted) is = omega (arith, accepted_size accepted.wid accepted.stamp accepted.deps)
 payload_is_short (frames.Refused refusal) is = omega (arith, refusal_size refusal is)
 payload_is_short (frames.Reopened adopted) is = omega (arith, reopened_size adopted)
 payload_is_short (frames.Item write) is = omega (arith, write_size write is)

@@ -1,11 +1,10 @@
--- The bytes of Writes and frames, and what has a spelling: this project's own format. Each value has one spelling.
-use Rattle.std.specs.Prelude.{◌≡◌, ◌≢◌, ℕ, ◌+◌, ◌<◌, ◌≤◌, ◌^◌, ℤ, List, [], ◌∷◌, ◌++◌, Option, None, Some, Result, Ok, Err, length, FitsSigned, IsUtf8, IfSome}
-use Rattle.std.specs.List.{flat_map, AllByRecursion}
+-- The bytes of Writes and frames, and which frames have a spelling: this project's own format. Each value has one
+-- spelling.
+use Rattle.std.specs.Prelude.{◌≡◌, ◌≢◌, ℕ, ◌+◌, ◌<◌, ◌≤◌, ◌^◌, ℤ, List, [], ◌∷◌, ◌++◌, Option, None, Some, Result, Ok, Err, length, slice_index, FitsSigned, IsUtf8, IfSome}
+use Rattle.std.specs.List.{flat_map, range_with_len}
 use Rattle.std.specs.Int.{w16, w32, w64, to_be_bytes, cast_unsigned}
-use Rattle.bayou_base.specs.Key.{key_fault}
-use Rattle.bayou_base.specs.Text.{IsShort}
 use Rattle.bayou_base.specs.Vector.{AreCounts}
-use Rattle.bayou_base.specs.declared.limits.TheConstants.{MAX_CONDITIONS, MAX_OPS, MAX_ALTERNATIVES}
+use Rattle.bayou_base.specs.declared.limits.TheConstants.{SERVERS}
 use Rattle.bayou_base.specs.declared.stamp.Stamp.{Stamp}
 use Rattle.bayou_base.specs.declared.value.Value.{Value}
 use Rattle.bayou_base.specs.declared.value.Value.TheVariants.{Num, Text}
@@ -19,6 +18,8 @@ use Rattle.bayou_lang.specs.declared.program.Program.{Program}
 use Rattle.bayou_lang.specs.declared.program.Term.{Term}
 use Rattle.bayou_lang.specs.declared.program.Term.TheVariants.{Lit, Copy, Plus}
 use Rattle.bayou_lang.specs.declared.write.Write.{Write}
+use Rattle.bayou_lang.specs.Ranges.{IsKey, IsProgram, IsValue}
+pub use Rattle.bayou_lang.specs.Ranges.{IsWrite}
 use Rattle.bayou_wire.specs.declared.fault.Fault.{Fault}
 use Rattle.bayou_wire.specs.declared.fault.Fault.TheVariants as faults
 use Rattle.bayou_wire.specs.declared.frame.Refusal.{Refusal}
@@ -70,9 +71,13 @@ abbrev pub program_bytes : Program → List ℕ
 program_bytes program =
     list_bytes cond_bytes program.check.items ++ (list_bytes op_bytes program.update.items ++ list_bytes alt_bytes program.merge.items)
 
--- the counts of a vector
-abbrev pub vector_bytes : List ℕ → List ℕ
-vector_bytes counts = flat_map u32_bytes counts
+-- the counts of so many servers, from the first on
+abbrev pub counts_bytes : ℕ → List ℕ → List ℕ
+counts_bytes servers counts = flat_map (λ server. u32_bytes (slice_index counts server)) (range_with_len 0 servers)
+
+-- a vector has a count for each server
+unfoldable pub vector_bytes : List ℕ → List ℕ
+vector_bytes counts = counts_bytes SERVERS counts
 
 abbrev pub wid_bytes : Wid → List ℕ
 wid_bytes wid = wid.origin.index ∷ u32_bytes wid.seq
@@ -83,49 +88,6 @@ accepted_bytes wid stamp deps = wid_bytes wid ++ (u32_bytes stamp.clock ++ vecto
 
 abbrev pub write_bytes : Write → List ℕ
 write_bytes write = accepted_bytes write.wid write.stamp write.deps ++ program_bytes write.program
-
--- ---- what has a spelling: what is within the limits
-
-abbrev pub IsKey : List ℕ → Type 0
-IsKey key = key_fault key ≡ None
-
-abbrev pub IsText : List ℕ → Type 0
-IsText text = IsShort text × IsUtf8 text
-
-abbrev pub IsI64 : ℤ → Type 0
-IsI64 number = FitsSigned w64 number
-
-abbrev pub IsValue : Value → Type 0
-IsValue (Num number) = IsI64 number
-IsValue (Text text) = IsText text
-
-abbrev pub IsTerm : Term → Type 0
-IsTerm (Lit value) = IsValue value
-IsTerm (Copy key) = IsKey key
-IsTerm (Plus key number) = IsKey key × IsI64 number
-
-abbrev pub IsOp : Op → Type 0
-IsOp (Put key term) = IsKey key × IsTerm term
-IsOp (Del key) = IsKey key
-
-abbrev pub IsCond : Cond → Type 0
-IsCond (Equals key value) = IsKey key × IsValue value
-IsCond (Absent key) = IsKey key
-IsCond (AtLeast key number) = IsKey key × IsI64 number
-
-abbrev pub AreAtMost : {T : Type 0} → ℕ → (T → Type 0) → List T → Type 0
-AreAtMost most Is members = (length members ≤ most) × AllByRecursion Is members
-
-abbrev pub IsAlt : Alt → Type 0
-IsAlt alt = AreAtMost MAX_CONDITIONS IsCond alt.when.items × AreAtMost MAX_OPS IsOp alt.ops.items
-
-abbrev pub IsProgram : Program → Type 0
-IsProgram program =
-    AreAtMost MAX_CONDITIONS IsCond program.check.items
-    × (AreAtMost MAX_OPS IsOp program.update.items × AreAtMost MAX_ALTERNATIVES IsAlt program.merge.items)
-
-abbrev pub IsWrite : Write → Type 0
-IsWrite write = AreCounts write.deps × IsProgram write.program
 
 -- ---- frames
 

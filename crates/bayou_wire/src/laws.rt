@@ -1,15 +1,22 @@
 //! What the grammar comes to: each law is the contract of a function that does nothing.
-ghost use Rattle.std.specs.Prelude.{◌≡◌, ℕ, List, [], Option, Some, Result, ◌++◌};
+ghost use Rattle.std.specs.Prelude.{◌≡◌, ℕ, ◌<◌, ◌≤◌, List, [], Option, Some, Result, ◌++◌, length};
+ghost use Rattle.bayou_base.specs.declared.limits.TheConstants.{MAX_BODY_BYTES};
 ghost use Rattle.bayou_lang.specs.declared.write.Write.{Write};
 ghost use Rattle.bayou_wire.specs.declared.frame.Frame.{Frame};
 ghost use Rattle.bayou_wire.specs.declared.fault.Fault.{Fault};
 ghost use Rattle.bayou_wire.specs.declared.stream.FeedFault.{FeedFault};
-ghost use Rattle.bayou_wire.specs.Spelling.{IsFrame, IsWrite, WriteAnswer, frame_bytes, write_bytes};
+ghost use Rattle.bayou_lang.specs.Ranges.{IsWrite};
+ghost use Rattle.bayou_wire.specs.Spelling.{IsFrame, WriteAnswer, frame_bytes, write_bytes};
 ghost use Rattle.bayou_wire.specs.Stream.{Feeds, FrameAnswer, IsLeft, Splits, bytes_fed, frames_given};
 
 /// No Write's spelling begins another's, so each spelling is of one Write.
 pub fn no_write_begins_another()
     ensures { (a b : Write) (x y : List ℕ) → IsWrite a → IsWrite b → write_bytes a ++ x ≡ write_bytes b ++ y → (a ≡ b) × (x ≡ y) }
+{}
+
+/// The bytes of a Write are the body of a journal's entry: they are one at the least, and no more than a body has.
+pub fn a_write_is_spelled_by_a_body()
+    ensures { (write : Write) → IsWrite write → (0 < length (write_bytes write)) × (length (write_bytes write) ≤ MAX_BODY_BYTES) }
 {}
 
 /// No frame's spelling begins another's, so each spelling is of one frame.

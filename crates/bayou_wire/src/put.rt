@@ -1,7 +1,8 @@
 //! Writers: each appends the one spelling of what it is given.
 ghost use Rattle.std.specs.Prelude.{◌≡◌, ◌<◌, ◌^◌, ◌++◌, ◌∷◌, [], ℕ, List, length, OnOk};
-ghost use Rattle.std.specs.List.{AllByRecursion};
-ghost use Rattle.bayou_wire.specs.Spelling.{accepted_bytes, alt_bytes, cond_bytes, i64_bytes, list_bytes, op_bytes, optional_value_bytes, optional_wid_bytes, payload_bytes, program_bytes, refusal_bytes, short_bytes, term_bytes, u32_bytes, value_bytes, vector_bytes, wid_bytes, write_bytes, IsAlt, IsCond, IsFrame, IsI64, IsKey, IsOp, IsProgram, IsRefusal, IsTerm, IsText, IsValue, IsWrite};
+ghost use Rattle.std.specs.List.{flat_map, AllByRecursion};
+ghost use Rattle.bayou_lang.specs.Ranges.{IsAlt, IsCond, IsI64, IsKey, IsOp, IsProgram, IsTerm, IsText, IsValue, IsWrite};
+ghost use Rattle.bayou_wire.specs.Spelling.{accepted_bytes, alt_bytes, cond_bytes, i64_bytes, list_bytes, op_bytes, optional_value_bytes, optional_wid_bytes, payload_bytes, program_bytes, refusal_bytes, short_bytes, term_bytes, u32_bytes, value_bytes, vector_bytes, wid_bytes, write_bytes, IsFrame, IsRefusal};
 ghost use Rattle.bayou_base.specs.Vector.{AreCounts};
 ghost use Rattle.std.specs.Option.{IfSome};
 
@@ -166,7 +167,7 @@ pub(crate) fn put_program(out: &mut Vec<u8>, program: &Program) -> Result<(), Al
 }
 
 fn put_counts(out: &mut Vec<u8>, counts: &[u32]) -> Result<(), AllocError>
-    ensures { OnOk result (out.new.items ≡ out.old.items ++ vector_bytes counts.now) }
+    ensures { OnOk result (out.new.items ≡ out.old.items ++ flat_map u32_bytes counts.now) }
 {
     for count in counts {
         put_u32(out, *count)?;
