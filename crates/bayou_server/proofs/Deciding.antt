@@ -3,7 +3,8 @@ use Rattle.std.proofs.Common.{◌≡◌, ℕ, ◌+◌, suc, List, [], ◌∷◌,
 use Rattle.std.proofs.lemmas.List.{append-nil, append_cancel_left, length-map}
 use Rattle.bayou_base.specs.declared.wid.Wid.{Wid}
 use Rattle.bayou_lang.specs.declared.write.Write.{Write}
-use Rattle.bayou_wire.specs.Spelling.{IsWrite, write_bytes}
+use Rattle.bayou_lang.specs.Ranges.{IsWrite}
+use Rattle.bayou_wire.specs.Spelling.{write_bytes}
 use Rattle.bayou_server.specs.declared.fault.StartFault.{StartFault}
 use Rattle.bayou_server.specs.declared.fault.StartFault.TheVariants.{Journal, BadRecord, Gap, LogFull, OutOfMemory}
 use Rattle.bayou_server.specs.Reopens.{Adopts, BeginsWithHeld, HasOther}

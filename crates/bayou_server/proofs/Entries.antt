@@ -5,7 +5,8 @@ use Rattle.std.proofs.lemmas.List.{map-append}
 use Rattle.bayou_lang.specs.declared.write.Write.{Write}
 use Rattle.bayou_lang.specs.FittingLaws.{IsSound-push}
 use Rattle.bayou_log.specs.Log.{Log}
-use Rattle.bayou_wire.specs.Spelling.{IsWrite, SpellsWrite, write_bytes}
+use Rattle.bayou_lang.specs.Ranges.{IsWrite}
+use Rattle.bayou_wire.specs.Spelling.{SpellsWrite, write_bytes}
 use Rattle.bayou_server.specs.declared.fault.StartFault.{StartFault}
 use Rattle.bayou_server.specs.Server.{MayFollow, MayHold, bodies_of}
 use Rattle.bayou_server.specs.Starts.{RefusesBody, RefusesEntry}

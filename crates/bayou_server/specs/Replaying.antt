@@ -2,7 +2,8 @@
 use Rattle.std.specs.Prelude.{◌≡◌, ◌<◌, ℕ, List, All, Bool, true, false, [], ◌∷◌, ◌++◌, length}
 use Rattle.bayou_lang.specs.declared.write.Write.{Write}
 use Rattle.bayou_log.specs.Log.{Log}
-use Rattle.bayou_wire.specs.Spelling.{IsWrite, SpellsWrite}
+use Rattle.bayou_lang.specs.Ranges.{IsWrite}
+use Rattle.bayou_wire.specs.Spelling.{SpellsWrite}
 use Rattle.bayou_server.specs.declared.fault.ReopenFault.{ReopenFault}
 use Rattle.bayou_server.specs.declared.fault.ReopenFault.TheVariants.{NotDown, Journal, Lost, BadRecord, OutOfMemory}
 use Rattle.bayou_server.specs.Reopens.{BeginsWithHeld, HasOther}

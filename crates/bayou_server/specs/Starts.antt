@@ -4,7 +4,8 @@ use Rattle.bayou_journal.specs.Chain.{chain_end}
 use Rattle.bayou_journal.specs.Opening.{HasOpened, HasRefused}
 use Rattle.bayou_journal.specs.declared.fault.OpenFault.TheVariants as opening
 use Rattle.bayou_lang.specs.declared.write.Write.{Write}
-use Rattle.bayou_wire.specs.Spelling.{IsWrite, SpellsWrite}
+use Rattle.bayou_lang.specs.Ranges.{IsWrite}
+use Rattle.bayou_wire.specs.Spelling.{SpellsWrite}
 use Rattle.bayou_server.specs.declared.fault.StartFault.{StartFault}
 use Rattle.bayou_server.specs.declared.fault.StartFault.TheVariants.{Journal, BadRecord, Gap, LogFull, OutOfMemory}
 use Rattle.bayou_server.specs.Faults.{open_fault}

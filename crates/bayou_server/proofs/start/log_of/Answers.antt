@@ -1,7 +1,7 @@
 use Rattle.std.proofs.Common.{ℕ, [], ◌∷◌, subst, arith, inr, length-append}
 use Rattle.std.proofs.lemmas.List.Elements.{All-push}
 use Rattle.std.proofs.lemmas.Result.{err_from_is_err_and}
-use Rattle.bayou_wire.specs.Spelling.{IsWrite}
+use Rattle.bayou_lang.specs.Ranges.{IsWrite}
 use Rattle.bayou_server.specs.Server.{MayFollow}
 use Rattle.bayou_server.proofs.Entries.{MayHold-push, bodies-push, refuses_at}
 use Rattle.bayou_server.proofs.start.log_of.Goals as goal

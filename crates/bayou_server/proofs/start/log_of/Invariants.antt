@@ -1,5 +1,5 @@
 use Rattle.std.proofs.Common.{◌≡◌, take, length, All}
-use Rattle.bayou_wire.specs.Spelling.{IsWrite}
+use Rattle.bayou_lang.specs.Ranges.{IsWrite}
 use Rattle.bayou_server.specs.Server.{MayHold, bodies_of}
 use Rattle.bayou_server.proofs.start.log_of.Given as goal
 
