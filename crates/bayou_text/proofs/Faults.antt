@@ -5,29 +5,29 @@ use Rattle.bayou_text.proofs.LineTable.{spells_from_line, line_from_spells}
 use Rattle.bayou_text.specs.declared.line.Line.{Line}
 use Rattle.bayou_text.specs.declared.line.LineFault.{LineFault}
 use Rattle.bayou_text.specs.declared.line.LineFault.TheVariants as fault
-use Rattle.bayou_text.specs.Lines.{text_line, line_of, IsText, no_line, IsRefusalOf}
+use Rattle.bayou_text.specs.Lines.{text_line, line_of, IsLegible, no_line, IsRefusalOf}
 use Rattle.bayou_text.specs.Reading.{Reads, Gives, Fails}
 use Rattle.bayou_text.specs.Said.{Said, said}
 use Rattle.bayou_text.specs.Table.{Spells}
 
-fault_given : (bytes : List ℕ) (e : LineFault) → IsText bytes → Fails e (text_line bytes) → IsRefusalOf bytes e
+fault_given : (bytes : List ℕ) (e : LineFault) → IsLegible bytes → Fails e (text_line bytes) → IsRefusalOf bytes e
 fault_given bytes fault.OutOfMemory text given = inl (refl, text)
 fault_given bytes fault.NotJson text given = inr (no_line text given)
 fault_given bytes (fault.BadShape what) text given = inr (no_line text given)
 fault_given bytes (fault.Key why) text given = inr (no_line text given)
 fault_given bytes (fault.Program why) text given = inr (no_line text given)
 
-pub refusal_from_gives : (bytes : List ℕ) (r : Reads Line) → IsText bytes → Gives said r (text_line bytes)
+pub refusal_from_gives : (bytes : List ℕ) (r : Reads Line) → IsLegible bytes → Gives said r (text_line bytes)
     → IfErr r (IsRefusalOf bytes)
 refusal_from_gives bytes (Ok line) text given = tt
 refusal_from_gives bytes (Err e) text given = fault_given bytes e text given
 
-pub spells_from_gives : (bytes : List ℕ) (r : Reads Line) → IsText bytes → Gives said r (text_line bytes)
+pub spells_from_gives : (bytes : List ℕ) (r : Reads Line) → IsLegible bytes → Gives said r (text_line bytes)
     → IfOk r (λ line. Spells bytes (said line))
 spells_from_gives bytes (Ok line) text given = spells_from_line bytes (said line) text.0 text.1 given
 spells_from_gives bytes (Err e) text given = tt
 
-pub exact_from_gives : (bytes : List ℕ) (r : Reads Line) → IsText bytes → Gives said r (text_line bytes)
+pub exact_from_gives : (bytes : List ℕ) (r : Reads Line) → IsLegible bytes → Gives said r (text_line bytes)
     → IfOk r (λ line. line_of bytes ≡ Ok (said line))
 exact_from_gives bytes (Ok line) text given = let in_time : nat_lt MAX_LINE_BYTES
     (length bytes) ≡ false = grind (arith, tests, text.0) in rw in_time given

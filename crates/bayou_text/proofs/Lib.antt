@@ -9,3 +9,4 @@ pub mod Readers
 pub mod PartTable
 pub mod ProgramTable
 pub mod LineTable
+pub mod LineLaws

@@ -1,5 +1,5 @@
 -- The text of what is spelled.
-use Rattle.std.proofs.Common.{◌≡◌, ◌≤◌, false, nat_lt, length, Result, Ok, Err, IfOk, Some, String, Global, string_bytes, ap, ◌∙◌, arith, tests}
+use Rattle.std.proofs.Common.{◌≡◌, ◌≤◌, false, nat_lt, length, Result, Ok, Err, IfOk, Some, String, Global, string_bytes, cond, ap, sym, ◌∙◌, arith, tests}
 use Rattle.serde_json.specs.Data.{Data, depth}
 use Rattle.serde_json.specs.Read.{read, max_depth}
 use Rattle.serde_json.specs.Written.{has_float, compact_text}
@@ -9,7 +9,12 @@ use Rattle.bayou_base.specs.declared.limits.TheConstants.{MAX_LINE_BYTES}
 use Rattle.bayou_text.proofs.Again.{line_again}
 use Rattle.bayou_text.proofs.Lengths.{line_size}
 use Rattle.bayou_text.specs.declared.line.Line.{Line}
-use Rattle.bayou_text.specs.Lines.{line_of}
+use Rattle.bayou_text.specs.declared.line.LineFault.TheVariants.{BadShape}
+use Rattle.bayou_text.specs.declared.line.Shape.TheVariants.{Line as TooLong}
+use Rattle.bayou_text.specs.Lines.{line_of, text_line}
+use Rattle.bayou_text.specs.Table.{Spells}
+use Rattle.bayou_text.proofs.LineTable.{spells_from_line}
+use Rattle.std.proofs.lemmas.Str.{IsUtf8-string_bytes}
 use Rattle.bayou_text.specs.Ranges.{IsLine, IsReadable}
 use Rattle.bayou_text.specs.Said.{Said, said}
 use Rattle.bayou_text.specs.Spelling.{line_json}
@@ -39,3 +44,15 @@ line_read (Ok text) d l kept same short given = λ readable.
     let in_time : nat_lt MAX_LINE_BYTES (length (string_bytes text)) ≡ false = grind (arith, tests, short) in
     rw (in_time, found) (line_again l kept readable)
 line_read (Err e) d l kept same short given = tt
+
+-- what is read as the line spells it
+pub line_spelled : (r : Result (String Global) AllocError) (l : Line)
+    → IfOk r (λ text. length (string_bytes text) ≤ MAX_LINE_BYTES)
+    → IfOk r (λ text. IsReadable (said l) → line_of (string_bytes text) ≡ Ok (said l))
+    → IfOk r (λ text. IsReadable (said l) → Spells (string_bytes text) (said l))
+line_spelled (Ok text) l short again = λ readable.
+    let bytes = string_bytes text in
+    let in_time : nat_lt MAX_LINE_BYTES (length bytes) ≡ false = grind (arith, tests, short) in
+    spells_from_line bytes (said l) short (IsUtf8-string_bytes text)
+    (ap (λ late. cond late (Err (BadShape TooLong)) (text_line bytes)) (sym in_time) ∙ again readable)
+line_spelled (Err e) l short again = tt

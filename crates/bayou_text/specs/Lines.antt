@@ -102,15 +102,15 @@ abbrev pub line_of : List ℕ → Reads Said
 line_of bytes = if nat_lt MAX_LINE_BYTES (length bytes) then Err (BadShape Line) else text_line bytes
 
 -- bytes that are looked into: not too many, and UTF-8
-abbrev pub IsText : List ℕ → Type 0
-IsText bytes = (length bytes ≤ MAX_LINE_BYTES) × IsUtf8 bytes
+abbrev pub IsLegible : List ℕ → Type 0
+IsLegible bytes = (length bytes ≤ MAX_LINE_BYTES) × IsUtf8 bytes
 
 -- the first fault of bytes: they are too many, they aren't UTF-8, or the text is no line
 pub data IsFaultOf (bytes : List ℕ) (fault : LineFault) : Type 0 where
   too_long : MAX_LINE_BYTES < length bytes → fault ≡ BadShape Line → IsFaultOf bytes fault
   no_text : length bytes ≤ MAX_LINE_BYTES → ¬ (IsUtf8 bytes) → fault ≡ NotJson → IsFaultOf bytes fault
-  no_line : IsText bytes → text_line bytes ≡ Err fault → IsFaultOf bytes fault
+  no_line : IsLegible bytes → text_line bytes ≡ Err fault → IsFaultOf bytes fault
 
 -- why bytes weren't read: memory ran out while they were looked into, or the first fault
 abbrev pub IsRefusalOf : List ℕ → LineFault → Type 0
-IsRefusalOf bytes fault = ((fault ≡ OutOfMemory) × IsText bytes) ⊎ IsFaultOf bytes fault
+IsRefusalOf bytes fault = ((fault ≡ OutOfMemory) × IsLegible bytes) ⊎ IsFaultOf bytes fault

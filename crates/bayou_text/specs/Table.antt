@@ -6,7 +6,6 @@ use Rattle.serde_json.specs.Data.{Data, Num, number, unsigned, string, array, ob
 use Rattle.serde_json.specs.Find.{as_i64, get}
 use Rattle.serde_json.specs.Read.{read as json_of}
 use Rattle.serde_json.specs.View.{items_of}
-use Rattle.bayou_base.specs.Key.{key_fault}
 use Rattle.bayou_base.specs.Text.{IsShort}
 use Rattle.bayou_base.specs.declared.asks.Asks.{Asks}
 use Rattle.bayou_base.specs.declared.limits.TheConstants.{SERVERS, SESSIONS, MAX_CONDITIONS, MAX_OPS, MAX_ALTERNATIVES, MAX_LINE_BYTES, MAX_LOST_BYTES}
@@ -20,6 +19,7 @@ use Rattle.bayou_lang.specs.declared.program.Cond.{Cond}
 use Rattle.bayou_lang.specs.declared.program.Cond.TheVariants.{Equals, Absent, AtLeast}
 use Rattle.bayou_lang.specs.declared.program.Alt.{Alt}
 use Rattle.bayou_lang.specs.declared.program.Program.{Program}
+use Rattle.bayou_lang.specs.Ranges.{IsKey}
 use Rattle.bayou_text.specs.Ranges.{IsCount, IsLimit, IsFuse}
 use Rattle.bayou_text.specs.Reading.{names}
 use Rattle.bayou_text.specs.Said.{Said, servers, session, write, read, log, fuse, lose, reopen, restart}
@@ -40,7 +40,7 @@ ValueIs d (Text text) = (d ≡ string text) × IsShort text
 
 -- a text that is a key
 abbrev pub KeyIs : Data → List ℕ → Type 0
-KeyIs d key = (d ≡ string key) × (key_fault key ≡ None)
+KeyIs d key = (d ≡ string key) × IsKey key
 
 -- an array of exactly a word and a key
 pub record NamedIs (word : List ℕ) (d : Data) (key : List ℕ) : Type 0 where

@@ -14,6 +14,7 @@
 #![tactic(auto)]
 
 pub mod command;
+pub mod laws;
 pub mod line;
 pub mod read;
 #[cfg(test)]

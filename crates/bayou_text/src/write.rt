@@ -6,6 +6,7 @@ ghost use Rattle.bayou_base.specs.declared.limits.TheConstants.{MAX_LINE_BYTES};
 ghost use Rattle.bayou_text.specs.Lines.{line_of};
 ghost use Rattle.bayou_text.specs.Said.{said};
 ghost use Rattle.bayou_text.specs.Spelling as spelling;
+ghost use Rattle.bayou_text.specs.Table.{Spells};
 
 use crate::command::Command;
 use crate::line::Line;
@@ -26,6 +27,8 @@ pub fn write_line(alloc: Global, line: &Line) -> Result<String, AllocError>
     // It is read as the line, once it is a line that is read.
     ensures again { IfOk result
         (λ text. IsReadable (said line.now) → line_of (string_bytes text) ≡ Ok (said line.now)) }
+    // It spells the line, by the table of the lines, once it is a line that is read.
+    ensures spells { IfOk result (λ text. IsReadable (said line.now) → Spells (string_bytes text) (said line.now)) }
     ensures short { IfOk result (λ text. length (string_bytes text) ≤ MAX_LINE_BYTES) }
 {
     line_json(alloc, line)?.to_string(alloc)

@@ -1,5 +1,5 @@
 use Rattle.std.proofs.Common.{List, ℕ, inr, subst, arith, refl}
-use Rattle.bayou_text.specs.Lines.{text_line, IsText, too_long, no_text}
+use Rattle.bayou_text.specs.Lines.{text_line, IsLegible, too_long, no_text}
 use Rattle.bayou_text.specs.Reading.{Gives}
 use Rattle.bayou_text.specs.Said.{said}
 use Rattle.bayou_text.proofs.Faults.{refusal_from_gives, exact_from_gives, spells_from_gives, gives_what_is_spelled}
@@ -21,7 +21,7 @@ pub returns-in-Ok : goal.returns-in-Ok
 returns-in-Ok c =
     let bytes = c.args.bytes.now in
     let seen = c.in-Ok.ensures.cases in
-    let text : IsText bytes = (omega arith, seen.1) in
+    let text : IsLegible bytes = (omega arith, seen.1) in
     let given = subst (λ (text : List ℕ). Gives said c.read_text.result
     (text_line text)) seen.0 c.read_text.ensures in
     record {

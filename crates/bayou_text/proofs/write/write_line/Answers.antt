@@ -1,5 +1,5 @@
 use Rattle.bayou_text.specs.Said.{said}
-use Rattle.bayou_text.proofs.Written.{text_of_line, line_short, line_read}
+use Rattle.bayou_text.proofs.Written.{text_of_line, line_short, line_read, line_spelled}
 use Rattle.bayou_text.proofs.write.write_line.Goals as goal
 
 pub returns : goal.returns
@@ -9,8 +9,10 @@ returns c =
     let made = c.in_ok-line_json.ensures in
     let spelled = text_of_line text _ (said line) made.spelling c.to_string.ensures.text in
     let short = line_short text line made.kept spelled in
+    let again = line_read text _ line made.kept made.spelling short c.to_string.ensures.reads_back in
     record {
       spelling = spelled;
-      again = line_read text _ line made.kept made.spelling short c.to_string.ensures.reads_back;
+      again = again;
+      spells = line_spelled text line short again;
       short = short;
     }
