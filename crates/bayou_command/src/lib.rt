@@ -31,15 +31,36 @@ It prints:
   0 wrote 0:1 clock 1 deps 0
   0 read room num 1 at 1
 
-`bayou run --help` has the form of each line."#;
+`bayou run --help` has each line of a script. Exit status: 0 the script was run; 2 the script or the command line is refused;
+3 memory, a device, the input or the output failed. docs/TROUBLE.md says what to do about each fault; examples/ has scripts
+to begin from."#;
 
 const RUN_ABOUT: &str =
     "Reads a script on standard input, checks it, and prints a line for each answer.";
 
 const RUN_FORM: &str =
-    r#"The first line is ["servers",1] or ["servers",1,LIMIT]; LIMIT is how many Writes a server holds (4096).
-Then ["session",I,[]] opens session I (0 to 31), ["write",I,0,PROGRAM] writes, ["read",I,0,KEY] reads, and
-["log",0] lists what the server holds, in any order.
+    r#"Each line is a JSON array, and an empty line is skipped. The first starts the servers; the others follow in any order. I is a
+session (0 to 31), S a server. Below each form stands an example.
+
+  ["servers",N]  ["servers",N,LIMIT]  starts servers 0 to N-1 (N 1 to 8); each holds LIMIT Writes at the most (4096)
+      ["servers",2,100]
+  ["session",I,ASKS]     opens session I, which asks for these guarantees: any of "ryw", "mr", "wfr", "mw"
+      ["session",0,["ryw","mr"]]
+  ["write",I,S,PROGRAM]  session I writes at server S
+      ["write",0,0,{"update":[["put","room",1]]}]
+  ["read",I,S,KEY]       session I reads a key at server S
+      ["read",0,1,"room"]
+  ["log",S]              lists the Writes that server S holds, in stamp order, each with what became of it
+      ["log",0]
+  ["fuse",S,CALL,KEPT]   the device of server S fails, once, at this call from now (1 to 1000); of an append's bytes the
+                         first KEPT are added (0 to 8192)
+      ["fuse",0,2,0]
+  ["lose",S,COUNT]       the device of server S loses its last bytes (0 to 1000000000)
+      ["lose",0,1]
+  ["reopen",S]           server S, which a fault of its device took down, opens its journal again
+      ["reopen",0]
+  ["restart",S]          server S is stopped, and started on what its device has
+      ["restart",0]
 
 PROGRAM is {"check":[COND,..],"update":[OP,..],"merge":[{"when":[COND,..],"ops":[OP,..]},..]}; a list may be missing.
 Where every COND of check holds, update is applied, whole or not at all; else the first part of merge that fits.
@@ -48,13 +69,12 @@ OP    ["put",KEY,TERM]  ["del",KEY]
 TERM  VALUE  ["copy",KEY]  ["plus",KEY,NUMBER]
 A KEY has 1 to 32 bytes of a-z 0-9 . _ - /; a VALUE is an integer, or a text of up to 32 bytes.
 
-Example:
+Nothing is printed before the whole script was read and found good. What is wrong is told on standard error, in one line.
+Exit status: 0 the script was run; 2 the script or the command line is refused; 3 memory, a device as the script begins, the
+input or the output failed.
 
-  printf '%s\n' '["servers",1]' '["session",0,[]]' \
-    '["write",0,0,{"update":[["put","room",1]]}]' '["read",0,0,"room"]' | bayou run
-
-Nothing is printed before the whole script was read and found good. The exit status is 0; 2 for a script or a command
-line that is refused; 3 where memory, the input or the output fails. What is wrong is told on standard error."#;
+Pages: docs/LANGUAGE.md (programs), docs/GUARANTEES.md (what a session may ask for), docs/FORMATS.md (lines in and out),
+docs/RECOVERY.md (fuse, reopen, restart), docs/TROUBLE.md (what to do about each fault), examples/README.md (scripts)."#;
 
 /// What the program is to do.
 #[derive(Clone, Copy, Debug, PartialEq, Eq)]
