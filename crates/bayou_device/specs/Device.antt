@@ -5,13 +5,13 @@ use Rattle.std.specs.Prelude.{◌≡◌, ℕ, ◌+◌, List, ◌++◌, min}
 abbrev pub BeginsWith : List ℕ → List ℕ → Type 0
 BeginsWith front bytes = (rest : List ℕ) × (bytes ≡ front ++ rest)
 
--- the greatest count of failures
-abbrev pub most_failures : ℕ
-most_failures = 18446744073709551615
+-- the greatest count of what happens to a device
+abbrev pub greatest_count : ℕ
+greatest_count = 18446744073709551615
 
--- the count after one failure more; at its greatest value it stays
+-- the count after one more; at its greatest value it stays
 abbrev pub one_more : ℕ → ℕ
-one_more count = min (count + 1) most_failures
+one_more count = min (count + 1) greatest_count
 
 -- one failure more is counted
 abbrev pub Rose : ℕ → ℕ → Type 0

@@ -1,3 +1,4 @@
 pub mod Device
 pub mod Memory
+pub mod MemoryDevice
 pub mod MemoryLaws

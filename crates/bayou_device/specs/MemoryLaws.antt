@@ -1,6 +1,6 @@
 -- That a device in memory meets the laws of a device.
-use Rattle.std.specs.Prelude.{◌≡◌, ℕ, ◌+◌, ◌≤◌, drop, Bool, true, false, refl}
-use Rattle.std.proofs.Common.{sym, ◌∙◌, arith, take-append-drop}
+use Rattle.std.specs.Prelude.{ℕ, ◌+◌, ◌≤◌, drop}
+use Rattle.std.proofs.Common.{sym, arith, take-append-drop}
 use Rattle.bayou_device.specs.Device.{BeginsWith}
 use Rattle.bayou_device.specs.Memory.{Memory, LeadsTo, kept_bytes}
 
@@ -9,23 +9,24 @@ front_is_kept device = (drop device.synced device.bytes, sym (take-append-drop d
 
 pub no_call : (most : ℕ) (device : Memory) → LeadsTo most device device
 no_call most device = record {
-  lacked = λ was. was;
-  one_each = λ _. omega arith;
-  in_time = λ _ _. refl;
-  counts_down = λ _ _. omega arith;
+  at_most = omega arith;
+  no_less = omega arith;
+  no_less_failures = omega arith;
+  no_less_lacks = omega arith;
+  no_fuse = omega arith;
+  one_each = omega arith;
+  in_time = λ _. omega arith;
+  counts_down = λ _. omega arith;
 }
 
--- where memory is not lacked in the end, it wasn't before
-not_before : (before after : Bool) → (before ≡ true → after ≡ true) → after ≡ false → before ≡ false
-not_before true after sticks ample = absurd (let was = sticks refl in cc)
-not_before false after sticks ample = refl
-
 pub more_calls : (first second most : ℕ) (a b c : Memory) → first + second ≤ most → LeadsTo first a b → LeadsTo second b c → LeadsTo most a c
-more_calls first second most a b c within one two =
-    let ample_before = not_before b.lacked_memory c.lacked_memory two.lacked in
-    record {
-      lacked = λ was. two.lacked (one.lacked was);
-      one_each = λ ample. let l = one.one_each (ample_before ample) in let r = two.one_each ample in omega (arith, l, r);
-      in_time = λ ample late. let d = one.counts_down (ample_before ample) (omega arith) in two.in_time ample (omega (arith, d)) ∙ one.in_time (ample_before ample) (omega arith);
-      counts_down = λ ample late. let d = one.counts_down (ample_before ample) (omega arith) in let e = two.counts_down ample (omega (arith, d)) in omega (arith, d, e);
-    }
+more_calls first second most a b c within one two = record {
+  at_most = omega (arith, one.at_most, two.at_most);
+  no_less = omega (arith, one.no_less, two.no_less);
+  no_less_failures = omega (arith, one.no_less_failures, two.no_less_failures);
+  no_less_lacks = omega (arith, one.no_less_lacks, two.no_less_lacks);
+  no_fuse = omega (arith, one.no_fuse, two.no_fuse);
+  one_each = omega (arith, one.one_each, two.one_each);
+  in_time = λ late. let d = one.counts_down (omega arith) in let l = one.in_time (omega arith) in let r = two.in_time (omega (arith, d)) in omega (arith, l, r);
+  counts_down = λ late. let d = one.counts_down (omega arith) in let e = two.counts_down (omega (arith, d)) in omega (arith, d, e);
+}

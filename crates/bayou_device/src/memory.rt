@@ -1,6 +1,6 @@
-ghost use Rattle.std.specs.Prelude.{◌≡◌, ◌-◌, ◌+◌, ◌<◌, ◌⊎◌, ◌↔◌, [], ◌++◌, length, min, take, false, true, IfOk, IsErr, IsErrOf, IsSome, OnErr, OnOk};
+ghost use Rattle.std.specs.Prelude.{◌≡◌, ◌<◌, ◌≤◌, ◌⊎◌, ◌↔◌, [], ◌++◌, length, take, IfOk, IsErr, IsErrOf, IsSome, OnErr, OnOk};
 ghost use Rattle.bayou_device.specs.Device.{BeginsWith, Rose, one_more};
-ghost use Rattle.bayou_device.specs.Memory.{AddsFront, FailsAtFuse, LeadsTo, after_call, after_lack, burnt, counted, front_due, kept_bytes};
+ghost use Rattle.bayou_device.specs.Memory.{AddsFront, AreCounts, FailsAtFuse, LeadsTo, after_call, after_lack, burnt, crashed, cut_to, device_with, empty_device, front_due, kept_bytes, lacking, shortened, with_fuse};
 ghost use Rattle.bayou_device.specs.MemoryLaws.{front_is_kept, more_calls, no_call};
 
 use crate::device::{Device, Failed, ReadFault};
@@ -9,20 +9,22 @@ use crate::gate::Gate;
 use std::alloc::{AllocError, Global};
 use std::marker::Model;
 
-/// A device in memory. It fails where a fuse goes off, and where an append finds no memory.
+/// A device in memory. It fails where a fuse goes off, and where an append finds no memory. Its counts stay at their greatest
+/// value once they have it.
 #[derive(Drop)]
 pub struct MemoryDevice<G: Gate> {
     bytes: Vec<u8>,
     synced: usize,
     fuse: Option<Fuse>,
+    calls: u64,
     failures: u64,
-    lacked_memory: bool,
+    lacks: u64,
     gate: G,
 }
 
 impl<G: Gate> Model for MemoryDevice<G> {
     ghost use Rattle.std.specs.Prelude.{◌≤◌, vec_len};
-    ghost use Rattle.bayou_device.specs.Memory.{Memory};
+    ghost use Rattle.bayou_device.specs.Memory.{AreCounts, Memory};
 
     ghost Value = { Memory };
 
@@ -30,11 +32,12 @@ impl<G: Gate> Model for MemoryDevice<G> {
       bytes = d.bytes.items;
       synced = d.synced;
       fuse = d.fuse;
+      calls = d.calls;
       failures = d.failures;
-      lacked_memory = d.lacked_memory;
+      lacks = d.lacks;
     } };
 
-    ghost invariant = { λ d. d.synced ≤ vec_len d.bytes };
+    ghost invariant = { λ d. (d.synced ≤ vec_len d.bytes) × AreCounts d.calls d.failures d.lacks };
 }
 
 // One call more: how much of a piece is added where the fuse goes off at it.
@@ -57,22 +60,23 @@ fn burn(fuse: &mut Option<Fuse>) -> Option<usize>
 impl<G: Gate> MemoryDevice<G> {
     /// An empty device.
     pub fn new(alloc: Global, gate: G) -> Self
-        ensures { result ≡ record { bytes = []; synced = 0; fuse = None; failures = 0; lacked_memory = false } }
+        ensures { result ≡ empty_device }
     {
         MemoryDevice::with_bytes(Vec::new(alloc), gate)
     }
 
     /// A device that has these bytes, all of them synced.
     pub fn with_bytes(bytes: Vec<u8>, gate: G) -> Self
-        ensures { result ≡ record { bytes = bytes.items; synced = length bytes.items; fuse = None; failures = 0; lacked_memory = false } }
+        ensures { result ≡ device_with bytes.items }
     {
         let synced = bytes.len();
         MemoryDevice {
             bytes,
             synced,
             fuse: None,
+            calls: 0,
             failures: 0,
-            lacked_memory: false,
+            lacks: 0,
             gate,
         }
     }
@@ -84,11 +88,33 @@ impl<G: Gate> MemoryDevice<G> {
         self.bytes.as_slice()
     }
 
+    /// How many device calls were made.
+    pub fn calls(&self) -> u64
+        ensures { result ≡ self.now.calls }
+    {
+        self.calls
+    }
+
+    /// How many of them failed.
+    pub fn failures(&self) -> u64
+        ensures { result ≡ self.now.failures }
+    {
+        self.failures
+    }
+
+    /// How many of those were appends that found no memory.
+    pub fn lacks(&self) -> u64
+        ensures value { result ≡ self.now.lacks }
+        ensures each { self.now.lacks ≤ self.now.failures }
+    {
+        self.lacks
+    }
+
     /// The `calls`-th device call from now fails, once. If it is an append, the first `kept` bytes of its piece are added,
     /// or all if it is shorter. A fuse that still waits is forgotten.
     pub fn fuse(&mut self, calls: u32, kept: usize)
         requires { 0 < calls }
-        ensures { self.new ≡ record self.old { fuse = Some (record { calls = calls; kept = kept }) } }
+        ensures { self.new ≡ with_fuse calls kept self.old }
     {
         self.fuse = Some(Fuse { calls, kept });
     }
@@ -96,7 +122,7 @@ impl<G: Gate> MemoryDevice<G> {
     /// The last `count` bytes are gone, or all if it has fewer, synced or not: what no honest device does. It is no device
     /// call.
     pub fn lose(&mut self, count: usize)
-        ensures { self.new ≡ record self.old { bytes = take (length self.old.bytes - count) self.old.bytes; synced = min self.old.synced (length self.old.bytes - count) } }
+        ensures { self.new ≡ shortened count self.old }
     {
         let left = self.bytes.len().saturating_sub(count);
         self.bytes.truncate(left);
@@ -106,7 +132,7 @@ impl<G: Gate> MemoryDevice<G> {
     /// A crash: what was synced stays, and the tail stands behind it. It is no device call, and a fuse goes on waiting.
     /// Where memory is refused, nothing changes.
     pub fn crash(&mut self, tail: &[u8]) -> Result<(), AllocError>
-        ensures ok { OnOk result (self.new ≡ record self.old { bytes = kept_bytes self.old ++ tail.now }) }
+        ensures ok { OnOk result (self.new ≡ crashed tail.now self.old) }
         ensures kept { OnOk result (kept_bytes self.new ≡ kept_bytes self.old) }
         ensures err { OnErr result (self.new ≡ self.old) }
     {
@@ -123,29 +149,32 @@ impl<G: Gate> MemoryDevice<G> {
     fn call(&mut self) -> Option<usize>
         ensures after { self.new ≡ after_call self.old }
         ensures due { result ≡ front_due self.old.fuse }
+        ensures counts { AreCounts self.old.calls self.old.failures self.old.lacks }
     {
+        self.calls = self.calls.saturating_add(1);
         let kept = burn(&mut self.fuse)?;
         self.failures = self.failures.saturating_add(1);
         Some(kept)
     }
 
-    // Adds the front of a piece at a call that fails.
+    // Adds the front of a piece at a call that has failed.
     fn add_front(&mut self, front: &[u8])
-        ensures { (self.new ≡ record self.old { bytes = self.old.bytes ++ front.now }) ⊎ (self.new ≡ record self.old { lacked_memory = true }) }
+        requires { one_more self.old.lacks ≤ self.old.failures }
+        ensures { (self.new ≡ record self.old { bytes = self.old.bytes ++ front.now }) ⊎ (self.new ≡ lacking self.old) }
     {
         if self.bytes.extend_from_slice(front).is_err() {
-            self.lacked_memory = true;
+            self.lacks = self.lacks.saturating_add(1);
         }
     }
 
     // Adds a whole piece, which fails where memory is refused.
     fn add_whole(&mut self, piece: &[u8]) -> Result<(), Failed>
         ensures ok { OnOk result (self.new ≡ record self.old { bytes = self.old.bytes ++ piece.now }) }
-        ensures err { OnErr result (self.new ≡ record self.old { failures = one_more self.old.failures; lacked_memory = true }) }
+        ensures err { OnErr result (self.new ≡ record (lacking self.old) { failures = one_more self.old.failures }) }
     {
         if self.bytes.extend_from_slice(piece).is_err() {
             self.failures = self.failures.saturating_add(1);
-            self.lacked_memory = true;
+            self.lacks = self.lacks.saturating_add(1);
             return Err(Failed);
         }
         Ok(())
@@ -244,7 +273,7 @@ impl<G: Gate> Device for MemoryDevice<G> {
         ensures calls { LeadsTo 1 self.old self.new }
 
         ensures due { IsErr result ↔ IsSome (front_due self.old.fuse) }
-        ensures done { OnOk result (self.new ≡ record (after_call self.old) { bytes = take len self.old.bytes; synced = min self.old.synced len }) }
+        ensures done { OnOk result (self.new ≡ cut_to len (after_call self.old)) }
         ensures failed { OnErr result (self.new ≡ after_call self.old) }
     {
         if self.call().is_some() {

@@ -1,0 +1,9 @@
+-- One call.
+use Rattle.bayou_device.proofs.Calling.{of_call}
+use Rattle.bayou_device.proofs.memory.MemoryDeviceDevice.read_all.Goals as goal
+
+pub returns-then-is_some-clause-calls : goal.returns-then-is_some-clause-calls
+returns-then-is_some-clause-calls g c = of_call c.args.self.now c.call.new.self c.args.self.now.bytes c.args.self.now.synced c.call.ensures.counts c.call.ensures.after
+
+pub returns-clause-calls : goal.returns-clause-calls
+returns-clause-calls g c = of_call c.args.self.now c.call.new.self c.args.self.now.bytes c.args.self.now.synced c.call.ensures.counts c.call.ensures.after
