@@ -6,14 +6,15 @@ use Rattle.bayou_device.specs.Device.{BeginsWith}
 use Rattle.bayou_journal.specs.Chain.{IsLongestChain, header, entries, first_link, chain_end, journal}
 use Rattle.bayou_journal.specs.ChainLaws.{front_of_longest, journal-append, longest_is_one}
 use Rattle.bayou_journal.specs.Heads.{EndsAt, missing}
+use Rattle.bayou_journal.specs.declared.format.TheConstants.{VERSION}
 use Rattle.bayou_journal.specs.Opening.{FailsToAdd, FailsToOpen, Finds, IsNew, IsOldJournal, KeepsChains}
 
-nothing_missing : (server end : ℕ) → 0 < end → missing server end ≡ []
+pub nothing_missing : (server end : ℕ) → 0 < end → missing server end ≡ []
 nothing_missing server zero some = absurd (omega arith)
 nothing_missing server (suc end) some = refl
 
 pub length-journal : (server : ℕ) (bodies : List (List ℕ)) → 10 ≤ length (journal server bodies)
-length-journal server bodies = omega (arith, length-append (header server) (entries (first_link server) bodies))
+length-journal server bodies = omega (arith, length-append (header VERSION server) (entries (first_link server) bodies))
 
 pub ends_at : (server : ℕ) (bytes : List ℕ) (bodies : List (List ℕ)) (rest : List ℕ) (end : ℕ) → IsLongestChain server bytes bodies rest → end + length rest ≡ length bytes → EndsAt server bytes bodies end
 ends_at server bytes bodies rest end chain size =
@@ -26,7 +27,7 @@ ends_at server bytes bodies rest end chain size =
     }
 
 -- the server whose header stands at the front is one
-tenth : (one other : ℕ) (xs ys : List ℕ) → header one ++ xs ≡ header other ++ ys → one ≡ other
+pub tenth : (one other : ℕ) (xs ys : List ℕ) → header VERSION one ++ xs ≡ header VERSION other ++ ys → one ≡ other
 tenth one other xs ys same = ap (λ (l : List ℕ). get_or l 9 0) same
 
 -- no journal stands at the front of a new one's bytes
@@ -39,8 +40,8 @@ pub finds_all : (server : ℕ) (bytes : List ℕ) (bodies : List (List ℕ)) (dr
 finds_all server bytes bodies dropped (inl new) owner others are begins =
     absurd (new_begins_not bytes owner others new.front begins)
 finds_all server bytes bodies dropped (inr old) owner others are begins =
-    let whole : header owner ++ (entries (first_link owner) others ++ begins.0) ≡ header server ++ (entries (first_link server) bodies ++ old.rest) =
-    sym (append_assoc (header owner) (entries (first_link owner) others) begins.0) ∙ sym begins.1 ∙ old.chain.split ∙ append_assoc (header server) (entries (first_link server) bodies) old.rest in
+    let whole : header VERSION owner ++ (entries (first_link owner) others ++ begins.0) ≡ header VERSION server ++ (entries (first_link server) bodies ++ old.rest) =
+    sym (append_assoc (header VERSION owner) (entries (first_link owner) others) begins.0) ∙ sym begins.1 ∙ old.chain.split ∙ append_assoc (header VERSION server) (entries (first_link server) bodies) old.rest in
     let same : owner ≡ server = tenth owner server (entries (first_link owner) others ++ begins.0) (entries (first_link server) bodies ++ old.rest) whole in
     let tails : entries (first_link server) others ++ begins.0 ≡ entries (first_link server) bodies ++ old.rest =
     ap (λ (o : ℕ). entries (first_link o) others ++ begins.0) (sym same) ∙ ap (drop 10) whole in
@@ -60,7 +61,7 @@ take_behind xs ys n long =
     ap (λ (k : ℕ). take k (xs ++ ys)) size ∙ take-append-add xs ys (n - length xs)
 
 -- where the bytes are a new journal's, they begin with none; else the cut stands behind the longest
-ends_behind : (server : ℕ) (bytes : List ℕ) (bodies : List (List ℕ)) (dropped end : ℕ) → IsOldJournal server bytes bodies dropped → dropped ≡ length bytes - end → end ≤ length bytes → end ≡ length (journal server bodies)
+pub ends_behind : (server : ℕ) (bytes : List ℕ) (bodies : List (List ℕ)) (dropped end : ℕ) → IsOldJournal server bytes bodies dropped → dropped ≡ length bytes - end → end ≤ length bytes → end ≡ length (journal server bodies)
 ends_behind server bytes bodies dropped end old is within = omega (arith, is, within, old.behind, ap length old.chain.split, length-append (journal server bodies) old.rest)
 
 pub cut_keeps : (server : ℕ) (bytes : List ℕ) (bodies : List (List ℕ)) (dropped end : ℕ) (kept new : List ℕ) → Finds server bytes bodies dropped → dropped ≡ length bytes - end → end ≤ length bytes

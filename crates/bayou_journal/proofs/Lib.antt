@@ -1,4 +1,6 @@
+pub mod Calls
 pub mod Ending
 pub mod Heading
 pub mod Reading
+pub mod Tearing
 pub mod Walking

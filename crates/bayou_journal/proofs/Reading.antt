@@ -7,12 +7,12 @@ use Rattle.bayou_journal.specs.Chain.{IsBody, entry, link, sized}
 use Rattle.sha2.proofs.Facts256.{length-sha256}
 
 -- an entry stands at the front: its first two bytes are the length of its body
-pub record Reads (before bytes body behind : List ℕ) : Type 0 where
+pub record HasFront (before bytes body behind : List ℕ) : Type 0 where
   pub size : get_or bytes 0 0 * 256 + get_or bytes 1 0 ≡ length body
   pub parts : drop 2 bytes ≡ body ++ (link before body ++ behind)
   pub long : length body + 32 ≤ length (drop 2 bytes)
 
-pub reads : (before bytes body behind : List ℕ) → IsBody body → bytes ≡ entry before body ++ behind → Reads before bytes body behind
+pub reads : (before bytes body behind : List ℕ) → IsBody body → bytes ≡ entry before body ++ behind → HasFront before bytes body behind
 reads before bytes body behind is eq =
     let two = from_be_bytes-to_be_bytes_2 (length body) (omega (arith, is.within)) in
     let parts : drop 2 bytes ≡ body ++ (link before body ++ behind) = ap (drop 2) eq ∙ append_assoc body (link before body) behind in
@@ -23,7 +23,7 @@ reads before bytes body behind is eq =
     }
 
 -- and where the digest isn't the one that is there, none stands there
-pub found_is : (before bytes body behind : List ℕ) (n : ℕ) → Reads before bytes body behind → n ≡ length body → take 32 (drop n (drop 2 bytes)) ≡ link before (take n (drop 2 bytes))
+pub found_is : (before bytes body behind : List ℕ) (n : ℕ) → HasFront before bytes body behind → n ≡ length body → take 32 (drop n (drop 2 bytes)) ≡ link before (take n (drop 2 bytes))
 found_is before bytes body behind n is size =
     let front : take n (drop 2 bytes) ≡ body = ap (take n) is.parts ∙ take_at body (link before body ++ behind) n (sym size) in
     let back : drop n (drop 2 bytes) ≡ link before body ++ behind = ap (drop n) is.parts ∙ drop_at body (link before body ++ behind) n (sym size) in

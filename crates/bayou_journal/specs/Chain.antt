@@ -10,9 +10,9 @@ use Rattle.sha2.specs.Sha256.{sha256}
 abbrev pub name : List ℕ
 name = MAGIC ++ VERSION ∷ []
 
--- the header of a server's journal
-abbrev pub header : ℕ → List ℕ
-header server = MAGIC ++ VERSION ∷ server ∷ []
+-- the header of a server's journal, in a version of the format
+abbrev pub header : ℕ → ℕ → List ℕ
+header version server = MAGIC ++ version ∷ server ∷ []
 
 -- what an entry may carry
 pub record IsBody (body : List ℕ) : Type 0 where
@@ -48,7 +48,7 @@ last_link before (body ∷ bodies) = last_link (link before body) bodies
 
 -- the digest that the first entry stands behind
 abbrev pub first_link : ℕ → List ℕ
-first_link server = sha256 (header server)
+first_link server = sha256 (header VERSION server)
 
 -- the digest that the next entry stands behind
 abbrev pub chain_end : ℕ → List (List ℕ) → List ℕ
@@ -56,7 +56,7 @@ chain_end server bodies = last_link (first_link server) bodies
 
 -- the journal of a server with these bodies
 abbrev pub journal : ℕ → List (List ℕ) → List ℕ
-journal server bodies = header server ++ entries (first_link server) bodies
+journal server bodies = header VERSION server ++ entries (first_link server) bodies
 
 -- no entry of any body stands there, behind that digest
 abbrev pub NoEntry : List ℕ → List ℕ → Type 0

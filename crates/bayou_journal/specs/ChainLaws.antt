@@ -4,6 +4,7 @@ use Rattle.std.specs.Int.{w16, to_be_bytes, from_be_bytes}
 use Rattle.std.proofs.Common.{sym, ◌∙◌, ap, arith, append_assoc, length-append}
 use Rattle.std.proofs.lemmas.List.{append_cancel_left, append-nil}
 use Rattle.std.proofs.lemmas.Nat.{from_be_bytes-to_be_bytes_2}
+use Rattle.bayou_journal.specs.declared.format.TheConstants.{VERSION}
 use Rattle.bayou_journal.specs.Chain.{IsBody, AreBodies, NoEntry, IsLongestChain, header, link, entry, entries, last_link, first_link, chain_end, journal}
 
 -- one more body: its entry stands behind the others
@@ -20,8 +21,8 @@ last_link-push before (first ∷ bodies) body = last_link-push (link before firs
 
 pub journal-push : (server : ℕ) (bodies : List (List ℕ)) (body : List ℕ) → journal server (bodies ++ body ∷ []) ≡ journal server bodies ++ entry (chain_end server bodies) body
 journal-push server bodies body =
-    ap (λ (l : List ℕ). header server ++ l) (entries-push (first_link server) bodies body)
-    ∙ sym (append_assoc (header server) (entries (first_link server) bodies) (entry (chain_end server bodies) body))
+    ap (λ (l : List ℕ). header VERSION server ++ l) (entries-push (first_link server) bodies body)
+    ∙ sym (append_assoc (header VERSION server) (entries (first_link server) bodies) (entry (chain_end server bodies) body))
 
 pub chain_end-push : (server : ℕ) (bodies : List (List ℕ)) (body : List ℕ) → chain_end server (bodies ++ body ∷ []) ≡ link (chain_end server bodies) body
 chain_end-push server bodies body = last_link-push (first_link server) bodies body
@@ -39,8 +40,8 @@ entries-append before (first ∷ bodies) more =
 
 pub journal-append : (server : ℕ) (bodies more : List (List ℕ)) → journal server (bodies ++ more) ≡ journal server bodies ++ entries (chain_end server bodies) more
 journal-append server bodies more =
-    ap (λ (l : List ℕ). header server ++ l) (entries-append (first_link server) bodies more)
-    ∙ sym (append_assoc (header server) (entries (first_link server) bodies) (entries (chain_end server bodies) more))
+    ap (λ (l : List ℕ). header VERSION server ++ l) (entries-append (first_link server) bodies more)
+    ∙ sym (append_assoc (header VERSION server) (entries (first_link server) bodies) (entries (chain_end server bodies) more))
 
 -- two fronts of one length, and what stands behind each
 pub record Same (xs ys ts us : List ℕ) : Type 0 where
@@ -105,8 +106,8 @@ pub longest_is_one : (server : ℕ) (bytes : List ℕ) (bodies others : List (Li
 longest_is_one server bytes bodies others rest behind one other =
     let whole : journal server bodies ++ rest ≡ journal server others ++ behind = sym one.split ∙ other.split in
     let tails : entries (first_link server) bodies ++ rest ≡ entries (first_link server) others ++ behind =
-    append_cancel_left (header server) (entries (first_link server) bodies ++ rest) (entries (first_link server) others ++ behind)
-    (sym (append_assoc (header server) (entries (first_link server) bodies) rest) ∙ whole ∙ append_assoc (header server) (entries (first_link server) others) behind) in
+    append_cancel_left (header VERSION server) (entries (first_link server) bodies ++ rest) (entries (first_link server) others ++ behind)
+    (sym (append_assoc (header VERSION server) (entries (first_link server) bodies) rest) ∙ whole ∙ append_assoc (header VERSION server) (entries (first_link server) others) behind) in
     let left = front_of_longest (first_link server) bodies others rest behind one.sizes other.sizes other.longest tails in
     let right = front_of_longest (first_link server) others bodies behind rest other.sizes one.sizes one.longest (sym tails) in
     let none : length left.more ≡ 0 = omega (arith, ap length left.is, ap length right.is, length-append bodies left.more, length-append others right.more) in

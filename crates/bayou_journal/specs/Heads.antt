@@ -2,19 +2,20 @@
 use Rattle.std.specs.Prelude.{◌≡◌, ℕ, ◌≤◌, zero, suc, List, [], ◌++◌, take, length}
 use Rattle.bayou_device.specs.Device.{BeginsWith}
 use Rattle.bayou_journal.specs.Chain.{header, journal}
+use Rattle.bayou_journal.specs.declared.format.TheConstants.{VERSION}
 use Rattle.bayou_journal.specs.Opening.{IsForeign, IsNew, IsOfAnother}
 use Rattle.bayou_journal.specs.declared.chain.Head.{Head}
 use Rattle.bayou_journal.specs.declared.chain.Head.TheVariants.{New, Whole, OfAnother, Foreign}
 
 abbrev pub HasHead : ℕ → List ℕ → Head → Type 0
 HasHead server bytes New = IsNew bytes
-HasHead server bytes Whole = BeginsWith (header server) bytes
+HasHead server bytes Whole = BeginsWith (header VERSION server) bytes
 HasHead server bytes OfAnother = IsOfAnother server bytes
 HasHead server bytes Foreign = IsForeign bytes
 
 -- what has to be added behind the cut: a whole header, where nothing is left
 abbrev pub missing : ℕ → ℕ → List ℕ
-missing server zero = header server
+missing server zero = header VERSION server
 missing server (suc end) = []
 
 -- behind the cut, and what is missing, the journal of these bodies stands

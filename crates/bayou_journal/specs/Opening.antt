@@ -1,8 +1,10 @@
 -- What an opening finds, refuses and leaves: this project's own.
 use Rattle.std.specs.Prelude.{◌≡◌, ◌≢◌, ◌⊎◌, ℕ, List, [], ◌++◌, length}
 use Rattle.bayou_device.specs.Device.{BeginsWith, Rose}
+use Rattle.bayou_device.specs.declared.device.Device.{Ghosts}
 use Rattle.bayou_journal.specs.Chain.{name, header, journal, chain_end, AreBodies, IsLongestChain}
 use Rattle.bayou_journal.specs.Opened.{Found}
+use Rattle.bayou_journal.specs.declared.format.TheConstants.{VERSION}
 use Rattle.bayou_journal.specs.declared.fault.OpenFault.{OpenFault}
 use Rattle.bayou_journal.specs.declared.fault.OpenFault.TheVariants.{Device, NotAJournal, OtherServer, OutOfMemory}
 
@@ -19,7 +21,7 @@ pub record IsForeign (bytes : List ℕ) : Type 0 where
 pub record IsOfAnother (server : ℕ) (bytes : List ℕ) : Type 0 where
   pub owner : ℕ
   pub another : owner ≢ server
-  pub begins : BeginsWith (header owner) bytes
+  pub begins : BeginsWith (header VERSION owner) bytes
 
 -- what an opening finds in the bytes: nothing, in a new journal, or the longest chain; it drops the rest
 pub record IsNewJournal (bytes : List ℕ) (bodies : List (List ℕ)) (dropped : ℕ) : Type 0 where
@@ -48,30 +50,39 @@ FailsToAdd may_leave piece before after = may_leave piece before after ⊎ may_l
 abbrev pub FailsToOpen : (List ℕ → List ℕ → List ℕ → Type 0) → ℕ → List ℕ → List ℕ → Type 0
 FailsToOpen may_leave server before after =
     may_leave [] before after
-    ⊎ ((IsNew before × may_leave (header server) [] after)
+    ⊎ ((IsNew before × may_leave (header VERSION server) [] after)
     ⊎ ((bodies : List (List ℕ)) × (dropped : ℕ) × Finds server before bodies dropped × may_leave [] (journal server bodies) after))
 
 -- neither what a read gives, nor what is kept, nor the count of failures has changed
-pub record Unchanged {D : Type 0} (content kept : D → List ℕ) (failures : D → ℕ) (old new : D) : Type 0 where
-  pub same : content new ≡ content old
-  pub as_kept : kept new ≡ kept old
-  pub counts : failures new ≡ failures old
+pub record Unchanged {D : Type 0} (d : Ghosts D) (old new : D) : Type 0 where
+  pub same : d.content new ≡ d.content old
+  pub as_kept : d.kept new ≡ d.kept old
+  pub counts : d.failures new ≡ d.failures old
 
 -- What an opening that succeeds found, and what it leaves: the server's header and the bodies found, all of it synced.
-pub record HasOpened {D : Type 0} (is_modelled : Type 0) (content kept : D → List ℕ) (failures : D → ℕ) (server : ℕ) (old new : D) (found : Found) (last : List ℕ) : Type 0 where
-  pub finds : is_modelled → Finds server (content old) found.bodies found.dropped
-  pub leaves : is_modelled → content new ≡ journal server found.bodies
-  pub synced : kept new ≡ content new
+pub record HasOpened {D : Type 0} (d : Ghosts D) (server : ℕ) (old new : D) (found : Found) (last : List ℕ) : Type 0 where
+  pub finds : d.is_modelled → Finds server (d.content old) found.bodies found.dropped
+  pub leaves : d.is_modelled → d.content new ≡ journal server found.bodies
+  pub synced : d.kept new ≡ d.content new
   pub sizes : AreBodies found.bodies
   pub ends : last ≡ chain_end server found.bodies
-  pub counts : failures new ≡ failures old
+  pub counts : d.failures new ≡ d.failures old
 
 -- When each fault of an opening comes, and what it leaves.
-abbrev pub HasRefused : {D : Type 0} → (is_modelled : Type 0) → (content kept : D → List ℕ) → (failures : D → ℕ) → (may_leave : List ℕ → List ℕ → List ℕ → Type 0) → (server : ℕ) → (old new : D) → OpenFault → Type 0
-HasRefused is_modelled content kept failures may_leave server old new Device =
-    Rose (failures old) (failures new) × (is_modelled → FailsToOpen may_leave server (content old) (content new))
-HasRefused is_modelled content kept failures may_leave server old new NotAJournal =
-    Unchanged content kept failures old new × (is_modelled → IsForeign (content old))
-HasRefused is_modelled content kept failures may_leave server old new OtherServer =
-    Unchanged content kept failures old new × (is_modelled → IsOfAnother server (content old))
-HasRefused is_modelled content kept failures may_leave server old new OutOfMemory = Unchanged content kept failures old new
+abbrev pub HasRefused : {D : Type 0} → Ghosts D → (server : ℕ) → (old new : D) → OpenFault → Type 0
+HasRefused d server old new Device =
+    Rose (d.failures old) (d.failures new) × (d.is_modelled → FailsToOpen d.may_leave server (d.content old) (d.content new))
+HasRefused d server old new NotAJournal = Unchanged d old new × (d.is_modelled → IsForeign (d.content old))
+HasRefused d server old new OtherServer = Unchanged d old new × (d.is_modelled → IsOfAnother server (d.content old))
+HasRefused d server old new OutOfMemory = Unchanged d old new
+
+-- How many device calls an opening makes at the most: the read, the cut, the append of the header, and the sync. There is no
+-- cut where nothing stands behind the chain, no append where the header is there, and nothing but the read where the bytes
+-- are refused.
+pub record OpensInCalls {D : Type 0} (d : Ghosts D) (server : ℕ) (old new : D) : Type 0 where
+  pub most : d.leads_to 4 old new
+  pub empty : d.is_modelled → d.content old ≡ [] → d.leads_to 3 old new
+  pub headed : d.is_modelled → BeginsWith (header VERSION server) (d.content old) → d.leads_to 3 old new
+  pub whole : d.is_modelled → (bodies : List (List ℕ)) → AreBodies bodies → d.content old ≡ journal server bodies → d.leads_to 2 old new
+  pub foreign : d.is_modelled → IsForeign (d.content old) → d.leads_to 1 old new
+  pub another : d.is_modelled → IsOfAnother server (d.content old) → d.leads_to 1 old new

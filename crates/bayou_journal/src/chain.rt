@@ -3,6 +3,7 @@ ghost use Rattle.bayou_device.specs.Device.{BeginsWith};
 ghost use Rattle.bayou_journal.specs.Chain;
 ghost use Rattle.bayou_journal.specs.Chain.{AreBodies, IsBody, IsLongestChain, NoEntry, chain_end, header};
 ghost use Rattle.bayou_journal.specs.Opened.{IsWithin, bytes_at};
+ghost use Rattle.bayou_journal.specs.declared.format.TheConstants.{VERSION};
 ghost use Rattle.bayou_journal.specs.Heads.{EndsAt, HasHead};
 ghost use Rattle.bayou_journal.specs.Opening.{Finds, IsForeign, IsOfAnother};
 
@@ -82,7 +83,7 @@ pub fn first_link_of(server: ServerId) -> [u8; DIGEST_BYTES]
 
 // The longest chain of a server's journal.
 pub fn chain_of(alloc: Global, server: ServerId, bytes: &[u8]) -> Result<Links, AllocError>
-    requires { BeginsWith (header server.index) bytes.now }
+    requires { BeginsWith (header VERSION server.index) bytes.now }
     ensures chain { IfOk result (λ links. (rest : List ℕ) × IsLongestChain server.index bytes.now (map (bytes_at bytes.now) links.places.items) rest × (links.end + length rest ≡ length bytes.now)) }
     ensures last { IfOk result (λ links. links.last ≡ chain_end server.index (map (bytes_at bytes.now) links.places.items)) }
     ensures within { IfOk result (λ links. All (IsWithin (length bytes.now)) links.places.items) }

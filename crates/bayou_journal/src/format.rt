@@ -1,5 +1,6 @@
 ghost use Rattle.std.specs.Prelude.{◌≡◌, ◌+◌, ◌<◌, ◌≤◌, ◌^◌, ◌++◌, length, vec_capacity, vec_len};
 ghost use Rattle.bayou_base.specs.declared.limits.TheConstants.{MAX_BODY_BYTES};
+ghost use Rattle.bayou_journal.specs.declared.format.TheConstants.{VERSION};
 ghost use Rattle.bayou_journal.specs.Chain;
 
 use bayou_base::{MAX_BODY_BYTES, ServerId};
@@ -28,7 +29,7 @@ pub const ENTRY_BYTES: usize = LENGTH_BYTES + MAX_BODY_BYTES + DIGEST_BYTES;
 
 /// The header of a server's journal.
 pub fn header_of(server: ServerId) -> [u8; HEADER_BYTES]
-    ensures { result ≡ Chain.header server.index }
+    ensures { result ≡ Chain.header VERSION server.index }
 {
     let [b, a, y, o, u, j, n, l] = MAGIC;
     [b, a, y, o, u, j, n, l, VERSION, server.index]

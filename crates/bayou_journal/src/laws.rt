@@ -1,8 +1,11 @@
 //! Laws of a journal's bytes, each the contract of a function that does nothing.
 
-ghost use Rattle.std.specs.Prelude.{◌≡◌, ℕ, List};
-ghost use Rattle.bayou_journal.specs.Chain.{IsLongestChain};
-ghost use Rattle.bayou_journal.specs.Opening.{Finds, IsForeign, IsOfAnother};
+ghost use Rattle.std.specs.Prelude.{◌≡◌, ◌<◌, ◌≤◌, ◌++◌, ◌∷◌, [], ℕ, List, length, take};
+ghost use Rattle.bayou_device.specs.Device.{BeginsWith};
+ghost use Rattle.bayou_device.specs.Memory.{AddsFront};
+ghost use Rattle.bayou_journal.specs.Chain.{AreBodies, IsBody, IsLongestChain, chain_end, entry, journal};
+ghost use Rattle.bayou_journal.specs.Honest.{IsHonest, torn};
+ghost use Rattle.bayou_journal.specs.Opening.{FailsToAdd, FailsToOpen, Finds, IsForeign, IsOfAnother};
 
 /// The longest chain is one.
 pub fn longest_chain_is_one()
@@ -19,4 +22,30 @@ pub fn what_is_found_is_not_refused()
     ensures foreign { (server : ℕ) (bytes : List ℕ) (bodies : List (List ℕ)) (dropped : ℕ) → Finds server bytes bodies dropped → IsForeign bytes → ⊥ }
     ensures another { (server : ℕ) (bytes : List ℕ) (bodies : List (List ℕ)) (dropped : ℕ) → Finds server bytes bodies dropped → IsOfAnother server bytes → ⊥ }
     ensures both { (server : ℕ) (bytes : List ℕ) → IsForeign bytes → IsOfAnother server bytes → ⊥ }
+{}
+
+/// A chain with which the bytes begin is a front of the longest.
+pub fn a_chain_is_a_front_of_the_longest()
+    ensures { (server : ℕ) (bytes : List ℕ) (bodies longest : List (List ℕ)) (rest : List ℕ) → AreBodies bodies → BeginsWith (journal server bodies) bytes
+        → IsLongestChain server bytes longest rest → (more : List (List ℕ)) × (longest ≡ bodies ++ more) }
+{}
+
+/// An opening of a torn journal is honest: it finds the bodies before the tear, and the one behind them exactly where its
+/// entry is whole.
+pub fn a_torn_journal_opens_honestly()
+    ensures part { (server : ℕ) (bodies : List (List ℕ)) (body : List ℕ) (count : ℕ) → AreBodies bodies → IsBody body → count < length (entry (chain_end server bodies) body)
+        → IsLongestChain server (torn server bodies body count) bodies (take count (entry (chain_end server bodies) body)) }
+    ensures whole { (server : ℕ) (bodies : List (List ℕ)) (body : List ℕ) (count : ℕ) → AreBodies bodies → IsBody body → length (entry (chain_end server bodies) body) ≤ count
+        → IsLongestChain server (torn server bodies body count) (bodies ++ body ∷ []) [] }
+    ensures honest { (server : ℕ) (bodies : List (List ℕ)) (body : List ℕ) (count : ℕ) (found : List (List ℕ)) (dropped : ℕ) → AreBodies bodies → IsBody body
+        → Finds server (torn server bodies body count) found dropped → IsHonest bodies body found }
+{}
+
+/// Over a device that at a failed call may only add a front of its piece, as one in memory does, a journal whose append
+/// failed is torn, and stays so as long as its openings fail.
+pub fn a_fault_leaves_a_torn_journal()
+    ensures append { (server : ℕ) (bodies : List (List ℕ)) (body after : List ℕ) → FailsToAdd AddsFront (entry (chain_end server bodies) body) (journal server bodies) after
+        → (count : ℕ) × (after ≡ torn server bodies body count) }
+    ensures opening { (server : ℕ) (bodies : List (List ℕ)) (body : List ℕ) (count : ℕ) (after : List ℕ) → AreBodies bodies → IsBody body
+        → FailsToOpen AddsFront server (torn server bodies body count) after → (left : ℕ) × (after ≡ torn server bodies body left) }
 {}

@@ -1,8 +1,9 @@
 ghost use Rattle.std.specs.Prelude.{◌≡◌, ◌≤◌, ◌++◌, ℕ, [], length, take, IfOk, OnErr, OnOk, IfErr};
 ghost use Rattle.bayou_device.specs.Device.{BeginsWith, Rose};
+ghost use Rattle.bayou_journal.specs.declared.format.TheConstants.{VERSION};
 ghost use Rattle.bayou_journal.specs.Chain;
 ghost use Rattle.bayou_journal.specs.Heads.{missing};
-ghost use Rattle.bayou_journal.specs.Opening.{FailsToAdd, HasOpened, HasRefused, KeepsChains};
+ghost use Rattle.bayou_journal.specs.Opening.{FailsToAdd, HasOpened, HasRefused, KeepsChains, OpensInCalls};
 
 use crate::chain::links_of;
 use crate::fault::OpenFault;
@@ -28,6 +29,7 @@ pub fn write_through<D: Device>(device: &mut D, piece: &[u8]) -> Result<(), Fail
     ensures counts { OnOk result (D.failures device.new ≡ D.failures device.old) }
     ensures rose { OnErr result (Rose (D.failures device.old) (D.failures device.new)) }
     ensures calls { D.leads_to 2 device.old device.new }
+    ensures nothing { piece.now ≡ [] → D.leads_to 1 device.old device.new }
 {
     if piece.is_empty() {
         return device.sync();
@@ -47,6 +49,7 @@ pub fn drop_tail<D: Device>(device: &mut D, total: usize, end: usize) -> Result<
     ensures counts { OnOk result (D.failures device.new ≡ D.failures device.old) }
     ensures rose { OnErr result (Rose (D.failures device.old) (D.failures device.new)) }
     ensures calls { D.leads_to 1 device.old device.new }
+    ensures nothing { end ≡ total → D.leads_to 0 device.old device.new }
 {
     if end == total {
         return Ok(());
@@ -56,7 +59,7 @@ pub fn drop_tail<D: Device>(device: &mut D, total: usize, end: usize) -> Result<
 
 // The header, where nothing is left.
 fn missing_of(end: usize, header: &[u8; HEADER_BYTES]) -> &[u8]
-    ensures { (server : ℕ) → header.now ≡ Chain.header server → result.now ≡ missing server end }
+    ensures { (server : ℕ) → header.now ≡ Chain.header VERSION server → result.now ≡ missing server end }
 {
     if end == 0 { header.as_slice() } else { &[] }
 }
@@ -67,10 +70,11 @@ pub fn restore<D: Device>(
     server: ServerId,
     device: &mut D,
 ) -> Result<Restored, OpenFault>
-    ensures opened { IfOk result (λ restored. HasOpened D.is_modelled D.content D.kept D.failures server.index device.old device.new restored.opened restored.last) }
-    ensures refused { IfErr result (λ fault. HasRefused D.is_modelled D.content D.kept D.failures D.may_leave server.index device.old device.new fault) }
+    ensures opened { IfOk result (λ restored. HasOpened D.Device server.index device.old device.new restored.opened restored.last) }
+    ensures refused { IfErr result (λ fault. HasRefused D.Device server.index device.old device.new fault) }
     ensures safe { D.is_modelled → KeepsChains (D.kept device.old) (D.kept device.new) }
-    ensures calls { D.leads_to 4 device.old device.new }
+    ensures calls { OpensInCalls D.Device server.index device.old device.new }
+    ensures uncut { IfOk result (λ restored. restored.opened.dropped ≡ 0 → D.leads_to 3 device.old device.new) }
 {
     let bytes = device.read_all(alloc)?;
     let links = links_of(alloc, server, &bytes)?;

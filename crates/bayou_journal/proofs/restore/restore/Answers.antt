@@ -1,19 +1,14 @@
 -- What each exit leaves of the chains, and how many device calls it made.
-use Rattle.std.proofs.Common.{◌≡◌, ℕ, ◌-◌, ◌++◌, List, [], length, take, map, arith, refl, sym, ◌∙◌, ap, subst}
+use Rattle.std.proofs.Common.{◌≡◌, ℕ, ◌-◌, ◌++◌, List, [], length, take, map, refl, sym, ◌∙◌, ap, subst}
 use Rattle.std.proofs.lemmas.List.{append-nil}
 use Rattle.bayou_device.specs.Device.{BeginsWith, one_more}
 use Rattle.bayou_journal.specs.Chain.{journal}
 use Rattle.bayou_journal.specs.Heads.{missing}
 use Rattle.bayou_journal.specs.Opened.{bytes_at}
 use Rattle.bayou_journal.specs.Opening.{FailsToAdd, FailsToOpen}
+use Rattle.bayou_journal.proofs.Calls.{all_calls, one_call, without_cut}
 use Rattle.bayou_journal.proofs.Ending.{cut_keeps, fails_to_open, whole_keeps}
 use Rattle.bayou_journal.proofs.restore.restore.Goals as goal
-
-pub returns-in_err-bytes-clause-calls : goal.returns-in_err-bytes-clause-calls
-returns-in_err-bytes-clause-calls g c = g.met.D.Device.goes_on 1 0 4 _ _ _ (omega arith) c.read_all.ensures.calls (g.met.D.Device.stays 0 _)
-
-pub returns-in_err-links-clause-calls : goal.returns-in_err-links-clause-calls
-returns-in_err-links-clause-calls g c = g.met.D.Device.goes_on 1 0 4 _ _ _ (omega arith) c.read_all.ensures.calls (g.met.D.Device.stays 0 _)
 
 pub returns-in_err-drop_tail-clause-safe : goal.returns-in_err-drop_tail-clause-safe
 returns-in_err-drop_tail-clause-safe g c = λ modelled.
@@ -59,10 +54,6 @@ returns-in-Err-clause-safe g c = λ modelled.
     cut_keeps c.args.server.index c.deref.result.now (map (bytes_at c.deref.result.now) links.places.items) (length c.deref.result.now - links.end) links.end (g.D.Device.kept c.args.device.now) (g.D.Device.kept c.write_through.new.device)
     found.finds refl found.end.within kept front
 
-pub returns-in-Err-clause-calls : goal.returns-in-Err-clause-calls
-returns-in-Err-clause-calls g c =
-    g.met.D.Device.goes_on 2 2 4 _ _ _ (omega arith) (g.met.D.Device.goes_on 1 1 2 _ _ _ (omega arith) c.read_all.ensures.calls c.drop_tail.ensures.calls) c.write_through.ensures.calls
-
 pub returns-in-Ok-clause-safe : goal.returns-in-Ok-clause-safe
 returns-in-Ok-clause-safe g c = λ modelled.
     let links = c.in_ok-links.links in
@@ -77,6 +68,40 @@ returns-in-Ok-clause-safe g c = λ modelled.
     whole_keeps c.args.server.index c.deref.result.now (map (bytes_at c.deref.result.now) links.places.items) (length c.deref.result.now - links.end) (g.D.Device.kept c.args.device.now) (g.D.Device.kept c.write_through.new.device)
     found.finds kept whole
 
+pub returns-in_err-bytes-clause-calls : goal.returns-in_err-bytes-clause-calls
+returns-in_err-bytes-clause-calls g c = one_call g.D.Device c.args.server.index _ _ g.met.D.Device.stays g.met.D.Device.goes_on c.read_all.ensures.calls
+
+pub returns-in_err-links-clause-calls : goal.returns-in_err-links-clause-calls
+returns-in_err-links-clause-calls g c = one_call g.D.Device c.args.server.index _ _ g.met.D.Device.stays g.met.D.Device.goes_on c.read_all.ensures.calls
+
+pub returns-in_err-drop_tail-clause-calls : goal.returns-in_err-drop_tail-clause-calls
+returns-in_err-drop_tail-clause-calls g c =
+    let links = c.in_ok-links.links in
+    let found = c.in_ok-links.ensures in
+    all_calls g.D.Device c.args.server.index _ _ c.drop_tail.new.device c.drop_tail.new.device c.deref.result.now _ _ links.end (missing c.args.server.index links.end) g.met.D.Device.stays g.met.D.Device.goes_on
+    (λ modelled. c.deref.ensures.value ∙ c.in_ok-bytes.ensures.bytes modelled) found.finds refl found.end.within refl
+    c.read_all.ensures.calls c.drop_tail.ensures.calls (λ all. c.drop_tail.ensures.nothing (all ∙ c.deref.ensures.len ∙ sym c.len.ensures)) (g.met.D.Device.stays 2 _) (λ _. g.met.D.Device.stays 1 _)
+
+pub returns-in-Err-clause-calls : goal.returns-in-Err-clause-calls
+returns-in-Err-clause-calls g c =
+    let links = c.in_ok-links.links in
+    let found = c.in_ok-links.ensures in
+    all_calls g.D.Device c.args.server.index _ _ c.drop_tail.new.device c.write_through.new.device c.deref.result.now _ _ links.end c.missing_of.result.now g.met.D.Device.stays g.met.D.Device.goes_on
+    (λ modelled. c.deref.ensures.value ∙ c.in_ok-bytes.ensures.bytes modelled) found.finds refl found.end.within (c.missing_of.ensures c.args.server.index c.header_of-header.ensures)
+    c.read_all.ensures.calls c.drop_tail.ensures.calls (λ all. c.drop_tail.ensures.nothing (all ∙ c.deref.ensures.len ∙ sym c.len.ensures)) c.write_through.ensures.calls c.write_through.ensures.nothing
+
 pub returns-in-Ok-clause-calls : goal.returns-in-Ok-clause-calls
 returns-in-Ok-clause-calls g c =
-    g.met.D.Device.goes_on 2 2 4 _ _ _ (omega arith) (g.met.D.Device.goes_on 1 1 2 _ _ _ (omega arith) c.read_all.ensures.calls c.drop_tail.ensures.calls) c.write_through.ensures.calls
+    let links = c.in_ok-links.links in
+    let found = c.in_ok-links.ensures in
+    all_calls g.D.Device c.args.server.index _ _ c.drop_tail.new.device c.write_through.new.device c.deref.result.now _ _ links.end c.missing_of.result.now g.met.D.Device.stays g.met.D.Device.goes_on
+    (λ modelled. c.deref.ensures.value ∙ c.in_ok-bytes.ensures.bytes modelled) found.finds refl found.end.within (c.missing_of.ensures c.args.server.index c.header_of-header.ensures)
+    c.read_all.ensures.calls c.drop_tail.ensures.calls (λ all. c.drop_tail.ensures.nothing (all ∙ c.deref.ensures.len ∙ sym c.len.ensures)) c.write_through.ensures.calls c.write_through.ensures.nothing
+
+pub returns-in-Ok-clause-uncut : goal.returns-in-Ok-clause-uncut
+returns-in-Ok-clause-uncut g c = λ none.
+    let links = c.in_ok-links.links in
+    let within = c.in_ok-links.ensures.end.within in
+    without_cut g.D.Device _ _ c.drop_tail.new.device c.write_through.new.device (length c.deref.result.now) links.end g.met.D.Device.goes_on
+    (ap (λ (l : List ℕ). length l - links.end) c.deref.ensures.value ∙ sym c.new.ensures.dropped ∙ none) within
+    c.read_all.ensures.calls (λ all. c.drop_tail.ensures.nothing (all ∙ c.deref.ensures.len ∙ sym c.len.ensures)) c.write_through.ensures.calls
