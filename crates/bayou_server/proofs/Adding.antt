@@ -1,5 +1,5 @@
 -- How a server's Write is added: the entry behind those of the Writes held, and then the Write.
-use Rattle.std.proofs.Common.{◌≡◌, ℕ, ◌<◌, ◌≤◌, List, [], ◌∷◌, ◌++◌, Option, None, Some, Result, Ok, Err, true, false, length, refl, sym, ◌∙◌, ap, subst, arith, length-append}
+use Rattle.std.proofs.Common.{◌≡◌, ℕ, ◌<◌, ◌≤◌, List, [], ◌∷◌, ◌++◌, Option, None, Some, Result, Ok, Err, true, false, length, refl, sym, ◌∙◌, ap, subst}
 use Rattle.std.specs.Prelude.{IsErrOf, is_err, is_some}
 use Rattle.std.proofs.lemmas.List.{map-append}
 use Rattle.bayou_base.specs.declared.limits.TheConstants.{MAX_WRITES}
@@ -11,11 +11,14 @@ use Rattle.bayou_journal.specs.Journal.{JournalState}
 use Rattle.bayou_lang.specs.declared.program.Program.{Program}
 use Rattle.bayou_lang.specs.declared.write.Write.{Write}
 use Rattle.bayou_lang.specs.Writes.{IsNextWrite}
-use Rattle.bayou_lang.specs.FittingLaws.{IsSound-next}
 use Rattle.bayou_log.specs.Log.{Log}
+use Rattle.bayou_lang.specs.Ranges.{IsWrite}
 use Rattle.bayou_wire.specs.Spelling.{write_bytes}
-use Rattle.bayou_server.specs.Fields.{BelongTogether, Stands}
-use Rattle.bayou_server.specs.Server.{ServerState, IsStored, MayHold, bodies_of, entry_of}
+use Rattle.bayou_server.specs.Fields.{BelongTogether, Stands, core_of}
+use Rattle.bayou_server.specs.Server.{IsSoundServer, ServerState}
+use Rattle.bayou_server.specs.Stored.{HasAdded, IsEntryOf, IsStored, bodies_of}
+use Rattle.bayou_server.proofs.Steps.{sound_next}
+use Rattle.bayou_device.specs.declared.device.Device.{Ghosts}
 
 -- an append that fails is the device's fault, unless the journal was down
 pub device_fault : (result : Result (Unit {0}) AppendFault) → is_err result ≡ true → (IsErrOf result append.Down → ⊥) → IsErrOf result append.Device
@@ -34,31 +37,28 @@ stands_up journal log id doubt together up =
     let stands : Stands journal log None = subst (λ (d : Option Write). Stands journal log d) (none_of doubt up) together.stands in
     (stands.0, stands.1 ∙ ap (λ (s : ℕ). chain_end s (bodies_of log.receipts)) together.owner)
 
--- the entry that the journal adds
-pub entry_is : {D : Type 0} (journal : JournalState D) (log : Log) (id : ℕ) (doubt : Option Write) (made : Write) (bytes : List ℕ) → BelongTogether journal log id doubt
-    → is_some doubt ≡ false → bytes ≡ write_bytes made → entry journal.last bytes ≡ entry_of id log.receipts made
-entry_is journal log id doubt made bytes together up spelled =
-    ap (λ (l : List ℕ). entry l bytes) (stands_up journal log id doubt together up).1
-    ∙ ap (λ (b : List ℕ). entry (chain_end id (bodies_of log.receipts)) b) spelled
-
 -- one body more
 pub bodies_of-push : (held : List Write) (write : Write) → bodies_of (held ++ write ∷ []) ≡ bodies_of held ++ write_bytes write ∷ []
 bodies_of-push held write = map-append write_bytes held (write ∷ [])
 
--- what may be held with the server's next Write
-pub MayHold-next : (server count limit : ℕ) (held : List Write) (asked : Program) (write : Write) → MayHold server count limit held → server < count
-    → IsNextWrite held server asked write → length held < limit → MayHold server count limit (held ++ write ∷ [])
-MayHold-next server count limit held asked write holds known next room = record {
-  sound = IsSound-next server count held asked write holds.sound known next;
-  within = omega (arith, length-append held (write ∷ []));
+-- the entry that the journal adds
+pub entry_is : {D : Type 0} (journal : JournalState D) (log : Log) (id : ℕ) (doubt : Option Write) (made : Write) (bytes : List ℕ) → BelongTogether journal log id doubt
+    → is_some doubt ≡ false → bytes ≡ write_bytes made → IsEntryOf id log.receipts made (entry journal.last bytes)
+entry_is journal log id doubt made bytes together up spelled = record {
+  bodies = bodies_of log.receipts;
+  body = write_bytes made;
+  before = refl;
+  after = sym (bodies_of-push log.receipts made);
+  is = ap (λ (l : List ℕ). entry l bytes) (stands_up journal log id doubt together up).1
+      ∙ ap (λ (b : List ℕ). entry (chain_end id (bodies_of log.receipts)) b) spelled;
 }
 
 -- the fields still belong together once the entry and the Write were added
 pub after_adding : {D : Type 0} (journal new : JournalState D) (log after : Log) (id : ℕ) (doubt : Option Write) (asked : Program) (made : Write) (bytes : List ℕ)
-    → BelongTogether journal log id doubt → is_some doubt ≡ false → IsNextWrite log.receipts id asked made → length log.receipts < log.limit → bytes ≡ write_bytes made
+    → BelongTogether journal log id doubt → is_some doubt ≡ false → IsNextWrite log.receipts id asked made → length log.receipts < log.limit → IsWrite made → bytes ≡ write_bytes made
     → new ≡ record journal { device = new.device; last = link journal.last bytes }
     → after ≡ record log { receipts = log.receipts ++ made ∷ []; room = after.room } → BelongTogether new after id doubt
-after_adding {D} journal new log after id doubt asked made bytes together up next room spelled new_is after_is =
+after_adding {D} journal new log after id doubt asked made bytes together up next room is spelled new_is after_is =
     let before = stands_up journal log id doubt together up in
     let owner : new.server ≡ id = ap (λ (j : JournalState D). j.server) new_is ∙ together.owner in
     let receipts : after.receipts ≡ log.receipts ++ made ∷ [] = ap (λ (l : Log). l.receipts) after_is in
@@ -72,20 +72,22 @@ after_adding {D} journal new log after id doubt asked made bytes together up nex
     ∙ ap (λ (s : ℕ). chain_end s (bodies_of after.receipts)) (sym owner) in
     record {
       owner = owner;
-      known = subst (λ (l : Log). id < l.count) (sym after_is) together.known;
       limit = subst (λ (l : Log). l.limit ≤ MAX_WRITES) (sym after_is) together.limit;
-      holds = subst (λ (l : Log). MayHold id l.count l.limit l.receipts) (sym after_is)
-          (MayHold-next id log.count log.limit log.receipts asked made together.holds together.known next room);
+      sound = subst (λ (l : Log). IsSoundServer (core_of l id doubt)) (sym after_is) (sound_next (core_of log id doubt) asked made together.sound next room is);
       stands = subst (λ (d : Option Write). Stands new after d) (sym (none_of doubt up))
           (ap (λ (j : JournalState D). j.is_down) new_is ∙ before.0, last);
     }
 
 -- a device that had the journal of the Writes held has that of those and the new one
-pub stored_after : {D : Type 0} (content : D → List ℕ) (old new : ServerState D) (made : Write) → content new.device ≡ content old.device ++ entry_of old.id old.held made
-    → new ≡ record old { device = new.device; held = old.held ++ made ∷ [] } → IsStored content old → IsStored content new
-stored_after {D} content old new made added is stored =
-    added
-    ∙ ap (λ (l : List ℕ). l ++ entry_of old.id old.held made) stored
-    ∙ sym (journal-push old.id (bodies_of old.held) (write_bytes made))
-    ∙ ap (λ (bodies : List (List ℕ)). journal old.id bodies) (sym (bodies_of-push old.held made))
-    ∙ ap (λ (s : ServerState D). journal s.id (bodies_of s.held)) (sym is)
+pub stored_after : {D : Type 0} (d : Ghosts D) (old new : ServerState D) → d.is_modelled → new.core.id ≡ old.core.id → HasAdded d old new → IsStored d old → IsStored d new
+stored_after {D} d old new modelled same has stored =
+    let one = has.entry_of in
+    let both : stored.0 ≡ one.bodies = stored.1 ∙ sym one.before in (
+      one.bodies ++ one.body ∷ [],
+      one.after ∙ ap bodies_of (sym has.held),
+      has.behind modelled
+          ∙ ap (λ (l : List ℕ). l ++ has.added) (stored.2 ∙ ap (journal old.core.id) both)
+          ∙ ap (λ (l : List ℕ). journal old.core.id one.bodies ++ l) one.is
+          ∙ sym (journal-push old.core.id one.bodies one.body)
+          ∙ ap (λ (s : ℕ). journal s (one.bodies ++ one.body ∷ [])) (sym same),
+    )

@@ -1,14 +1,16 @@
 -- That the bodies of a journal decide what a server holds.
 use Rattle.std.proofs.Common.{◌≡◌, ℕ, ◌+◌, suc, List, [], ◌∷◌, ◌++◌, Option, None, Some, All, length, drop, refl, sym, ◌∙◌, ap, subst, arith, length-append}
-use Rattle.std.proofs.lemmas.List.{append-nil, append_cancel_left, length-map}
+use Rattle.std.proofs.lemmas.List.{append-nil, length-map}
 use Rattle.bayou_base.specs.declared.wid.Wid.{Wid}
+use Rattle.bayou_journal.specs.Chain.{AreBodies, IsBody}
 use Rattle.bayou_lang.specs.declared.write.Write.{Write}
 use Rattle.bayou_lang.specs.Ranges.{IsWrite}
 use Rattle.bayou_wire.specs.Spelling.{write_bytes}
 use Rattle.bayou_server.specs.declared.fault.StartFault.{StartFault}
 use Rattle.bayou_server.specs.declared.fault.StartFault.TheVariants.{Journal, BadRecord, Gap, LogFull, OutOfMemory}
-use Rattle.bayou_server.specs.Reopens.{Adopts, BeginsWithHeld, HasOther}
-use Rattle.bayou_server.specs.Server.{MayFollow, MayHold, bodies_of}
+use Rattle.bayou_server.specs.Reopens.{Recovers}
+use Rattle.bayou_server.specs.Server.{Core, MayFollow, MayHold}
+use Rattle.bayou_server.specs.Stored.{BeginsWithHeld, HasOther, bodies_of}
 use Rattle.bayou_server.specs.Starts.{RefusesEntry}
 use Rattle.bayou_server.proofs.Adding.{bodies_of-push}
 
@@ -36,6 +38,16 @@ one_list law (write ∷ writes) (other ∷ others) all every same =
     let first = one_write law write other (first_of_all write writes all) (first_of_all other others every) heads in
     let rest = one_list law writes others (rest_of_all write writes all) (rest_of_all other others every) tails in
     ap (λ (w : Write). w ∷ writes) first ∙ ap (λ (l : List Write). other ∷ l) rest
+
+-- no body is of no Write
+pub of_nothing : (writes : List Write) → bodies_of writes ≡ [] → writes ≡ []
+of_nothing [] none = refl
+of_nothing (write ∷ writes) none = absurd (omega (arith, ap length none))
+
+-- bodies of Writes are bodies, where each is one
+pub are_bodies : ((write : Write) → IsWrite write → IsBody (write_bytes write)) → (writes : List Write) → All IsWrite writes → AreBodies (bodies_of writes)
+are_bodies law [] all = tt
+are_bodies law (write ∷ writes) all = (law write (first_of_all write writes all), are_bodies law writes (rest_of_all write writes all))
 
 -- the Write of the list whose body stands behind those of the others
 pub record Next (whole held : List Write) (body : List ℕ) : Type 0 where
@@ -77,19 +89,24 @@ follows_before server count limit whole before write after holds split = record 
   own = holds.sound.own before write after split;
 }
 
+-- the entry that isn't taken stands behind those of Writes
+entry_split : {server count limit : ℕ} {bodies : List (List ℕ)} {fault : StartFault} (refuses : RefusesEntry server count limit bodies fault)
+    → bodies ≡ bodies_of refuses.held ++ refuses.body ∷ refuses.rest
+entry_split refuses = refuses.split ∙ ap (λ (l : List (List ℕ)). l ++ refuses.body ∷ refuses.rest) refuses.stores
+
 -- the bodies of what a server may hold have no entry that it doesn't take
 pub none_refused : BeginsNone → (server count limit : ℕ) (whole : List Write) (bodies : List (List ℕ)) (fault : StartFault) → All IsWrite whole → MayHold server count limit whole
     → bodies_of whole ≡ bodies → RefusesEntry server count limit bodies fault → ⊥
 none_refused law server count limit whole bodies (BadRecord at) all holds same refuses =
-    let next = next_of_whole law whole refuses.held refuses.body refuses.rest all refuses.spelled (same ∙ refuses.split) in
+    let next = next_of_whole law whole refuses.held refuses.body refuses.rest all refuses.spelled (same ∙ entry_split refuses) in
     refuses.why.1 next.write (record { is = next.is; spelled = next.spelled })
 none_refused law server count limit whole bodies (Gap at) all holds same refuses =
-    let next = next_of_whole law whole refuses.held refuses.body refuses.rest all refuses.spelled (same ∙ refuses.split) in
+    let next = next_of_whole law whole refuses.held refuses.body refuses.rest all refuses.spelled (same ∙ entry_split refuses) in
     let other = refuses.why.1 in
     let one : next.write ≡ other.0 = one_write law next.write other.0 next.is other.1.is (sym next.spelled ∙ other.1.spelled) in
     other.2 (subst (λ (w : Write). MayFollow server count refuses.held w) one (follows_before server count limit whole refuses.held next.write next.after holds next.split))
 none_refused law server count limit whole bodies LogFull all holds same refuses =
-    let next = next_of_whole law whole refuses.held refuses.body refuses.rest all refuses.spelled (same ∙ refuses.split) in
+    let next = next_of_whole law whole refuses.held refuses.body refuses.rest all refuses.spelled (same ∙ entry_split refuses) in
     omega (arith, ap length next.split, length-append refuses.held (next.write ∷ next.after), holds.within, refuses.why.0)
 none_refused law server count limit whole bodies OutOfMemory all holds same refuses = refuses.why
 none_refused law server count limit whole bodies (Journal fault) all holds same refuses = refuses.why
@@ -102,22 +119,39 @@ longer_by_one : (held : List Write) (write : Write) → length (bodies_of (held 
 longer_by_one held write = omega (arith, length-bodies held, length-bodies (held ++ write ∷ []), length-append held (write ∷ []))
 
 -- the bodies decide what is adopted
-pub one_adopted : (held : List Write) (doubt : Write) (adopted other : Option Wid) (new next : List Write) → Adopts held doubt adopted new → Adopts held doubt other next
-    → bodies_of new ≡ bodies_of next → (adopted ≡ other) × (new ≡ next)
-one_adopted held doubt None None new next is was same = (refl, is ∙ sym was)
-one_adopted held doubt None (Some wid) new next is was same =
-    absurd (omega (arith, longer_by_one held doubt, ap length (ap bodies_of (sym is) ∙ same ∙ ap bodies_of was.1)))
-one_adopted held doubt (Some wid) None new next is was same =
-    absurd (omega (arith, longer_by_one held doubt, ap length (ap bodies_of (sym is.1) ∙ same ∙ ap bodies_of was)))
-one_adopted held doubt (Some wid) (Some name) new next is was same = (ap (λ (w : Wid). Some w) (is.0 ∙ sym was.0), is.1 ∙ sym was.1)
+pub one_adopted : (old : Core) (adopted other : Option Wid) (new next : Core) → Recovers old adopted new → Recovers old other next → bodies_of new.held ≡ bodies_of next.held
+    → (adopted ≡ other) × (new.held ≡ next.held)
+one_adopted old None None new next is was same = (refl, ap (λ (c : Core). c.held) (is.1 ∙ sym was.1))
+one_adopted old None (Some wid) new next is was same =
+    absurd (omega (arith, longer_by_one old.held was.0, ap length (ap (λ (c : Core). bodies_of c.held) (sym is.1) ∙ same ∙ ap (λ (c : Core). bodies_of c.held) was.3)))
+one_adopted old (Some wid) None new next is was same =
+    absurd (omega (arith, longer_by_one old.held is.0, ap length (ap (λ (c : Core). bodies_of c.held) (sym is.3) ∙ same ∙ ap (λ (c : Core). bodies_of c.held) was.1)))
+one_adopted old (Some wid) (Some name) new next is was same =
+    let both : Some is.0 ≡ Some was.0 = sym is.1 ∙ was.1 in
+    let one : is.0 ≡ was.0 = cc in (
+      ap (λ (w : Wid). Some w) (is.2 ∙ ap (λ (w : Write). w.wid) one ∙ sym was.2),
+      ap (λ (c : Core). c.held) is.3 ∙ ap (λ (w : Write). old.held ++ w ∷ []) one ∙ sym (ap (λ (c : Core). c.held) was.3),
+    )
 
 -- what is up again begins with what was held
-pub begins_again : (held : List Write) (doubt : Write) (adopted : Option Wid) (new : List Write) (bodies : List (List ℕ)) → Adopts held doubt adopted new → bodies_of new ≡ bodies → BeginsWithHeld held bodies
-begins_again held doubt None new bodies is same = ([], sym same ∙ ap bodies_of is ∙ sym (append-nil (bodies_of held)))
-begins_again held doubt (Some wid) new bodies is same = (write_bytes doubt ∷ [], sym same ∙ ap bodies_of is.1 ∙ bodies_of-push held doubt)
+pub begins_again : (old : Core) (adopted : Option Wid) (new : Core) (bodies : List (List ℕ)) → Recovers old adopted new → bodies_of new.held ≡ bodies → BeginsWithHeld old.held bodies
+begins_again old None new bodies is same = record {
+  front = bodies_of old.held;
+  more = [];
+  stores = refl;
+  split = sym same ∙ ap (λ (c : Core). bodies_of c.held) is.1 ∙ sym (append-nil (bodies_of old.held));
+}
+begins_again old (Some wid) new bodies is same = record {
+  front = bodies_of old.held;
+  more = write_bytes is.0 ∷ [];
+  stores = refl;
+  split = sym same ∙ ap (λ (c : Core). bodies_of c.held) is.3 ∙ bodies_of-push old.held is.0;
+}
 
-pub nothing_other : (held : List Write) (doubt : Write) (adopted : Option Wid) (new : List Write) (bodies : List (List ℕ)) → Adopts held doubt adopted new → bodies_of new ≡ bodies → HasOther held doubt bodies → ⊥
-nothing_other held doubt None new bodies is same has =
-    has.some (append_cancel_left (bodies_of held) has.more [] (sym has.split ∙ sym same ∙ ap bodies_of is ∙ sym (append-nil (bodies_of held))))
-nothing_other held doubt (Some wid) new bodies is same has =
-    has.other (append_cancel_left (bodies_of held) has.more (write_bytes doubt ∷ []) (sym has.split ∙ sym same ∙ ap bodies_of is.1 ∙ bodies_of-push held doubt))
+pub nothing_other : (old : Core) (doubt : Write) (adopted : Option Wid) (new : Core) (bodies : List (List ℕ)) → old.doubt ≡ Some doubt → Recovers old adopted new → bodies_of new.held ≡ bodies
+    → HasOther old.held doubt bodies → ⊥
+nothing_other old doubt None new bodies was is same has = has.not_held (sym same ∙ ap (λ (c : Core). bodies_of c.held) is.1)
+nothing_other old doubt (Some wid) new bodies was is same has =
+    let both : Some is.0 ≡ Some doubt = sym is.1 ∙ was in
+    let one : is.0 ≡ doubt = cc in
+    has.not_adopted (sym same ∙ ap (λ (c : Core). bodies_of c.held) is.3 ∙ ap (λ (w : Write). bodies_of (old.held ++ w ∷ [])) one)

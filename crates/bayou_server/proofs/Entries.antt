@@ -8,7 +8,8 @@ use Rattle.bayou_log.specs.Log.{Log}
 use Rattle.bayou_lang.specs.Ranges.{IsWrite}
 use Rattle.bayou_wire.specs.Spelling.{SpellsWrite, write_bytes}
 use Rattle.bayou_server.specs.declared.fault.StartFault.{StartFault}
-use Rattle.bayou_server.specs.Server.{MayFollow, MayHold, bodies_of}
+use Rattle.bayou_server.specs.Server.{MayFollow, MayHold}
+use Rattle.bayou_server.specs.Stored.{bodies_of}
 use Rattle.bayou_server.specs.Starts.{RefusesBody, RefusesEntry}
 use Rattle.bayou_server.proofs.Bodies.{split_at, take_next}
 
@@ -35,9 +36,11 @@ pub refuses_at : (server count limit at : ℕ) (bodies : List (List ℕ)) (body 
     → RefusesBody server log.count log.limit log.receipts body fault → RefusesEntry server count limit bodies fault
 refuses_at server count limit at bodies body log fault whole spelled holds same_count same_limit is why = record {
   held = log.receipts;
+  front = take at bodies;
   body = body;
   rest = drop (at + 1) bodies;
-  split = split_at bodies at body is ∙ ap (λ l. l ++ body ∷ drop (at + 1) bodies) whole;
+  stores = whole;
+  split = split_at bodies at body is;
   spelled = spelled;
   holds = holds;
   why = subst (λ m. RefusesBody server count m log.receipts body fault) same_limit (subst (λ n. RefusesBody server n log.limit log.receipts body fault) same_count why);

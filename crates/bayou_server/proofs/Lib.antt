@@ -4,3 +4,4 @@ pub mod Deciding
 pub mod Entries
 pub mod Following
 pub mod Recovering
+pub mod Steps

@@ -1,4 +1,5 @@
 -- What a reopening leaves, by what the journal found.
+use Rattle.std.specs.Prelude.{IfSome, IsSome}
 use Rattle.std.proofs.Common.{◌≡◌, ℕ, ◌<◌, ◌≤◌, List, [], ◌∷◌, ◌++◌, Option, None, Some, Err, false, length, inl, inr, refl, sym, ◌∙◌, ap, subst}
 use Rattle.bayou_base.specs.declared.limits.TheConstants.{MAX_WRITES}
 use Rattle.bayou_journal.specs.declared.fault.OpenFault.{OpenFault}
@@ -13,34 +14,34 @@ use Rattle.bayou_log.specs.Log.{Log, IsReserved}
 use Rattle.bayou_server.specs.declared.fault.ReopenFault.{ReopenFault}
 use Rattle.bayou_server.specs.declared.fault.ReopenFault.TheVariants.{NotDown, Journal, Lost, BadRecord, OutOfMemory}
 use Rattle.bayou_server.specs.Faults.{reopen_fault}
-use Rattle.bayou_server.specs.Fields.{BelongTogether, Stands}
-use Rattle.bayou_server.specs.Reopens.{Reopens, StaysDown}
+use Rattle.bayou_server.specs.Fields.{BelongTogether, Stands, core_of}
+use Rattle.bayou_server.specs.Reopens.{Reopens}
 use Rattle.bayou_server.specs.Replaying.{AreOthers}
-use Rattle.bayou_server.specs.Server.{ServerState, MayHold, bodies_of}
-use Rattle.bayou_server.specs.Starts.{OpensWith}
-use Rattle.bayou_server.proofs.Adding.{MayHold-next}
+use Rattle.bayou_server.specs.Server.{Core, IsDown, IsSoundServer, ServerState}
+use Rattle.bayou_server.specs.Stored.{OpensWith, ReopensJournal, bodies_of}
+use Rattle.bayou_server.proofs.Steps.{sound_next}
+use Rattle.bayou_device.specs.declared.device.Device.{Ghosts}
+use Rattle.bayou_lang.specs.Ranges.{IsWrite}
 
 -- the journal's refusal
-refuses : {D : Type 0} (is_modelled : Type 0) (content kept : D → List ℕ) (failures : D → ℕ) (may_leave : List ℕ → List ℕ → List ℕ → Type 0) (old new : ServerState D) (fault : OpenFault)
-    → StaysDown old new → HasRefused is_modelled content kept failures may_leave old.id old.device new.device fault
-    → Reopens is_modelled content kept failures may_leave old (Err (reopen_fault fault)) new
-refuses is_modelled content kept failures may_leave old new opening.Device stays refused = (stays, refused)
-refuses is_modelled content kept failures may_leave old new opening.NotAJournal stays refused = (stays, refused)
-refuses is_modelled content kept failures may_leave old new opening.OtherServer stays refused = (stays, refused)
-refuses is_modelled content kept failures may_leave old new opening.OutOfMemory stays refused = (stays, inl refused)
+pub stays_refused : (core : Core) (fault : OpenFault) → IsDown core → Reopens core (Err (reopen_fault fault)) core
+stays_refused core opening.Device down = (down, refl)
+stays_refused core opening.NotAJournal down = (down, refl)
+stays_refused core opening.OtherServer down = (down, refl)
+stays_refused core opening.OutOfMemory down = (down, refl)
 
-pub journal_refuses : {D : Type 0} (is_modelled : Type 0) (content kept : D → List ℕ) (failures : D → ℕ) (may_leave : List ℕ → List ℕ → List ℕ → Type 0) (old now new : ServerState D) (fault : OpenFault)
-    → old ≡ now → StaysDown old new → HasRefused is_modelled content kept failures may_leave old.id old.device new.device fault
-    → Reopens is_modelled content kept failures may_leave now (Err (reopen_fault fault)) new
-journal_refuses {D} is_modelled content kept failures may_leave old now new fault same stays refused =
-    subst (λ (s : ServerState D). Reopens is_modelled content kept failures may_leave s (Err (reopen_fault fault)) new) same
-    (refuses is_modelled content kept failures may_leave old new fault stays refused)
+pub journal_refuses : {D : Type 0} (d : Ghosts D) (old new : ServerState D) (fault : OpenFault) → HasRefused d old.core.id old.device new.device fault
+    → ReopensJournal d old (Err (reopen_fault fault)) new
+journal_refuses d old new opening.Device refused = refused
+journal_refuses d old new opening.NotAJournal refused = refused
+journal_refuses d old new opening.OtherServer refused = refused
+journal_refuses d old new opening.OutOfMemory refused = inl refused
 
 -- the journal was opened, as one that ends where its bodies say
-pub opens_with : {D : Type 0} (is_modelled : Type 0) (content kept : D → List ℕ) (failures : D → ℕ) (server id : ℕ) (old new : D) (found : Found) (last : List ℕ) → server ≡ id
-    → HasOpened is_modelled content kept failures server old new found last → OpensWith is_modelled content kept failures id old new found.bodies
-opens_with is_modelled content kept failures server id old new found last owner has =
-    let whole : OpensWith is_modelled content kept failures server old new found.bodies = record {
+pub opens_with : {D : Type 0} (d : Ghosts D) (server id : ℕ) (old new : D) (found : Found) (last : List ℕ) → server ≡ id → HasOpened d server old new found last
+    → OpensWith d id old new found.bodies
+opens_with d server id old new found last owner has =
+    let whole : OpensWith d server old new found.bodies = record {
       dropped = found.dropped;
       opened = record {
         finds = has.finds;
@@ -51,24 +52,23 @@ opens_with is_modelled content kept failures server id old new found last owner 
         counts = has.counts;
       };
     } in
-    subst (λ (s : ℕ). OpensWith is_modelled content kept failures s old new found.bodies) owner whole
+    subst (λ (s : ℕ). OpensWith d s old new found.bodies) owner whole
 
 -- it has other bodies than it may
-others : {D : Type 0} (is_modelled : Type 0) (content kept : D → List ℕ) (failures : D → ℕ) (may_leave : List ℕ → List ℕ → List ℕ → Type 0) (old new : ServerState D) (fault : ReopenFault)
-    (bodies : List (List ℕ)) (down : StaysDown old new) → OpensWith is_modelled content kept failures old.id old.device new.device bodies → AreOthers old.held down.doubt bodies fault
-    → Reopens is_modelled content kept failures may_leave old (Err fault) new
-others is_modelled content kept failures may_leave old new NotDown bodies down opened have = absurd have
-others is_modelled content kept failures may_leave old new (Journal fault) bodies down opened have = absurd have
-others is_modelled content kept failures may_leave old new Lost bodies down opened have = (down, (bodies, opened, have))
-others is_modelled content kept failures may_leave old new (BadRecord at) bodies down opened have = (down, have.0, (bodies, opened, have.1))
-others is_modelled content kept failures may_leave old new OutOfMemory bodies down opened have = (down, inr (bodies, opened))
+pub stays_other : (core : Core) (doubt : Write) (bodies : List (List ℕ)) (fault : ReopenFault) → core.doubt ≡ Some doubt → AreOthers core.held doubt bodies fault → Reopens core (Err fault) core
+stays_other core doubt bodies NotDown down have = absurd have
+stays_other core doubt bodies (Journal fault) down have = absurd have
+stays_other core doubt bodies Lost down have = (subst IsSome (sym down) refl, refl)
+stays_other core doubt bodies (BadRecord at) down have = (subst IsSome (sym down) refl, have.0, refl)
+stays_other core doubt bodies OutOfMemory down have = (subst IsSome (sym down) refl, refl)
 
-pub others_refused : {D : Type 0} (is_modelled : Type 0) (content kept : D → List ℕ) (failures : D → ℕ) (may_leave : List ℕ → List ℕ → List ℕ → Type 0) (old now new : ServerState D) (fault : ReopenFault)
-    (bodies : List (List ℕ)) → old ≡ now → (down : StaysDown old new) → OpensWith is_modelled content kept failures old.id old.device new.device bodies → AreOthers old.held down.doubt bodies fault
-    → Reopens is_modelled content kept failures may_leave now (Err fault) new
-others_refused {D} is_modelled content kept failures may_leave old now new fault bodies same down opened have =
-    subst (λ (s : ServerState D). Reopens is_modelled content kept failures may_leave s (Err fault) new) same
-    (others is_modelled content kept failures may_leave old new fault bodies down opened have)
+pub others_refused : {D : Type 0} (d : Ghosts D) (old new : ServerState D) (doubt : Write) (bodies : List (List ℕ)) (fault : ReopenFault) → old.core.doubt ≡ Some doubt
+    → OpensWith d old.core.id old.device new.device bodies → AreOthers old.core.held doubt bodies fault → ReopensJournal d old (Err fault) new
+others_refused d old new doubt bodies NotDown down opened have = absurd have
+others_refused d old new doubt bodies (Journal fault) down opened have = absurd have
+others_refused d old new doubt bodies Lost down opened have = (bodies, opened, have)
+others_refused d old new doubt bodies (BadRecord at) down opened have = (doubt, down, (bodies, opened, have.1))
+others_refused d old new doubt bodies OutOfMemory down opened have = inr (bodies, opened)
 
 -- the Write in doubt is the server's next
 pub stands_down : {D : Type 0} (journal : JournalState D) (log : Log) (id : ℕ) (doubt : Option Write) (write : Write) → BelongTogether journal log id doubt → doubt ≡ Some write
@@ -85,14 +85,15 @@ pub after_adopting : {D : Type 0} (journal new : JournalState D) (log after : Lo
     → after ≡ record log { receipts = log.receipts ++ write ∷ []; room = after.room } → BelongTogether new after id left
 after_adopting {D} journal new log after id doubt left write bodies together is none new_is last bodies_are after_is =
     let down = stands_down journal log id doubt write together is in
+    let spelled : IsWrite write = subst (λ (d : Option Write). IfSome d IsWrite) is together.sound.doubt_spelled in
+    let up : IsSoundServer (core_of log id None) = record { known = together.sound.known; holds = together.sound.holds; spelled = together.sound.spelled; doubt_spelled = tt } in
     let owner : new.server ≡ journal.server = ap (λ (j : JournalState D). j.server) new_is in
     let receipts : after.receipts ≡ log.receipts ++ write ∷ [] = ap (λ (l : Log). l.receipts) after_is in
     record {
       owner = owner ∙ together.owner;
-      known = subst (λ (l : Log). id < l.count) (sym after_is) together.known;
       limit = subst (λ (l : Log). l.limit ≤ MAX_WRITES) (sym after_is) together.limit;
-      holds = subst (λ (l : Log). MayHold id l.count l.limit l.receipts) (sym after_is)
-          (MayHold-next id log.count log.limit log.receipts write.program write together.holds together.known down.0 down.2);
+      sound = subst (λ (l : Log). IsSoundServer (core_of l id left)) (sym after_is)
+          (subst (λ (d : Option Write). IsSoundServer (record (core_of log id d) { held = log.receipts ++ write ∷ [] })) (sym none) (sound_next (core_of log id None) write.program write up down.0 down.2 spelled));
       stands = subst (λ (d : Option Write). Stands new after d) (sym none) (
         ap (λ (j : JournalState D). j.is_down) new_is,
         last

@@ -6,7 +6,11 @@ use Rattle.bayou_journal.specs.Journal.{JournalState}
 use Rattle.bayou_lang.specs.declared.write.Write.{Write}
 use Rattle.bayou_lang.specs.Writes.{IsNextWrite}
 use Rattle.bayou_log.specs.Log.{Log, IsReserved}
-use Rattle.bayou_server.specs.Server.{MayHold, bodies_of}
+use Rattle.bayou_server.specs.Server.{Core, IsSoundServer}
+use Rattle.bayou_server.specs.Stored.{bodies_of}
+
+abbrev pub core_of : Log → (id : ℕ) → Option Write → Core
+core_of log id doubt = record { id = id; count = log.count; limit = log.limit; held = log.receipts; doubt = doubt }
 
 -- While it is up, the journal's next entry stands behind those of the Writes held. While it is down nothing is known of the
 -- journal; the Write in doubt is the server's next, and the log has room for it.
@@ -18,7 +22,6 @@ Stands journal log (Some write) =
 -- the journal is the server's, its log is what it may hold, and they stand as the Write in doubt says
 pub record BelongTogether {D : Type 0} (journal : JournalState D) (log : Log) (id : ℕ) (doubt : Option Write) : Type 0 where
   pub owner : journal.server ≡ id
-  pub known : id < log.count
   pub limit : log.limit ≤ MAX_WRITES
-  pub holds : MayHold id log.count log.limit log.receipts
+  pub sound : IsSoundServer (core_of log id doubt)
   pub stands : Stands journal log doubt

@@ -5,4 +5,5 @@ pub mod Reopens
 pub mod Replaying
 pub mod Server
 pub mod Starts
+pub mod Stored
 pub mod Writes

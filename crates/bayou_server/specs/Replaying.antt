@@ -6,8 +6,8 @@ use Rattle.bayou_lang.specs.Ranges.{IsWrite}
 use Rattle.bayou_wire.specs.Spelling.{SpellsWrite}
 use Rattle.bayou_server.specs.declared.fault.ReopenFault.{ReopenFault}
 use Rattle.bayou_server.specs.declared.fault.ReopenFault.TheVariants.{NotDown, Journal, Lost, BadRecord, OutOfMemory}
-use Rattle.bayou_server.specs.Reopens.{BeginsWithHeld, HasOther}
-use Rattle.bayou_server.specs.Server.{MayFollow, MayHold, bodies_of}
+use Rattle.bayou_server.specs.Stored.{BeginsWithHeld, HasOther, bodies_of}
+use Rattle.bayou_server.specs.Server.{MayFollow, MayHold}
 
 -- the body spells the Write, which may be added to the log
 pub record IsAdmitted (id : ℕ) (log : Log) (body : List ℕ) (write : Write) : Type 0 where

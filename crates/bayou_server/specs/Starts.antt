@@ -1,5 +1,6 @@
 -- How a server starts from what its journal has: this project's own.
 use Rattle.std.specs.Prelude.{◌≡◌, ◌⊎◌, ℕ, List, ◌∷◌, ◌++◌, None, All, length}
+use Rattle.bayou_device.specs.declared.device.Device.{Ghosts}
 use Rattle.bayou_journal.specs.Chain.{chain_end}
 use Rattle.bayou_journal.specs.Opening.{HasOpened, HasRefused}
 use Rattle.bayou_journal.specs.declared.fault.OpenFault.TheVariants as opening
@@ -9,14 +10,19 @@ use Rattle.bayou_wire.specs.Spelling.{SpellsWrite}
 use Rattle.bayou_server.specs.declared.fault.StartFault.{StartFault}
 use Rattle.bayou_server.specs.declared.fault.StartFault.TheVariants.{Journal, BadRecord, Gap, LogFull, OutOfMemory}
 use Rattle.bayou_server.specs.Faults.{open_fault}
-use Rattle.bayou_server.specs.Server.{ServerState, MayFollow, MayHold, bodies_of}
+use Rattle.bayou_server.specs.Server.{Core, IsSoundServer, MayFollow, MayHold, ServerState}
+use Rattle.bayou_server.specs.Stored.{OpensWith, Stores}
 
--- A server starts: it is up, and holds exactly the Writes that the bodies in its journal spell, in their order.
-pub record Starts {D : Type 0} (is_modelled : Type 0) (content kept : D → List ℕ) (failures : D → ℕ) (id count limit : ℕ) (device : D) (server : ServerState D) (dropped : ℕ) : Type 0 where
-  pub opened : HasOpened is_modelled content kept failures id device server.device (record { bodies = bodies_of server.held; dropped = dropped }) (chain_end id (bodies_of server.held))
-  pub spelled : All IsWrite server.held
-  pub holds : MayHold id count limit server.held
-  pub is : server ≡ record { device = server.device; id = id; count = count; limit = limit; held = server.held; doubt = None }
+-- A server starts: it is up, and holds what it may.
+pub record Starts (id count limit : ℕ) (core : Core) : Type 0 where
+  pub is : core ≡ record { id = id; count = count; limit = limit; held = core.held; doubt = None }
+  pub sound : IsSoundServer core
+
+-- its journal was opened on the device, and has exactly the Writes that it holds, in their order; so many bytes were cut
+pub record StartsOn {D : Type 0} (d : Ghosts D) (device : D) (server : ServerState D) (dropped : ℕ) : Type 0 where
+  pub bodies : List (List ℕ)
+  pub stores : Stores bodies server.core.held
+  pub opened : HasOpened d server.core.id device server.device (record { bodies = bodies; dropped = dropped }) (chain_end server.core.id bodies)
 
 -- What is wrong with the body of an entry behind those of the Writes held: it is no Write's; or a Write's that may not follow;
 -- or one's that may, and as many are held as may be.
@@ -32,35 +38,26 @@ RefusesBody id count limit held body (Journal fault) = ⊥
 -- the first entry that a server doesn't take, and why
 pub record RefusesEntry (id count limit : ℕ) (bodies : List (List ℕ)) (fault : StartFault) : Type 0 where
   pub held : List Write
+  pub front : List (List ℕ)
   pub body : List ℕ
   pub rest : List (List ℕ)
-  pub split : bodies ≡ bodies_of held ++ body ∷ rest
+  pub stores : Stores front held
+  pub split : bodies ≡ front ++ body ∷ rest
   pub spelled : All IsWrite held
   pub holds : MayHold id count limit held
   pub why : RefusesBody id count limit held body fault
 
--- the journal was opened: these bodies were found, and are all that it is left with
-pub record OpensWith {D : Type 0} (is_modelled : Type 0) (content kept : D → List ℕ) (failures : D → ℕ) (id : ℕ) (old new : D) (bodies : List (List ℕ)) : Type 0 where
-  pub dropped : ℕ
-  pub opened : HasOpened is_modelled content kept failures id old new (record { bodies = bodies; dropped = dropped }) (chain_end id bodies)
-
 -- the journal was opened, and the server doesn't take what it found
-pub record StopsAtEntry {D : Type 0} (is_modelled : Type 0) (content kept : D → List ℕ) (failures : D → ℕ) (id count limit : ℕ) (device left : D) (fault : StartFault) : Type 0 where
+pub record StopsAtEntry {D : Type 0} (d : Ghosts D) (id count limit : ℕ) (device left : D) (fault : StartFault) : Type 0 where
   pub bodies : List (List ℕ)
-  pub opened : OpensWith is_modelled content kept failures id device left bodies
+  pub opened : OpensWith d id device left bodies
   pub refused : RefusesEntry id count limit bodies fault
 
 -- A server doesn't start: the journal's refusal, or the first entry that it doesn't take; and what is left of the device.
-abbrev pub FailsToStart : {D : Type 0} → (is_modelled : Type 0) → (content kept : D → List ℕ) → (failures : D → ℕ) → (may_leave : List ℕ → List ℕ → List ℕ → Type 0)
-    → (id count limit : ℕ) → (device left : D) → StartFault → Type 0
-FailsToStart is_modelled content kept failures may_leave id count limit device left (Journal fault) =
-    HasRefused is_modelled content kept failures may_leave id device left (open_fault fault)
-FailsToStart is_modelled content kept failures may_leave id count limit device left (BadRecord at) =
-    StopsAtEntry is_modelled content kept failures id count limit device left (BadRecord at)
-FailsToStart is_modelled content kept failures may_leave id count limit device left (Gap at) =
-    StopsAtEntry is_modelled content kept failures id count limit device left (Gap at)
-FailsToStart is_modelled content kept failures may_leave id count limit device left LogFull =
-    StopsAtEntry is_modelled content kept failures id count limit device left LogFull
-FailsToStart is_modelled content kept failures may_leave id count limit device left OutOfMemory =
-    HasRefused is_modelled content kept failures may_leave id device left opening.OutOfMemory
-    ⊎ ((bodies : List (List ℕ)) × OpensWith is_modelled content kept failures id device left bodies)
+abbrev pub FailsToStart : {D : Type 0} → Ghosts D → (id count limit : ℕ) → (device left : D) → StartFault → Type 0
+FailsToStart d id count limit device left (Journal fault) = HasRefused d id device left (open_fault fault)
+FailsToStart d id count limit device left (BadRecord at) = StopsAtEntry d id count limit device left (BadRecord at)
+FailsToStart d id count limit device left (Gap at) = StopsAtEntry d id count limit device left (Gap at)
+FailsToStart d id count limit device left LogFull = StopsAtEntry d id count limit device left LogFull
+FailsToStart d id count limit device left OutOfMemory =
+    HasRefused d id device left opening.OutOfMemory ⊎ ((bodies : List (List ℕ)) × OpensWith d id device left bodies)

@@ -1,7 +1,7 @@
 ghost use Rattle.std.specs.Prelude.{◌≡◌, ◌≤◌, ◌↔◌, IsTrue, IfOk, MatchResult, length};
 ghost use Rattle.bayou_base.specs.declared.limits.TheConstants.{MAX_WRITES};
 ghost use Rattle.bayou_wire.specs.Spelling.{write_bytes};
-ghost use Rattle.bayou_server.specs.Reopens.{BeginsWithHeld};
+ghost use Rattle.bayou_server.specs.Stored.{BeginsWithHeld};
 ghost use Rattle.bayou_server.specs.Replaying.{AreHeldAnd, AreOthers};
 
 use crate::fault::ReopenFault;

@@ -1,14 +1,15 @@
-ghost use Rattle.std.specs.Prelude.{◌≡◌, ◌≢◌, ◌<◌, ◌≤◌, ◌↔◌, ℕ, All, Contains, IfErr, IfOk, IsSome, IsTrue, MatchOption, MatchResult, OnOk, length};
+ghost use Rattle.std.specs.Prelude.{◌≡◌, ◌≢◌, ◌+◌, ◌<◌, ◌≤◌, ◌↔◌, ℕ, All, Contains, IfErr, IfOk, IsSome, IsTrue, MatchOption, MatchResult, OnOk, length};
 ghost use Rattle.std.specs.Borrow.{Lends, sem};
 ghost use Rattle.bayou_base.specs.declared.limits.TheConstants.{SERVERS, MAX_WRITES};
-ghost use Rattle.bayou_journal.specs.Opening.{KeepsChains};
-ghost use Rattle.bayou_lang.specs.Writes.{IsNextWrite, IsSound, count_of};
+ghost use Rattle.bayou_journal.specs.Opening.{KeepsChains, OpensInCalls};
+ghost use Rattle.bayou_lang.specs.Writes.{IsNextWrite, count_of};
 ghost use Rattle.bayou_log.specs.Listing.{listing_of};
 ghost use Rattle.bayou_server.specs.contracts.server.Server.{the_row};
 ghost use Rattle.bayou_server.specs.Reads.{Reads};
-ghost use Rattle.bayou_server.specs.Reopens.{Reopens};
-ghost use Rattle.bayou_server.specs.Server.{IsStored, IsUp, with_device};
-ghost use Rattle.bayou_server.specs.Starts.{FailsToStart, Starts};
+ghost use Rattle.bayou_server.specs.Reopens.{Reopens, own_adopted};
+ghost use Rattle.bayou_server.specs.Server.{IsSoundServer, own_count, with_device};
+ghost use Rattle.bayou_server.specs.Starts.{FailsToStart, Starts, StartsOn};
+ghost use Rattle.bayou_server.specs.Stored.{IsStored, ReopensJournal, StoresWrite};
 ghost use Rattle.bayou_server.specs.Writes.{Writes};
 
 use crate::answer::{Reopened, Stopped};
@@ -34,19 +35,12 @@ pub struct Server<D> {
 }
 
 impl<D> Model for Server<D> {
-    ghost use Rattle.bayou_server.specs.Fields.{BelongTogether};
+    ghost use Rattle.bayou_server.specs.Fields.{BelongTogether, core_of};
     ghost use Rattle.bayou_server.specs.Server.{ServerState};
 
     ghost Value = { ServerState D };
 
-    ghost view = { λ s. record {
-      device = s.journal.device;
-      id = s.id.index;
-      count = s.log.count;
-      limit = s.log.limit;
-      held = s.log.receipts;
-      doubt = s.doubt;
-    } };
+    ghost view = { λ s. record { core = core_of s.log s.id.index s.doubt; device = s.journal.device } };
 
     ghost invariant = { λ s. BelongTogether s.journal s.log s.id.index s.doubt };
 }
@@ -88,16 +82,17 @@ impl<D: Device> Server<D> {
         requires known { id.index < count }
         requires count { count ≤ SERVERS }
         requires limit { limit ≤ MAX_WRITES }
-        ensures starts { MatchResult result
-            (λ started. Starts D.is_modelled D.content D.kept D.failures id.index count limit device started.0 started.1)
-            (λ refused. FailsToStart D.is_modelled D.content D.kept D.failures D.may_leave id.index count limit device refused.device refused.fault) }
-        ensures stored { D.is_modelled → IfOk result (λ started. IsStored D.content started.0) }
+        ensures starts { IfOk result (λ started. Starts id.index count limit started.0.core) }
+        ensures opens { MatchResult result
+            (λ started. StartsOn D.Device device started.0 started.1)
+            (λ refused. FailsToStart D.Device id.index count limit device refused.device refused.fault) }
+        ensures stored { D.is_modelled → IfOk result (λ started. IsStored D.Device started.0) }
         ensures safe { D.is_modelled → MatchResult result
             (λ started. KeepsChains (D.kept device) (D.kept started.0.device))
             (λ refused. KeepsChains (D.kept device) (D.kept refused.device)) }
         ensures calls { MatchResult result
-            (λ started. D.leads_to 4 device started.0.device)
-            (λ refused. D.leads_to 4 device refused.device) }
+            (λ started. OpensInCalls D.Device id.index device started.0.device)
+            (λ refused. OpensInCalls D.Device id.index device refused.device) }
     {
         let (journal, opened) = match Journal::open(alloc, id, device) {
             Ok(opened) => opened,
@@ -128,7 +123,7 @@ impl<D: Device> Server<D> {
     /// What the key has in the database of the Writes held, and what is held; also while the server is down. It takes no
     /// memory.
     pub fn read(&self, need: &Vector, key: &Key) -> Result<Seen, Behind>
-        ensures { Reads self.now need.now key.now result }
+        ensures { Reads self.now.core need.now key.now result }
     {
         let vector = self.log.vector();
         if vector.dominates(need) {
@@ -147,9 +142,12 @@ impl<D: Device> Server<D> {
         need: &Vector,
         program: Program,
     ) -> Result<Accepted, WriteFault>
-        ensures writes { Writes D.is_modelled D.content D.kept D.failures D.may_leave self.old need.now program result self.new }
+        ensures writes { Writes self.old.core need.now program result self.new.core }
+        ensures own { MatchResult result (λ _. own_count self.new.core ≡ own_count self.old.core + 1) (λ _. own_count self.new.core ≡ own_count self.old.core) }
+        ensures sound { IsSoundServer self.old.core × IsSoundServer self.new.core }
+        ensures stores { StoresWrite D.Device self.old result self.new }
         // A device that had the journal of the Writes held, and nothing else, has that of those held then.
-        ensures stored { D.is_modelled → OnOk result (IsStored D.content self.old → IsStored D.content self.new) }
+        ensures stored { D.is_modelled → OnOk result (IsStored D.Device self.old → IsStored D.Device self.new) }
         ensures safe { D.is_modelled → KeepsChains (D.kept self.old.device) (D.kept self.new.device) }
         ensures calls { D.leads_to 2 self.old.device self.new.device }
     {
@@ -187,10 +185,13 @@ impl<D: Device> Server<D> {
     /// calls: those of the journal's opening alone. A refusal leaves the server down; what was cut of the journal stays cut.
     /// To adopt the Write in doubt takes no memory.
     pub fn reopen(&mut self, alloc: Global) -> Result<Reopened, ReopenFault>
-        ensures reopens { Reopens D.is_modelled D.content D.kept D.failures D.may_leave self.old result self.new }
-        ensures stored { D.is_modelled → OnOk result (IsStored D.content self.new) }
+        ensures reopens { Reopens self.old.core result self.new.core }
+        ensures own { MatchResult result (λ reopened. own_count self.new.core ≡ own_count self.old.core + own_adopted reopened.adopted) (λ _. own_count self.new.core ≡ own_count self.old.core) }
+        ensures sound { IsSoundServer self.old.core × IsSoundServer self.new.core }
+        ensures opens { ReopensJournal D.Device self.old result self.new }
+        ensures stored { D.is_modelled → OnOk result (IsStored D.Device self.new) }
         ensures safe { D.is_modelled → KeepsChains (D.kept self.old.device) (D.kept self.new.device) }
-        ensures calls { D.leads_to 4 self.old.device self.new.device }
+        ensures calls { OpensInCalls D.Device self.old.core.id self.old.device self.new.device }
     {
         let Some(doubt) = &self.doubt else {
             return Err(ReopenFault::NotDown);
@@ -210,29 +211,29 @@ impl<D: Device> Server<D> {
 
     /// For each server the number of its Writes that are held.
     pub fn vector(&self) -> Vector
-        ensures { result ≡ count_of self.now.held }
+        ensures { result ≡ count_of self.now.core.held }
     {
         self.log.vector()
     }
 
     /// Whether a Write is in doubt.
     pub fn is_down(&self) -> bool
-        ensures { IsTrue result ↔ IsSome self.now.doubt }
+        ensures { IsTrue result ↔ IsSome self.now.core.doubt }
     {
         self.doubt.is_some()
     }
 
     /// Which server it is.
     pub fn id(&self) -> ServerId
-        ensures value { result.index ≡ self.now.id }
-        ensures known { result.index < self.now.count }
+        ensures value { result.index ≡ self.now.core.id }
+        ensures known { result.index < self.now.core.count }
     {
         self.id
     }
 
     /// How many servers there are.
     pub fn count(&self) -> u8
-        ensures value { result ≡ self.now.count }
+        ensures value { result ≡ self.now.core.count }
         ensures in_range { result ≤ SERVERS }
     {
         self.log.count()
@@ -240,7 +241,7 @@ impl<D: Device> Server<D> {
 
     /// How many Writes it may hold.
     pub fn limit(&self) -> u32
-        ensures value { result ≡ self.now.limit }
+        ensures value { result ≡ self.now.core.limit }
         ensures in_range { result ≤ MAX_WRITES }
     {
         self.log.limit()
@@ -248,30 +249,29 @@ impl<D: Device> Server<D> {
 
     /// The Write of this name, if it is held.
     pub fn find(&self, wid: Wid) -> Option<&Write>
-        ensures { MatchOption result (All (λ write. write.wid ≢ wid) self.now.held) (λ write. Contains self.now.held write.now × (write.now.wid ≡ wid)) }
+        ensures { MatchOption result (All (λ write. write.wid ≢ wid) self.now.core.held) (λ write. Contains self.now.core.held write.now × (write.now.wid ≡ wid)) }
     {
         self.log.find(wid)
     }
 
     /// The Writes held, in order of receipt.
     pub fn receipts(&self) -> &[Write]
-        ensures value { result.now ≡ self.now.held }
-        ensures sound { IsSound self.now.id self.now.count result.now }
-        ensures within { length result.now ≤ self.now.limit }
+        ensures value { result.now ≡ self.now.core.held }
+        ensures sound { IsSoundServer self.now.core }
     {
         self.log.receipts()
     }
 
     /// The Writes held, in stamp order, each with the outcome that it has in the replay.
     pub fn listing(&self, alloc: Global) -> Result<Vec<Listed>, AllocError>
-        ensures { IfOk result (λ list. list.items ≡ listing_of self.now.held) }
+        ensures { IfOk result (λ list. list.items ≡ listing_of self.now.core.held) }
     {
         self.log.listing(alloc)
     }
 
     /// Copies of the Writes held, in order of receipt.
     pub fn dump(&self, alloc: Global) -> Result<Vec<Write>, AllocError>
-        ensures { IfOk result (λ writes. writes.items ≡ self.now.held) }
+        ensures { IfOk result (λ writes. writes.items ≡ self.now.core.held) }
     {
         copies(alloc, self.log.receipts())
     }
@@ -279,9 +279,9 @@ impl<D: Device> Server<D> {
     /// Ends the server, which takes no memory and makes no device call.
     pub fn stop(self) -> Stopped<D>
         ensures device { result.device ≡ self.device }
-        ensures held { result.log.receipts ≡ self.held }
-        ensures sound { IsSound self.id self.count result.log.receipts }
-        ensures doubt { result.doubt ≡ self.doubt }
+        ensures held { result.log.receipts ≡ self.core.held }
+        ensures doubt { result.doubt ≡ self.core.doubt }
+        ensures sound { IsSoundServer self.core }
     {
         let Server {
             journal,

@@ -1,7 +1,7 @@
 use Rattle.std.proofs.Common.{◌≡◌, [], ◌∷◌, ◌++◌, sym, ◌∙◌, ap, arith}
 use Rattle.std.proofs.lemmas.List.{map-append}
 use Rattle.bayou_wire.specs.Spelling.{write_bytes}
-use Rattle.bayou_server.specs.Server.{bodies_of}
+use Rattle.bayou_server.specs.Stored.{bodies_of}
 use Rattle.bayou_server.proofs.Bodies.{length-more, one_more}
 use Rattle.bayou_server.proofs.reopen.has_doubt.Goals as goal
 
@@ -10,9 +10,10 @@ returns c =
     let bodies = c.args.opened.now.bodies in
     let held = c.args.held.now in
     let begins = c.in_ok-begins_with.ensures.0 c.if-not-branch.false in
-    let longer = length-more write_bytes held bodies begins.0 begins.1 in
-    let one : begins.0 ≡ c.body.result.now ∷ [] = one_more write_bytes held bodies begins.0 c.body.result.now begins.1 (omega (arith, longer)) c.body.ensures in
+    let split : bodies ≡ bodies_of held ++ begins.more = begins.split ∙ ap (λ front. front ++ begins.more) begins.stores in
+    let longer = length-more write_bytes held bodies begins.more split in
+    let one : begins.more ≡ c.body.result.now ∷ [] = one_more write_bytes held bodies begins.more c.body.result.now split (omega (arith, longer)) c.body.ensures in
     let own : c.body.result.now ≡ write_bytes c.args.doubt.now = c.in_ok-is_spelled.ensures.0 c.if-not-branch-2.false in
-    begins.1
+    split
     ∙ ap (λ more. bodies_of held ++ more) (one ∙ ap (λ b. b ∷ []) own)
     ∙ sym (map-append write_bytes held (c.args.doubt.now ∷ []))

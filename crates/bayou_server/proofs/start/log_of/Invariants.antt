@@ -1,6 +1,7 @@
 use Rattle.std.proofs.Common.{◌≡◌, take, length, All}
 use Rattle.bayou_lang.specs.Ranges.{IsWrite}
-use Rattle.bayou_server.specs.Server.{MayHold, bodies_of}
+use Rattle.bayou_server.specs.Server.{MayHold}
+use Rattle.bayou_server.specs.Stored.{bodies_of}
 use Rattle.bayou_server.proofs.start.log_of.Given as goal
 
 -- the log holds the Writes of the bodies so far

@@ -1,57 +1,84 @@
-use Rattle.std.proofs.Common.{◌≡◌, ℕ, List, [], ◌∷◌, ◌++◌, Bool, refl, sym, ◌∙◌, ap, subst}
+use Rattle.std.proofs.Common.{◌≡◌, ℕ, List, [], ◌∷◌, ◌++◌, Bool, Some, Err, refl, sym, ◌∙◌, ap, subst}
+use Rattle.std.specs.Prelude.{IsSome}
 use Rattle.std.proofs.lemmas.Result.{err_from_is_err_and}
 use Rattle.bayou_journal.specs.Opening.{HasRefused}
 use Rattle.bayou_lang.specs.declared.write.Write.{Write}
 use Rattle.bayou_lang.specs.FittingLaws.{next_fits}
+use Rattle.bayou_server.specs.Fields.{core_of}
 use Rattle.bayou_server.specs.Replaying.{AreHeldAnd, AreOthers}
-use Rattle.bayou_server.specs.Server.{bodies_of}
-use Rattle.bayou_server.specs.Starts.{OpensWith}
-use Rattle.bayou_server.proofs.Recovering.{after_adopting, journal_refuses, opens_with, others_refused, same_doubt, stands_down}
+use Rattle.bayou_server.specs.Faults.{reopen_fault}
+use Rattle.bayou_server.specs.Reopens.{Reopens}
+use Rattle.bayou_server.specs.Server.{ServerState}
+use Rattle.bayou_server.specs.Stored.{ReopensJournal, bodies_of}
+use Rattle.bayou_server.proofs.Recovering.{after_adopting, journal_refuses, opens_with, others_refused, same_doubt, stands_down, stays_other, stays_refused}
+use Rattle.bayou_server.proofs.Steps.{own_of_recovery}
 use Rattle.bayou_server.proofs.server.Server.reopen.Goals as goal
 
 pub returns-in_err-opened-clause-reopens : goal.returns-in_err-opened-clause-reopens
 returns-in_err-opened-clause-reopens g c =
-    let d = g.D.Device in
     let inside = c.self.inside in
     let p = err_from_is_err_and c.from_residual.result c.from_residual.ensures.1 in
     rw (p.1, p.2)
-    (journal_refuses d.is_modelled d.content d.kept d.failures d.may_leave _ c.args.self.now _ c.in_err-opened.field-0.0 c.self.view_is
-    (record { doubt = c.in-Some.doubt; was_down = c.in-Some.is; is = refl })
-    (subst (λ (s : ℕ). HasRefused d.is_modelled d.content d.kept d.failures d.may_leave s inside.journal.device c.reopen.new.self.device c.in_err-opened.field-0.0) c.self.invariant.owner c.in_err-opened.ensures.refused))
+    (subst (λ (s : ServerState g.row.D.Denot). Reopens s.core (Err (reopen_fault c.in_err-opened.field-0.0)) (core_of inside.log inside.id.index inside.doubt)) c.self.view_is
+    (stays_refused (core_of inside.log inside.id.index inside.doubt) c.in_err-opened.field-0.0 (subst IsSome (sym c.in-Some.is) refl)))
+
+pub returns-in_err-opened-clause-opens : goal.returns-in_err-opened-clause-opens
+returns-in_err-opened-clause-opens g c =
+    let inside = c.self.inside in
+    let p = err_from_is_err_and c.from_residual.result c.from_residual.ensures.1 in
+    rw (p.1, p.2)
+    (subst (λ (s : ServerState g.row.D.Denot). ReopensJournal g.D.Device s (Err (reopen_fault c.in_err-opened.field-0.0)) (record { core = core_of inside.log inside.id.index inside.doubt; device = c.reopen.new.self.device })) c.self.view_is
+    (journal_refuses g.D.Device (record { core = core_of inside.log inside.id.index inside.doubt; device = inside.journal.device }) (record { core = core_of inside.log inside.id.index inside.doubt; device = c.reopen.new.self.device }) c.in_err-opened.field-0.0
+    (subst (λ (s : ℕ). HasRefused g.D.Device s inside.journal.device c.reopen.new.self.device c.in_err-opened.field-0.0) c.self.invariant.owner c.in_err-opened.ensures.refused)))
+
+pub returns-in_err-opened-clause-safe : goal.returns-in_err-opened-clause-safe
+returns-in_err-opened-clause-safe g c = rw (← c.self.view_is) c.reopen.ensures.safe
 
 pub returns-in_err-adopts-clause-reopens : goal.returns-in_err-adopts-clause-reopens
 returns-in_err-adopts-clause-reopens g c =
-    let d = g.D.Device in
     let inside = c.self.inside in
     let p = err_from_is_err_and c.from_residual-in_err-adopts.result c.from_residual-in_err-adopts.ensures.1 in
     rw (p.1, p.2)
-    (others_refused d.is_modelled d.content d.kept d.failures d.may_leave _ c.args.self.now _ c.in_err-adopts.field-0.0 c.in_ok-opened.opened.bodies c.self.view_is
-    (record { doubt = c.in-Some.doubt; was_down = c.in-Some.is; is = refl })
-    (opens_with d.is_modelled d.content d.kept d.failures inside.journal.server inside.id.index inside.journal.device c.reopen.new.self.device c.in_ok-opened.opened c.reopen.new.self.last c.self.invariant.owner c.in_ok-opened.ensures.opened)
-    (subst (λ (writes : List Write). AreOthers writes c.in-Some.doubt c.in_ok-opened.opened.bodies c.in_err-adopts.field-0.0) c.receipts.ensures.value c.in_err-adopts.ensures))
+    (subst (λ (s : ServerState g.row.D.Denot). Reopens s.core (Err c.in_err-adopts.field-0.0) (core_of inside.log inside.id.index inside.doubt)) c.self.view_is
+    (stays_other (core_of inside.log inside.id.index inside.doubt) c.in-Some.doubt c.in_ok-opened.opened.bodies c.in_err-adopts.field-0.0 c.in-Some.is
+    (subst (λ (writes : List Write). AreOthers writes c.in-Some.doubt c.in_ok-opened.opened.bodies c.in_err-adopts.field-0.0) c.receipts.ensures.value c.in_err-adopts.ensures)))
+
+pub returns-in_err-adopts-clause-opens : goal.returns-in_err-adopts-clause-opens
+returns-in_err-adopts-clause-opens g c =
+    let inside = c.self.inside in
+    let p = err_from_is_err_and c.from_residual-in_err-adopts.result c.from_residual-in_err-adopts.ensures.1 in
+    rw (p.1, p.2)
+    (subst (λ (s : ServerState g.row.D.Denot). ReopensJournal g.D.Device s (Err c.in_err-adopts.field-0.0) (record { core = core_of inside.log inside.id.index inside.doubt; device = c.reopen.new.self.device })) c.self.view_is
+    (others_refused g.D.Device (record { core = core_of inside.log inside.id.index inside.doubt; device = inside.journal.device }) (record { core = core_of inside.log inside.id.index inside.doubt; device = c.reopen.new.self.device }) c.in-Some.doubt c.in_ok-opened.opened.bodies c.in_err-adopts.field-0.0 c.in-Some.is
+    (opens_with g.D.Device inside.journal.server inside.id.index inside.journal.device c.reopen.new.self.device c.in_ok-opened.opened c.reopen.new.self.last c.self.invariant.owner c.in_ok-opened.ensures.opened)
+    (subst (λ (writes : List Write). AreOthers writes c.in-Some.doubt c.in_ok-opened.opened.bodies c.in_err-adopts.field-0.0) c.receipts.ensures.value c.in_err-adopts.ensures)))
+
+pub returns-in_err-adopts-clause-safe : goal.returns-in_err-adopts-clause-safe
+returns-in_err-adopts-clause-safe g c = rw (← c.self.view_is) c.reopen.ensures.safe
 
 pub returns-then-not-adopts-clause-reopens : goal.returns-then-not-adopts-clause-reopens
-returns-then-not-adopts-clause-reopens g c =
-    let d = g.D.Device in
+returns-then-not-adopts-clause-reopens g c = rw (← c.self.view_is) (subst IsSome (sym c.in-Some.is) refl, rw c.take.ensures.after refl)
+
+pub returns-then-not-adopts-clause-opens : goal.returns-then-not-adopts-clause-opens
+returns-then-not-adopts-clause-opens g c =
     let inside = c.self.inside in
     let held : c.in_ok-opened.opened.bodies ≡ bodies_of inside.log.receipts =
     subst (λ (b : Bool). AreHeldAnd c.receipts.result.now c.in-Some.doubt c.in_ok-opened.opened.bodies b) c.if-not-adopts.true c.in_ok-adopts.ensures
     ∙ ap bodies_of c.receipts.ensures.value in
-    rw (← c.self.view_is)
-    record {
-      doubt = c.in-Some.doubt;
-      was_down = c.in-Some.is;
-      adopts = refl;
-      opened = subst (λ (b : List (List ℕ)). OpensWith d.is_modelled d.content d.kept d.failures inside.id.index inside.journal.device c.reopen.new.self.device b) held
-          (opens_with d.is_modelled d.content d.kept d.failures inside.journal.server inside.id.index inside.journal.device c.reopen.new.self.device c.in_ok-opened.opened c.reopen.new.self.last c.self.invariant.owner c.in_ok-opened.ensures.opened);
-      is = rw c.take.ensures.after refl;
-    }
+    rw (← c.self.view_is) (
+      c.in_ok-opened.opened.bodies,
+      held,
+      opens_with g.D.Device inside.journal.server inside.id.index inside.journal.device c.reopen.new.self.device c.in_ok-opened.opened c.reopen.new.self.last c.self.invariant.owner c.in_ok-opened.ensures.opened,
+    )
+
+pub returns-then-not-adopts-clause-safe : goal.returns-then-not-adopts-clause-safe
+returns-then-not-adopts-clause-safe g c = rw (← c.self.view_is) c.reopen.ensures.safe
 
 pub insert-requires-clause-fits : goal.insert-requires-clause-fits
 insert-requires-clause-fits g c =
     let inside = c.self.inside in
     let write = c.in-Some-take.write in
-    next_fits inside.log.count inside.log.receipts inside.id.index write.program write c.self.invariant.holds.sound.fitting c.self.invariant.known
+    next_fits inside.log.count inside.log.receipts inside.id.index write.program write c.self.invariant.sound.holds.sound.fitting c.self.invariant.sound.known
     (stands_down inside.journal inside.log inside.id.index inside.doubt write c.self.invariant (sym c.take.ensures.value ∙ c.in-Some-take.is)).0
 
 pub invariant_of-self-2 : goal.invariant_of-self-2
@@ -68,7 +95,22 @@ invariant_of-self-2 g c =
 
 pub returns-clause-reopens : goal.returns-clause-reopens
 returns-clause-reopens g c =
-    let d = g.D.Device in
+    let write = c.in-Some-take.write in
+    rw (← c.self.view_is, c.insert.ensures)
+    (write, sym c.take.ensures.value ∙ c.in-Some-take.is, refl, rw c.take.ensures.after refl)
+
+pub returns-clause-own : goal.returns-clause-own
+returns-clause-own g c =
+    let inside = c.self.inside in
+    own_of_recovery c.args.self.now.core (Some c.in-Some-take.write.wid) _
+    (rw (← c.self.view_is) (λ doubt is. (stands_down inside.journal inside.log inside.id.index inside.doubt doubt c.self.invariant is).0.origin))
+    (returns-clause-reopens g c)
+
+pub returns-clause-sound : goal.returns-clause-sound
+returns-clause-sound g c = (rw (← c.self.view_is) c.self.invariant.sound, (invariant_of-self-2 g c).sound)
+
+pub returns-clause-opens : goal.returns-clause-opens
+returns-clause-opens g c =
     let inside = c.self.inside in
     let write = c.in-Some-take.write in
     let one : c.in-Some.doubt ≡ write = same_doubt inside.doubt c.take.result c.in-Some.doubt write c.in-Some.is c.take.ensures.value c.in-Some-take.is in
@@ -76,12 +118,11 @@ returns-clause-reopens g c =
     subst (λ (b : Bool). AreHeldAnd c.receipts.result.now c.in-Some.doubt c.in_ok-opened.opened.bodies b) c.if-not-adopts.false c.in_ok-adopts.ensures
     ∙ ap (λ (writes : List Write). bodies_of (writes ++ c.in-Some.doubt ∷ [])) c.receipts.ensures.value
     ∙ ap (λ (w : Write). bodies_of (inside.log.receipts ++ w ∷ [])) one in
-    rw (← c.self.view_is, c.insert.ensures)
-    record {
-      doubt = write;
-      was_down = sym c.take.ensures.value ∙ c.in-Some-take.is;
-      adopts = (refl, refl);
-      opened = subst (λ (b : List (List ℕ)). OpensWith d.is_modelled d.content d.kept d.failures inside.id.index inside.journal.device c.reopen.new.self.device b) held
-          (opens_with d.is_modelled d.content d.kept d.failures inside.journal.server inside.id.index inside.journal.device c.reopen.new.self.device c.in_ok-opened.opened c.reopen.new.self.last c.self.invariant.owner c.in_ok-opened.ensures.opened);
-      is = rw c.take.ensures.after refl;
-    }
+    rw (← c.self.view_is, c.insert.ensures) (
+      c.in_ok-opened.opened.bodies,
+      held,
+      opens_with g.D.Device inside.journal.server inside.id.index inside.journal.device c.reopen.new.self.device c.in_ok-opened.opened c.reopen.new.self.last c.self.invariant.owner c.in_ok-opened.ensures.opened,
+    )
+
+pub returns-clause-safe : goal.returns-clause-safe
+returns-clause-safe g c = rw (← c.self.view_is) c.reopen.ensures.safe

@@ -1,0 +1,12 @@
+use Rattle.std.proofs.Common.{sym, subst, arith}
+use Rattle.bayou_journal.specs.Chain.{AreBodies}
+use Rattle.bayou_server.proofs.Deciding.{are_bodies}
+use Rattle.bayou_server.proofs.laws.a_write_is_a_body.Goals as goal
+
+pub returns-clause-one : goal.returns-clause-one
+returns-clause-one c = λ write is.
+    let size = c.a_write_is_spelled_by_a_body.ensures write is in
+    record { some = size.0; within = omega (arith, size.1) }
+
+pub returns-clause-each : goal.returns-clause-each
+returns-clause-each c = λ bodies writes all stores. subst AreBodies (sym stores) (are_bodies (returns-clause-one c) writes all)
