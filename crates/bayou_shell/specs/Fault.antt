@@ -30,11 +30,3 @@ IsReadFault Memory = Unit {0}
 IsReadFault Device = ⊥
 IsReadFault Input = Unit {0}
 IsReadFault Output = ⊥
-
--- what may keep a script from beginning
-abbrev pub IsStartFault : Fault → Type 0
-IsStartFault (Line number fault) = ⊥
-IsStartFault Memory = Unit {0}
-IsStartFault Device = Unit {0}
-IsStartFault Input = ⊥
-IsStartFault Output = ⊥

@@ -5,8 +5,10 @@ use Rattle.bayou_base.specs.declared.asks.Asks.{Asks}
 use Rattle.bayou_base.specs.declared.limits.TheConstants.{SESSIONS}
 use Rattle.bayou_base.specs.declared.session.SessionId.{SessionId}
 use Rattle.bayou_session.specs.Needs.{Told, new_session}
+use Rattle.bayou_shell.specs.declared.fault.Fault.{Fault}
+use Rattle.bayou_shell.specs.declared.fault.Fault.TheVariants as faults
 use Rattle.bayou_shell.specs.declared.replica.Replica.{Replica}
-use Rattle.bayou_shell.specs.Replica.{IsBegun}
+use Rattle.bayou_shell.specs.Replica.{IsBegun, IsNotBegun}
 
 -- How many servers there are, how many Writes each may hold, where each of them stands, and the sessions, those that
 -- were opened.
@@ -42,3 +44,11 @@ pub record HasBegun (count limit : ℕ) (machine : Machine) : Type 0 where
   pub one_each : length machine.servers ≡ count
   pub started : (place : ℕ) → place < count → (replica : Replica) × StandsAt machine place replica × IsBegun count limit place replica
   pub none_open : machine.sessions ≡ replicate SESSIONS None
+
+-- What may keep a script from beginning: want of memory; or a server whose start was refused for something else.
+abbrev pub FailsToBegin : ℕ → ℕ → Fault → Type 0
+FailsToBegin count limit (faults.Line number fault) = ⊥
+FailsToBegin count limit faults.Memory = Unit {0}
+FailsToBegin count limit faults.Device = (place : ℕ) × (place < count) × IsNotBegun count limit place
+FailsToBegin count limit faults.Input = ⊥
+FailsToBegin count limit faults.Output = ⊥

@@ -1,29 +1,35 @@
 -- What a server of a script makes of each command, and what a session is told of it.
-use Rattle.std.specs.Prelude.{◌≡◌, ℕ, ◌-◌, ◌<◌, ◌⊎◌, List, [], Option, None, Some, Result, Ok, Err, false, length, min, take}
+use Rattle.std.specs.Prelude.{◌≡◌, ◌≢◌, ℕ, ◌<◌, ◌⊎◌, List, Option, Result, Ok, Err, length}
 use Rattle.bayou_base.specs.declared.answer.Accepted.{Accepted}
 use Rattle.bayou_base.specs.declared.answer.Seen.{Seen}
 use Rattle.bayou_base.specs.declared.limits.TheConstants.{MAX_PLACES}
 use Rattle.bayou_base.specs.declared.server.ServerId.{ServerId}
 use Rattle.bayou_base.specs.declared.session.SessionId.{SessionId}
-use Rattle.bayou_device.specs.Memory.{Memory, AddsFront, LeadsTo, kept_bytes}
+use Rattle.bayou_device.specs.Memory.{Memory, LeadsTo, empty_device, shortened, with_fuse}
+use Rattle.bayou_device.specs.MemoryDevice.{memory_device}
 use Rattle.bayou_lang.specs.declared.program.Program.{Program}
 use Rattle.bayou_lang.specs.declared.write.Write.{Write}
 use Rattle.bayou_lang.specs.Writes.{count_of}
 use Rattle.bayou_log.specs.Listing.{listing_of}
 use Rattle.bayou_server.specs.declared.answer.Stopped.{Stopped as Left}
 use Rattle.bayou_server.specs.declared.fault.Behind.{Behind}
+use Rattle.bayou_server.specs.declared.fault.StartFault.{StartFault}
+use Rattle.bayou_server.specs.declared.fault.StartFault.TheVariants.{OutOfMemory}
 use Rattle.bayou_server.specs.declared.fault.WriteFault.{WriteFault}
 use Rattle.bayou_server.specs.declared.fault.WriteFault.TheVariants as writing
 use Rattle.bayou_server.specs.Reads.{Reads}
 use Rattle.bayou_server.specs.Reopens.{Reopens}
-use Rattle.bayou_server.specs.Server.{ServerState}
-use Rattle.bayou_server.specs.Starts.{FailsToStart, Starts}
+use Rattle.bayou_server.specs.Server.{ServerState, with_device}
+use Rattle.bayou_server.specs.Starts.{FailsToStart, Starts, StartsOn}
+use Rattle.bayou_server.specs.Stored.{ReopensJournal, StoresWrite}
 use Rattle.bayou_server.specs.Writes.{Writes}
 use Rattle.bayou_session.specs.Needs.{Told, after_read, after_write, one_place_more, read_need, write_need}
 use Rattle.bayou_shell.specs.declared.answer.Answer.{Answer}
 use Rattle.bayou_shell.specs.declared.answer.Answer.TheVariants.{Done, Wrote, Read, Refused, Lost, Logged, Stopped, Recovered}
 use Rattle.bayou_shell.specs.declared.answer.Recovery.{Recovery}
 use Rattle.bayou_shell.specs.declared.answer.Recovery.TheVariants.{Reopened, NotReopened, NotRunning, Restarted, NotRestarted}
+use Rattle.bayou_shell.specs.declared.fault.Fault.{Fault}
+use Rattle.bayou_shell.specs.declared.fault.Fault.TheVariants as faults
 use Rattle.bayou_shell.specs.declared.replica.Replica.{Replica}
 use Rattle.bayou_shell.specs.declared.replica.Replica.TheVariants.{Running, Halted}
 
@@ -33,31 +39,22 @@ use Rattle.bayou_shell.specs.declared.replica.Replica.TheVariants.{Running, Halt
 abbrev pub Serving : Type 0
 Serving = ServerState Memory
 
-abbrev pub content_of : Memory → List ℕ
-content_of device = device.bytes
-
-abbrev pub failures_of : Memory → ℕ
-failures_of device = device.failures
-
-abbrev pub empty_device : Memory
-empty_device = record { bytes = []; synced = 0; fuse = None; failures = 0; lacked_memory = false }
-
 -- the device of a server that runs or is stopped, the Writes that it holds, and the one in doubt
 abbrev pub device_of : Replica → Memory
 device_of (Running server) = server.device
 device_of (Halted left) = left.device
 
 abbrev pub held_by : Replica → List Write
-held_by (Running server) = server.held
+held_by (Running server) = server.core.held
 held_by (Halted left) = left.log.receipts
 
 abbrev pub doubt_of : Replica → Option Write
-doubt_of (Running server) = server.doubt
+doubt_of (Running server) = server.core.doubt
 doubt_of (Halted left) = left.doubt
 
 -- the server, on another device
 abbrev pub on_device : Replica → Memory → Replica
-on_device (Running server) device = Running (record server { device = device })
+on_device (Running server) device = Running (with_device server device)
 on_device (Halted left) device = Halted (record left { device = device })
 
 -- ---- operations of sessions
@@ -93,7 +90,8 @@ pub record AnswersWrite (who : SessionId) (program : Program) (before : Replica)
   pub result : Result Accepted WriteFault
   pub was : before ≡ Running old
   pub left : told.begun < MAX_PLACES
-  pub writes : Writes (Unit {0}) content_of kept_bytes failures_of AddsFront old (write_need told) program result new
+  pub writes : Writes old.core (write_need told) program result new.core
+  pub stores : StoresWrite memory_device old result new
   pub calls : LeadsTo 2 old.device new.device
   pub answered : answer ≡ write_answer who result
   pub is : after ≡ Running new
@@ -109,7 +107,7 @@ pub record AnswersRead (who : SessionId) (key : List ℕ) (replica : Replica) (t
   pub result : Result Seen Behind
   pub runs : replica ≡ Running server
   pub left : told.begun < MAX_PLACES
-  pub reads : Reads server (read_need told) key result
+  pub reads : Reads server.core (read_need told) key result
   pub answered : answer ≡ read_answer who key result
   pub told_of : now ≡ told_of_read told result
 
@@ -118,16 +116,42 @@ IsRead who key replica told answer now = GetsNoReply who replica told answer now
 
 -- ---- what is asked of servers alone
 
--- the server was started first, on an empty device
+-- the server was started, on this device: so many bytes were cut behind its journal's entries
+pub record IsStarted (count limit place : ℕ) (device : Memory) (server : Serving) (dropped : ℕ) : Type 0 where
+  pub starts : Starts place count limit server.core
+  pub opens : StartsOn memory_device device server dropped
+  pub calls : LeadsTo 4 device server.device
+
+-- its start was refused, and this is left of the device
+pub record IsRefusedStart (count limit place : ℕ) (device left : Memory) (refusal : StartFault) : Type 0 where
+  pub fails : FailsToStart memory_device place count limit device left refusal
+  pub calls : LeadsTo 4 device left
+
+-- the server was started first, on an empty device, on which no fuse waits
 abbrev pub IsBegun : ℕ → ℕ → ℕ → Replica → Type 0
-IsBegun count limit place replica = (server : Serving) × (dropped : ℕ) × (replica ≡ Running server)
-    × Starts (Unit {0}) content_of kept_bytes failures_of place count limit empty_device server dropped
+IsBegun count limit place replica = (server : Serving) × (dropped : ℕ) × (replica ≡ Running server) × IsStarted count limit place empty_device server dropped
+
+-- that start was refused for want of memory
+abbrev pub WantsMemory : ℕ → ℕ → ℕ → Type 0
+WantsMemory count limit place = (left : Memory) × IsRefusedStart count limit place empty_device left OutOfMemory
+
+-- or for something else
+abbrev pub IsNotBegun : ℕ → ℕ → ℕ → Type 0
+IsNotBegun count limit place = (refusal : StartFault) × (refusal ≢ OutOfMemory) × ((left : Memory) × IsRefusedStart count limit place empty_device left refusal)
+
+-- what keeps the server from beginning
+abbrev pub IsBeginFault : ℕ → ℕ → ℕ → Fault → Type 0
+IsBeginFault count limit place (faults.Line number fault) = ⊥
+IsBeginFault count limit place faults.Memory = WantsMemory count limit place
+IsBeginFault count limit place faults.Device = IsNotBegun count limit place
+IsBeginFault count limit place faults.Input = ⊥
+IsBeginFault count limit place faults.Output = ⊥
 
 -- A log tells the Writes held in stamp order, each with the outcome that it has in the replay, and how many of each server
 -- are held; a stopped server has none.
 abbrev pub IsListed : ServerId → Replica → Answer → Type 0
 IsListed id replica (Logged name listing vector) =
-    (name ≡ id) × ((server : Serving) × (replica ≡ Running server) × (listing.items ≡ listing_of server.held) × (vector ≡ count_of server.held))
+    (name ≡ id) × ((server : Serving) × (replica ≡ Running server) × (listing.items ≡ listing_of server.core.held) × (vector ≡ count_of server.core.held))
 IsListed id replica (Stopped name) = (name ≡ id) × ((left : Left Memory) × (replica ≡ Halted left))
 IsListed id replica Done = ⊥
 IsListed id replica (Wrote who accepted) = ⊥
@@ -138,31 +162,30 @@ IsListed id replica (Recovered recovery) = ⊥
 
 -- its device is to fail
 abbrev pub IsFused : ℕ → ℕ → Replica → Replica → Type 0
-IsFused calls kept before after = after ≡ on_device before (record (device_of before) { fuse = Some (record { calls = calls; kept = kept }) })
+IsFused calls kept before after = after ≡ on_device before (with_fuse calls kept (device_of before))
 
 -- its device lost so many bytes at its end
 abbrev pub IsShortened : ℕ → Replica → Replica → Type 0
-IsShortened count before after = let device = device_of before in let left = length device.bytes - count in
-    after ≡ on_device before (record device { bytes = take left device.bytes; synced = min device.synced left })
+IsShortened count before after = after ≡ on_device before (shortened count (device_of before))
 
 -- a server that runs was to be reopened, and a stopped one isn't
 abbrev pub IsReopened : ServerId → Replica → Recovery → Replica → Type 0
 IsReopened id before (Reopened name adopted) after = (name ≡ id) × ((old new : Serving) × (before ≡ Running old) × (after ≡ Running new)
-    × Reopens (Unit {0}) content_of kept_bytes failures_of AddsFront old (Ok (record { adopted = adopted })) new × LeadsTo 4 old.device new.device)
+    × Reopens old.core (Ok (record { adopted = adopted })) new.core × ReopensJournal memory_device old (Ok (record { adopted = adopted })) new
+    × LeadsTo 4 old.device new.device)
 IsReopened id before (NotReopened refusal) after = (old new : Serving) × (before ≡ Running old) × (after ≡ Running new)
-    × Reopens (Unit {0}) content_of kept_bytes failures_of AddsFront old (Err refusal) new × LeadsTo 4 old.device new.device
+    × Reopens old.core (Err refusal) new.core × ReopensJournal memory_device old (Err refusal) new × LeadsTo 4 old.device new.device
 IsReopened id before NotRunning after = (left : Left Memory) × (before ≡ Halted left) × (after ≡ before)
 IsReopened id before (Restarted name holds dropped) after = ⊥
 IsReopened id before (NotRestarted refusal) after = ⊥
 
 -- The server was stopped, and started on what its device has. Where that was refused, it keeps what it held.
 abbrev pub IsRestarted : ℕ → ℕ → ServerId → Replica → Recovery → Replica → Type 0
-IsRestarted count limit id before (Restarted name holds dropped) after = (name ≡ id) × ((new : Serving) × (after ≡ Running new) × (holds ≡ length new.held)
-    × Starts (Unit {0}) content_of kept_bytes failures_of id.index count limit (device_of before) new dropped × LeadsTo 4 (device_of before) new.device)
+IsRestarted count limit id before (Restarted name holds dropped) after = (name ≡ id) × ((new : Serving) × (after ≡ Running new) × (holds ≡ length new.core.held)
+    × IsStarted count limit id.index (device_of before) new dropped)
 IsRestarted count limit id before (NotRestarted refusal) after = (left : Left Memory) × (after ≡ Halted left)
     × (held_by after ≡ held_by before) × (doubt_of after ≡ doubt_of before)
-    × FailsToStart (Unit {0}) content_of kept_bytes failures_of AddsFront id.index count limit (device_of before) left.device refusal
-    × LeadsTo 4 (device_of before) left.device
+    × IsRefusedStart count limit id.index (device_of before) left.device refusal
 IsRestarted count limit id before (Reopened name adopted) after = ⊥
 IsRestarted count limit id before (NotReopened refusal) after = ⊥
 IsRestarted count limit id before NotRunning after = ⊥

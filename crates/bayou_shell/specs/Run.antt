@@ -13,7 +13,7 @@ use Rattle.bayou_shell.specs.declared.fault.Fault.{Fault}
 use Rattle.bayou_shell.specs.declared.fault.Fault.TheVariants.{Line, Device, Input, Output}
 use Rattle.bayou_shell.specs.declared.fault.Fault.TheVariants as fault
 use Rattle.bayou_shell.specs.declared.replica.Replica.{Replica}
-use Rattle.bayou_shell.specs.Machine.{HasBegun, Machine, StandsAt, session_of, with_server, with_session}
+use Rattle.bayou_shell.specs.Machine.{FailsToBegin, HasBegun, Machine, StandsAt, session_of, with_server, with_session}
 use Rattle.bayou_shell.specs.Printed.{answer_text}
 use Rattle.bayou_shell.specs.Replica.{IsFused, IsListed, IsRead, IsReopened, IsRestarted, IsShortened, IsWritten}
 use Rattle.bayou_script.specs.Script.{IsRefused, IsScript, Plan, lines_of}
@@ -134,11 +134,11 @@ IsRunFault Output = Unit {0}
 
 -- What is read and written from an input. A script is run whole, or is told a fault of a run with a part of its lines
 -- printed; another input is refused for its least line with a fault, with nothing printed. Want of memory and of the
--- input may come before anything is printed, and so may a failure of a device that a server is started on.
+-- input may come before anything is printed, and so may a server whose start was refused for something else.
 abbrev pub RunsAs : List ℕ → Result (Unit {0}) Fault → Option (List ℕ) → Option (List ℕ) → Type 0
 RunsAs input (Ok done) old new = (plan : Plan) × IsScript (lines_of input) plan × (text : List ℕ) × Prints plan text × Appends old new text
 RunsAs input (Err (Line number fault)) old new = IsRefused (lines_of input) number fault × Keeps old new
 RunsAs input (Err fault.Memory) old new = Keeps old new ⊎ ((plan : Plan) × IsScript (lines_of input) plan × (text : List ℕ) × PrintsPart plan text × Appends old new text)
-RunsAs input (Err Device) old new = (plan : Plan) × IsScript (lines_of input) plan × Keeps old new
+RunsAs input (Err Device) old new = (plan : Plan) × IsScript (lines_of input) plan × FailsToBegin plan.count plan.limit Device × Keeps old new
 RunsAs input (Err Input) old new = Keeps old new
 RunsAs input (Err Output) old new = (plan : Plan) × IsScript (lines_of input) plan × (text : List ℕ) × PrintsPart plan text × Appends old new text

@@ -22,14 +22,13 @@ pub enum Replica {
 }
 
 impl Replica {
-    ghost use Rattle.bayou_shell.specs.Fault.{IsStartFault};
-    ghost use Rattle.bayou_shell.specs.Replica.{IsBegun, IsFused, IsListed, IsRead, IsReopened, IsRestarted, IsShortened, IsWritten, device_of, doubt_of, held_by};
+    ghost use Rattle.bayou_shell.specs.Replica.{IsBeginFault, IsBegun, IsFused, IsListed, IsRead, IsReopened, IsRestarted, IsShortened, IsWritten, device_of, doubt_of, held_by};
 
     /// A server that is started first, on an empty device.
     pub fn begin(alloc: Global, servers: Servers, id: ServerId) -> Result<Self, Fault>
         requires { id.index < servers.count }
         ensures begun { IfOk result (IsBegun servers.count servers.limit id.index) }
-        ensures fault { IfErr result IsStartFault }
+        ensures fault { IfErr result (IsBeginFault servers.count servers.limit id.index) }
     {
         let device = MemoryDevice::new(alloc, OpenGate);
         match Server::start(alloc, id, servers.count, servers.limit, device) {

@@ -34,8 +34,7 @@ impl Model for Store {
 }
 
 impl Store {
-    ghost use Rattle.bayou_shell.specs.Fault.{IsStartFault};
-    ghost use Rattle.bayou_shell.specs.Machine.{HasBegun, session_of};
+    ghost use Rattle.bayou_shell.specs.Machine.{FailsToBegin, HasBegun, session_of};
     ghost use Rattle.bayou_shell.specs.Run.{IsLog, Step};
     ghost use Rattle.bayou_script.specs.Script.{is_served};
     ghost use Rattle.bayou_text.specs.Said.{command_said};
@@ -43,7 +42,7 @@ impl Store {
     /// The servers of a script as it begins, each on an empty device.
     pub fn new(alloc: Global, servers: Servers) -> Result<Self, Fault>
         ensures begun { IfOk result (HasBegun servers.count servers.limit) }
-        ensures fault { IfErr result IsStartFault }
+        ensures fault { IfErr result (FailsToBegin servers.count servers.limit) }
     {
         let mut replicas = Vec::new(alloc);
         for index in 0..servers.count {
