@@ -1,5 +1,6 @@
 pub mod Fields
 pub mod Faults
+pub mod Honest
 pub mod Reads
 pub mod Reopens
 pub mod Replaying

@@ -1,19 +1,25 @@
 //! Laws of starts and reopenings: over a device that the clauses model, the bytes decide. Each is the contract of a function
 //! that does nothing.
-ghost use Rattle.std.specs.Prelude.{◌≡◌, ℕ, List, [], Option, Some, Result, Ok, All};
+ghost use Rattle.std.specs.Prelude.{◌≡◌, ℕ, List, [], Option, Some, Result, Err, All, MatchResult};
 ghost use Rattle.bayou_base.specs.declared.wid.Wid.{Wid};
 ghost use Rattle.bayou_lang.specs.declared.write.Write.{Write};
 ghost use Rattle.bayou_server.specs.declared.fault.StartFault.{StartFault};
 ghost use Rattle.bayou_journal.specs.Chain.{AreBodies, IsBody};
 ghost use Rattle.bayou_lang.specs.Ranges.{IsWrite};
 ghost use Rattle.bayou_wire.specs.Spelling.{write_bytes};
-ghost use Rattle.bayou_server.specs.Reopens.{Recovers};
-ghost use Rattle.bayou_server.specs.Server.{ServerState};
+ghost use Rattle.bayou_server.specs.declared.answer.Reopened.{Reopened};
+ghost use Rattle.bayou_server.specs.declared.fault.ReopenFault.{ReopenFault};
+ghost use Rattle.bayou_server.specs.declared.fault.WriteFault.TheVariants.{Journal};
+ghost use Rattle.bayou_server.specs.Honest.{AreHonest, IsHonestAnswer, IsHonestDevice, IsTorn};
+ghost use Rattle.bayou_server.specs.Reopens.{Recovers, Reopens};
+ghost use Rattle.bayou_server.specs.Server.{IsSoundServer, ServerState};
 ghost use Rattle.bayou_server.specs.Starts.{Starts, StartsOn, StopsAtEntry};
-ghost use Rattle.bayou_server.specs.Stored.{BeginsWithHeld, HasOther, OpensWith, OpensWithWrites, Stores};
+ghost use Rattle.bayou_server.specs.Stored.{BeginsWithHeld, HasOther, IsStored, OpensWith, OpensWithWrites, ReopensJournal, Stores, StoresWrite};
 
 use bayou_device::Device;
-use bayou_journal::laws::what_is_found_is_one;
+use bayou_journal::laws::{
+    a_fault_leaves_a_torn_journal, a_torn_journal_opens_honestly, what_is_found_is_one,
+};
 use bayou_wire::laws::{a_write_is_spelled_by_a_body, no_write_begins_another};
 
 /// What a start holds, and how much it drops, is one.
@@ -73,6 +79,36 @@ pub fn a_write_is_a_body()
     ensures each { (bodies : List (List ℕ)) (writes : List Write) → All IsWrite writes → Stores bodies writes → AreBodies bodies }
 {
     a_write_is_spelled_by_a_body();
+}
+
+/// Over an honest device that had the journal of the Writes held, a Write that is refused for the journal leaves it torn.
+pub fn a_write_in_doubt_leaves_a_torn_journal<D: Device>()
+    ensures { (old new : ServerState D) → IsHonestDevice D.Device → IsStored D.Device old → StoresWrite D.Device old (Err Journal) new
+        → (doubt : Write) × (new.core.doubt ≡ Some doubt) × IsTorn old.core.id old.core.held doubt (D.content new.device) }
+{
+    a_fault_leaves_a_torn_journal();
+}
+
+/// A reopening of a torn journal is honest: it gives what was held, or that and the Write in doubt; or a device call failed, or
+/// memory was refused, and the journal is torn still. It is never lost, and never has a bad record.
+pub fn a_torn_journal_is_reopened_honestly<D: Device>()
+    ensures { (old new : ServerState D) (doubt : Write) (result : Result Reopened ReopenFault) → IsHonestDevice D.Device → IsSoundServer old.core → old.core.doubt ≡ Some doubt
+        → IsTorn old.core.id old.core.held doubt (D.content old.device) → Reopens old.core result new.core → ReopensJournal D.Device old result new
+        → IsHonestAnswer result × MatchResult result (λ _. AreHonest old.core.held doubt new.core.held) (λ _. IsTorn old.core.id old.core.held doubt (D.content new.device)) }
+{
+    a_torn_journal_opens_honestly();
+    a_fault_leaves_a_torn_journal();
+    a_write_is_a_body();
+}
+
+/// A start on a torn journal is honest.
+pub fn a_start_on_a_torn_journal_is_honest<D: Device>()
+    ensures { (id count limit dropped : ℕ) (held : List Write) (doubt : Write) (device : D) (server : ServerState D) → IsHonestDevice D.Device → All IsWrite held → IsWrite doubt
+        → IsTorn id held doubt (D.content device) → Starts id count limit server.core → StartsOn D.Device device server dropped → AreHonest held doubt server.core.held }
+{
+    a_torn_journal_opens_honestly();
+    a_write_is_a_body();
+    no_write_begins_another();
 }
 
 /// What a journal stores is of one list of Writes.
