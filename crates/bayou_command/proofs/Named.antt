@@ -8,7 +8,8 @@ use Rattle.clap.specs.declared.error.Error.{Error}
 use Rattle.clap.specs.declared.error.kind.ErrorKind.TheVariants.{OutOfMemory}
 use Rattle.bayou_command.specs.declared.Stop.{Stop}
 use Rattle.bayou_command.specs.declared.Stop.TheVariants.{Asked, Refused, Memory}
-use Rattle.bayou_command.specs.Words.{Names, StopsAt, bayou_app, faults_of}
+use Rattle.bayou_command.specs.Words.{Names, bayou_app, faults_of}
+use Rattle.bayou_command.specs.Inner.Stops.{StopsAt}
 
 pub simple : is_simple_and_free bayou_app ≡ true
 unfolding clap_on_literals

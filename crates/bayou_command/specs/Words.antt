@@ -49,8 +49,3 @@ Names words (Err (Asked text)) = AskForText words
 Names words (Err (Refused text)) = AreMistaken words
 Names words (Err Memory) = Unit {0}
 
--- what stops at an error of this kind
-abbrev pub StopsAt : ErrorKind → Stop → Type 0
-StopsAt kind (Asked text) = IsRequest kind
-StopsAt kind (Refused text) = ¬ (IsRequest kind)
-StopsAt kind Memory = Unit {0}

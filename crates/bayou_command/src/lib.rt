@@ -8,7 +8,8 @@
 ghost use Rattle.std.specs.Prelude.{◌≡◌, ◌∷◌, [], IfOk, MatchResult, codes, false, map};
 ghost use Rattle.clap.specs.declared.builder.command.Command.TheViews.{out-Command as fields_of};
 ghost use Rattle.clap.specs.Words.{app_of, kind_of};
-ghost use Rattle.bayou_command.specs.Words.{Names, NamesRun, StopsAt, bayou_app, run_app};
+ghost use Rattle.bayou_command.specs.Words.{Names, NamesRun, bayou_app, run_app};
+ghost use Rattle.bayou_command.specs.Inner.Stops.{StopsAt};
 
 use clap::error::ErrorKind;
 use clap::{Command, Error};

@@ -1,4 +1,4 @@
 pub mod Device
+pub mod Laws
 pub mod Memory
 pub mod MemoryDevice
-pub mod MemoryLaws

@@ -1,7 +1,7 @@
 ghost use Rattle.std.specs.Prelude.{◌≡◌, ◌<◌, ◌≤◌, ◌⊎◌, ◌↔◌, [], ◌++◌, length, take, IfOk, IsErr, IsErrOf, IsSome, OnErr, OnOk};
 ghost use Rattle.bayou_device.specs.Device.{BeginsWith, Rose, one_more};
 ghost use Rattle.bayou_device.specs.Memory.{AddsFront, AreCounts, FailsAtFuse, LeadsTo, after_call, after_lack, burnt, crashed, cut_to, device_with, empty_device, front_due, kept_bytes, lacking, shortened, with_fuse};
-ghost use Rattle.bayou_device.specs.MemoryLaws.{front_is_kept, more_calls, no_call};
+ghost use Rattle.bayou_device.specs.Laws.Memory.{front_is_kept, more_calls, no_call};
 
 use crate::device::{Device, Failed, ReadFault};
 use crate::fuse::Fuse;

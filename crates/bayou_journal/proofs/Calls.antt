@@ -5,7 +5,7 @@ use Rattle.bayou_device.specs.declared.device.Device.{Ghosts}
 use Rattle.bayou_device.specs.Device.{BeginsWith}
 use Rattle.bayou_journal.specs.declared.format.TheConstants.{VERSION}
 use Rattle.bayou_journal.specs.Chain.{AreBodies, IsLongestChain, chain_end, entries, first_link, header, journal}
-use Rattle.bayou_journal.specs.Heads.{missing}
+use Rattle.bayou_journal.specs.Inner.Heads.{missing}
 use Rattle.bayou_journal.specs.Opening.{Finds, IsForeign, IsNew, IsOfAnother, OpensInCalls}
 use Rattle.bayou_journal.proofs.Ending.{ends_behind, finds_is_one, length-journal, nothing_missing, tenth}
 use Rattle.bayou_journal.proofs.Tearing.{no_entry}

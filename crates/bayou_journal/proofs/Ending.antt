@@ -4,8 +4,8 @@ use Rattle.std.proofs.Math.Seq.{take-append-add}
 use Rattle.std.proofs.lemmas.List.{take_at, append-nil}
 use Rattle.bayou_device.specs.Device.{BeginsWith}
 use Rattle.bayou_journal.specs.Chain.{IsLongestChain, header, entries, first_link, chain_end, journal}
-use Rattle.bayou_journal.specs.ChainLaws.{front_of_longest, journal-append, longest_is_one}
-use Rattle.bayou_journal.specs.Heads.{EndsAt, missing}
+use Rattle.bayou_journal.specs.Laws.Chain.{front_of_longest, journal-append, longest_is_one}
+use Rattle.bayou_journal.specs.Inner.Heads.{EndsAt, missing}
 use Rattle.bayou_journal.specs.declared.format.TheConstants.{VERSION}
 use Rattle.bayou_journal.specs.Opening.{FailsToAdd, FailsToOpen, Finds, IsNew, IsOldJournal, KeepsChains}
 

@@ -6,7 +6,7 @@ use Rattle.bayou_device.specs.Device.{BeginsWith}
 use Rattle.bayou_device.specs.Memory.{AddsFront}
 use Rattle.bayou_journal.specs.declared.format.TheConstants.{VERSION}
 use Rattle.bayou_journal.specs.Chain.{AreBodies, IsBody, IsLongestChain, NoEntry, chain_end, entries, entry, first_link, header, journal, link}
-use Rattle.bayou_journal.specs.ChainLaws.{AreBodies-push, front_of_longest, journal-push, longest_is_one, same_entry}
+use Rattle.bayou_journal.specs.Laws.Chain.{AreBodies-push, front_of_longest, journal-push, longest_is_one, same_entry}
 use Rattle.bayou_journal.specs.Honest.{IsHonest, torn}
 use Rattle.bayou_journal.specs.Opening.{FailsToAdd, FailsToOpen, Finds}
 use Rattle.bayou_journal.proofs.Ending.{new_begins_not}

@@ -5,7 +5,7 @@ use Rattle.std.proofs.lemmas.List.Elements.{All-push}
 use Rattle.std.specs.Int.{w16, to_be_bytes}
 use Rattle.bayou_journal.specs.declared.opened.Place.{Place}
 use Rattle.bayou_journal.specs.Chain.{IsBody, AreBodies, sized, link, entry, chain_end, journal}
-use Rattle.bayou_journal.specs.ChainLaws.{journal-push, chain_end-push, AreBodies-push}
+use Rattle.bayou_journal.specs.Laws.Chain.{journal-push, chain_end-push, AreBodies-push}
 use Rattle.bayou_journal.specs.Opened.{IsWithin, bytes_at}
 
 -- the bytes are the journal of the bodies at these places, and a rest

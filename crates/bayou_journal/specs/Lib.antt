@@ -1,8 +1,8 @@
 pub mod Chain
-pub mod ChainLaws
 pub mod Faults
-pub mod Heads
 pub mod Honest
+pub mod Inner
 pub mod Journal
+pub mod Laws
 pub mod Opened
 pub mod Opening

@@ -4,7 +4,7 @@ ghost use Rattle.bayou_journal.specs.Chain;
 ghost use Rattle.bayou_journal.specs.Chain.{AreBodies, IsBody, IsLongestChain, NoEntry, chain_end, header};
 ghost use Rattle.bayou_journal.specs.Opened.{IsWithin, bytes_at};
 ghost use Rattle.bayou_journal.specs.declared.format.TheConstants.{VERSION};
-ghost use Rattle.bayou_journal.specs.Heads.{EndsAt, HasHead};
+ghost use Rattle.bayou_journal.specs.Inner.Heads.{EndsAt, HasHead};
 ghost use Rattle.bayou_journal.specs.Opening.{Finds, IsForeign, IsOfAnother};
 
 use crate::fault::OpenFault;

@@ -2,7 +2,7 @@ ghost use Rattle.std.specs.Prelude.{◌≡◌, ◌≤◌, ◌++◌, ℕ, [], len
 ghost use Rattle.bayou_device.specs.Device.{BeginsWith, Rose};
 ghost use Rattle.bayou_journal.specs.declared.format.TheConstants.{VERSION};
 ghost use Rattle.bayou_journal.specs.Chain;
-ghost use Rattle.bayou_journal.specs.Heads.{missing};
+ghost use Rattle.bayou_journal.specs.Inner.Heads.{missing};
 ghost use Rattle.bayou_journal.specs.Opening.{FailsToAdd, HasOpened, HasRefused, KeepsChains, OpensInCalls};
 
 use crate::chain::links_of;

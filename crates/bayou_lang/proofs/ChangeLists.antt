@@ -9,7 +9,7 @@ use Rattle.std.proofs.lemmas.Map.Keys.{IsDistinct-cons, IsDistinct-head, IsDisti
 use Rattle.bayou_lang.specs.declared.change.Change.{Change}
 use Rattle.bayou_base.specs.declared.value.Value.{Value}
 use Rattle.bayou_lang.specs.Places.{Places, changed, same_key, value_at}
-use Rattle.bayou_lang.specs.PlacesLaws.{same_key-turned, same_places, value_at-changed}
+use Rattle.bayou_lang.specs.Laws.Places.{same_key-turned, same_places, value_at-changed}
 use Rattle.bayou_lang.specs.declared.program.Alt.{Alt}
 use Rattle.bayou_lang.specs.declared.program.Program.{Program}
 use Rattle.bayou_lang.specs.Changes.{after_changes, op_key, program_writes, ChangeOnly}

@@ -7,7 +7,7 @@ use Rattle.std.proofs.lemmas.List.{get_or-set_same, get_or-set_other}
 use Rattle.bayou_base.specs.declared.limits.TheConstants.{SERVERS}
 use Rattle.bayou_lang.specs.declared.write.Write.{Write}
 use Rattle.bayou_lang.specs.Writes.{count_of}
-use Rattle.bayou_lang.specs.FittingLaws.{length-count_of}
+use Rattle.bayou_lang.specs.Laws.Fitting.{length-count_of}
 
 -- a count after one of the counts was set
 get_or-set : (counts : List ℕ) (i s n : ℕ) → i < length counts → get_or (set counts i n) s 0 ≡ cond (i == s) n (get_or counts s 0)

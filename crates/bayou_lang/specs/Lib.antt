@@ -1,12 +1,8 @@
-pub mod Places
-pub mod PlacesLaws
-pub mod Meaning
 pub mod Changes
+pub mod Equality
+pub mod Laws
+pub mod Meaning
+pub mod Places
 pub mod Program
 pub mod Ranges
 pub mod Writes
-pub mod Equality
-pub mod EqualityLaws
-pub mod StampOrderLaws
-pub mod SetOfWritesLaws
-pub mod FittingLaws

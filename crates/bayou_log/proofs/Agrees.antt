@@ -10,11 +10,11 @@ use Rattle.bayou_lang.specs.Places.{Places, empty}
 use Rattle.bayou_lang.specs.Meaning.{mean}
 use Rattle.bayou_lang.specs.Writes.{count_of, in_stamp_order, AreFitting, Fits}
 use Rattle.bayou_log.specs.Db.{Slots, places, room, HasRoomFor, KeepsRoom}
-use Rattle.bayou_log.specs.Fields.{AgreesWith, AreKept, picked}
-use Rattle.bayou_lang.specs.FittingLaws.{count_of-most, count_of-push, fits_new_stamp, greatest_clock-push, AreFitting-push}
+use Rattle.bayou_log.specs.Inner.Fields.{AgreesWith, AreKept, picked}
+use Rattle.bayou_lang.specs.Laws.Fitting.{count_of-most, count_of-push, fits_new_stamp, greatest_clock-push, AreFitting-push}
 use Rattle.bayou_log.specs.Replay.{after_writes, replay}
 use Rattle.bayou_log.proofs.Picked.{picked-insert, AreInside, AreInside-insert, length-picked}
-use Rattle.bayou_lang.specs.StampOrderLaws.{IsInOrder-in_stamp_order, place_by_stamp-at, in_stamp_order-push, length-in_stamp_order}
+use Rattle.bayou_lang.specs.Laws.StampOrder.{IsInOrder-in_stamp_order, place_by_stamp-at, in_stamp_order-push, length-in_stamp_order}
 
 -- with more room
 pub AgreesWith-more_room : (writes : List Write) (order : List ℕ) (old new : Slots) (vector : List ℕ) (clock : ℕ) → AgreesWith writes order old vector clock

@@ -11,8 +11,8 @@ use Rattle.bayou_lang.specs.Places.{Places, empty}
 use Rattle.bayou_lang.specs.Writes.{earlier_than, in_stamp_order, place_by_stamp, HaveDistinctStamps}
 use Rattle.bayou_log.specs.Listing.{listed_after, listed_at, listing_of}
 use Rattle.bayou_log.specs.Replay.{after_writes, replay}
-use Rattle.bayou_lang.specs.SetOfWritesLaws.{IsStrict, IsStrict-in_stamp_order}
-use Rattle.bayou_lang.specs.StampOrderLaws.{is_before-asym, is_before-cotrans, place_by_stamp-after, place_by_stamp-before, IsInOrder, IsInOrder-in_stamp_order, length-in_stamp_order}
+use Rattle.bayou_lang.specs.Laws.SetOfWrites.{IsStrict, IsStrict-in_stamp_order}
+use Rattle.bayou_lang.specs.Laws.StampOrder.{is_before-asym, is_before-cotrans, place_by_stamp-after, place_by_stamp-before, IsInOrder, IsInOrder-in_stamp_order, length-in_stamp_order}
 
 -- a Write that each of the others comes after is placed first
 place_by_stamp-first : (write : Write) (writes : List Write) → All (λ next. is_before write.stamp next.stamp ≡ true) writes → place_by_stamp write writes ≡ write ∷ writes

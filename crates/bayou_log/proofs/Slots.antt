@@ -11,7 +11,7 @@ use Rattle.std.proofs.lemmas.List.Elements.{All-append, All-weaker}
 use Rattle.std.proofs.lemmas.Map.Text.{is_eq-slice_cmp}
 use Rattle.bayou_base.specs.declared.value.Value.{Value}
 use Rattle.bayou_lang.specs.Places.{Places, same_key, changed, empty, value_at}
-use Rattle.bayou_lang.specs.PlacesLaws.{changed-same, same_key-turned, same_places, value_at-changed, value_at-empty}
+use Rattle.bayou_lang.specs.Laws.Places.{changed-same, same_key-turned, same_places, value_at-changed, value_at-empty}
 use Rattle.bayou_lang.specs.declared.program.Op.{Op}
 use Rattle.bayou_lang.specs.declared.change.Change.{Change}
 use Rattle.bayou_lang.specs.Changes.{op_key, after_changes}

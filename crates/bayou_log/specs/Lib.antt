@@ -1,6 +1,6 @@
-pub mod Replay
 pub mod Db
-pub mod Log
-pub mod Listing
-pub mod Fields
 pub mod Fitting
+pub mod Inner
+pub mod Listing
+pub mod Log
+pub mod Replay

@@ -1,7 +1,7 @@
 //! What became of each Write that a log holds.
 ghost use Rattle.std.specs.Prelude.{◌≡◌, ◌<◌, All, IfOk, length};
 ghost use Rattle.bayou_lang.specs.Places.{empty};
-ghost use Rattle.bayou_log.specs.Fields.{picked};
+ghost use Rattle.bayou_log.specs.Inner.Fields.{picked};
 ghost use Rattle.bayou_log.specs.Listing.{listed_after};
 
 use crate::db::prepared;

@@ -3,7 +3,7 @@ ghost use Rattle.bayou_base.specs.declared.limits.TheConstants.{SERVERS, MAX_WRI
 ghost use Rattle.bayou_lang.specs.declared.write.Write.{Write};
 ghost use Rattle.bayou_lang.specs.Places.{value_at};
 ghost use Rattle.bayou_lang.specs.Writes.{count_of, covered_by, greatest_clock, AreFitting, Fits, HasNoGap};
-ghost use Rattle.bayou_log.specs.Fitting.{FitAnswer};
+ghost use Rattle.bayou_log.specs.Inner.Fitting.{FitAnswer};
 ghost use Rattle.bayou_log.specs.Listing.{listing_of};
 ghost use Rattle.bayou_log.specs.Log.{IsReserved};
 ghost use Rattle.bayou_log.specs.Replay.{replay};
@@ -35,7 +35,7 @@ pub struct WriteLog {
 impl Model for WriteLog {
     ghost use Rattle.std.specs.Prelude.{◌-◌, min, vec_len, vec_capacity};
     ghost use Rattle.bayou_log.specs.Log.{Log};
-    ghost use Rattle.bayou_log.specs.Fields.{AgreesWith, AreKept};
+    ghost use Rattle.bayou_log.specs.Inner.Fields.{AgreesWith, AreKept};
     ghost use Rattle.bayou_log.specs.Db as database;
 
     ghost Value = { Log };

@@ -6,7 +6,7 @@ use Rattle.bayou_base.specs.declared.limits.TheConstants.{MAX_WRITES}
 use Rattle.bayou_journal.specs.declared.fault.AppendFault.{AppendFault}
 use Rattle.bayou_journal.specs.declared.fault.AppendFault.TheVariants as append
 use Rattle.bayou_journal.specs.Chain.{chain_end, entry, journal, link}
-use Rattle.bayou_journal.specs.ChainLaws.{chain_end-push, journal-push}
+use Rattle.bayou_journal.specs.Laws.Chain.{chain_end-push, journal-push}
 use Rattle.bayou_journal.specs.Journal.{JournalState}
 use Rattle.bayou_lang.specs.declared.program.Program.{Program}
 use Rattle.bayou_lang.specs.declared.write.Write.{Write}
@@ -14,7 +14,7 @@ use Rattle.bayou_lang.specs.Writes.{IsNextWrite}
 use Rattle.bayou_log.specs.Log.{Log}
 use Rattle.bayou_lang.specs.Ranges.{IsWrite}
 use Rattle.bayou_wire.specs.Spelling.{write_bytes}
-use Rattle.bayou_server.specs.Fields.{BelongTogether, Stands, core_of}
+use Rattle.bayou_server.specs.Inner.Fields.{BelongTogether, Stands, core_of}
 use Rattle.bayou_server.specs.Server.{IsSoundServer, ServerState}
 use Rattle.bayou_server.specs.Stored.{HasAdded, IsEntryOf, IsStored, bodies_of}
 use Rattle.bayou_server.proofs.Steps.{sound_next}

@@ -3,7 +3,7 @@ use Rattle.std.proofs.Common.{◌≡◌, ℕ, ◌+◌, ◌<◌, List, [], ◌∷
 use Rattle.std.specs.List.{slice_get}
 use Rattle.std.proofs.lemmas.List.{map-append}
 use Rattle.bayou_lang.specs.declared.write.Write.{Write}
-use Rattle.bayou_lang.specs.FittingLaws.{IsSound-push}
+use Rattle.bayou_lang.specs.Laws.Fitting.{IsSound-push}
 use Rattle.bayou_log.specs.Log.{Log}
 use Rattle.bayou_lang.specs.Ranges.{IsWrite}
 use Rattle.bayou_wire.specs.Spelling.{SpellsWrite, write_bytes}

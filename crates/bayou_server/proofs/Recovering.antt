@@ -14,9 +14,9 @@ use Rattle.bayou_log.specs.Log.{Log, IsReserved}
 use Rattle.bayou_server.specs.declared.fault.ReopenFault.{ReopenFault}
 use Rattle.bayou_server.specs.declared.fault.ReopenFault.TheVariants.{NotDown, Journal, Lost, BadRecord, OutOfMemory}
 use Rattle.bayou_server.specs.Faults.{reopen_fault}
-use Rattle.bayou_server.specs.Fields.{BelongTogether, Stands, core_of}
+use Rattle.bayou_server.specs.Inner.Fields.{BelongTogether, Stands, core_of}
 use Rattle.bayou_server.specs.Reopens.{Reopens}
-use Rattle.bayou_server.specs.Replaying.{AreOthers}
+use Rattle.bayou_server.specs.Inner.Replaying.{AreOthers}
 use Rattle.bayou_server.specs.Server.{Core, IsDown, IsSoundServer, ServerState}
 use Rattle.bayou_server.specs.Stored.{OpensWith, ReopensJournal, bodies_of}
 use Rattle.bayou_server.proofs.Steps.{sound_next}

@@ -7,7 +7,7 @@ use Rattle.bayou_base.specs.declared.wid.Wid.{Wid}
 use Rattle.bayou_lang.specs.declared.program.Program.{Program}
 use Rattle.bayou_lang.specs.declared.write.Write.{Write}
 use Rattle.bayou_lang.specs.Writes.{IsNextWrite, count_of, counted}
-use Rattle.bayou_lang.specs.FittingLaws.{IsSound-next, count_of-push, counted-own}
+use Rattle.bayou_lang.specs.Laws.Fitting.{IsSound-next, count_of-push, counted-own}
 use Rattle.bayou_lang.specs.Ranges.{IsWrite}
 use Rattle.bayou_server.specs.declared.fault.WriteFault.{WriteFault}
 use Rattle.bayou_server.specs.declared.fault.WriteFault.TheVariants.{Down, Behind, LogFull, OutOfMemory, Journal}

@@ -1,9 +1,8 @@
-pub mod Fields
 pub mod Faults
 pub mod Honest
+pub mod Inner
 pub mod Reads
 pub mod Reopens
-pub mod Replaying
 pub mod Server
 pub mod Starts
 pub mod Stored

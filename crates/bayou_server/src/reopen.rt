@@ -2,7 +2,7 @@ ghost use Rattle.std.specs.Prelude.{◌≡◌, ◌≤◌, ◌↔◌, IsTrue, IfO
 ghost use Rattle.bayou_base.specs.declared.limits.TheConstants.{MAX_WRITES};
 ghost use Rattle.bayou_wire.specs.Spelling.{write_bytes};
 ghost use Rattle.bayou_server.specs.Stored.{BeginsWithHeld};
-ghost use Rattle.bayou_server.specs.Replaying.{AreHeldAnd, AreOthers};
+ghost use Rattle.bayou_server.specs.Inner.Replaying.{AreHeldAnd, AreOthers};
 
 use crate::fault::ReopenFault;
 use bayou_journal::Opened;

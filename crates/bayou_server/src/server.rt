@@ -35,7 +35,7 @@ pub struct Server<D> {
 }
 
 impl<D> Model for Server<D> {
-    ghost use Rattle.bayou_server.specs.Fields.{BelongTogether, core_of};
+    ghost use Rattle.bayou_server.specs.Inner.Fields.{BelongTogether, core_of};
     ghost use Rattle.bayou_server.specs.Server.{ServerState};
 
     ghost Value = { ServerState D };

@@ -2,7 +2,7 @@ ghost use Rattle.std.specs.Prelude.{◌≡◌, ◌<◌, ◌≤◌, ◌⊎◌, �
 ghost use Rattle.bayou_base.specs.declared.limits.TheConstants.{SERVERS, MAX_WRITES};
 ghost use Rattle.bayou_server.specs.declared.fault.StartFault.TheVariants.{OutOfMemory};
 ghost use Rattle.bayou_server.specs.Server.{MayFollow};
-ghost use Rattle.bayou_server.specs.Replaying.{IsAdmitted, Replays};
+ghost use Rattle.bayou_server.specs.Inner.Replaying.{IsAdmitted, Replays};
 ghost use Rattle.bayou_server.specs.Starts.{RefusesBody, RefusesEntry};
 
 use crate::fault::StartFault;

@@ -23,10 +23,3 @@ abbrev pub exit_status : Result (Unit {0}) Fault → ℕ
 exit_status (Ok done) = 0
 exit_status (Err fault) = status_of fault
 
--- what may end the reading of the input
-abbrev pub IsReadFault : Fault → Type 0
-IsReadFault (Line number fault) = ⊥
-IsReadFault Memory = Unit {0}
-IsReadFault Device = ⊥
-IsReadFault Input = Unit {0}
-IsReadFault Output = ⊥

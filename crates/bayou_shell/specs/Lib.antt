@@ -1,4 +1,5 @@
 pub mod Fault
+pub mod Inner
 pub mod Machine
 pub mod Printed
 pub mod Program

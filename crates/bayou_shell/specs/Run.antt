@@ -124,14 +124,6 @@ pub record PrintsPart (plan : Plan) (text : List ℕ) : Type 0 where
   pub missing : List ℕ
   pub lines : answers_text plan.count answers ≡ text ++ missing
 
--- what may end a run of a script that was accepted
-abbrev pub IsRunFault : Fault → Type 0
-IsRunFault (Line number fault) = ⊥
-IsRunFault fault.Memory = Unit {0}
-IsRunFault Device = ⊥
-IsRunFault Input = ⊥
-IsRunFault Output = Unit {0}
-
 -- What is read and written from an input. A script is run whole, or is told a fault of a run with a part of its lines
 -- printed; another input is refused for its least line with a fault, with nothing printed. Want of memory and of the
 -- input may come before anything is printed, and so may a server whose start was refused for something else.

@@ -1,5 +1,5 @@
 ghost use Rattle.std.specs.Prelude.{◌≡◌, ◌≤◌, IfOk, IfErr, IfSome};
-ghost use Rattle.bayou_shell.specs.Fault.{IsReadFault};
+ghost use Rattle.bayou_shell.specs.Inner.Faults.{IsReadFault};
 ghost use Rattle.bayou_shell.specs.Turns.{EndsReading};
 
 use crate::fault::Fault;

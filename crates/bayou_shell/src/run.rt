@@ -6,7 +6,8 @@ ghost use Rattle.bayou_text.specs.Said.{command_said};
 ghost use Rattle.bayou_shell.specs.declared.answer.Answer.{Answer};
 ghost use Rattle.bayou_shell.specs.Machine.{HasBegun};
 ghost use Rattle.bayou_shell.specs.Printed.{answer_text};
-ghost use Rattle.bayou_shell.specs.Run.{IsRunFault, Prints, PrintsPart, RunsAs, Step};
+ghost use Rattle.bayou_shell.specs.Run.{Prints, PrintsPart, RunsAs, Step};
+ghost use Rattle.bayou_shell.specs.Inner.Faults.{IsRunFault};
 ghost use Rattle.bayou_shell.specs.Turns.{EndsReading, EndsWriting};
 ghost use Rattle.bayou_shell.specs.Written.{AppendsFront};
 

@@ -3,7 +3,7 @@ ghost use Rattle.std.specs.Prelude.{◌≤◌, IfErr, OnOk, flat_map};
 ghost use Rattle.std.specs.Io.KnownBytes.{Appends};
 ghost use Rattle.bayou_base.specs.declared.limits.TheConstants.{SERVERS};
 ghost use Rattle.bayou_shell.specs.Printed.{answer_text, last_text, listed_text};
-ghost use Rattle.bayou_shell.specs.Run.{IsRunFault};
+ghost use Rattle.bayou_shell.specs.Inner.Faults.{IsRunFault};
 ghost use Rattle.bayou_shell.specs.Turns.{EndsWriting};
 ghost use Rattle.bayou_shell.specs.Written.{AppendsFront};
 

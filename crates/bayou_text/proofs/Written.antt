@@ -15,7 +15,8 @@ use Rattle.bayou_text.specs.Lines.{line_of, text_line}
 use Rattle.bayou_text.specs.Table.{Spells}
 use Rattle.bayou_text.proofs.LineTable.{spells_from_line}
 use Rattle.std.proofs.lemmas.Str.{IsUtf8-string_bytes}
-use Rattle.bayou_text.specs.Ranges.{IsLine, IsReadable}
+use Rattle.bayou_text.specs.Ranges.{IsReadable}
+use Rattle.bayou_text.specs.Inner.Kept.{IsLine}
 use Rattle.bayou_text.specs.Said.{Said, said}
 use Rattle.bayou_text.specs.Spelling.{line_json}
 

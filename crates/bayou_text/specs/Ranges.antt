@@ -1,28 +1,7 @@
--- What the types of a line keep, and which lines are read.
-use Rattle.std.specs.Prelude.{ℕ, ◌<◌, ◌≤◌, ◌^◌, IfSome, ⊤}
+-- Which lines are read.
+use Rattle.std.specs.Prelude.{ℕ, ◌≤◌, IfSome, ⊤}
 use Rattle.bayou_base.specs.declared.limits.TheConstants.{MAX_WRITES, SERVERS, MAX_FUSE_CALLS, MAX_FUSE_KEPT, MAX_LOST_BYTES}
-use Rattle.bayou_lang.specs.Ranges.{IsKey, IsProgram}
-use Rattle.bayou_text.specs.declared.command.Command.{Command}
-use Rattle.bayou_text.specs.declared.command.Command.TheVariants as command
-use Rattle.bayou_text.specs.declared.line.Line.{Line}
-use Rattle.bayou_text.specs.declared.line.Line.TheVariants as line
 use Rattle.bayou_text.specs.Said.{Said, servers, session, write, read, log, fuse, lose, reopen, restart}
-
--- what each command keeps by its type
-abbrev pub IsCommand : Command → Type 0
-IsCommand (command.Session who asks) = ⊤
-IsCommand (command.Write who place program) = IsProgram program.value
-IsCommand (command.Read who place key) = IsKey key
-IsCommand (command.Log place) = ⊤
-IsCommand (command.Fuse place failure) = (failure.calls < 2 ^ 32) × (failure.kept < 2 ^ 64)
-IsCommand (command.Lose place count) = count < 2 ^ 64
-IsCommand (command.Reopen place) = ⊤
-IsCommand (command.Restart place) = ⊤
-
--- and each line
-abbrev pub IsLine : Line → Type 0
-IsLine (line.Servers count limit) = (count < 2 ^ 32) × IfSome limit (λ most. most < 2 ^ 32)
-IsLine (line.Command command) = IsCommand command
 
 abbrev pub IsCount : ℕ → Type 0
 IsCount count = (1 ≤ count) × (count ≤ SERVERS)

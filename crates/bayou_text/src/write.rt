@@ -1,7 +1,8 @@
 ghost use Rattle.std.specs.Prelude.{◌≡◌, ◌≤◌, [], ◌∷◌, IfOk, OnOk, length, map, string_bytes};
 ghost use Rattle.serde_json.specs.View.{view};
 ghost use Rattle.serde_json.specs.Written.{compact_text};
-ghost use Rattle.bayou_text.specs.Ranges.{IsLine, IsReadable};
+ghost use Rattle.bayou_text.specs.Ranges.{IsReadable};
+ghost use Rattle.bayou_text.specs.Inner.Kept.{IsLine};
 ghost use Rattle.bayou_base.specs.declared.limits.TheConstants.{MAX_LINE_BYTES};
 ghost use Rattle.bayou_text.specs.Lines.{line_of};
 ghost use Rattle.bayou_text.specs.Said.{said};

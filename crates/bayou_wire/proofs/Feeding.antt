@@ -10,7 +10,7 @@ use Rattle.bayou_wire.specs.declared.stream.FeedFault.{FeedFault}
 use Rattle.bayou_wire.specs.declared.stream.FeedFault.TheVariants as feeds
 use Rattle.bayou_wire.specs.Spelling.{IsFrame, frame_bytes, packed}
 use Rattle.bayou_wire.specs.Stream.{HasLength, HasPackedFault, Packs, IsFaulty, IsPartial, IsRest, Splits, Holds, TakesIn, Fed, Feeds, IsLeft, stream_of, frames_given, bytes_fed}
-use Rattle.bayou_wire.specs.Reading.{IsRestOf, IsTaken}
+use Rattle.bayou_wire.specs.Inner.Reading.{IsRestOf, IsTaken}
 use Rattle.bayou_wire.proofs.Fronts.{frame_begins_one, partial_not_faulty, whole_not_faulty, whole_not_partial}
 
 -- ---- what is held back

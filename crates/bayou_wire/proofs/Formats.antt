@@ -33,7 +33,7 @@ use Rattle.bayou_wire.specs.declared.layout.TheConstants as layout
 use Rattle.bayou_lang.specs.Ranges.{IsKey, IsText, IsI64, IsValue, IsTerm, IsOp, IsCond, AreAtMost, IsAlt, IsProgram, IsWrite}
 use Rattle.bayou_wire.proofs.Vectors.{vector_bytes-is}
 use Rattle.bayou_wire.specs.Spelling.{u32_bytes, i64_bytes, short_bytes, value_bytes, term_bytes, op_bytes, cond_bytes, list_bytes, alt_bytes, program_bytes, vector_bytes, wid_bytes, accepted_bytes, write_bytes}
-use Rattle.bayou_wire.specs.Reading.{Read, ◌>>=◌, both, made, times, byte_at, number_at, i64_at, short_at, key_at, text_at, value_at, term_at, op_at, cond_at, list_at, alt_at, program_at, vector_of, vector_at, server_of, wid_of, wid_at, accepted_of, accepted_at, write_at}
+use Rattle.bayou_wire.specs.Inner.Reading.{Read, ◌>>=◌, both, made, times, byte_at, number_at, i64_at, short_at, key_at, text_at, value_at, term_at, op_at, cond_at, list_at, alt_at, program_at, vector_of, vector_at, server_of, wid_of, wid_at, accepted_of, accepted_at, write_at}
 use Rattle.bayou_wire.proofs.Readers.{server_of-is, wid_of-is, accepted_of-is, server_of-from, wid_of-from, accepted_of-from}
 
 abbrev pub IsBytes : List ℕ → Type 0

@@ -13,7 +13,7 @@ use Rattle.bayou_wire.specs.declared.fault.Fault.TheVariants.{TooLong, BadKind, 
 use Rattle.bayou_wire.specs.declared.frame.Frame.{Frame}
 use Rattle.bayou_wire.specs.Spelling.{IsFrame, SpellsWrite, WriteAnswer, BeginsWithWrite, frame_bytes, write_bytes, kind_of, packed, payload_bytes}
 use Rattle.bayou_wire.specs.Stream.{IsKind, PayloadBegins, IsPackedFault, Packs, HasLength, HasPackedFault, IsFaulty, IsPartial, FrameAnswer}
-use Rattle.bayou_wire.specs.Reading.{Read, number_at, payload_at, write_at}
+use Rattle.bayou_wire.specs.Inner.Reading.{Read, number_at, payload_at, write_at}
 use Rattle.bayou_wire.proofs.Formats.{IsBytes, IsBytes-take, IsFormat, IsWide, number_format, begins_one, none_begins, write_format}
 use Rattle.bayou_wire.proofs.Payloads.{IsFrameOf, payload_format}
 use Rattle.bayou_wire.proofs.Sizes.{payload_is_short}

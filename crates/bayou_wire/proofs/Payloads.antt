@@ -19,7 +19,7 @@ use Rattle.bayou_wire.specs.declared.layout.TheConstants as layout
 use Rattle.bayou_lang.specs.Ranges.{IsKey, IsValue, IsProgram}
 use Rattle.bayou_wire.specs.Spelling.{short_bytes, value_bytes, program_bytes, vector_bytes, optional_value_bytes, optional_wid_bytes, refusal_bytes, kind_of, payload_bytes, IsRefusal, IsFrame}
 use Rattle.bayou_wire.specs.Stream.{IsKind}
-use Rattle.bayou_wire.specs.Reading.{Read, both, made, key_at, value_at, program_at, vector_at, wid_at, optional_value_at, optional_wid_at, refusal_at, seen_at, reply_at, payload_at, is_kind}
+use Rattle.bayou_wire.specs.Inner.Reading.{Read, both, made, key_at, value_at, program_at, vector_at, wid_at, optional_value_at, optional_wid_at, refusal_at, seen_at, reply_at, payload_at, is_kind}
 use Rattle.bayou_wire.proofs.Formats.{IsBytes, IsFormat, both_format, made_takes, made_again, case_takes, u32_format, key_format, value_format, program_format, vector_format, wid_format, accepted_format, write_format}
 
 -- a test of a tag, and what is read on either side

@@ -20,7 +20,7 @@ use Rattle.bayou_base.specs.declared.stamp.Stamp.{Stamp}
 use Rattle.bayou_base.specs.declared.wid.Wid.{Wid}
 use Rattle.bayou_lang.specs.declared.program.Program.{Program}
 use Rattle.bayou_lang.specs.declared.write.Write.{Write}
-use Rattle.bayou_wire.specs.Reading.{Read, ◌>>=◌, short_at, key_at, text_at, times, server_if, server_of, placed_if, placed, wid_of, accepted_of, vector_of, accepted_at, program_at, write_at}
+use Rattle.bayou_wire.specs.Inner.Reading.{Read, ◌>>=◌, short_at, key_at, text_at, times, server_if, server_of, placed_if, placed, wid_of, accepted_of, vector_of, accepted_at, program_at, write_at}
 
 -- ---- keys and texts
 

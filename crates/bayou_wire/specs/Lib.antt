@@ -1,3 +1,3 @@
+pub mod Inner
 pub mod Spelling
 pub mod Stream
-pub mod Reading

@@ -1,6 +1,6 @@
 //! What stands at the front of a stream.
 ghost use Rattle.std.specs.Prelude.{IfOk};
-ghost use Rattle.bayou_wire.specs.Reading.{IsFront, IsTaken, PackedAnswer};
+ghost use Rattle.bayou_wire.specs.Inner.Reading.{IsFront, IsTaken, PackedAnswer};
 
 use crate::fault::Fault;
 use crate::frame::Frame;

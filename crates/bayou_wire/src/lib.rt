@@ -10,7 +10,7 @@
 //! Callers owe nothing: strangers may send any bytes. Want of memory is an answer only where a growth was refused, and
 //! leaves a stream as it was before that call. No clause says how long a call takes or when memory is refused; a call of
 //! [`Frames::feed`] reads what is new and what is held back of a frame that is whole now, and no more. Each fact of the layout
-//! is named once, in [`layout`]. `specs/Reading` is between the readers in `src/` and the grammar: no public clause cites it.
+//! is named once, in [`layout`]. `specs/Inner/Reading` is between the readers in `src/` and the grammar: no public clause cites it.
 #![tactic(auto)]
 
 pub mod decode;

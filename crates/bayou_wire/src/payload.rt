@@ -1,13 +1,13 @@
 //! Readers of payloads: what a frame says, by its kind.
 ghost use Rattle.std.specs.Prelude.{◌≡◌};
-ghost use Rattle.bayou_wire.specs.Reading.{Gives, is_kind as is_kind_test, optional_value_at, optional_wid_at, payload_at, refusal_at, reply_at, seen_at};
+ghost use Rattle.bayou_wire.specs.Inner.Reading.{Gives, is_kind as is_kind_test, optional_value_at, optional_wid_at, payload_at, refusal_at, reply_at, seen_at};
 
 use crate::frame::{Frame, Refusal};
 use crate::layout::*;
 use crate::take::{accepted_of, key_of, program_of, u32_of, value_of, vector_of, wid_of, write_of};
 use bayou_base::{Seen, Value, Wid};
 
-#[tactic(auto, unfolding(crate::specs::Reading::is_kind))]
+#[tactic(auto, unfolding(crate::specs::Inner::Reading::is_kind))]
 pub(crate) fn is_kind(kind: u8) -> bool
     ensures { result ≡ is_kind_test kind }
 {
@@ -27,7 +27,7 @@ pub(crate) fn is_kind(kind: u8) -> bool
     )
 }
 
-#[tactic(auto, unfolding(crate::specs::Reading::optional_value_at))]
+#[tactic(auto, unfolding(crate::specs::Inner::Reading::optional_value_at))]
 fn optional_value_of(bytes: &[u8]) -> Option<(Option<Value>, &[u8])>
     ensures { Gives (λ x. (x.0, x.1.now)) result (optional_value_at bytes.now) }
 {
@@ -41,7 +41,7 @@ fn optional_value_of(bytes: &[u8]) -> Option<(Option<Value>, &[u8])>
     }
 }
 
-#[tactic(auto, unfolding(crate::specs::Reading::optional_wid_at))]
+#[tactic(auto, unfolding(crate::specs::Inner::Reading::optional_wid_at))]
 fn optional_wid_of(bytes: &[u8]) -> Option<(Option<Wid>, &[u8])>
     ensures { Gives (λ x. (x.0, x.1.now)) result (optional_wid_at bytes.now) }
 {
@@ -57,7 +57,7 @@ fn optional_wid_of(bytes: &[u8]) -> Option<(Option<Wid>, &[u8])>
     }
 }
 
-#[tactic(auto, unfolding(crate::specs::Reading::refusal_at))]
+#[tactic(auto, unfolding(crate::specs::Inner::Reading::refusal_at))]
 fn refusal_of(bytes: &[u8]) -> Option<(Refusal, &[u8])>
     ensures { Gives (λ x. (x.0, x.1.now)) result (refusal_at bytes.now) }
 {
@@ -82,7 +82,7 @@ fn refusal_of(bytes: &[u8]) -> Option<(Refusal, &[u8])>
     }
 }
 
-#[tactic(auto, unfolding(crate::specs::Reading::seen_at))]
+#[tactic(auto, unfolding(crate::specs::Inner::Reading::seen_at))]
 fn seen_of(bytes: &[u8]) -> Option<(Seen, &[u8])>
     ensures { Gives (λ x. (x.0, x.1.now)) result (seen_at bytes.now) }
 {
@@ -93,7 +93,7 @@ fn seen_of(bytes: &[u8]) -> Option<(Seen, &[u8])>
     Some((Seen { value, vector }, rest))
 }
 
-#[tactic(auto, unfolding(crate::specs::Reading::reply_at))]
+#[tactic(auto, unfolding(crate::specs::Inner::Reading::reply_at))]
 fn reply_of(kind: u8, bytes: &[u8]) -> Option<(Frame, &[u8])>
     ensures { Gives (λ x. (x.0, x.1.now)) result (reply_at kind bytes.now) }
 {
@@ -137,7 +137,7 @@ fn reply_of(kind: u8, bytes: &[u8]) -> Option<(Frame, &[u8])>
 }
 
 /// What a payload of this kind says, and the bytes behind it.
-#[tactic(auto, unfolding(crate::specs::Reading::payload_at))]
+#[tactic(auto, unfolding(crate::specs::Inner::Reading::payload_at))]
 pub(crate) fn payload_of(kind: u8, bytes: &[u8]) -> Option<(Frame, &[u8])>
     ensures { Gives (λ x. (x.0, x.1.now)) result (payload_at kind bytes.now) }
 {

@@ -1,7 +1,7 @@
 ghost use Rattle.std.specs.Prelude.{◌≡◌, ◌+◌, ◌≤◌, ◌↔◌, [], None, Some, IsTrue, IfSome, length};
 ghost use Rattle.bayou_base.specs.declared.limits.TheConstants.{MAX_FRAME_BYTES};
 ghost use Rattle.bayou_wire.specs.declared.layout.TheConstants.{LENGTH_BYTES};
-ghost use Rattle.bayou_wire.specs.Reading.{FedOpen, IsFaultAt, IsFirst, IsTaken, Keeps};
+ghost use Rattle.bayou_wire.specs.Inner.Reading.{FedOpen, IsFaultAt, IsFirst, IsTaken, Keeps};
 ghost use Rattle.bayou_wire.specs.Stream.{Fed, listed};
 
 use crate::fault::Fault;

@@ -3,7 +3,7 @@
 ghost use Rattle.std.specs.Prelude.{◌≡◌, ℕ, ◌≤◌, List, Option, length};
 ghost use Rattle.std.specs.Int.{w16, w32, w64};
 ghost use Rattle.bayou_base.specs.declared.limits.TheConstants.{SERVERS};
-ghost use Rattle.bayou_wire.specs.Reading.{Gives, accepted_at, alt_at, byte_at, cond_at, i64_at, key_at, list_at, number_at, op_at, program_at, accepted_of as accepted_of_parts, server_of as server_of_index, vector_of as vector_of_counts, wid_of as wid_of_parts, short_at, term_at, text_at, times, value_at, vector_at, wid_at, write_at};
+ghost use Rattle.bayou_wire.specs.Inner.Reading.{Gives, accepted_at, alt_at, byte_at, cond_at, i64_at, key_at, list_at, number_at, op_at, program_at, accepted_of as accepted_of_parts, server_of as server_of_index, vector_of as vector_of_counts, wid_of as wid_of_parts, short_at, term_at, text_at, times, value_at, vector_at, wid_at, write_at};
 
 use crate::layout::*;
 use arrayvec::ArrayVec;
@@ -37,7 +37,7 @@ fn members_of<T: Member, const CAP: usize>(
     Some((members, rest))
 }
 
-#[tactic(auto, unfolding(crate::specs::Reading::list_at))]
+#[tactic(auto, unfolding(crate::specs::Inner::Reading::list_at))]
 fn list_of<T: Member, const CAP: usize>(bytes: &[u8]) -> Option<(ArrayVec<T, CAP>, &[u8])>
     ensures { Gives (λ x. (x.0.items, x.1.now)) result (list_at CAP T.at bytes.now) }
 {
@@ -97,7 +97,7 @@ fn short_of(bytes: &[u8]) -> Option<(&[u8], &[u8])>
     Some(rest.split_at(len))
 }
 
-#[tactic(auto, unfolding(crate::specs::Reading::key_at))]
+#[tactic(auto, unfolding(crate::specs::Inner::Reading::key_at))]
 pub(crate) fn key_of(bytes: &[u8]) -> Option<(Key, &[u8])>
     ensures { Gives (λ x. (x.0, x.1.now)) result (key_at bytes.now) }
 {
@@ -111,7 +111,7 @@ pub(crate) fn key_of(bytes: &[u8]) -> Option<(Key, &[u8])>
     Some((key, rest))
 }
 
-#[tactic(auto, unfolding(crate::specs::Reading::text_at))]
+#[tactic(auto, unfolding(crate::specs::Inner::Reading::text_at))]
 fn text_of(bytes: &[u8]) -> Option<(Text, &[u8])>
     ensures { Gives (λ x. (x.0, x.1.now)) result (text_at bytes.now) }
 {
@@ -123,7 +123,7 @@ fn text_of(bytes: &[u8]) -> Option<(Text, &[u8])>
     Some((text, rest))
 }
 
-#[tactic(auto, unfolding(crate::specs::Reading::value_at))]
+#[tactic(auto, unfolding(crate::specs::Inner::Reading::value_at))]
 pub(crate) fn value_of(bytes: &[u8]) -> Option<(Value, &[u8])>
     ensures { Gives (λ x. (x.0, x.1.now)) result (value_at bytes.now) }
 {
@@ -140,7 +140,7 @@ pub(crate) fn value_of(bytes: &[u8]) -> Option<(Value, &[u8])>
     }
 }
 
-#[tactic(auto, unfolding(crate::specs::Reading::term_at))]
+#[tactic(auto, unfolding(crate::specs::Inner::Reading::term_at))]
 fn term_of(bytes: &[u8]) -> Option<(Term, &[u8])>
     ensures { Gives (λ x. (x.0, x.1.now)) result (term_at bytes.now) }
 {
@@ -165,7 +165,7 @@ fn term_of(bytes: &[u8]) -> Option<(Term, &[u8])>
 impl Member for Op {
     ghost at = { op_at };
 
-    #[tactic(auto, unfolding(crate::specs::Reading::op_at))]
+    #[tactic(auto, unfolding(crate::specs::Inner::Reading::op_at))]
     fn take(bytes: &[u8]) -> Option<(Self, &[u8])> {
         match bytes {
             [OP_PUT, rest @ ..] => {
@@ -185,7 +185,7 @@ impl Member for Op {
 impl Member for Cond {
     ghost at = { cond_at };
 
-    #[tactic(auto, unfolding(crate::specs::Reading::cond_at))]
+    #[tactic(auto, unfolding(crate::specs::Inner::Reading::cond_at))]
     fn take(bytes: &[u8]) -> Option<(Self, &[u8])> {
         match bytes {
             [COND_EQUALS, rest @ ..] => {
@@ -210,7 +210,7 @@ impl Member for Cond {
 impl Member for Alt {
     ghost at = { alt_at };
 
-    #[tactic(auto, unfolding(crate::specs::Reading::alt_at))]
+    #[tactic(auto, unfolding(crate::specs::Inner::Reading::alt_at))]
     fn take(bytes: &[u8]) -> Option<(Self, &[u8])> {
         let (when, rest) = list_of(bytes)?;
         let (ops, rest) = list_of(rest)?;
@@ -227,7 +227,7 @@ impl Member for u32 {
     }
 }
 
-#[tactic(auto, unfolding(crate::specs::Reading::program_at))]
+#[tactic(auto, unfolding(crate::specs::Inner::Reading::program_at))]
 pub(crate) fn program_of(bytes: &[u8]) -> Option<(Program, &[u8])>
     ensures { Gives (λ x. (x.0, x.1.now)) result (program_at bytes.now) }
 {
@@ -253,7 +253,7 @@ fn vector_from(list: &[u32]) -> Option<Vector>
     Vector::from_counts(counts)
 }
 
-#[tactic(auto, unfolding(crate::specs::Reading::vector_at))]
+#[tactic(auto, unfolding(crate::specs::Inner::Reading::vector_at))]
 pub(crate) fn vector_of(bytes: &[u8]) -> Option<(Vector, &[u8])>
     ensures { Gives (λ x. (x.0, x.1.now)) result (vector_at bytes.now) }
 {
@@ -281,7 +281,7 @@ fn accepted_from(wid: Wid, clock: u32, deps: Vector) -> Option<Accepted>
     Some(Accepted { wid, stamp, deps })
 }
 
-#[tactic(auto, unfolding(crate::specs::Reading::wid_at))]
+#[tactic(auto, unfolding(crate::specs::Inner::Reading::wid_at))]
 pub(crate) fn wid_of(bytes: &[u8]) -> Option<(Wid, &[u8])>
     ensures { Gives (λ x. (x.0, x.1.now)) result (wid_at bytes.now) }
 {
@@ -292,7 +292,7 @@ pub(crate) fn wid_of(bytes: &[u8]) -> Option<(Wid, &[u8])>
     Some((wid, rest))
 }
 
-#[tactic(auto, unfolding(crate::specs::Reading::accepted_at))]
+#[tactic(auto, unfolding(crate::specs::Inner::Reading::accepted_at))]
 pub(crate) fn accepted_of(bytes: &[u8]) -> Option<(Accepted, &[u8])>
     ensures { Gives (λ x. (x.0, x.1.now)) result (accepted_at bytes.now) }
 {
@@ -307,7 +307,7 @@ pub(crate) fn accepted_of(bytes: &[u8]) -> Option<(Accepted, &[u8])>
     Some((accepted, rest))
 }
 
-#[tactic(auto, unfolding(crate::specs::Reading::write_at))]
+#[tactic(auto, unfolding(crate::specs::Inner::Reading::write_at))]
 pub(crate) fn write_of(bytes: &[u8]) -> Option<(Write, &[u8])>
     ensures { Gives (λ x. (x.0, x.1.now)) result (write_at bytes.now) }
 {

@@ -3,7 +3,7 @@ use Rattle.std.proofs.Common.{◌≡◌, ℕ, ◌-◌, ◌++◌, List, [], lengt
 use Rattle.std.proofs.lemmas.List.{append-nil}
 use Rattle.bayou_device.specs.Device.{BeginsWith, one_more}
 use Rattle.bayou_journal.specs.Chain.{journal}
-use Rattle.bayou_journal.specs.Heads.{missing}
+use Rattle.bayou_journal.specs.Inner.Heads.{missing}
 use Rattle.bayou_journal.specs.Opened.{bytes_at}
 use Rattle.bayou_journal.specs.Opening.{FailsToAdd, FailsToOpen}
 use Rattle.bayou_journal.proofs.Calls.{all_calls, one_call, without_cut}

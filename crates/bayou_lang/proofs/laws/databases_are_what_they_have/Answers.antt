@@ -1,4 +1,4 @@
-use Rattle.bayou_lang.specs.PlacesLaws.{same_places}
+use Rattle.bayou_lang.specs.Laws.Places.{same_places}
 use Rattle.bayou_lang.proofs.laws.databases_are_what_they_have.Goals as goal
 
 pub returns : goal.returns

@@ -1,4 +1,4 @@
-use Rattle.bayou_lang.specs.EqualityLaws.{same_program-decides, same_write-decides}
+use Rattle.bayou_lang.specs.Laws.Equality.{same_program-decides, same_write-decides}
 use Rattle.bayou_lang.proofs.laws.equality_decides.Goals as goal
 
 pub returns-clause-programs : goal.returns-clause-programs

@@ -1,4 +1,4 @@
-use Rattle.bayou_lang.specs.FittingLaws.{fitting_distinct_wids, fitting_distinct_stamps}
+use Rattle.bayou_lang.specs.Laws.Fitting.{fitting_distinct_wids, fitting_distinct_stamps}
 use Rattle.bayou_lang.proofs.laws.fitting_writes_are_distinct.Goals as goal
 
 pub returns-clause-wids : goal.returns-clause-wids

@@ -1,4 +1,4 @@
-use Rattle.bayou_lang.specs.FittingLaws.{next_is_latest}
+use Rattle.bayou_lang.specs.Laws.Fitting.{next_is_latest}
 use Rattle.bayou_lang.proofs.laws.own_next_write_is_the_latest.Goals as goal
 
 pub returns : goal.returns

@@ -1,6 +1,6 @@
 use Rattle.bayou_lang.specs.Writes.{in_stamp_order}
-use Rattle.bayou_lang.specs.SetOfWritesLaws.{in_stamp_order-same_writes, AllPairs-from_in_order}
-use Rattle.bayou_lang.specs.StampOrderLaws.{length-in_stamp_order, IsInOrder-in_stamp_order}
+use Rattle.bayou_lang.specs.Laws.SetOfWrites.{in_stamp_order-same_writes, AllPairs-from_in_order}
+use Rattle.bayou_lang.specs.Laws.StampOrder.{length-in_stamp_order, IsInOrder-in_stamp_order}
 use Rattle.bayou_lang.proofs.laws.stamp_order_is_of_the_writes.Goals as goal
 
 pub returns-clause-same : goal.returns-clause-same

@@ -1,6 +1,6 @@
 use Rattle.std.proofs.Common.{◌≡◌, None, false, IsTrue, ap, sym, ◌∙◌, subst}
 use Rattle.std.specs.Option.{is_some}
-use Rattle.bayou_lang.specs.PlacesLaws.{changed-same}
+use Rattle.bayou_lang.specs.Laws.Places.{changed-same}
 use Rattle.bayou_log.specs.Db.{room, has_room}
 use Rattle.bayou_log.proofs.Slots.{places-set, has_room-set, has_room-set_same, has_room-slot_at, places-no_slot, slot_at}
 use Rattle.bayou_log.proofs.db.make_room.Goals as goal

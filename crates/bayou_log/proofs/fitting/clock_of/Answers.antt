@@ -4,7 +4,7 @@ use Rattle.std.proofs.lemmas.List.{append-nil, take_more}
 use Rattle.std.proofs.lemmas.List.Elements.{filter-append}
 use Rattle.bayou_lang.specs.declared.write.Write.{Write}
 use Rattle.bayou_lang.specs.Writes.{covered_by, greatest_clock}
-use Rattle.bayou_lang.specs.FittingLaws.{greatest_clock-push}
+use Rattle.bayou_lang.specs.Laws.Fitting.{greatest_clock-push}
 use Rattle.bayou_log.proofs.fitting.clock_of.Goals as goal
 use Rattle.bayou_log.proofs.fitting.clock_of.Goals.{then-covers, else-covers}
 

@@ -3,7 +3,7 @@ use Rattle.std.proofs.lemmas.List.{at_drop_more}
 use Rattle.bayou_lang.specs.declared.write.Write.{Write}
 use Rattle.bayou_lang.specs.Meaning.{mean}
 use Rattle.bayou_log.specs.Db.{places, room, HasRoomFor}
-use Rattle.bayou_log.specs.Fields.{picked}
+use Rattle.bayou_log.specs.Inner.Fields.{picked}
 use Rattle.bayou_log.specs.Listing.{listed_at, listed_after}
 use Rattle.bayou_log.specs.declared.listing.Listed.{Listed}
 use Rattle.bayou_log.proofs.Picked.{picked-cons}

@@ -1,7 +1,7 @@
 use Rattle.std.proofs.Common.{◌≡◌, ◌++◌, drop, All}
 use Rattle.bayou_lang.specs.Places.{empty}
 use Rattle.bayou_log.specs.Db.{places, room, HasRoomFor}
-use Rattle.bayou_log.specs.Fields.{picked}
+use Rattle.bayou_log.specs.Inner.Fields.{picked}
 use Rattle.bayou_log.specs.Listing.{listed_after}
 use Rattle.bayou_log.proofs.listing.outcomes_in_turn.Given as goal
 

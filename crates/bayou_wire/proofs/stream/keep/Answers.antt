@@ -1,7 +1,7 @@
 use Rattle.std.proofs.Common.{List, ℕ, Option, ◌∙◌, ◌-◌, ap, arith, drop, length, length-take, subst, sym, take}
 use Rattle.bayou_wire.specs.declared.fault.Fault.{Fault}
 use Rattle.bayou_wire.specs.Stream.{TakesIn}
-use Rattle.bayou_wire.specs.Reading.{IsTaken}
+use Rattle.bayou_wire.specs.Inner.Reading.{IsTaken}
 use Rattle.bayou_wire.proofs.Feeding.{keeps-frames, keeps-fault}
 use Rattle.bayou_wire.proofs.stream.keep.Goals as goal
 

@@ -1,6 +1,6 @@
 use Rattle.std.proofs.Common.{◌≡◌, ◌-◌}
 use Rattle.arrayvec.specs.ArrayVec.{array_vec_len}
-use Rattle.bayou_wire.specs.Reading.{times}
+use Rattle.bayou_wire.specs.Inner.Reading.{times}
 use Rattle.bayou_wire.proofs.Readers.{with_front}
 use Rattle.bayou_wire.proofs.take.members_of.Given as goal
 

@@ -1,5 +1,5 @@
 use Rattle.std.proofs.Common.{◌≡◌, ap, length, arith}
-use Rattle.bayou_lang.specs.FittingLaws.{greatest_clock-most}
+use Rattle.bayou_lang.specs.Laws.Fitting.{greatest_clock-most}
 use Rattle.bayou_log.specs.Log.{Log}
 use Rattle.bayou_log.proofs.write_log.WriteLog.clock.Goals as goal
 

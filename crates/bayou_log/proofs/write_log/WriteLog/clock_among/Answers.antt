@@ -1,7 +1,7 @@
 use Rattle.std.proofs.Common.{◌≡◌, ap, sym, ◌∙◌, subst, arith}
 use Rattle.bayou_base.specs.Vector.{Dominates}
 use Rattle.bayou_lang.specs.Writes.{covered_by, greatest_clock}
-use Rattle.bayou_lang.specs.FittingLaws.{covered_by-fitting, covered_clock-most, greatest_clock-most}
+use Rattle.bayou_lang.specs.Laws.Fitting.{covered_by-fitting, covered_clock-most, greatest_clock-most}
 use Rattle.bayou_log.specs.Log.{Log}
 use Rattle.bayou_log.proofs.write_log.WriteLog.clock_among.Goals as goal
 

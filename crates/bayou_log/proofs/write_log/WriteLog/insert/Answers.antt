@@ -8,7 +8,7 @@ use Rattle.bayou_lang.specs.Meaning.{mean}
 use Rattle.bayou_lang.specs.Writes.{Fits}
 use Rattle.bayou_log.specs.Db.{places, room, HasRoomFor}
 use Rattle.bayou_log.specs.Log.{IsReserved}
-use Rattle.bayou_log.specs.Fields.{picked}
+use Rattle.bayou_log.specs.Inner.Fields.{picked}
 use Rattle.bayou_log.specs.Replay.{after_writes}
 use Rattle.bayou_log.proofs.Agrees.{IsPlaceOf-found, AgreesWith-insert_last, AgreesWith-insert_late, AgreesWith-same, AreKept-push}
 use Rattle.bayou_log.proofs.write_log.WriteLog.insert.Goals as goal

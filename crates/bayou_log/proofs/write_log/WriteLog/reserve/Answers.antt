@@ -1,6 +1,6 @@
 use Rattle.std.proofs.Common.{sym, subst, arith, refl}
 use Rattle.bayou_log.specs.Log.{IsReserved}
-use Rattle.bayou_log.specs.Fields.{AreKept}
+use Rattle.bayou_log.specs.Inner.Fields.{AreKept}
 use Rattle.bayou_log.proofs.Agrees.{AgreesWith-more_room, AgreesWith-same}
 use Rattle.bayou_log.proofs.write_log.WriteLog.reserve.Goals as goal
 

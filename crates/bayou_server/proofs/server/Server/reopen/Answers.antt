@@ -3,9 +3,9 @@ use Rattle.std.specs.Prelude.{IsSome}
 use Rattle.std.proofs.lemmas.Result.{err_from_is_err_and}
 use Rattle.bayou_journal.specs.Opening.{HasRefused}
 use Rattle.bayou_lang.specs.declared.write.Write.{Write}
-use Rattle.bayou_lang.specs.FittingLaws.{next_fits}
-use Rattle.bayou_server.specs.Fields.{core_of}
-use Rattle.bayou_server.specs.Replaying.{AreHeldAnd, AreOthers}
+use Rattle.bayou_lang.specs.Laws.Fitting.{next_fits}
+use Rattle.bayou_server.specs.Inner.Fields.{core_of}
+use Rattle.bayou_server.specs.Inner.Replaying.{AreHeldAnd, AreOthers}
 use Rattle.bayou_server.specs.Faults.{reopen_fault}
 use Rattle.bayou_server.specs.Reopens.{Reopens}
 use Rattle.bayou_server.specs.Server.{ServerState}

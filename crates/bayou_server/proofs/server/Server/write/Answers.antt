@@ -1,7 +1,7 @@
 use Rattle.std.proofs.Common.{◌≢◌, ◌<◌, ℕ, List, length, Ok, Err, refl, sym, ◌∙◌, ap, subst, arith}
 use Rattle.std.specs.Prelude.{is_err}
 use Rattle.bayou_base.specs.Vector.{Dominates}
-use Rattle.bayou_lang.specs.FittingLaws.{next_fits}
+use Rattle.bayou_lang.specs.Laws.Fitting.{next_fits}
 use Rattle.bayou_server.specs.declared.fault.WriteFault.TheVariants.{Journal}
 use Rattle.bayou_server.specs.Server.{Core, IsSoundServer}
 use Rattle.bayou_server.proofs.Adding.{after_adding, device_fault, entry_is, none_of, stands_up, stored_after}

@@ -1,0 +1,5 @@
+pub mod Equality
+pub mod Fitting
+pub mod Places
+pub mod SetOfWrites
+pub mod StampOrder
