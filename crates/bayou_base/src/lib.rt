@@ -14,8 +14,6 @@ pub mod limits;
 pub mod server;
 pub mod session;
 pub mod stamp;
-#[cfg(test)]
-mod tests;
 pub mod value;
 pub mod vector;
 pub mod wid;

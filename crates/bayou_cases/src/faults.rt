@@ -147,7 +147,7 @@ static CASES: [Case; 9] = [
 #[test]
 fn worked_scripts_of_faults(rt: HostRuntime) -> Result<(), Fail> {
     for case in CASES.iter() {
-        is_answered(&rt, rt.alloc(), case)?;
+        assert!(rt; is_answered(rt.alloc(), case)?, "{}", case.name);
     }
     Ok(())
 }

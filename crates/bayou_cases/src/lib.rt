@@ -1,4 +1,4 @@
-//! Tests that cross crates: whole scripts, run over memory and over readers and writers that fail.
+//! Tests of the whole program: scripts, run over memory and over readers and writers that fail.
 #![tactic(auto)]
 
 #[cfg(test)]
@@ -11,10 +11,6 @@ mod faults;
 mod memory;
 #[cfg(test)]
 mod scripts;
-#[cfg(test)]
-mod servers;
-#[cfg(test)]
-mod sessions;
 #[cfg(test)]
 mod streams;
 #[cfg(test)]

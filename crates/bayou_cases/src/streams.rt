@@ -1,7 +1,8 @@
 //! The program over readers and writers that are slow, fail, or never end.
-use crate::fakes::{BusyWriter, EndlessReader, FullWriter, SlowReader, SlowWriter};
+use crate::fakes::{FakeReader, FakeWriter};
 use crate::memory::roomy;
 use bayou_shell::{Input, Output, run_main};
+use std::alloc::{AllocError, Global};
 use std::test::Fail;
 
 const SCRIPT: &str =
@@ -9,123 +10,217 @@ const SCRIPT: &str =
 
 const PRINTED: &str = "0 read x none at 0\n0 read y none at 0\n";
 
-const NEVER: u64 = 0;
+/// How often a reader or a writer is interrupted that always is.
+const ALWAYS: u64 = u64::MAX;
 
-/// Each turn of a reader failing, in turn: the fault is told, and nothing is printed.
+fn reader_of(pace: u64, fails_at: u64) -> FakeReader<'static> {
+    FakeReader {
+        bytes: SCRIPT.as_bytes(),
+        is_endless: false,
+        pace,
+        fails_at,
+        calls: 0,
+    }
+}
+
+fn writer_of(alloc: Global, pace: u64, fails_at: u64) -> Result<FakeWriter, AllocError> {
+    Ok(FakeWriter {
+        bytes: roomy(alloc)?,
+        is_full: false,
+        pace,
+        fails_at,
+        calls: 0,
+    })
+}
+
+/// Runs the program: the status that it ends with.
+fn run(
+    alloc: Global,
+    reader: &mut FakeReader<'_>,
+    writer: &mut FakeWriter,
+    errors: &mut FakeWriter,
+) -> u8 {
+    run_main(
+        alloc,
+        &["bayou", "run"],
+        &mut Input::new(reader),
+        &mut Output::new(writer),
+        &mut Output::new(errors),
+    )
+}
+
+/// Each call of a reader failing, in turn: the fault is told, and nothing is printed. The last doesn't come to it.
 #[test]
 fn readers(rt: HostRuntime) -> Result<(), Fail> {
     let alloc = rt.alloc();
-    let turns = 2 * SCRIPT.len() as u64 + 2;
-    for fails_at in 0..turns + 1 {
-        let mut reader = SlowReader {
-            bytes: SCRIPT.as_bytes(),
-            turn: 0,
-            fails_at,
-        };
-        let mut output = roomy(alloc)?;
-        let mut errors = roomy(alloc)?;
-        let status = run_main(
-            alloc,
-            &["bayou", "run"],
-            &mut Input::new(&mut reader),
-            &mut Output::new(&mut output),
-            &mut Output::new(&mut errors),
-        );
-        if fails_at == NEVER {
-            assert!(rt; output.as_slice() == PRINTED.as_bytes());
-            assert_eq!(rt; (status, reader.turn), (0, turns));
+    let calls = 2 * SCRIPT.len() as u64 + 2;
+    for fails_at in 1..calls + 2 {
+        let mut reader = reader_of(2, fails_at);
+        let mut writer = writer_of(alloc, 1, 0)?;
+        let mut errors = writer_of(alloc, 1, 0)?;
+        let status = run(alloc, &mut reader, &mut writer, &mut errors);
+        let (wanted, printed, told) = if fails_at > calls {
+            (0, PRINTED, "")
         } else {
-            assert!(rt;
-                errors.as_slice() == b"bayou: input\n".as_slice(),
-                "turn {fails_at}"
-            );
-            assert_eq!(rt; (status, output.len()), (3, 0));
-        }
+            (3, "", "bayou: input\n")
+        };
+        let is_told = errors.bytes.as_slice() == told.as_bytes();
+        let is_printed = writer.bytes.as_slice() == printed.as_bytes();
+        let is_called = reader.calls == fails_at.min(calls);
+        assert!(rt;
+            status == wanted && is_told && is_printed && is_called,
+            "call {fails_at}"
+        );
     }
     Ok(())
 }
 
-/// Each turn of a writer failing, in turn: the fault is told behind what was taken.
+/// Each call of a writer failing, in turn: the fault is told behind what was taken. The last doesn't come to it.
 #[test]
 fn writers(rt: HostRuntime) -> Result<(), Fail> {
     let alloc = rt.alloc();
-    let turns = 2 * PRINTED.len() as u64;
-    for fails_at in 0..turns + 1 {
-        let mut reader = SCRIPT.as_bytes();
-        let mut writer = SlowWriter {
-            bytes: roomy(alloc)?,
-            turn: 0,
-            fails_at,
-        };
-        let mut errors = roomy(alloc)?;
-        let status = run_main(
-            alloc,
-            &["bayou", "run"],
-            &mut Input::new(&mut reader),
-            &mut Output::new(&mut writer),
-            &mut Output::new(&mut errors),
-        );
-        if fails_at == NEVER {
-            assert!(rt; writer.bytes.as_slice() == PRINTED.as_bytes());
-            assert_eq!(rt; status, 0);
+    let calls = 2 * PRINTED.len() as u64;
+    for fails_at in 1..calls + 2 {
+        let mut reader = reader_of(1, 0);
+        let mut writer = writer_of(alloc, 2, fails_at)?;
+        let mut errors = writer_of(alloc, 1, 0)?;
+        let status = run(alloc, &mut reader, &mut writer, &mut errors);
+        let (wanted, told) = if fails_at > calls {
+            (0, "")
         } else {
-            assert!(rt;
-                errors.as_slice() == b"bayou: output\n".as_slice(),
-                "turn {fails_at}"
-            );
-            assert_eq!(rt; (status, writer.turn), (3, fails_at));
-            assert!(rt; PRINTED.as_bytes().starts_with(writer.bytes.as_slice()));
-        }
+            (3, "bayou: output\n")
+        };
+        let is_told = errors.bytes.as_slice() == told.as_bytes();
+        let is_front = PRINTED.as_bytes().starts_with(&writer.bytes)
+            && writer.bytes.len() as u64 == (fails_at - 1) / 2;
+        let is_called = writer.calls == fails_at.min(calls);
+        assert!(rt;
+            status == wanted && is_told && is_front && is_called,
+            "call {fails_at}"
+        );
     }
     Ok(())
 }
 
-/// Readers and writers without an end are given up after the greatest number of turns.
+/// A run over streams some of which have no end.
+struct Endless {
+    name: &'static str,
+    /// Whether line feeds without an end stand behind the script, and at each how manieth call a byte is given.
+    reader: (bool, u64),
+    /// Whether the writer takes nothing, and at each how manieth call it takes a byte.
+    writer: (bool, u64),
+    /// Whether the writer of faults takes nothing.
+    is_mute: bool,
+    told: &'static str,
+    status: u8,
+    /// How often the reader and the writer are called.
+    calls: (u64, u64),
+}
+
+static ENDLESS: [Endless; 9] = [
+    Endless {
+        name: "a reader without an end",
+        reader: (true, 1),
+        writer: (false, 1),
+        is_mute: false,
+        told: "bayou: input\n",
+        status: 3,
+        calls: (1_000_000, 0),
+    },
+    Endless {
+        name: "a reader that is always interrupted",
+        reader: (false, ALWAYS),
+        writer: (false, 1),
+        is_mute: false,
+        told: "bayou: input\n",
+        status: 3,
+        calls: (1_000_000, 0),
+    },
+    Endless {
+        name: "a reader that gives a script in just enough calls",
+        reader: (false, 15_151),
+        writer: (false, 1),
+        is_mute: false,
+        told: "",
+        status: 0,
+        calls: (999_966, 38),
+    },
+    Endless {
+        name: "a reader that needs more calls",
+        reader: (false, 15_152),
+        writer: (false, 1),
+        is_mute: false,
+        told: "bayou: input\n",
+        status: 3,
+        calls: (1_000_000, 0),
+    },
+    Endless {
+        name: "a writer that takes nothing",
+        reader: (false, 1),
+        writer: (true, 1),
+        is_mute: false,
+        told: "bayou: output\n",
+        status: 3,
+        calls: (66, 1),
+    },
+    Endless {
+        name: "a writer that is always interrupted",
+        reader: (false, 1),
+        writer: (false, ALWAYS),
+        is_mute: false,
+        told: "bayou: output\n",
+        status: 3,
+        calls: (66, 1_000_000),
+    },
+    Endless {
+        name: "a writer that takes a line in just enough calls, and then the next",
+        reader: (false, 1),
+        writer: (false, 52_631),
+        is_mute: false,
+        told: "",
+        status: 0,
+        calls: (66, 1_999_978),
+    },
+    Endless {
+        name: "a writer that needs more calls for a line",
+        reader: (false, 1),
+        writer: (false, 52_632),
+        is_mute: false,
+        told: "bayou: output\n",
+        status: 3,
+        calls: (66, 1_000_000),
+    },
+    Endless {
+        name: "a fault that can't be told either",
+        reader: (true, 1),
+        writer: (true, 1),
+        is_mute: true,
+        told: "",
+        status: 3,
+        calls: (1_000_000, 0),
+    },
+];
+
+/// Whether the run ends so. Streams without an end are given up after 1,000,000 calls: a writer's for each line.
+fn ends_so(alloc: Global, case: &Endless) -> Result<bool, AllocError> {
+    let mut reader = reader_of(case.reader.1, 0);
+    reader.is_endless = case.reader.0;
+    let mut writer = writer_of(alloc, case.writer.1, 0)?;
+    writer.is_full = case.writer.0;
+    let mut errors = writer_of(alloc, 1, 0)?;
+    errors.is_full = case.is_mute;
+    let status = run(alloc, &mut reader, &mut writer, &mut errors);
+    Ok(
+        status == case.status
+            && errors.bytes.as_slice() == case.told.as_bytes()
+            && (reader.calls, writer.calls) == case.calls,
+    )
+}
+
 #[test]
-fn endless(rt: HostRuntime) -> Result<(), Fail> {
-    let alloc = rt.alloc();
-    let mut output = roomy(alloc)?;
-    let mut errors = roomy(alloc)?;
-    let words = ["bayou", "run"];
-    let status = run_main(
-        alloc,
-        &words,
-        &mut Input::new(&mut EndlessReader),
-        &mut Output::new(&mut output),
-        &mut Output::new(&mut errors),
-    );
-    assert!(rt; errors.as_slice() == b"bayou: input\n".as_slice());
-    assert_eq!(rt; (status, output.len()), (3, 0));
-    let mut errors = roomy(alloc)?;
-    let mut reader = SCRIPT.as_bytes();
-    let status = run_main(
-        alloc,
-        &words,
-        &mut Input::new(&mut reader),
-        &mut Output::new(&mut BusyWriter),
-        &mut Output::new(&mut errors),
-    );
-    assert!(rt; errors.as_slice() == b"bayou: output\n".as_slice());
-    assert_eq!(rt; status, 3);
-    let mut errors = roomy(alloc)?;
-    let mut reader = SCRIPT.as_bytes();
-    let status = run_main(
-        alloc,
-        &words,
-        &mut Input::new(&mut reader),
-        &mut Output::new(&mut FullWriter),
-        &mut Output::new(&mut errors),
-    );
-    assert!(rt; errors.as_slice() == b"bayou: output\n".as_slice());
-    assert_eq!(rt; status, 3);
-    // Where the fault can't be told either, the status tells it.
-    let status = run_main(
-        alloc,
-        &words,
-        &mut Input::new(&mut EndlessReader),
-        &mut Output::new(&mut FullWriter),
-        &mut Output::new(&mut FullWriter),
-    );
-    assert_eq!(rt; status, 3);
+fn streams_without_an_end(rt: HostRuntime) -> Result<(), Fail> {
+    for case in ENDLESS.iter() {
+        assert!(rt; ends_so(rt.alloc(), case)?, "{}", case.name);
+    }
     Ok(())
 }

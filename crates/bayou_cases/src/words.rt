@@ -3,42 +3,35 @@ use crate::memory::call;
 use std::str;
 use std::test::Fail;
 
+/// Whether the text has the part, or is empty where there is none.
 fn has(text: &[u8], part: &str) -> bool {
     match str::from_utf8(text) {
-        Ok(text) => text.contains(part),
+        Ok(text) => text.contains(part) && text.is_empty() == part.is_empty(),
         Err(_) => false,
     }
 }
 
-#[test]
-fn asked(rt: HostRuntime) -> Result<(), Fail> {
-    let given = call(rt.alloc(), &["bayou", "--help"], b"")?;
-    assert!(rt; has(given.output.as_slice(), "bayou run < FILE"));
-    assert!(rt; given.errors.is_empty() && given.status == 0);
-    let given = call(rt.alloc(), &["bayou", "run", "--help"], b"")?;
-    assert!(rt; has(given.output.as_slice(), "[\"servers\",1,LIMIT]"));
-    assert!(rt; given.errors.is_empty() && given.status == 0);
-    let given = call(rt.alloc(), &["bayou", "--version"], b"")?;
-    assert!(rt; has(given.output.as_slice(), "bayou 0."));
-    assert!(rt; given.errors.is_empty() && given.status == 0);
-    Ok(())
-}
+/// Words, what is found in the output and in the errors, and the status.
+static WORDS: [(&[&str], &str, &str, u8); 6] = [
+    (&["bayou", "--help"], "bayou run < FILE", "", 0),
+    (&["bayou", "run", "--help"], "[\"servers\",1,LIMIT]", "", 0),
+    (&["bayou", "--version"], "bayou 0.", "", 0),
+    (&["bayou"], "", "Usage: bayou <COMMAND>", 2),
+    (&["bayou", "walk"], "", "unrecognized subcommand 'walk'", 2),
+    (
+        &["bayou", "run", "script.jsonl"],
+        "",
+        "unexpected argument 'script.jsonl'",
+        2,
+    ),
+];
 
 #[test]
-fn refused(rt: HostRuntime) -> Result<(), Fail> {
-    let given = call(rt.alloc(), &["bayou"], b"")?;
-    assert!(rt; has(given.errors.as_slice(), "Usage: bayou <COMMAND>"));
-    assert!(rt; given.output.is_empty() && given.status == 2);
-    let given = call(rt.alloc(), &["bayou", "walk"], b"")?;
-    assert!(rt; has(given.errors.as_slice(), "unrecognized subcommand 'walk'"));
-    assert!(rt; given.output.is_empty() && given.status == 2);
-    let given = call(rt.alloc(), &["bayou", "run", "script.jsonl"], b"")?;
-    assert!(rt;
-        has(
-            given.errors.as_slice(),
-            "unexpected argument 'script.jsonl'"
-        )
-    );
-    assert!(rt; given.output.is_empty() && given.status == 2);
+fn asked_and_refused(rt: HostRuntime) -> Result<(), Fail> {
+    for (words, output, errors, status) in WORDS.iter() {
+        let given = call(rt.alloc(), words, b"")?;
+        let is_told = has(&given.output, output) && has(&given.errors, errors);
+        assert!(rt; is_told && given.status == *status, "{output}{errors}");
+    }
     Ok(())
 }

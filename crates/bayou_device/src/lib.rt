@@ -14,8 +14,6 @@ pub mod device;
 pub mod fuse;
 pub mod gate;
 pub mod memory;
-#[cfg(test)]
-mod tests;
 
 pub use device::{Device, Failed, ReadFault};
 pub use fuse::Fuse;

@@ -17,8 +17,6 @@ pub mod journal;
 pub mod laws;
 pub mod opened;
 mod restore;
-#[cfg(test)]
-mod tests;
 
 pub use fault::{AppendFault, NotOpened, OpenFault};
 pub use journal::Journal;

@@ -21,8 +21,6 @@ pub mod laws;
 pub mod listing;
 mod order;
 pub mod plain;
-#[cfg(test)]
-mod tests;
 pub mod write_log;
 
 pub use db::Db;

@@ -27,8 +27,6 @@ pub mod laws;
 mod reopen;
 pub mod server;
 mod start;
-#[cfg(test)]
-mod tests;
 
 pub use answer::{Reopened, Stopped};
 pub use fault::{Behind, JournalFault, NotStarted, ReopenFault, StartFault, WriteFault};

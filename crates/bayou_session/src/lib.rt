@@ -10,7 +10,5 @@
 
 pub mod laws;
 pub mod session;
-#[cfg(test)]
-mod tests;
 
 pub use session::Session;

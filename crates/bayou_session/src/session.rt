@@ -115,12 +115,4 @@ impl Session {
     {
         self.writes.raise(accepted.wid);
     }
-
-    /// The session as it is when so many places were begun.
-    #[cfg(test)]
-    pub(crate) fn with_begun(self, begun: u32) -> Self
-        ensures { result ≡ record self { begun = begun } }
-    {
-        Session { begun, ..self }
-    }
 }

@@ -17,8 +17,6 @@ pub mod command;
 pub mod laws;
 pub mod line;
 pub mod read;
-#[cfg(test)]
-mod tests;
 pub mod write;
 
 pub use command::{Command, PlannedFailure};

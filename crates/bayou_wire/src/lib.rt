@@ -24,8 +24,6 @@ mod payload;
 mod put;
 pub mod stream;
 mod take;
-#[cfg(test)]
-mod tests;
 
 pub use decode::{decode_frame, decode_write};
 pub use encode::{encode_frame, encode_write};

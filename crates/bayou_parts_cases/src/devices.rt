@@ -1,0 +1,113 @@
+//! A device in memory: what it holds after each call, and which calls fail.
+use bayou_device::{Device, MemoryDevice, OpenGate, ReadFault};
+use std::alloc::{AllocError, Global};
+use std::process::Abort;
+use std::test::Fail;
+
+/// What is done to a device. A device call says whether it succeeds.
+#[derive(Clone, Copy)]
+enum Step {
+    Append(&'static str, bool),
+    Sync(bool),
+    Cut(usize, bool),
+    /// A read, which gives what the device holds.
+    Read(bool),
+    Fuse(u32, usize),
+    Lose(usize),
+    Crash(&'static str),
+}
+
+use Step::{Append, Crash, Cut, Fuse, Lose, Read, Sync};
+
+/// Whether a read succeeds. Where it does, it gives the bytes.
+fn reads(alloc: Global, device: &mut MemoryDevice<OpenGate>) -> Result<bool, AllocError> {
+    match device.read_all(alloc) {
+        Ok(bytes) => Ok(bytes.as_slice() == device.bytes()),
+        Err(ReadFault::Failed) => Ok(false),
+        Err(ReadFault::OutOfMemory) => Err(AllocError),
+    }
+}
+
+/// Does the step. Whether it goes so.
+fn goes(
+    alloc: Global,
+    device: &mut MemoryDevice<OpenGate>,
+    step: Step,
+) -> Result<bool, AllocError> {
+    match step {
+        Append(piece, is_ok) => Ok(device.append(piece.as_bytes()).is_ok() == is_ok),
+        Sync(is_ok) => Ok(device.sync().is_ok() == is_ok),
+        Cut(len, is_ok) => {
+            let len = len.min(device.bytes().len());
+            Ok(device.cut(len).is_ok() == is_ok)
+        }
+        Read(is_ok) => Ok(reads(alloc, device)? == is_ok),
+        Fuse(calls, kept) => {
+            device.fuse(calls.max(1), kept);
+            Ok(true)
+        }
+        Lose(count) => {
+            device.lose(count);
+            Ok(true)
+        }
+        Crash(tail) => {
+            device.crash(tail.as_bytes())?;
+            Ok(true)
+        }
+    }
+}
+
+/// Steps of one device, each with what it holds then.
+static STEPS: [(Step, &str); 31] = [
+    // A crash leaves what was synced.
+    (Append("abc", true), "abc"),
+    (Sync(true), "abc"),
+    (Append("def", true), "abcdef"),
+    (Read(true), "abcdef"),
+    (Crash("d!"), "abcd!"),
+    (Read(true), "abcd!"),
+    // The end may be lost, synced or not.
+    (Sync(true), "abcd!"),
+    (Append("f", true), "abcd!f"),
+    (Lose(2), "abcd"),
+    (Append("xy", true), "abcdxy"),
+    (Crash(""), "abcd"),
+    (Lose(9), ""),
+    (Append("ab", true), "ab"),
+    // A fuse goes off once, and adds so much of a piece, or all of it: the call fails all the same.
+    (Fuse(2, 2), "ab"),
+    (Sync(true), "ab"),
+    (Append("cdef", false), "abcd"),
+    (Append("ef", true), "abcdef"),
+    (Fuse(1, 9), "abcdef"),
+    (Append("g", false), "abcdefg"),
+    (Fuse(1, 1), "abcdefg"),
+    (Append("h", false), "abcdefgh"),
+    (Fuse(1, 9), "abcdefgh"),
+    (Cut(1, false), "abcdefgh"),
+    (Fuse(1, 9), "abcdefgh"),
+    (Sync(false), "abcdefgh"),
+    (Fuse(1, 9), "abcdefgh"),
+    (Read(false), "abcdefgh"),
+    (Cut(3, true), "abc"),
+    // A later fuse takes the place of one that waits.
+    (Fuse(1, 0), "abc"),
+    (Fuse(2, 0), "abc"),
+    (Sync(true), "abc"),
+];
+
+/// The steps go as the table says.
+fn all_go(rt: &impl Abort, alloc: Global, steps: &[(Step, &str)]) -> Result<(), AllocError> {
+    let mut device = MemoryDevice::new(alloc, OpenGate);
+    for (at, (step, held)) in steps.iter().enumerate() {
+        let is_so = goes(alloc, &mut device, *step)?;
+        assert!(rt; is_so && device.bytes() == held.as_bytes(), "step {at}");
+    }
+    Ok(())
+}
+
+#[test]
+fn steps_of_a_device(rt: HostRuntime) -> Result<(), Fail> {
+    all_go(&rt, rt.alloc(), &STEPS)?;
+    Ok(())
+}

@@ -1,0 +1,62 @@
+//! What the tests are made of.
+use bayou_base::{Key, SERVERS, ServerId, SessionId, Stamp, Value, Vector, Wid};
+use bayou_lang::{Op, Program, Term, Write};
+use std::process::Abort;
+
+pub fn server_id(rt: &impl Abort, index: u8) -> ServerId {
+    ServerId::new(index).expect(rt, "no server")
+}
+
+pub fn session_id(rt: &impl Abort, index: u8) -> SessionId {
+    SessionId::new(index).expect(rt, "no session")
+}
+
+pub fn wid(rt: &impl Abort, origin: u8, seq: u32) -> Wid {
+    Wid::new(server_id(rt, origin), seq).expect(rt, "no Write")
+}
+
+pub fn key(rt: &impl Abort, name: &str) -> Key {
+    Key::new(name).expect(rt, "no key")
+}
+
+/// So many Writes of the first two servers, and none of the others.
+pub fn vector(rt: &impl Abort, first: u32, second: u32) -> Vector {
+    let mut counts = [0; SERVERS];
+    counts[0] = first;
+    counts[1] = second;
+    Vector::from_counts(counts).expect(rt, "no vector")
+}
+
+/// A program that sets `a`.
+fn setting(rt: &impl Abort, term: Term) -> Program {
+    Program::new(&[], &[Op::Put(key(rt, "a"), term)], &[]).expect(rt, "no program")
+}
+
+/// A program that puts the number at `a`.
+pub fn put(rt: &impl Abort, number: i64) -> Program {
+    setting(rt, Term::Lit(Value::Num(number)))
+}
+
+/// A program that adds the number to what `a` has.
+pub fn plus(rt: &impl Abort, number: i64) -> Program {
+    setting(rt, Term::Plus(key(rt, "a"), number))
+}
+
+/// A Write of a server that held so many Writes of the first two servers.
+pub fn write(
+    rt: &impl Abort,
+    origin: u8,
+    seq: u32,
+    clock: u32,
+    deps: [u32; 2],
+    program: Program,
+) -> Write {
+    let server = server_id(rt, origin);
+    let [first, second] = deps;
+    Write {
+        wid: Wid::new(server, seq).expect(rt, "no name"),
+        stamp: Stamp::new(clock, server).expect(rt, "no stamp"),
+        deps: vector(rt, first, second),
+        program,
+    }
+}

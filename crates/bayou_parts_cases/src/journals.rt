@@ -1,0 +1,362 @@
+//! Journals: the bytes of the page, each cut and each changed byte, and each device call failing in turn.
+use crate::fixtures::server_id;
+use crate::notation::{bytes_of, repeated};
+use bayou_base::{MAX_BODY_BYTES, ServerId};
+use bayou_device::{MemoryDevice, OpenGate};
+use bayou_journal::{AppendFault, Journal, OpenFault, Opened};
+use std::alloc::{AllocError, Global};
+use std::process::Abort;
+use std::test::Fail;
+
+type Memory = MemoryDevice<OpenGate>;
+
+/// What an opening finds: how many bodies there are, and how many bytes behind the chain are dropped.
+type Found = Result<(usize, usize), OpenFault>;
+
+/// The body of an entry: a Write of server 0 that puts 1 at the key `room`. Its entry has 94 bytes.
+static WRITE: [u8; 60] = [
+    0, 0, 0, 0, 1, 0, 0, 0, 1, 0, 0, 0, 0, 0, 0, 0, 0, 0, 0, 0, 0, 0, 0, 0, 0, 0, 0, 0, 0, 0, 0, 0,
+    0, 0, 0, 0, 0, 0, 0, 0, 0, 0, 1, 1, 4, 114, 111, 111, 109, 1, 1, 0, 0, 0, 0, 0, 0, 0, 1, 0,
+];
+
+/// The journal of server 0 with that body three times. The digests are those of `sha256sum`.
+const THREE: &str = "4241594f554a4e4c 0100
+    003c <0:1> <stamp> <none> <put> dd7fd99ca1386304a7db218154a54dd243b5f05e41fff44a7de8e59df8b6bbcb
+    003c <0:1> <stamp> <none> <put> 3595483d1bcc2e0efd01d4028efec82191862f258cdca32df82edbedf13dadd8
+    003c <0:1> <stamp> <none> <put> e25d18e166e29ea887934600ee6b358fc32eb0e0d0fb8234e13cdadfbc0ce7b5";
+
+/// The journal of server 2 with the bodies 00 and 0102, as docs/FORMATS.md has it.
+const EXAMPLE: &str = "4241594f554a4e4c 0102
+    0001 00 2432200c76e1709bf136d13a0e3efba4badf25ef5cbf57bfde035e5133e4add8
+    0002 0102 87c24bdde946702e24e4afd51a1645c3d102f10fb4ce17b65b7651c504e5df97";
+
+fn device_of(bytes: Vec<u8>) -> Memory {
+    MemoryDevice::with_bytes(bytes, OpenGate)
+}
+
+/// Whether the bodies found are these.
+fn are_found(found: &Opened, bodies: &[&[u8]]) -> bool {
+    for (at, body) in bodies.iter().enumerate() {
+        if at >= found.len() || found.body(at) != *body {
+            return false;
+        }
+    }
+    found.len() == bodies.len() && found.dropped() == 0
+}
+
+/// The device of a new journal with these bodies, which are found again.
+fn with_bodies(alloc: Global, server: ServerId, bodies: &[&[u8]]) -> Result<Memory, Fail> {
+    let device = MemoryDevice::new(alloc, OpenGate);
+    let Ok((mut journal, _)) = Journal::open(alloc, server, device) else {
+        return Err(Fail::new("not opened"));
+    };
+    for body in bodies {
+        if body.is_empty() || body.len() > MAX_BODY_BYTES {
+            return Err(Fail::new("no body"));
+        }
+        journal.append(body)?;
+    }
+    let found = journal.reopen(alloc)?;
+    if !are_found(&found, bodies) {
+        return Err(Fail::new("other bodies"));
+    }
+    Ok(journal.close())
+}
+
+#[test]
+fn bodies_are_found_again(rt: HostRuntime) -> Result<(), Fail> {
+    let alloc = rt.alloc();
+    let longest = repeated(alloc, &[(b"\x07", 8192)])?;
+    let page = with_bodies(alloc, server_id(&rt, 2), &[b"\x00", b"\x01\x02"])?;
+    let three = with_bodies(alloc, server_id(&rt, 0), &[&WRITE, &WRITE, &WRITE])?;
+    let long = with_bodies(alloc, server_id(&rt, 7), &[b"\x09", &longest])?;
+    let is_page = page.bytes() == bytes_of(alloc, EXAMPLE)?.as_slice();
+    let are_three = three.bytes() == bytes_of(alloc, THREE)?.as_slice();
+    assert_eq!(rt;
+        (is_page, are_three, long.bytes().len()),
+        (true, true, 8271)
+    );
+    Ok(())
+}
+
+/// What an opening finds, and the device then.
+fn opening(alloc: Global, server: ServerId, device: Memory) -> Result<(Found, Memory), AllocError> {
+    match Journal::open(alloc, server, device) {
+        Ok((journal, found)) => Ok((Ok((found.len(), found.dropped())), journal.close())),
+        Err(refused) => match refused.fault {
+            OpenFault::OutOfMemory => Err(AllocError),
+            fault => Ok((Err(fault), refused.device)),
+        },
+    }
+}
+
+/// Whether an opening finds this in the bytes, and leaves those.
+fn is_found(
+    alloc: Global,
+    server: ServerId,
+    bytes: &[u8],
+    found: Found,
+    left: &[u8],
+) -> Result<bool, AllocError> {
+    let (answer, device) = opening(alloc, server, device_of(bytes.to_vec(alloc)?))?;
+    Ok(answer == found && device.bytes() == left)
+}
+
+/// What an opening finds in so many bytes at the front of the journal with three entries, and how many it leaves.
+fn in_front(len: usize) -> (Found, usize) {
+    match len.checked_sub(10) {
+        None => (Ok((0, len)), 10),
+        Some(behind) => (Ok((behind / 94, behind % 94)), len - behind % 94),
+    }
+}
+
+#[test]
+fn each_front_is_a_journal(rt: HostRuntime) -> Result<(), Fail> {
+    let server = server_id(&rt, 0);
+    let bytes = bytes_of(rt.alloc(), THREE)?;
+    assert_eq!(rt; bytes.len(), 292);
+    for len in 0..293 {
+        let (found, left) = in_front(len);
+        let is_so = is_found(
+            rt.alloc(),
+            server,
+            &bytes[..len],
+            found,
+            &bytes[..left.min(292)],
+        )?;
+        assert!(rt; is_so, "{len} bytes");
+    }
+    Ok(())
+}
+
+/// What an opening finds where the byte at this place was changed, and how many bytes it leaves.
+fn changed_at(at: usize) -> (Found, usize) {
+    match at.checked_sub(10) {
+        None if at < 9 => (Err(OpenFault::NotAJournal), 292),
+        None => (Err(OpenFault::OtherServer), 292),
+        Some(behind) => {
+            let (_, left) = in_front(at);
+            (Ok((behind / 94, 292_usize.saturating_sub(left))), left)
+        }
+    }
+}
+
+#[test]
+fn a_changed_byte_ends_the_chain_before_it(rt: HostRuntime) -> Result<(), Fail> {
+    let server = server_id(&rt, 0);
+    for at in 0..292 {
+        let mut bytes = bytes_of(rt.alloc(), THREE)?;
+        if let Some(byte) = bytes.get_mut(at) {
+            *byte ^= 1;
+        }
+        let (found, left) = changed_at(at);
+        let left = bytes.get(..left).unwrap_or(&bytes);
+        assert!(rt;
+            is_found(rt.alloc(), server, &bytes, found, left)?,
+            "byte {at}"
+        );
+    }
+    Ok(())
+}
+
+#[test]
+fn foreign_bytes_are_refused(rt: HostRuntime) -> Result<(), Fail> {
+    let alloc = rt.alloc();
+    for (index, text, fault) in [
+        (0, "68656c6c6f", OpenFault::NotAJournal),
+        (1, THREE, OpenFault::OtherServer),
+    ] {
+        let bytes = bytes_of(alloc, text)?;
+        let is_so = is_found(alloc, server_id(&rt, index), &bytes, Err(fault), &bytes)?;
+        assert!(rt; is_so, "{fault:?}");
+    }
+    Ok(())
+}
+
+/// How many bytes of the journal with three entries there are, the device call of an opening that fails, and how many bytes
+/// are left; where that isn't said it is the append of a header, of which so many are added.
+static FAILING: [(usize, u32, Option<usize>); 12] = [
+    // A whole journal: the read, the sync.
+    (292, 1, Some(292)),
+    (292, 2, Some(292)),
+    // A torn one: the read, the cut, the sync.
+    (291, 1, Some(291)),
+    (291, 2, Some(291)),
+    (291, 3, Some(198)),
+    // Nothing: the read, the append, the sync.
+    (0, 1, Some(0)),
+    (0, 2, None),
+    (0, 3, Some(10)),
+    // The front of a header: the read, the cut, the append, the sync.
+    (5, 1, Some(5)),
+    (5, 2, Some(5)),
+    (5, 3, None),
+    (5, 4, Some(10)),
+];
+
+/// Whether the opening fails so, and the next one finds what is left.
+fn fails(
+    alloc: Global,
+    server: ServerId,
+    bytes: &[u8],
+    row: (usize, u32, Option<usize>),
+    kept: usize,
+) -> Result<bool, AllocError> {
+    let (len, call, left) = row;
+    let left = left.unwrap_or(kept.min(10));
+    let mut device = device_of(bytes.get(..len).unwrap_or(bytes).to_vec(alloc)?);
+    device.fuse(call.max(1), kept);
+    let (refused, device) = opening(alloc, server, device)?;
+    let is_left = bytes.get(..left) == Some(device.bytes());
+    let (found, device) = opening(alloc, server, device)?;
+    let (wanted, whole) = in_front(left);
+    let is_whole = bytes.get(..whole) == Some(device.bytes());
+    Ok(refused == Err(OpenFault::Device) && is_left && found == wanted && is_whole)
+}
+
+#[test]
+fn each_device_call_of_an_opening_may_fail(rt: HostRuntime) -> Result<(), Fail> {
+    let server = server_id(&rt, 0);
+    let bytes = bytes_of(rt.alloc(), THREE)?;
+    for row in FAILING.iter() {
+        for kept in 0..12 {
+            let is_so = fails(rt.alloc(), server, &bytes, *row, kept)?;
+            assert!(rt; is_so, "{row:?}, {kept}");
+        }
+    }
+    Ok(())
+}
+
+/// What is done to a journal, and what it answers.
+#[derive(Clone, Copy)]
+enum Step {
+    Fuse(u32, usize),
+    Lose(usize),
+    Append(Result<(), AppendFault>),
+    Reopen(Found),
+}
+
+use Step::{Append, Fuse, Lose, Reopen};
+
+/// Does the step. Whether the journal answers so, and is down where it refused.
+fn goes(alloc: Global, journal: &mut Journal<Memory>, step: Step) -> Result<bool, AllocError> {
+    match step {
+        Fuse(call, kept) => journal.device().fuse(call.max(1), kept),
+        Lose(count) => journal.device().lose(count),
+        Append(answer) => {
+            let given = journal.append(&WRITE);
+            return Ok(given == answer && journal.is_down() == answer.is_err());
+        }
+        Reopen(answer) => {
+            let given = match journal.reopen(alloc) {
+                Ok(found) => Ok((found.len(), found.dropped())),
+                Err(OpenFault::OutOfMemory) => return Err(AllocError),
+                Err(fault) => Err(fault),
+            };
+            return Ok(given == answer && journal.is_down() == answer.is_err());
+        }
+    }
+    Ok(true)
+}
+
+/// The steps go so, one after another, over the journal of the first bytes of that with three entries.
+fn all_go(
+    rt: &impl Abort,
+    alloc: Global,
+    front: &[u8],
+    fuse: u32,
+    steps: &[Step],
+) -> Result<(), AllocError> {
+    let mut device = device_of(front.to_vec(alloc)?);
+    device.fuse(fuse.max(1), 0);
+    let (mut journal, _) = Journal::open(alloc, server_id(rt, 0), device)
+        .ok()
+        .ok_or(AllocError)?;
+    for (at, step) in steps.iter().enumerate() {
+        assert!(rt; goes(alloc, &mut journal, *step)?, "step {at}");
+    }
+    Ok(())
+}
+
+/// A fuse that no opening of these tests reaches.
+const NEVER: u32 = 1000;
+
+const FAULT: Step = Append(Err(AppendFault::Device));
+
+const DOWN: Step = Append(Err(AppendFault::Down));
+
+/// What is done to the journal with three entries. A fuse that a reopening doesn't reach waits for the append behind it.
+static REOPENINGS: [Step; 27] = [
+    Fuse(3, 0),
+    Reopen(Ok((3, 0))),
+    FAULT,
+    DOWN,
+    Reopen(Ok((3, 0))),
+    Lose(1),
+    Fuse(1, 0),
+    Reopen(Err(OpenFault::Device)),
+    DOWN,
+    Reopen(Ok((2, 93))),
+    Append(Ok(())),
+    Lose(1),
+    Fuse(2, 0),
+    Reopen(Err(OpenFault::Device)),
+    DOWN,
+    Reopen(Ok((2, 93))),
+    Append(Ok(())),
+    Lose(1),
+    Fuse(3, 0),
+    Reopen(Err(OpenFault::Device)),
+    DOWN,
+    Reopen(Ok((2, 0))),
+    Append(Ok(())),
+    Lose(1),
+    Fuse(4, 0),
+    Reopen(Ok((2, 93))),
+    FAULT,
+];
+
+#[test]
+fn each_device_call_of_a_reopening_may_fail(rt: HostRuntime) -> Result<(), Fail> {
+    let bytes = bytes_of(rt.alloc(), THREE)?;
+    all_go(&rt, rt.alloc(), &bytes, NEVER, &REOPENINGS)?;
+    Ok(())
+}
+
+/// How many bytes at the front of that journal there are, and the first device call that no opening of them makes.
+static OPENINGS: [(usize, u32); 4] = [(292, 3), (291, 4), (0, 4), (5, 5)];
+
+#[test]
+fn a_later_fuse_waits_for_the_append(rt: HostRuntime) -> Result<(), Fail> {
+    let bytes = bytes_of(rt.alloc(), THREE)?;
+    for (len, call) in OPENINGS.iter() {
+        let front = bytes.get(..*len).unwrap_or(&bytes);
+        all_go(&rt, rt.alloc(), front, *call, &[FAULT, DOWN])?;
+    }
+    Ok(())
+}
+
+/// An append that fails with so many bytes of its entry added, or at its sync; and a reopening.
+fn failing_append(kept: usize) -> [Step; 5] {
+    let (call, found) = match kept {
+        0..94 => (1, (3, kept)),
+        94 => (1, (4, 0)),
+        _ => (2, (4, 0)),
+    };
+    [
+        Fuse(call, kept),
+        FAULT,
+        DOWN,
+        Reopen(Ok(found)),
+        Append(Ok(())),
+    ]
+}
+
+#[test]
+fn each_device_call_of_an_append_may_fail(rt: HostRuntime) -> Result<(), Fail> {
+    let bytes = bytes_of(rt.alloc(), THREE)?;
+    for kept in 0..96 {
+        all_go(&rt, rt.alloc(), &bytes, NEVER, &failing_append(kept))?;
+    }
+    Ok(())
+}

@@ -1,0 +1,55 @@
+//! Keys and texts at their borders.
+use bayou_base::{Key, KeyFault, Value};
+
+/// A name, and why it is no key.
+type Row = (&'static str, Option<KeyFault>);
+
+static KEYS: [Row; 16] = [
+    ("", Some(KeyFault::Empty)),
+    ("a", None),
+    ("az09._-/", None),
+    ("0123456789abcdef0123456789abcdef", None),
+    ("0123456789abcdef0123456789abcdefg", Some(KeyFault::TooLong)),
+    // Of two faults the length is told.
+    ("0123456789abcdef0123456789abcdefG", Some(KeyFault::TooLong)),
+    ("A", Some(KeyFault::BadByte(0))),
+    ("aZ", Some(KeyFault::BadByte(1))),
+    ("a`", Some(KeyFault::BadByte(1))),
+    ("a{", Some(KeyFault::BadByte(1))),
+    ("a:", Some(KeyFault::BadByte(1))),
+    ("ab ", Some(KeyFault::BadByte(2))),
+    ("abc,", Some(KeyFault::BadByte(3))),
+    ("\0", Some(KeyFault::BadByte(0))),
+    ("a\u{e4}b", Some(KeyFault::BadByte(1))),
+    (
+        "0123456789abcdef0123456789abcde!",
+        Some(KeyFault::BadByte(31)),
+    ),
+];
+
+#[test]
+fn names_of_keys(rt: HostRuntime) {
+    for (name, fault) in KEYS.iter() {
+        assert!(rt; Key::new(name).err() == *fault, "{name}");
+    }
+}
+
+/// A text, and whether a value may have it.
+static TEXTS: [(&str, bool); 9] = [
+    ("", true),
+    ("0123456789abcdef0123456789abcdef", true),
+    ("0123456789abcdef0123456789abcdefg", false),
+    ("0123456789abcdef0123456789abcde\u{e4}", false),
+    ("0123456789abcdef0123456789abcd\u{e4}", true),
+    ("0123456789abcdef0123456789abc\u{20ac}", true),
+    ("0123456789abcdef0123456789abcd\u{20ac}", false),
+    ("0123456789abcdef0123456789abcde\u{1f600}", false),
+    ("any \u{e4} \" \\ \n \0", true),
+];
+
+#[test]
+fn texts_of_values(rt: HostRuntime) {
+    for (text, fits) in TEXTS.iter() {
+        assert!(rt; Value::text(text).is_some() == *fits, "{text}");
+    }
+}

@@ -1,0 +1,34 @@
+//! Tests of the crates below the shell, each through its public calls alone. What is expected comes from outside of the
+//! program: from literals and from the pages of docs/.
+#![tactic(auto)]
+
+#[cfg(test)]
+mod devices;
+#[cfg(test)]
+mod fixtures;
+#[cfg(test)]
+mod frames;
+#[cfg(test)]
+mod journals;
+#[cfg(test)]
+mod keys;
+#[cfg(test)]
+mod limits;
+#[cfg(test)]
+mod lines;
+#[cfg(test)]
+mod logs;
+#[cfg(test)]
+mod notation;
+#[cfg(test)]
+mod numbers;
+#[cfg(test)]
+mod programs;
+#[cfg(test)]
+mod servers;
+#[cfg(test)]
+mod sessions;
+#[cfg(test)]
+mod streams;
+#[cfg(test)]
+mod vectors;

@@ -1,0 +1,36 @@
+//! Every limit, as a number.
+use bayou_base::limits::*;
+
+/// The name of a limit, the limit, and its number.
+static LIMITS: [(&str, u64, u64); 19] = [
+    ("servers", SERVERS as u64, 8),
+    ("sessions", SESSIONS as u64, 32),
+    ("Writes of a log", MAX_WRITES as u64, 65_536),
+    (
+        "Writes of a log where a script doesn't say",
+        DEFAULT_LIMIT as u64,
+        4_096,
+    ),
+    ("bytes of a key", MAX_KEY_BYTES as u64, 32),
+    ("bytes of a text", MAX_TEXT_BYTES as u64, 32),
+    ("conditions", MAX_CONDITIONS as u64, 8),
+    ("ops", MAX_OPS as u64, 8),
+    ("alternatives", MAX_ALTERNATIVES as u64, 4),
+    ("lines", MAX_LINES as u64, 65_536),
+    ("bytes of a line", MAX_LINE_BYTES as u64, 65_536),
+    ("bytes of a Write", MAX_WRITE_BYTES as u64, 5_812),
+    ("bytes of a frame", MAX_FRAME_BYTES as u64, 8_192),
+    ("bytes of a body", MAX_BODY_BYTES as u64, 8_192),
+    ("calls of a fuse", MAX_FUSE_CALLS as u64, 1_000),
+    ("bytes that a fuse keeps", MAX_FUSE_KEPT as u64, 8_192),
+    ("bytes that are lost", MAX_LOST_BYTES as u64, 1_000_000_000),
+    ("turns", MAX_TURNS as u64, 1_000_000),
+    ("places", MAX_PLACES as u64, 4_294_967_295),
+];
+
+#[test]
+fn numbers_of_limits(rt: HostRuntime) {
+    for (name, limit, number) in LIMITS.iter() {
+        assert!(rt; limit == number, "{name}");
+    }
+}

@@ -1,0 +1,247 @@
+//! Lines of JSON: what each is read as, in its spelling, or its first fault.
+use crate::notation::{parts, repeated};
+use arrayvec::ArrayString;
+use bayou_text::{Line, LineFault, read_line, write_line};
+use std::alloc::{AllocError, Global};
+use std::fmt::Write;
+use std::process::Abort;
+use std::test::Fail;
+
+/// What reading answers, again where memory ran out: the second answer is the ample one in runs where one allocation is
+/// refused.
+fn read(alloc: Global, bytes: &[u8]) -> Result<Line, LineFault> {
+    match read_line(alloc, bytes) {
+        Err(LineFault::OutOfMemory) => read_line(alloc, bytes),
+        answer => answer,
+    }
+}
+
+/// The spelling, again where memory ran out.
+fn spelling(alloc: Global, line: &Line) -> Result<String, AllocError> {
+    match write_line(alloc, line) {
+        Err(_) => write_line(alloc, line),
+        answer => answer,
+    }
+}
+
+/// Whether the fault is of this name.
+fn is_named(fault: LineFault, name: &str) -> bool {
+    let mut told: ArrayString<64> = ArrayString::new();
+    write!(told, "{fault:?}").is_ok() && told.as_str() == name
+}
+
+/// Whether the bytes are read as a line of this spelling, or have the fault that is named behind `!`.
+pub fn agrees(alloc: Global, bytes: &[u8], expected: &str) -> Result<bool, AllocError> {
+    match read(alloc, bytes) {
+        Ok(line) => Ok(spelling(alloc, &line)?.as_str() == expected),
+        Err(LineFault::OutOfMemory) => Err(AllocError),
+        Err(fault) => Ok(
+            expected
+                .strip_prefix('!')
+                .is_some_and(|name| is_named(fault, name)),
+        ),
+    }
+}
+
+/// Each row of the table is read as it says.
+fn all_agree(rt: &impl Abort, alloc: Global, table: &str) -> Result<(), AllocError> {
+    for row in table.lines() {
+        let (text, expected) = parts(row);
+        assert!(rt; agrees(alloc, text.as_bytes(), expected)?, "{row}");
+    }
+    Ok(())
+}
+
+/// Commands.
+const COMMANDS: &str = r#"["servers",1]
+["servers",1,1]
+["servers",1,0] => !BadShape(Number)
+["servers",1,65537] => !BadShape(Number)
+["servers",0] => !BadShape(Number)
+["servers",8]
+["servers",9] => !BadShape(Number)
+["servers",2,0,0] => !BadShape(Arity)
+["servers"] => !BadShape(Arity)
+["servers",1.0] => !BadShape(Number)
+["servers",1e0] => !BadShape(Number)
+["servers","1"] => !BadShape(Number)
+["servers",null,0] => !BadShape(Number)
+["session",0,[]]
+["session",31,["mw","ryw","mr","ryw","wfr"]] => ["session",31,["ryw","mr","wfr","mw"]]
+["session",7,["wfr"]]
+["session",32,["x"]] => !BadShape(Number)
+["session",-0,[]] => !BadShape(Number)
+["session",18446744073709551616,[]] => !BadShape(Number)
+["session",0,["x"]] => !BadShape(Word)
+["session",0,["ryw",1]] => !BadShape(Word)
+["session",0,["RYW"]] => !BadShape(Word)
+["session",0,"ryw"] => !BadShape(Form)
+["session",0,{}] => !BadShape(Form)
+["session",0] => !BadShape(Arity)
+["read",0,7,"a.b_c-d/9"]
+["read",0,0,"\u0061"] => ["read",0,0,"a"]
+["read",0,8,"a"] => !BadShape(Number)
+["read",-1,0,"A"] => !BadShape(Number)
+["read",0,-1,"A"] => !BadShape(Number)
+["read",0,0,""] => !Key(Empty)
+["read",0,0,"abA"] => !Key(BadByte(2))
+["read",0,0,"a\u0000"] => !Key(BadByte(1))
+["read",0,0,"aaaaaaaaaaaaaaaaaaaaaaaaaaaaaaaa"]
+["read",0,0,"aaaaaaaaaaaaaaaaaaaaaaaaaaaaaaaaA"] => !Key(TooLong)
+["read",0,0,0] => !BadShape(Name)
+["read",0,0,"a",0] => !BadShape(Arity)
+["write",0,{}] => !BadShape(Arity)
+["write",0,8,[]] => !BadShape(Number)
+["log",7]
+["log"] => !BadShape(Arity)
+["log",0,0] => !BadShape(Arity)
+["log",8] => !BadShape(Number)
+["totals"] => !BadShape(Command)
+["Read",0,0,"a"] => !BadShape(Command)
+["entry",0] => !BadShape(Command)
+["x"] => !BadShape(Command)
+[1] => !BadShape(Line)
+[] => !BadShape(Line)
+{} => !BadShape(Line)
+"read" => !BadShape(Line)
+null => !BadShape(Line)"#;
+
+#[test]
+fn commands(rt: HostRuntime) -> Result<(), Fail> {
+    all_agree(&rt, rt.alloc(), COMMANDS)?;
+    Ok(())
+}
+
+/// Commands that try one server.
+const TRIALS: &str = r#"["fuse",7,1,0]
+["fuse",0,1000,8192]
+["fuse",8,1,0] => !BadShape(Number)
+["fuse",0,0,0] => !BadShape(Number)
+["fuse",0,1001,0] => !BadShape(Number)
+["fuse",0,1,8193] => !BadShape(Number)
+["fuse",0,1,-1] => !BadShape(Number)
+["fuse",0,1] => !BadShape(Arity)
+["fuse",0,1,0,0] => !BadShape(Arity)
+["lose",7,0]
+["lose",0,1000000000]
+["lose",8,0] => !BadShape(Number)
+["lose",0,1000000001] => !BadShape(Number)
+["lose",0,-1] => !BadShape(Number)
+["lose",0] => !BadShape(Arity)
+["lose",0,0,0] => !BadShape(Arity)
+["reopen",7]
+["reopen",8] => !BadShape(Number)
+["reopen"] => !BadShape(Arity)
+["reopen",0,0] => !BadShape(Arity)
+["restart",7]
+["restart",8] => !BadShape(Number)
+["restart"] => !BadShape(Arity)
+["restart",0,0] => !BadShape(Arity)"#;
+
+#[test]
+fn trials(rt: HostRuntime) -> Result<(), Fail> {
+    all_agree(&rt, rt.alloc(), TRIALS)?;
+    Ok(())
+}
+
+/// Texts that are no JSON.
+const NO_JSON: &str = r#"["servers",1 => !NotJson
+["servers",1]] => !NotJson
+["servers",1,] => !NotJson
+["servers",01] => !NotJson
+["servers",1e999] => !NotJson
+["read",0,0,"\ud800"] => !NotJson
+["read",0,0,"\udc00\ud800"] => !NotJson
+["write",0,0,{"x":"\ud800","x":1}] => !NotJson
+['servers',1] => !NotJson"#;
+
+#[test]
+fn texts_that_are_no_json(rt: HostRuntime) -> Result<(), Fail> {
+    all_agree(&rt, rt.alloc(), NO_JSON)?;
+    Ok(())
+}
+
+/// Lines that no row of a table can have.
+static ODD: [(&[u8], &str); 7] = [
+    (b"", "!NotJson"),
+    (b" ", "!NotJson"),
+    (b"\r", "!NotJson"),
+    (b"\xef\xbb\xbf[\"servers\",1]", "!NotJson"),
+    (b"[\"read\",0,0,\"a\tb\"]", "!NotJson"),
+    (b"[\"read\",0,0,\"\xff\"]", "!NotJson"),
+    (b" [ \"servers\" , 1 , 65536 ] \r", "[\"servers\",1,65536]"),
+];
+
+#[test]
+fn odd_bytes(rt: HostRuntime) -> Result<(), Fail> {
+    for (bytes, expected) in ODD.iter() {
+        assert!(rt; agrees(rt.alloc(), bytes, expected)?, "{bytes:?}");
+    }
+    Ok(())
+}
+
+/// Lines of pieces that stand so many times, one behind the other.
+static LONG: [(&[(&[u8], usize)], &str); 6] = [
+    (
+        &[(b"[\"session\",0,", 1), (b"[", 2), (b"]", 3)],
+        "!BadShape(Word)",
+    ),
+    (
+        &[(b"[\"session\",0,", 1), (b"[", 126), (b"]", 127)],
+        "!BadShape(Word)",
+    ),
+    (
+        &[(b"[\"session\",0,", 1), (b"[", 127), (b"]", 128)],
+        "!NotJson",
+    ),
+    (
+        &[(b"[\"servers\",1]", 1), (b" ", 65_523)],
+        "[\"servers\",1]",
+    ),
+    (
+        &[(b"[\"servers\",1]", 1), (b" ", 65_524)],
+        "!BadShape(Line)",
+    ),
+    (
+        &[(b"\xff\"servers\",1]", 1), (b" ", 65_524)],
+        "!BadShape(Line)",
+    ),
+];
+
+#[test]
+fn depths_and_lengths(rt: HostRuntime) -> Result<(), Fail> {
+    for (pieces, expected) in LONG.iter() {
+        let bytes = repeated(rt.alloc(), pieces)?;
+        assert!(rt; agrees(rt.alloc(), &bytes, expected)?, "{expected}");
+    }
+    Ok(())
+}
+
+/// Lines of every command and form, and faults of every kind.
+const FORMS: &str = r#"["servers",1]
+["servers",1,4096]
+["session",0,[]]
+["session",31,["ryw","mr","wfr","mw"]]
+["write",0,0,{"check":[],"merge":[],"update":[]}]
+["write",0,0,{"check":[["equals","a",1],["atleast","b",-2]],"merge":[{"ops":[["put","a",["plus","b",3]]],"when":[["absent","c"]]},{"ops":[],"when":[]}],"update":[["del","c"],["put","b",["copy","a"]]]}]
+["write",0,0,{"check":[["equals","a","x"],["absent","b"]],"merge":[{"ops":[["del","a"],["put","b","y"]],"when":[["equals","a",1]]}],"update":[["put","a","\u0000\""]]}]
+["read",3,7,"a"]
+["log",7]
+["fuse",7,1000,8192]
+["lose",0,1000000000]
+["reopen",0]
+["restart",7]
+["servers",9] => !BadShape(Number)
+["read",0,0,"A"] => !Key(BadByte(0))
+["x"," => !NotJson
+["write",0,0,{"update":[["put","a",["x"]]]}] => !BadShape(Word)
+["write",0,0,{"update":[["put","a",1.5]]}] => !BadShape(Worth)
+["write",0,0,{"update":0,"update":[["del","A"]]}] => !Key(BadByte(0))
+["write",0,0,{"merge":[0,0,0,0,0]}] => !Program(TooManyAlts)"#;
+
+/// It takes no memory of its own but what reading and writing take, for runs in which one allocation is refused.
+#[test]
+fn want_of_memory_changes_no_answer(rt: HostRuntime) -> Result<(), Fail> {
+    all_agree(&rt, rt.alloc(), FORMS)?;
+    Ok(())
+}

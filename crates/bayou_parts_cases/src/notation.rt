@@ -1,0 +1,71 @@
+//! How tables say bytes and values: in hexadecimal, with marks in angle brackets for longer parts, and rows whose halves stand on
+//! both sides of `=>`.
+use std::alloc::{AllocError, Global};
+use std::test::Fail;
+
+/// What the marks stand for among bytes: the vector that counts no Write, the one that counts the Write 0:1 alone, the name of that
+/// Write, its clock, and a program that puts 1 at `room`.
+static AS_BYTES: [(&str, &str); 5] = [
+    (
+        "<none>",
+        "0000000000000000000000000000000000000000000000000000000000000000",
+    ),
+    (
+        "<one>",
+        "0000000100000000000000000000000000000000000000000000000000000000",
+    ),
+    ("<0:1>", "0000000001"),
+    ("<stamp>", "00000001"),
+    ("<put>", "00010104726f6f6d0101000000000000000100"),
+];
+
+/// What they stand for in a value that prints itself.
+pub static AS_PRINTED: [(&str, &str); 5] = [
+    ("<none>", "Vector { counts: [0, 0, 0, 0, 0, 0, 0, 0] }"),
+    ("<one>", "Vector { counts: [1, 0, 0, 0, 0, 0, 0, 0] }"),
+    ("<0:1>", "Wid { origin: ServerId { index: 0 }, seq: 1 }"),
+    (
+        "<stamp>",
+        "Stamp { clock: 1, origin: ServerId { index: 0 } }",
+    ),
+    (
+        "<put>",
+        "Program { check: [], update: [Put(\"room\", Lit(Num(1)))], merge: [] }",
+    ),
+];
+
+/// The text with what its marks stand for.
+pub fn expanded(alloc: Global, text: &str, marks: &[(&str, &str)]) -> Result<String, AllocError> {
+    let mut whole = text.to_string(alloc)?;
+    for (mark, meaning) in marks {
+        whole = whole.replace(alloc, *mark, meaning)?;
+    }
+    Ok(whole)
+}
+
+/// The bytes that the text says.
+pub fn bytes_of(alloc: Global, text: &str) -> Result<Vec<u8>, Fail> {
+    let digits = expanded(alloc, text, &AS_BYTES)?
+        .replace(alloc, " ", "")?
+        .replace(alloc, "\n", "")?;
+    Ok(hex::decode(alloc, digits.as_str())?)
+}
+
+/// The text of a row, and what it is read as: where the row says nothing of that, the same.
+pub fn parts(row: &str) -> (&str, &str) {
+    match row.split_once(" => ") {
+        Some(parts) => parts,
+        None => (row, row),
+    }
+}
+
+/// The pieces, each so many times, one behind the other.
+pub fn repeated(alloc: Global, pieces: &[(&[u8], usize)]) -> Result<Vec<u8>, AllocError> {
+    let mut bytes = Vec::new(alloc);
+    for (piece, count) in pieces {
+        for _ in 0..*count {
+            bytes.extend_from_slice(piece)?;
+        }
+    }
+    Ok(bytes)
+}

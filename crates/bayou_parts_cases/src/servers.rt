@@ -1,0 +1,369 @@
+//! Servers: what each call answers and leaves, each device call failing in turn, and want of memory.
+use crate::fixtures::{key, put, vector, wid};
+use crate::notation::bytes_of;
+use bayou_base::{MAX_WRITES, ServerId, Value, Vector};
+use bayou_device::{MemoryDevice, OpenGate};
+use bayou_server::{JournalFault, ReopenFault, Server, StartFault, WriteFault};
+use std::alloc::Global;
+use std::process::Abort;
+use std::test::Fail;
+
+type Memory = MemoryDevice<OpenGate>;
+
+type Served = Server<Memory>;
+
+/// The first of two servers on the device, or why it doesn't start.
+pub fn start(
+    rt: &impl Abort,
+    alloc: Global,
+    limit: u32,
+    device: Memory,
+) -> Result<Served, StartFault> {
+    let id = ServerId::new(0).expect(rt, "no server");
+    match Server::start(alloc, id, 2, limit.min(MAX_WRITES), device) {
+        Ok((server, _)) => Ok(server),
+        Err(refused) => Err(refused.fault),
+    }
+}
+
+/// What is done to a server, and what it answers.
+#[derive(Clone, Copy)]
+enum Step {
+    /// The device fails at this call from now, with so much of a piece added.
+    Fuse(u32, usize),
+    /// The device loses so many bytes at its end.
+    Lose(usize),
+    /// The device is replaced by that of a server that has put 1, 2 and so on.
+    Replace(u8),
+    /// The number is put at `a`: the Write's seq.
+    Put(i64, Result<u32, WriteFault>),
+    /// It reopens: the seq of the Write that is adopted, if any.
+    Reopen(Result<Option<u32>, ReopenFault>),
+    /// What `a` has, and how many Writes are held.
+    Has(Option<i64>, u32),
+}
+
+use Step::{Fuse, Has, Lose, Put, Reopen, Replace};
+
+/// Puts the number at `a`: the Write's seq.
+fn puts(
+    rt: &impl Abort,
+    alloc: Global,
+    server: &mut Served,
+    number: i64,
+) -> Result<u32, WriteFault> {
+    let accepted = server.write(alloc, &Vector::zero(), put(rt, number))?;
+    Ok(accepted.wid.seq)
+}
+
+/// The device of a server that has put 1, 2 and so on.
+fn with_writes(rt: &impl Abort, alloc: Global, count: u8) -> Result<Memory, Fail> {
+    let mut server = start(rt, alloc, 100, MemoryDevice::new(alloc, OpenGate))?;
+    for number in 0..count {
+        puts(rt, alloc, &mut server, i64::from(number) + 1)?;
+    }
+    Ok(server.stop().device)
+}
+
+/// Whether `a` has that, and so many Writes are held.
+fn has(rt: &impl Abort, server: &Served, value: Option<i64>, held: u32) -> bool {
+    let vector = vector(rt, held, 0);
+    match server.read(&Vector::zero(), &key(rt, "a")) {
+        Ok(seen) => {
+            seen.value == value.map(Value::Num)
+                && seen.vector == vector
+                && server.vector() == vector
+        }
+        Err(_) => false,
+    }
+}
+
+/// Whether the server, which reopens, answers so, and is down where it refuses.
+fn reopens(alloc: Global, server: &mut Served, answer: Result<Option<u32>, ReopenFault>) -> bool {
+    let given = match server.reopen(alloc) {
+        Ok(reopened) => match reopened.adopted {
+            Some(wid) => Ok(Some(wid.seq)),
+            None => Ok(None),
+        },
+        Err(fault) => Err(fault),
+    };
+    given == answer && server.is_down() == answer.is_err()
+}
+
+/// Does the step. Whether the server answers so.
+fn goes(rt: &impl Abort, alloc: Global, server: &mut Served, step: Step) -> Result<bool, Fail> {
+    match step {
+        Fuse(call, kept) => server.device().fuse(call.max(1), kept),
+        Lose(count) => server.device().lose(count),
+        Replace(count) => *server.device() = with_writes(rt, alloc, count)?,
+        Put(number, answer) => return Ok(puts(rt, alloc, server, number) == answer),
+        Reopen(answer) => return Ok(reopens(alloc, server, answer)),
+        Has(value, held) => return Ok(has(rt, server, value, held)),
+    }
+    Ok(true)
+}
+
+/// The steps go so, one after another, at a server that may hold so many Writes. It gives the device back.
+fn all_go(
+    rt: &impl Abort,
+    alloc: Global,
+    limit: u32,
+    device: Memory,
+    steps: &[Step],
+) -> Result<Memory, Fail> {
+    let mut server = start(rt, alloc, limit, device)?;
+    for (at, step) in steps.iter().enumerate() {
+        assert!(rt; goes(rt, alloc, &mut server, *step)?, "step {at}");
+    }
+    Ok(server.stop().device)
+}
+
+/// The append fails, and the Write is forgotten.
+const FORGOTTEN: [Step; 7] = [
+    Fuse(1, 50),
+    Put(1, Err(WriteFault::Journal)),
+    Put(1, Err(WriteFault::Down)),
+    Has(None, 0),
+    Reopen(Ok(None)),
+    Put(1, Ok(1)),
+    Has(Some(1), 1),
+];
+
+/// The sync fails, and the Write is adopted; then one that was acknowledged is lost.
+const ADOPTED: [Step; 10] = [
+    Put(1, Ok(1)),
+    Fuse(2, 0),
+    Put(2, Err(WriteFault::Journal)),
+    Reopen(Ok(Some(2))),
+    Has(Some(2), 2),
+    Lose(1),
+    Fuse(1, 0),
+    Put(3, Err(WriteFault::Journal)),
+    Reopen(Err(ReopenFault::Lost)),
+    Has(Some(2), 2),
+];
+
+/// What follows the Writes held is the Write in doubt, and then one more; or it is gone; or it is the Write in doubt alone.
+const REPLACED: [Step; 9] = [
+    Put(1, Ok(1)),
+    Fuse(1, 0),
+    Put(2, Err(WriteFault::Journal)),
+    Replace(3),
+    Reopen(Err(ReopenFault::BadRecord(1))),
+    Replace(0),
+    Reopen(Err(ReopenFault::Lost)),
+    Replace(2),
+    Reopen(Ok(Some(2))),
+];
+
+#[test]
+fn a_write_in_doubt_is_forgotten_or_adopted(rt: HostRuntime) -> Result<(), Fail> {
+    let alloc = rt.alloc();
+    let runs: [&[Step]; 3] = [&FORGOTTEN, &ADOPTED, &REPLACED];
+    for steps in runs {
+        all_go(&rt, alloc, 100, MemoryDevice::new(alloc, OpenGate), steps)?;
+    }
+    Ok(())
+}
+
+/// The device call of a Write that fails, how much of its entry of 91 bytes is added, the seq of the Write that a reopening adopts,
+/// if any, and what the server has then.
+const FAILING: [(u32, usize, Option<u32>, Step); 10] = [
+    (1, 0, None, Has(Some(1), 1)),
+    (1, 1, None, Has(Some(1), 1)),
+    (1, 50, None, Has(Some(1), 1)),
+    (1, 91, Some(2), Has(Some(2), 2)),
+    (1, 200, Some(2), Has(Some(2), 2)),
+    (2, 0, Some(2), Has(Some(2), 2)),
+    (2, 1, Some(2), Has(Some(2), 2)),
+    (2, 50, Some(2), Has(Some(2), 2)),
+    (2, 91, Some(2), Has(Some(2), 2)),
+    (2, 200, Some(2), Has(Some(2), 2)),
+];
+
+#[test]
+fn each_device_call_of_a_write_may_fail(rt: HostRuntime) -> Result<(), Fail> {
+    let alloc = rt.alloc();
+    for (call, kept, adopted, left) in FAILING {
+        let steps = [
+            Fuse(call, kept),
+            Put(2, Err(WriteFault::Journal)),
+            Put(3, Err(WriteFault::Down)),
+            Has(Some(1), 1),
+            Reopen(Ok(adopted)),
+            left,
+        ];
+        let device = all_go(&rt, alloc, 100, with_writes(&rt, alloc, 1)?, &steps)?;
+        all_go(&rt, alloc, 100, device, &[left])?;
+    }
+    Ok(())
+}
+
+/// The front of an entry stands behind the chain: a reopening reads, cuts and syncs. One of these calls fails.
+#[test]
+fn each_device_call_of_a_reopening_may_fail(rt: HostRuntime) -> Result<(), Fail> {
+    let alloc = rt.alloc();
+    for call in 1..4 {
+        let steps = [
+            Fuse(1, 50),
+            Put(2, Err(WriteFault::Journal)),
+            Fuse(call, 0),
+            Reopen(Err(ReopenFault::Journal(JournalFault::Device))),
+            Has(Some(1), 1),
+            Reopen(Ok(None)),
+            Has(Some(1), 1),
+        ];
+        all_go(&rt, alloc, 100, with_writes(&rt, alloc, 1)?, &steps)?;
+    }
+    Ok(())
+}
+
+/// The journal of server 0 with the body 00, which is no Write.
+const NO_WRITE: &str = "4241594f554a4e4c 0100
+    0001 00
+    b3ba6d8a6e5ef4e04442f1a7bdc6e5453932d821d3969a80049a40a178c86477";
+
+/// The journal of server 0 with its second Write alone.
+const SECOND: &str = "4241594f554a4e4c 0100
+    0039 000000000200000002000000010000000000000000000000000000000000000000000000000000000000010101610101000000000000000200
+    a08cfdeda8db9eb228a001bb10bd1c725755e6d9a36b05539e0302bc8350888f";
+
+/// The journal of server 0 with Writes that put 1, 2 and 3 at `a`.
+const THREE: &str = "4241594f554a4e4c 0100
+    0039 000000000100000001000000000000000000000000000000000000000000000000000000000000000000010101610101000000000000000100
+    e838bcc5d3639a9069e0fe731f287ef03ef504a48fb87dab1c8b7e92b98bac8c
+    0039 000000000200000002000000010000000000000000000000000000000000000000000000000000000000010101610101000000000000000200
+    bd3dda4ef052f38aa2657f033d26af4436a1a673b228708436a7c4da17d11af6
+    0039 000000000300000003000000020000000000000000000000000000000000000000000000000000000000010101610101000000000000000300
+    3a054e5646160f0146d55cdcc2a751ed7c52ab93fe51bcec13c74ea96fd8e24d";
+
+/// A fuse that no start reaches.
+const NEVER: u32 = 1000;
+
+/// The bytes of a device, the device call that fails, and why no server that may hold two Writes starts on it. A start on the front of a
+/// header reads, cuts, appends the header and syncs.
+static REFUSED: [(&str, u32, StartFault); 9] = [
+    (NO_WRITE, NEVER, StartFault::BadRecord(0)),
+    (SECOND, NEVER, StartFault::Gap(0)),
+    (THREE, NEVER, StartFault::LogFull),
+    (
+        "68656c6c6f",
+        NEVER,
+        StartFault::Journal(JournalFault::NotAJournal),
+    ),
+    (
+        "4241594f554a4e4c 0101",
+        NEVER,
+        StartFault::Journal(JournalFault::OtherServer),
+    ),
+    ("4241594f55", 1, StartFault::Journal(JournalFault::Device)),
+    ("4241594f55", 2, StartFault::Journal(JournalFault::Device)),
+    ("4241594f55", 3, StartFault::Journal(JournalFault::Device)),
+    ("4241594f55", 4, StartFault::Journal(JournalFault::Device)),
+];
+
+#[test]
+fn what_no_server_stored_is_refused(rt: HostRuntime) -> Result<(), Fail> {
+    let alloc = rt.alloc();
+    for (text, call, fault) in REFUSED.iter() {
+        let mut device = MemoryDevice::with_bytes(bytes_of(alloc, text)?, OpenGate);
+        device.fuse((*call).max(1), 3);
+        let is_so = start(&rt, alloc, 2, device).err() == Some(*fault);
+        assert!(rt; is_so, "{fault:?}");
+    }
+    Ok(())
+}
+
+/// Whether a server that is behind by a Write says so, with what it holds.
+fn is_behind(rt: &impl Abort, server: &Served, held: u32) -> bool {
+    match server.read(&vector(rt, held.saturating_add(1), 0), &key(rt, "a")) {
+        Ok(_) => false,
+        Err(behind) => behind.vector == vector(rt, held, 0),
+    }
+}
+
+#[test]
+fn a_server_tells_what_it_holds(rt: HostRuntime) -> Result<(), Fail> {
+    let alloc = rt.alloc();
+    let steps = [Has(Some(2), 2), Put(3, Err(WriteFault::LogFull))];
+    let device = all_go(&rt, alloc, 2, with_writes(&rt, alloc, 2)?, &steps)?;
+    let server = start(&rt, alloc, 2, device)?;
+    let is_dumped = server.dump(alloc)?.as_slice() == server.receipts();
+    let is_found = server.find(wid(&rt, 0, 2)).is_some();
+    let listed = server.listing(alloc)?.len();
+    assert!(rt; is_dumped && is_found && is_behind(&rt, &server, 2));
+    let stopped = server.stop();
+    let left = (stopped.log.receipts().len(), stopped.device.bytes().len());
+    assert_eq!(rt; (listed, left), (2, (2, 192)));
+    Ok(())
+}
+
+/// Starts a server on the device, again where that was refused.
+fn start_at_last(rt: &impl Abort, alloc: Global, device: Memory) -> Result<Served, StartFault> {
+    let id = ServerId::new(0).expect(rt, "no server");
+    match Server::start(alloc, id, 2, 100, device) {
+        Ok((server, _)) => Ok(server),
+        Err(refused) => start(rt, alloc, 100, refused.device),
+    }
+}
+
+/// Reopens the server where it is down, again where that was refused.
+fn reopen_at_last(alloc: Global, server: &mut Served) -> Result<(), Fail> {
+    if server.is_down() && server.reopen(alloc).is_err() {
+        server.reopen(alloc)?;
+    }
+    Ok(())
+}
+
+/// Puts the number, again where that was refused; a Write in doubt is settled first. Whether a refused Write wasn't held.
+fn put_at_last(
+    rt: &impl Abort,
+    alloc: Global,
+    server: &mut Served,
+    number: i64,
+) -> Result<bool, Fail> {
+    let held = server.receipts().len();
+    if puts(rt, alloc, server, number).is_ok() {
+        return Ok(true);
+    }
+    let is_held = server.receipts().len() > held;
+    reopen_at_last(alloc, server)?;
+    puts(rt, alloc, server, number)?;
+    Ok(!is_held)
+}
+
+/// How many Writes the server dumps and lists, again where that was refused.
+fn tells(alloc: Global, server: &Served) -> Result<(usize, usize), Fail> {
+    let dumped = match server.dump(alloc) {
+        Ok(dump) => dump.len(),
+        Err(_) => server.dump(alloc)?.len(),
+    };
+    let listed = match server.listing(alloc) {
+        Ok(listing) => listing.len(),
+        Err(_) => server.listing(alloc)?.len(),
+    };
+    Ok((dumped, listed))
+}
+
+/// For runs in which any one allocation is refused: what a server acknowledged it keeps, and what was refused can be done again. The
+/// last Write is added and not synced; it, or the one before it, may be refused for memory before the device is called.
+#[test]
+fn one_want_of_memory_costs_no_write(rt: HostRuntime) -> Result<(), Fail> {
+    let alloc = rt.alloc();
+    let mut server = start_at_last(&rt, alloc, MemoryDevice::new(alloc, OpenGate))?;
+    for number in 0..3 {
+        assert!(rt;
+            put_at_last(&rt, alloc, &mut server, number)?,
+            "a refused Write is held"
+        );
+    }
+    server.device().fuse(2, 0);
+    let _ = puts(&rt, alloc, &mut server, 9);
+    let _ = puts(&rt, alloc, &mut server, 9);
+    reopen_at_last(alloc, &mut server)?;
+    let held = server.receipts().len();
+    let told = tells(alloc, &server)?;
+    let server = start_at_last(&rt, alloc, server.stop().device)?;
+    assert!(rt; held >= 3 && told == (held, held) && server.receipts().len() == held);
+    Ok(())
+}

@@ -1,0 +1,120 @@
+//! Sessions: what they need of a server, and whether a server serves them.
+use crate::fixtures::{key, put, server_id, session_id, vector, wid};
+use crate::servers::start;
+use bayou_base::{Accepted, Asks, Seen, Stamp, Vector, Wid};
+use bayou_device::{MemoryDevice, OpenGate};
+use bayou_server::{Server, WriteFault};
+use bayou_session::Session;
+use std::alloc::Global;
+use std::process::Abort;
+use std::test::Fail;
+
+/// One of the sixteen combinations of asks.
+fn asks_of(number: u8) -> Asks {
+    Asks {
+        ryw: number & 1 > 0,
+        mr: number & 2 > 0,
+        wfr: number & 4 > 0,
+        mw: number & 8 > 0,
+    }
+}
+
+/// Whether a server may serve a read, and accept a Write, that is behind in what the session read, or in what it wrote.
+fn may_be_served(asks: Asks, in_reads: bool, in_writes: bool) -> (bool, bool) {
+    let may_read = !(asks.ryw && in_writes) && !(asks.mr && in_reads);
+    let may_write = !(asks.mw && in_writes) && !(asks.wfr && in_reads);
+    (may_read, may_write)
+}
+
+/// A session whose read saw this vector, and which made that Write.
+fn told(rt: &impl Abort, asks: Asks, vector: Vector, wid: Wid) -> Session {
+    let mut session = Session::new(session_id(rt, 5), asks);
+    session.saw(&Seen {
+        value: None,
+        vector,
+    });
+    session.wrote(&Accepted {
+        wid,
+        stamp: Stamp::new(9, wid.origin).expect(rt, "no stamp"),
+        deps: Vector::zero(),
+    });
+    session
+}
+
+/// What a server holds that is behind in reads, in Writes, in both, and in none, where reads saw two Writes of server 0 and the third
+/// of server 1 was made.
+static HELD: [(u32, u32); 4] = [(1, 3), (2, 2), (1, 2), (2, 3)];
+
+#[test]
+fn a_server_behind_may_serve_what_is_not_asked(rt: HostRuntime) {
+    for number in 0..64_u8 {
+        let asks = asks_of(number % 16);
+        let session = told(&rt, asks, vector(&rt, 2, 0), wid(&rt, 1, 3));
+        let (first, second) = HELD[usize::from(number / 16)];
+        let server = vector(&rt, first, second);
+        let found = (
+            server.dominates(&session.need_read()),
+            server.dominates(&session.need_write()),
+        );
+        let wanted = may_be_served(asks, first < 2, second < 3);
+        assert!(rt; found == wanted, "{asks:?} at {first}, {second}");
+    }
+}
+
+#[test]
+fn places(rt: HostRuntime) {
+    let mut session = told(&rt, Asks::default(), vector(&rt, 2, 0), wid(&rt, 1, 3));
+    let mut last = 0;
+    assert_eq!(rt; session.left(), 4_294_967_295);
+    for _ in 1..4_294_967_295_u32 {
+        if session.left() > 1 {
+            last = session.begin();
+        }
+    }
+    assert_eq!(rt; (last, session.left()), (4_294_967_294, 1));
+    if session.left() > 0 {
+        last = session.begin();
+    }
+    assert_eq!(rt; (last, session.left()), (4_294_967_295, 0));
+    assert_eq!(rt;
+        (session.id().index, session.need_read()),
+        (5, Vector::zero())
+    );
+}
+
+/// Whether the server serves the session a read, and accepts a Write of it; `None` where it refuses the Write, but not as one that is
+/// behind.
+fn served(
+    rt: &impl Abort,
+    alloc: Global,
+    server: &mut Server<MemoryDevice<OpenGate>>,
+    session: &Session,
+) -> Option<(bool, bool)> {
+    let is_read = server.read(&session.need_read(), &key(rt, "a")).is_ok();
+    match server.write(alloc, &session.need_write(), put(rt, 2)) {
+        Ok(_) => Some((is_read, true)),
+        Err(WriteFault::Behind(_)) => Some((is_read, false)),
+        Err(_) => None,
+    }
+}
+
+/// The first of two servers, which holds Writes of its own, and sessions that read one Write of either and made the first of either.
+#[test]
+fn a_server_checks_what_is_asked(rt: HostRuntime) -> Result<(), Fail> {
+    let alloc = rt.alloc();
+    let mut server = start(&rt, alloc, 99, MemoryDevice::new(alloc, OpenGate))?;
+    server.write(alloc, &Vector::zero(), put(&rt, 1))?;
+    for number in 0..64_u8 {
+        let (asks, read, wrote) = (asks_of(number % 16), number / 16 % 2, number / 32);
+        let seen = if read > 0 {
+            vector(&rt, 0, 1)
+        } else {
+            vector(&rt, 1, 0)
+        };
+        let session = told(&rt, asks, seen, wid(&rt, wrote, 1));
+        let wanted = may_be_served(asks, read > 0, wrote > 0);
+        let found = served(&rt, alloc, &mut server, &session);
+        assert!(rt; found == Some(wanted), "{asks:?}, {read}, {wrote}");
+    }
+    Ok(())
+}
