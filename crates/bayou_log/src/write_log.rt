@@ -3,7 +3,7 @@ ghost use Rattle.bayou_base.specs.declared.limits.TheConstants.{SERVERS, MAX_WRI
 ghost use Rattle.bayou_lang.specs.declared.write.Write.{Write};
 ghost use Rattle.bayou_lang.specs.Places.{value_at};
 ghost use Rattle.bayou_lang.specs.Writes.{count_of, covered_by, greatest_clock, AreFitting, Fits, HasNoGap};
-ghost use Rattle.bayou_log.specs.Inner.Fitting.{FitAnswer};
+ghost use Rattle.bayou_log.specs.Fitting.{FitAnswer};
 ghost use Rattle.bayou_log.specs.Listing.{listing_of};
 ghost use Rattle.bayou_log.specs.Log.{IsReserved};
 ghost use Rattle.bayou_log.specs.Replay.{replay};

@@ -3,7 +3,7 @@ use Rattle.std.proofs.Common.{ℕ, List, Err}
 use Rattle.bayou_lang.specs.declared.write.Write.{Write}
 use Rattle.bayou_log.specs.declared.fitting.Misfit.{Misfit}
 use Rattle.bayou_log.specs.declared.fitting.Misfit.TheVariants as misfits
-use Rattle.bayou_log.specs.Inner.Fitting.{FitAnswer}
+use Rattle.bayou_log.specs.Fitting.{FitAnswer}
 use Rattle.bayou_server.specs.Server.{MayFollow}
 
 -- a Write that doesn't fit
