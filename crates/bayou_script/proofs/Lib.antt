@@ -1,1 +1,2 @@
 mod Checked
+pub mod Once

@@ -79,7 +79,7 @@ pub data InOrder : List (List ℕ) → List Said → Type 0 where
   nothing : InOrder [] []
   skipped : (lines : List (List ℕ)) (front : List Said) → InOrder lines front → InOrder (lines ++ [] ∷ []) front
   added : (lines : List (List ℕ)) (front : List Said) (line : List ℕ) (said : Said) → InOrder lines front
-      → Spells line said → length lines < MAX_LINES → IsTrue (has_place front said) → InOrder (lines ++ line ∷ []) (front ++ said ∷ [])
+      → line ≢ [] → Spells line said → length lines < MAX_LINES → IsTrue (has_place front said) → InOrder (lines ++ line ∷ []) (front ++ said ∷ [])
 
 -- the kind of a line's own fault; want of memory is none
 abbrev pub kind_of : LineFault → Option ScriptFault
@@ -92,8 +92,8 @@ kind_of (line.Program why) = Some BadProgram
 -- the fault of the line of this number behind what was said: its own, or that it is out of place
 pub data HasFault (number : ℕ) (front : List Said) (bytes : List ℕ) (fault : ScriptFault) : Type 0 where
   in_itself : (why : LineFault) → bytes ≢ [] → IsFaultOf bytes why → kind_of why ≡ Some fault → HasFault number front bytes fault
-  too_late : (said : Said) → Spells bytes said → MAX_LINES < number → fault ≡ OutOfPlace → HasFault number front bytes fault
-  misplaced : (said : Said) → Spells bytes said → has_place front said ≡ false → fault ≡ OutOfPlace → HasFault number front bytes fault
+  too_late : (said : Said) → bytes ≢ [] → Spells bytes said → MAX_LINES < number → fault ≡ OutOfPlace → HasFault number front bytes fault
+  misplaced : (said : Said) → bytes ≢ [] → Spells bytes said → has_place front said ≡ false → fault ≡ OutOfPlace → HasFault number front bytes fault
 
 -- The lines are refused for this one: those before it are in order, and it has the fault. Lines that say nothing are
 -- refused for line 1.

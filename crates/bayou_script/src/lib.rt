@@ -14,6 +14,7 @@
 pub mod checking;
 mod draft;
 pub mod fault;
+pub mod laws;
 pub mod script;
 mod uses;
 

@@ -1,0 +1,26 @@
+use Rattle.bayou_script.proofs.Once.{LineLaws, not_both, one_plan, one_refusal}
+use Rattle.bayou_script.proofs.laws.a_script_is_read_in_one_way.Goals as goal
+
+pub returns-clause-one_plan : goal.returns-clause-one_plan
+returns-clause-one_plan c =
+    let laws : LineLaws = record {
+      one_line = c.a_line_is_read_in_one_way.ensures.one_line;
+      one_fault = c.a_line_is_read_in_one_way.ensures.one_fault;
+      not_both = c.a_line_is_read_in_one_way.ensures.not_both;
+    } in one_plan laws
+
+pub returns-clause-one_refusal : goal.returns-clause-one_refusal
+returns-clause-one_refusal c =
+    let laws : LineLaws = record {
+      one_line = c.a_line_is_read_in_one_way.ensures.one_line;
+      one_fault = c.a_line_is_read_in_one_way.ensures.one_fault;
+      not_both = c.a_line_is_read_in_one_way.ensures.not_both;
+    } in one_refusal laws
+
+pub returns-clause-not_both : goal.returns-clause-not_both
+returns-clause-not_both c =
+    let laws : LineLaws = record {
+      one_line = c.a_line_is_read_in_one_way.ensures.one_line;
+      one_fault = c.a_line_is_read_in_one_way.ensures.one_fault;
+      not_both = c.a_line_is_read_in_one_way.ensures.not_both;
+    } in not_both laws

@@ -1,0 +1,16 @@
+//! What the order of a script's lines comes to: a law is the contract of a function that does nothing.
+ghost use Rattle.std.specs.Prelude.{◌≡◌, ℕ, List};
+ghost use Rattle.bayou_script.specs.declared.fault.ScriptFault.{ScriptFault};
+ghost use Rattle.bayou_script.specs.Script.{IsRefused, IsScript, Plan};
+
+use bayou_text::laws::a_line_is_read_in_one_way;
+
+/// Lines are a script or are refused, never both; what the script says is one, and so is the refusal.
+pub fn a_script_is_read_in_one_way()
+    ensures one_plan { (lines : List (List ℕ)) (one other : Plan) → IsScript lines one → IsScript lines other → one ≡ other }
+    ensures one_refusal { (lines : List (List ℕ)) (number more : ℕ) (fault other : ScriptFault)
+        → IsRefused lines number fault → IsRefused lines more other → (number ≡ more) × (fault ≡ other) }
+    ensures not_both { (lines : List (List ℕ)) (plan : Plan) (number : ℕ) (fault : ScriptFault) → IsScript lines plan → ¬ IsRefused lines number fault }
+{
+    a_line_is_read_in_one_way();
+}
