@@ -5,6 +5,7 @@ use Rattle.bayou_device.specs.Device.{Rose}
 use Rattle.bayou_device.specs.declared.device.Device.{Ghosts}
 use Rattle.bayou_journal.specs.Chain.{chain_end, entry, journal}
 use Rattle.bayou_journal.specs.Opening.{FailsToAdd, HasOpened, HasRefused}
+pub use Rattle.bayou_journal.specs.Opening.{OpensInCalls}
 use Rattle.bayou_journal.specs.declared.fault.OpenFault.TheVariants as opening
 use Rattle.bayou_lang.specs.declared.write.Write.{Write}
 use Rattle.bayou_wire.specs.Spelling.{write_bytes}

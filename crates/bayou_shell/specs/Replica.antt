@@ -11,7 +11,7 @@ use Rattle.bayou_lang.specs.declared.program.Program.{Program}
 use Rattle.bayou_lang.specs.declared.write.Write.{Write}
 use Rattle.bayou_lang.specs.Writes.{count_of}
 use Rattle.bayou_log.specs.Listing.{listing_of}
-use Rattle.bayou_server.specs.declared.answer.Stopped.{Stopped as Left}
+use Rattle.bayou_server.specs.declared.answer.Stopped.{Stopped as StoppedServer}
 use Rattle.bayou_server.specs.declared.fault.Behind.{Behind}
 use Rattle.bayou_server.specs.declared.fault.StartFault.{StartFault}
 use Rattle.bayou_server.specs.declared.fault.StartFault.TheVariants.{OutOfMemory}
@@ -21,17 +21,18 @@ use Rattle.bayou_server.specs.Reads.{Reads}
 use Rattle.bayou_server.specs.Reopens.{Reopens}
 use Rattle.bayou_server.specs.Server.{ServerState, with_device}
 use Rattle.bayou_server.specs.Starts.{FailsToStart, Starts, StartsOn}
-use Rattle.bayou_server.specs.Stored.{ReopensJournal, StoresWrite}
+use Rattle.bayou_server.specs.Stored.{OpensInCalls, ReopensJournal, StoresWrite}
 use Rattle.bayou_server.specs.Writes.{Writes}
 use Rattle.bayou_session.specs.Needs.{Told, after_read, after_write, one_place_more, read_need, write_need}
 use Rattle.bayou_shell.specs.declared.answer.Answer.{Answer}
-use Rattle.bayou_shell.specs.declared.answer.Answer.TheVariants.{Done, Wrote, Read, Refused, Lost, Logged, Stopped, Recovered}
+use Rattle.bayou_shell.specs.declared.answer.Answer.TheVariants.{Done, Wrote, Read, Refused, Lost, Logged, Recovered}
+use Rattle.bayou_shell.specs.declared.answer.Answer.TheVariants as answers
 use Rattle.bayou_shell.specs.declared.answer.Recovery.{Recovery}
 use Rattle.bayou_shell.specs.declared.answer.Recovery.TheVariants.{Reopened, NotReopened, NotRunning, Restarted, NotRestarted}
 use Rattle.bayou_shell.specs.declared.fault.Fault.{Fault}
 use Rattle.bayou_shell.specs.declared.fault.Fault.TheVariants as faults
 use Rattle.bayou_shell.specs.declared.replica.Replica.{Replica}
-use Rattle.bayou_shell.specs.declared.replica.Replica.TheVariants.{Running, Halted}
+use Rattle.bayou_shell.specs.declared.replica.Replica.TheVariants.{Running, Stopped}
 
 -- ---- servers on devices in memory
 
@@ -42,20 +43,20 @@ Serving = ServerState Memory
 -- the device of a server that runs or is stopped, the Writes that it holds, and the one in doubt
 abbrev pub device_of : Replica → Memory
 device_of (Running server) = server.device
-device_of (Halted left) = left.device
+device_of (Stopped left) = left.device
 
 abbrev pub held_by : Replica → List Write
 held_by (Running server) = server.core.held
-held_by (Halted left) = left.log.receipts
+held_by (Stopped left) = left.log.receipts
 
 abbrev pub doubt_of : Replica → Option Write
 doubt_of (Running server) = server.core.doubt
-doubt_of (Halted left) = left.doubt
+doubt_of (Stopped left) = left.doubt
 
 -- the server, on another device
 abbrev pub on_device : Replica → Memory → Replica
 on_device (Running server) device = Running (with_device server device)
-on_device (Halted left) device = Halted (record left { device = device })
+on_device (Stopped left) device = Stopped (record left { device = device })
 
 -- ---- operations of sessions
 
@@ -80,7 +81,7 @@ read_answer who key (Err behind) = Refused who (writing.Behind behind.vector)
 -- No reply reaches a session that has no place left, nor one whose server is stopped.
 pub data GetsNoReply (who : SessionId) (replica : Replica) (told : Told) (answer : Answer) (now : Told) : Type 0 where
   no_place : told.begun ≡ MAX_PLACES → answer ≡ Lost who → now ≡ told → GetsNoReply who replica told answer now
-  stopped : (left : Left Memory) → replica ≡ Halted left → told.begun < MAX_PLACES → answer ≡ Lost who → now ≡ one_place_more told
+  stopped : (left : StoppedServer Memory) → replica ≡ Stopped left → told.begun < MAX_PLACES → answer ≡ Lost who → now ≡ one_place_more told
       → GetsNoReply who replica told answer now
 
 -- The server answers the session's Write, by what the session needs of it.
@@ -120,12 +121,12 @@ IsRead who key replica told answer now = GetsNoReply who replica told answer now
 pub record IsStarted (count limit place : ℕ) (device : Memory) (server : Serving) (dropped : ℕ) : Type 0 where
   pub starts : Starts place count limit server.core
   pub opens : StartsOn memory_device device server dropped
-  pub calls : LeadsTo 4 device server.device
+  pub calls : OpensInCalls memory_device place device server.device
 
 -- its start was refused, and this is left of the device
 pub record IsRefusedStart (count limit place : ℕ) (device left : Memory) (refusal : StartFault) : Type 0 where
   pub fails : FailsToStart memory_device place count limit device left refusal
-  pub calls : LeadsTo 4 device left
+  pub calls : OpensInCalls memory_device place device left
 
 -- the server was started first, on an empty device, on which no fuse waits
 abbrev pub IsBegun : ℕ → ℕ → ℕ → Replica → Type 0
@@ -152,7 +153,7 @@ IsBeginFault count limit place faults.Output = ⊥
 abbrev pub IsListed : ServerId → Replica → Answer → Type 0
 IsListed id replica (Logged name listing vector) =
     (name ≡ id) × ((server : Serving) × (replica ≡ Running server) × (listing.items ≡ listing_of server.core.held) × (vector ≡ count_of server.core.held))
-IsListed id replica (Stopped name) = (name ≡ id) × ((left : Left Memory) × (replica ≡ Halted left))
+IsListed id replica (answers.Stopped name) = (name ≡ id) × ((left : StoppedServer Memory) × (replica ≡ Stopped left))
 IsListed id replica Done = ⊥
 IsListed id replica (Wrote who accepted) = ⊥
 IsListed id replica (Read who key seen) = ⊥
@@ -172,10 +173,10 @@ IsShortened count before after = after ≡ on_device before (shortened count (de
 abbrev pub IsReopened : ServerId → Replica → Recovery → Replica → Type 0
 IsReopened id before (Reopened name adopted) after = (name ≡ id) × ((old new : Serving) × (before ≡ Running old) × (after ≡ Running new)
     × Reopens old.core (Ok (record { adopted = adopted })) new.core × ReopensJournal memory_device old (Ok (record { adopted = adopted })) new
-    × LeadsTo 4 old.device new.device)
+    × OpensInCalls memory_device old.core.id old.device new.device)
 IsReopened id before (NotReopened refusal) after = (old new : Serving) × (before ≡ Running old) × (after ≡ Running new)
-    × Reopens old.core (Err refusal) new.core × ReopensJournal memory_device old (Err refusal) new × LeadsTo 4 old.device new.device
-IsReopened id before NotRunning after = (left : Left Memory) × (before ≡ Halted left) × (after ≡ before)
+    × Reopens old.core (Err refusal) new.core × ReopensJournal memory_device old (Err refusal) new × OpensInCalls memory_device old.core.id old.device new.device
+IsReopened id before NotRunning after = (left : StoppedServer Memory) × (before ≡ Stopped left) × (after ≡ before)
 IsReopened id before (Restarted name holds dropped) after = ⊥
 IsReopened id before (NotRestarted refusal) after = ⊥
 
@@ -183,7 +184,7 @@ IsReopened id before (NotRestarted refusal) after = ⊥
 abbrev pub IsRestarted : ℕ → ℕ → ServerId → Replica → Recovery → Replica → Type 0
 IsRestarted count limit id before (Restarted name holds dropped) after = (name ≡ id) × ((new : Serving) × (after ≡ Running new) × (holds ≡ length new.core.held)
     × IsStarted count limit id.index (device_of before) new dropped)
-IsRestarted count limit id before (NotRestarted refusal) after = (left : Left Memory) × (after ≡ Halted left)
+IsRestarted count limit id before (NotRestarted refusal) after = (left : StoppedServer Memory) × (after ≡ Stopped left)
     × (held_by after ≡ held_by before) × (doubt_of after ≡ doubt_of before)
     × IsRefusedStart count limit id.index (device_of before) left.device refusal
 IsRestarted count limit id before (Reopened name adopted) after = ⊥

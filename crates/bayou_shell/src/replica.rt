@@ -18,7 +18,7 @@ pub enum Replica {
     /// It serves, up or down.
     Running(Server<MemoryDevice<OpenGate>>),
     /// Its last start was refused: its device, and what it held before.
-    Halted(Stopped<MemoryDevice<OpenGate>>),
+    Stopped(Stopped<MemoryDevice<OpenGate>>),
 }
 
 impl Replica {
@@ -124,7 +124,7 @@ impl Replica {
     {
         match self {
             Replica::Running(server) => server.device().fuse(failure.calls, failure.kept),
-            Replica::Halted(stopped) => stopped.device.fuse(failure.calls, failure.kept),
+            Replica::Stopped(stopped) => stopped.device.fuse(failure.calls, failure.kept),
         }
     }
 
@@ -134,7 +134,7 @@ impl Replica {
     {
         match self {
             Replica::Running(server) => server.device().lose(count),
-            Replica::Halted(stopped) => stopped.device.lose(count),
+            Replica::Stopped(stopped) => stopped.device.lose(count),
         }
     }
 
@@ -162,7 +162,7 @@ impl Replica {
     {
         match self {
             Replica::Running(server) => server.stop(),
-            Replica::Halted(stopped) => stopped,
+            Replica::Stopped(stopped) => stopped,
         }
     }
 
@@ -184,7 +184,7 @@ impl Replica {
             }
             Err(NotStarted { fault, device }) => {
                 let stopped = Stopped { device, log, doubt };
-                (Replica::Halted(stopped), Recovery::NotRestarted(fault))
+                (Replica::Stopped(stopped), Recovery::NotRestarted(fault))
             }
         }
     }
