@@ -1,5 +1,5 @@
 //! The borders of what a line may say, each within a script.
-use crate::memory::{Given, joined, repeated, run};
+use crate::memory::{Given, joined, run};
 use std::alloc::{AllocError, Global};
 use std::test::Fail;
 
@@ -143,12 +143,27 @@ static LONG: [(&str, u8, usize, &str, &str); 5] = [
     ),
 ];
 
+/// The byte so many times between these two.
+fn filled(
+    alloc: Global,
+    front: &str,
+    byte: u8,
+    count: usize,
+    back: &str,
+) -> Result<Vec<u8>, AllocError> {
+    let mut script = front.as_bytes().to_vec(alloc)?;
+    for _ in 0..count {
+        script.push(byte)?;
+    }
+    script.extend_from_slice(back.as_bytes())?;
+    Ok(script)
+}
+
 #[test]
 fn numbers_and_lengths_of_lines(rt: HostRuntime) -> Result<(), Fail> {
     let alloc = rt.alloc();
     for (front, byte, count, back, told) in LONG.iter() {
-        let filling = repeated(alloc, *byte, *count)?;
-        let script = joined(alloc, &[front.as_bytes(), &filling, back.as_bytes()])?;
+        let script = filled(alloc, front, *byte, *count, back)?;
         assert!(rt; has_told(&run(alloc, &script)?, told), "{front}, {told}");
     }
     Ok(())

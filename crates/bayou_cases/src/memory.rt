@@ -47,12 +47,3 @@ pub fn joined(alloc: Global, pieces: &[&[u8]]) -> Result<Vec<u8>, AllocError> {
     }
     Ok(text)
 }
-
-/// The byte so many times.
-pub fn repeated(alloc: Global, byte: u8, count: usize) -> Result<Vec<u8>, AllocError> {
-    let mut text = Vec::new(alloc);
-    for _ in 0..count {
-        text.push(byte)?;
-    }
-    Ok(text)
-}

@@ -134,7 +134,7 @@ fn a_log_tells_which_writes_fit(rt: HostRuntime) -> Result<(), Fail> {
 }
 
 /// A Write of a program that puts 1 at `a` where nothing is there, and else takes it away.
-const TURNS: &str = "<0:1> <stamp> <none> 01 020161 01 010161010000000000000001 01 00 01 020161";
+const TURNS: &str = "<0:1> <stamp> <none> 01 020161 01 01016101010000000000000001 01 00 01 020161";
 
 #[test]
 fn a_database_keeps_its_room_when_cleared(rt: HostRuntime) -> Result<(), Fail> {
