@@ -1,7 +1,7 @@
 /// What a device in memory passes before each append: a test may hold it there.
 pub trait Gate: Drop {
-    /// Returns when the append may go on.
-    fn pass(&self);
+    /// Returns when the append may go on, to a device that holds so many bytes.
+    fn pass(&self, held: usize);
 }
 
 /// A gate that holds nobody.
@@ -9,5 +9,5 @@ pub trait Gate: Drop {
 pub struct OpenGate;
 
 impl Gate for OpenGate {
-    fn pass(&self) {}
+    fn pass(&self, _held: usize) {}
 }

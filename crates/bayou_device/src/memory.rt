@@ -235,7 +235,7 @@ impl<G: Gate> Device for MemoryDevice<G> {
         ensures whole { OnOk result (self.new ≡ record (after_call self.old) { bytes = self.old.bytes ++ piece.now }) }
         ensures front { OnErr result ((self.new ≡ after_lack self.old) ⊎ FailsAtFuse piece.now self.old self.new) }
     {
-        self.gate.pass();
+        self.gate.pass(self.bytes.len());
         let Some(kept) = self.call() else {
             return self.add_whole(piece);
         };

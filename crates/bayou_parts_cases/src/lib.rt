@@ -9,6 +9,8 @@ mod fixtures;
 #[cfg(test)]
 mod frames;
 #[cfg(test)]
+mod gates;
+#[cfg(test)]
 mod journals;
 #[cfg(test)]
 mod keys;

@@ -1,0 +1,39 @@
+//! The gate of a device in memory.
+use bayou_device::{Device, Gate, MemoryDevice};
+use std::cell::Cell;
+use std::test::Fail;
+
+/// A gate that tells how often it was passed, and how many bytes its device held as it was passed last.
+struct TellingGate<'a> {
+    told: &'a Cell<(u32, usize)>,
+}
+
+impl Drop for TellingGate<'_> {
+    fn drop(self) {
+        let TellingGate { told: _ } = self;
+    }
+}
+
+impl Gate for TellingGate<'_> {
+    fn pass(&self, held: usize) {
+        let (passed, _) = self.told.get();
+        self.told.set((passed.saturating_add(1), held));
+    }
+}
+
+/// Each append passes the gate before it adds anything, also one that fails, and no other call does.
+#[test]
+fn each_append_passes_the_gate_first(rt: HostRuntime) -> Result<(), Fail> {
+    let told = Cell::new((0, 0));
+    let mut device = MemoryDevice::new(rt.alloc(), TellingGate { told: &told });
+    device.append(b"ab")?;
+    let first = told.get();
+    device.sync()?;
+    device.fuse(1, 1);
+    let is_refused = device.append(b"cd").is_err();
+    let second = told.get();
+    device.append(b"ef")?;
+    assert_eq!(rt; (first, second, told.get()), ((1, 0), (2, 2), (3, 3)));
+    assert!(rt; is_refused && device.bytes() == b"abcef".as_slice());
+    Ok(())
+}
