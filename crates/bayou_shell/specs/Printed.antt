@@ -17,7 +17,7 @@ use Rattle.bayou_server.specs.declared.fault.StartFault.TheVariants as starting
 use Rattle.bayou_server.specs.declared.fault.WriteFault.{WriteFault}
 use Rattle.bayou_server.specs.declared.fault.WriteFault.TheVariants as writing
 use Rattle.bayou_shell.specs.declared.answer.Answer.{Answer}
-use Rattle.bayou_shell.specs.declared.answer.Answer.TheVariants.{Done, Wrote, Read, Refused, Lost, Logged, Stopped, Recovered}
+use Rattle.bayou_shell.specs.declared.answer.Answer.TheVariants.{Done, Wrote, Read, Refused, NotServed, Lost, Logged, Stopped, Recovered}
 use Rattle.bayou_shell.specs.declared.answer.Recovery.{Recovery}
 use Rattle.bayou_shell.specs.declared.answer.Recovery.TheVariants.{Reopened, NotReopened, NotRunning, Restarted, NotRestarted}
 
@@ -88,6 +88,7 @@ log_text Done = []
 log_text (Wrote session accepted) = []
 log_text (Read session key seen) = []
 log_text (Refused session refusal) = []
+log_text (NotServed session vector) = []
 log_text (Lost session) = []
 log_text (Stopped server) = []
 log_text (Recovered recovery) = []
@@ -113,6 +114,8 @@ last_text servers (Read session key seen) =
     ++ (codes " at " ++ (counts_text servers seen.vector ++ codes "\n"))))))
 last_text servers (Refused session refusal) =
     decimal session.index ++ (codes " refused " ++ (refusal_text servers refusal ++ codes "\n"))
+last_text servers (NotServed session vector) =
+    decimal session.index ++ (codes " refused behind at " ++ (counts_text servers vector ++ codes "\n"))
 last_text servers (Lost session) = decimal session.index ++ codes " lost\n"
 last_text servers (Logged server listing vector) =
     codes "log " ++ (decimal server.index ++ (codes " at " ++ (counts_text servers vector ++ codes "\n")))

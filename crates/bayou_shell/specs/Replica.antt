@@ -16,7 +16,6 @@ use Rattle.bayou_server.specs.declared.fault.Behind.{Behind}
 use Rattle.bayou_server.specs.declared.fault.StartFault.{StartFault}
 use Rattle.bayou_server.specs.declared.fault.StartFault.TheVariants.{OutOfMemory}
 use Rattle.bayou_server.specs.declared.fault.WriteFault.{WriteFault}
-use Rattle.bayou_server.specs.declared.fault.WriteFault.TheVariants as writing
 use Rattle.bayou_server.specs.Reads.{Reads}
 use Rattle.bayou_server.specs.Reopens.{Reopens}
 use Rattle.bayou_server.specs.Server.{ServerState, with_device}
@@ -25,7 +24,7 @@ use Rattle.bayou_server.specs.Stored.{OpensInCalls, ReopensJournal, StoresWrite}
 use Rattle.bayou_server.specs.Writes.{Writes}
 use Rattle.bayou_session.specs.Needs.{Told, after_read, after_write, one_place_more, read_need, write_need}
 use Rattle.bayou_shell.specs.declared.answer.Answer.{Answer}
-use Rattle.bayou_shell.specs.declared.answer.Answer.TheVariants.{Done, Wrote, Read, Refused, Lost, Logged, Recovered}
+use Rattle.bayou_shell.specs.declared.answer.Answer.TheVariants.{Done, Wrote, Read, Refused, NotServed, Lost, Logged, Recovered}
 use Rattle.bayou_shell.specs.declared.answer.Answer.TheVariants as answers
 use Rattle.bayou_shell.specs.declared.answer.Recovery.{Recovery}
 use Rattle.bayou_shell.specs.declared.answer.Recovery.TheVariants.{Reopened, NotReopened, NotRunning, Restarted, NotRestarted}
@@ -76,7 +75,7 @@ write_answer who (Err refusal) = Refused who refusal
 
 abbrev pub read_answer : SessionId → List ℕ → Result Seen Behind → Answer
 read_answer who key (Ok seen) = Read who key seen
-read_answer who key (Err behind) = Refused who (writing.Behind behind.vector)
+read_answer who key (Err behind) = NotServed who behind.vector
 
 -- No reply reaches a session that has no place left, nor one whose server is stopped.
 pub data GetsNoReply (who : SessionId) (replica : Replica) (told : Told) (answer : Answer) (now : Told) : Type 0 where
@@ -158,6 +157,7 @@ IsListed id replica Done = ⊥
 IsListed id replica (Wrote who accepted) = ⊥
 IsListed id replica (Read who key seen) = ⊥
 IsListed id replica (Refused who refusal) = ⊥
+IsListed id replica (NotServed who vector) = ⊥
 IsListed id replica (Lost who) = ⊥
 IsListed id replica (Recovered recovery) = ⊥
 

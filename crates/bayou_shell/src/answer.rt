@@ -18,10 +18,15 @@ pub enum Answer {
         key: Key,
         seen: Seen,
     },
-    /// The session's Write or read was refused.
+    /// The session's Write was refused.
     Refused {
         session: SessionId,
         refusal: WriteFault,
+    },
+    /// The session's read was refused, by a server that is behind what the session needs and holds this.
+    NotServed {
+        session: SessionId,
+        vector: Vector,
     },
     /// No reply reached the session.
     Lost {

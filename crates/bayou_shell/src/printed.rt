@@ -221,6 +221,11 @@ pub fn printed(alloc: Global, servers: u8, answer: &Answer) -> Result<String, Al
             let why = refusal_words(alloc, servers, refusal)?;
             format!(in alloc; "{session} refused {why}\n")
         }
+        Answer::NotServed { session, vector } => {
+            let session = session.index;
+            let counts = Counts { vector, servers };
+            format!(in alloc; "{session} refused behind at {counts}\n")
+        }
         Answer::Lost { session } => {
             let session = session.index;
             format!(in alloc; "{session} lost\n")

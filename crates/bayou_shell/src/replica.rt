@@ -7,7 +7,7 @@ use bayou_base::{Key, ServerId, SessionId};
 use bayou_device::{MemoryDevice, OpenGate};
 use bayou_lang::Program;
 use bayou_script::Servers;
-use bayou_server::{NotStarted, Server, StartFault, Stopped, WriteFault};
+use bayou_server::{NotStarted, Server, StartFault, Stopped};
 use bayou_session::Session;
 use bayou_text::PlannedFailure;
 use std::alloc::{AllocError, Global};
@@ -95,9 +95,9 @@ impl Replica {
                     seen,
                 }
             }
-            Err(behind) => Answer::Refused {
+            Err(behind) => Answer::NotServed {
                 session: who,
-                refusal: WriteFault::Behind(behind.vector),
+                vector: behind.vector,
             },
         }
     }

@@ -79,6 +79,7 @@ pub(crate) fn write_answer<W: Write>(
         | Answer::Wrote { .. }
         | Answer::Read { .. }
         | Answer::Refused { .. }
+        | Answer::NotServed { .. }
         | Answer::Lost { .. }
         | Answer::Stopped { .. }
         | Answer::Recovered(_) => write_last(alloc, servers, answer, output),

@@ -35,7 +35,7 @@ use Rattle.bayou_text.specs.Programs.{few_in, alt_in, program_in}
 use Rattle.bayou_lang.specs.Ranges.{IsKey, IsValue, IsTerm, IsOp, IsCond, AreAtMost, IsAlt, IsProgram}
 use Rattle.bayou_text.specs.Ranges.{IsReadable}
 use Rattle.bayou_text.specs.Inner.Kept.{IsLine}
-use Rattle.bayou_text.specs.Reading.{Reads, listed, all_in}
+use Rattle.bayou_text.specs.Reading.{Parsed, listed, all_in}
 use Rattle.bayou_text.specs.Said.{said}
 use Rattle.bayou_text.specs.Spelling.{count_json, value_json, term_json, op_json, cond_json, alt_json, program_json, asks_json, line_json}
 use Rattle.bayou_text.specs.Values.{key_in, value_in}
@@ -81,7 +81,7 @@ cond_again (AtLeast key n) kept = rw (key_again key kept.0) (rw (integer_again n
 
 -- ---- lists
 
-module _ {A : Type 0} (Is : A → Type 0) (one_in : Data → Reads A) (one_json : A → Data) where
+module _ {A : Type 0} (Is : A → Type 0) (one_in : Data → Parsed A) (one_json : A → Data) where
   each_again : ((x : A) → Is x → one_in (one_json x) ≡ Ok x) → (xs : List A) → AllByRecursion Is xs
       → all_in one_in (map one_json xs) ≡ Ok xs
   each_again again [] kept = refl

@@ -6,7 +6,7 @@ use Rattle.bayou_text.specs.declared.line.Line.{Line}
 use Rattle.bayou_text.specs.declared.line.LineFault.{LineFault}
 use Rattle.bayou_text.specs.declared.line.LineFault.TheVariants as fault
 use Rattle.bayou_text.specs.Lines.{text_line, line_of, IsLegible, no_line, IsRefusalOf}
-use Rattle.bayou_text.specs.Reading.{Reads, Gives, Fails}
+use Rattle.bayou_text.specs.Reading.{Parsed, Gives, Fails}
 use Rattle.bayou_text.specs.Said.{Said, said}
 use Rattle.bayou_text.specs.Table.{Spells}
 
@@ -17,34 +17,34 @@ fault_given bytes (fault.BadShape what) text given = inr (no_line text given)
 fault_given bytes (fault.Key why) text given = inr (no_line text given)
 fault_given bytes (fault.Program why) text given = inr (no_line text given)
 
-pub refusal_from_gives : (bytes : List ℕ) (r : Reads Line) → IsLegible bytes → Gives said r (text_line bytes)
+pub refusal_from_gives : (bytes : List ℕ) (r : Parsed Line) → IsLegible bytes → Gives said r (text_line bytes)
     → IfErr r (IsRefusalOf bytes)
 refusal_from_gives bytes (Ok line) text given = tt
 refusal_from_gives bytes (Err e) text given = fault_given bytes e text given
 
-pub spells_from_gives : (bytes : List ℕ) (r : Reads Line) → IsLegible bytes → Gives said r (text_line bytes)
+pub spells_from_gives : (bytes : List ℕ) (r : Parsed Line) → IsLegible bytes → Gives said r (text_line bytes)
     → IfOk r (λ line. Spells bytes (said line))
 spells_from_gives bytes (Ok line) text given = spells_from_line bytes (said line) text.0 text.1 given
 spells_from_gives bytes (Err e) text given = tt
 
-pub exact_from_gives : (bytes : List ℕ) (r : Reads Line) → IsLegible bytes → Gives said r (text_line bytes)
+pub exact_from_gives : (bytes : List ℕ) (r : Parsed Line) → IsLegible bytes → Gives said r (text_line bytes)
     → IfOk r (λ line. line_of bytes ≡ Ok (said line))
 exact_from_gives bytes (Ok line) text given = let in_time : nat_lt MAX_LINE_BYTES
     (length bytes) ≡ false = grind (arith, tests, text.0) in rw in_time given
 exact_from_gives bytes (Err e) text given = tt
 
-fails_alike : (e : LineFault) (read other : Reads Said) → read ≡ other → Fails e read → Fails e other
+fails_alike : (e : LineFault) (read other : Parsed Said) → read ≡ other → Fails e read → Fails e other
 fails_alike fault.OutOfMemory read other same given = tt
 fails_alike fault.NotJson read other same given = sym same ∙ given
 fails_alike (fault.BadShape what) read other same given = sym same ∙ given
 fails_alike (fault.Key why) read other same given = sym same ∙ given
 fails_alike (fault.Program why) read other same given = sym same ∙ given
 
-gives_alike : (r : Reads Line) (read other : Reads Said) → read ≡ other → Gives said r read → Gives said r other
+gives_alike : (r : Parsed Line) (read other : Parsed Said) → read ≡ other → Gives said r read → Gives said r other
 gives_alike (Ok line) read other same given = sym same ∙ given
 gives_alike (Err e) read other same given = fails_alike e read other same given
 
-pub gives_what_is_spelled : (bytes : List ℕ) (r : Reads Line) → Gives said r (text_line bytes) → (s : Said)
+pub gives_what_is_spelled : (bytes : List ℕ) (r : Parsed Line) → Gives said r (text_line bytes) → (s : Said)
     → Spells bytes s → Gives said r (Ok s)
 gives_what_is_spelled bytes r given s spells = gives_alike r (text_line bytes) (Ok s)
     (line_from_spells bytes s spells) given

@@ -10,17 +10,17 @@ use Rattle.bayou_text.specs.declared.line.LineFault.{LineFault}
 use Rattle.bayou_text.specs.declared.line.LineFault.TheVariants.{BadShape, NotJson}
 use Rattle.bayou_text.specs.declared.line.Shape.TheVariants.{Line}
 use Rattle.bayou_text.specs.Lines.{text_line, IsFaultOf, too_long, no_text, no_line}
-use Rattle.bayou_text.specs.Reading.{Reads}
+use Rattle.bayou_text.specs.Reading.{Parsed}
 use Rattle.bayou_text.specs.Said.{Said}
 use Rattle.bayou_text.specs.Table.{Spells}
 
-same_ok : (a b : Said) → ◌≡◌ {A = Reads Said} (Ok a) (Ok b) → a ≡ b
+same_ok : (a b : Said) → ◌≡◌ {A = Parsed Said} (Ok a) (Ok b) → a ≡ b
 same_ok a b same = cc
 
-same_err : (a b : LineFault) → ◌≡◌ {A = Reads Said} (Err a) (Err b) → a ≡ b
+same_err : (a b : LineFault) → ◌≡◌ {A = Parsed Said} (Err a) (Err b) → a ≡ b
 same_err a b same = cc
 
-ok_or_err : (line : Said) (fault : LineFault) → ◌≡◌ {A = Reads Said} (Ok line) (Err fault) → ⊥
+ok_or_err : (line : Said) (fault : LineFault) → ◌≡◌ {A = Parsed Said} (Ok line) (Err fault) → ⊥
 ok_or_err line fault same = cc
 
 pub one_line : (bytes : List ℕ) (one other : Said) → Spells bytes one → Spells bytes other → one ≡ other

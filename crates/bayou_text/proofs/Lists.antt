@@ -2,23 +2,23 @@
 use Rattle.std.proofs.Common.{◌≡◌, ℕ, ◌+◌, ◌<◌, List, [], ◌∷◌, ◌++◌, length, drop, map, get_or, Ok, Err, refl, ap, sym, ◌∙◌, append_assoc, append-nil, add-one, drop-cons}
 use Rattle.serde_json.specs.Data.{Data}
 use Rattle.bayou_text.specs.declared.line.LineFault.{LineFault}
-use Rattle.bayou_text.specs.Reading.{Reads, ◌>>=◌, all_in}
+use Rattle.bayou_text.specs.Reading.{Parsed, ◌>>=◌, all_in}
 
 -- those in front, and then those that are read
-abbrev pub after : {A : Type 0} → List A → Reads (List A) → Reads (List A)
+abbrev pub after : {A : Type 0} → List A → Parsed (List A) → Parsed (List A)
 after front (Ok others) = Ok (front ++ others)
 after front (Err e) = Err e
 
-after_none : {A : Type 0} (read : Reads (List A)) → read ≡ after [] read
+after_none : {A : Type 0} (read : Parsed (List A)) → read ≡ after [] read
 after_none (Ok others) = refl
 after_none (Err e) = refl
 
-one_more : {A : Type 0} (front : List A) (one : A) (read : Reads (List A))
+one_more : {A : Type 0} (front : List A) (one : A) (read : Parsed (List A))
     → after front (read >>= λ others. Ok (one ∷ others)) ≡ after (front ++ one ∷ []) read
 one_more front one (Ok others) = ap Ok (sym (append_assoc front (one ∷ []) others))
 one_more front one (Err e) = refl
 
-module _ {A V : Type 0} (one_in : Data → Reads A) (seen : V → Data) where
+module _ {A V : Type 0} (one_in : Data → Parsed A) (seen : V → Data) where
   abbrev pub IsReadTo : List V → ℕ → List A → Type 0
   IsReadTo values i front = all_in one_in (map seen values) ≡ after front
       (all_in one_in (map seen (drop i values)))

@@ -16,7 +16,7 @@ use Rattle.bayou_text.proofs.PartTable.{op_found, op_read, cond_found, cond_read
 use Rattle.bayou_text.proofs.Readers.{bound, chosen, or_true, there, same_word, listed_items, array_listed, object_of, all_of, of_all}
 use Rattle.bayou_text.specs.Parts.{op_in, cond_in}
 use Rattle.bayou_text.specs.Programs.{list_in, list_of, few_in, conds_in, ops_in, is_alt_name, alt_lists_in, alt_in, alts_in, is_member_name, lists_in, program_in}
-use Rattle.bayou_text.specs.Reading.{Reads, ◌>>=◌, listed, names, all_in}
+use Rattle.bayou_text.specs.Reading.{Parsed, ◌>>=◌, listed, names, all_in}
 use Rattle.bayou_text.specs.Table.{OpIs, CondIs, MemberIs, missing, present, ListIs, IsAltName, AltIs, IsProgramName, ProgramIs}
 
 -- ---- lists
@@ -36,7 +36,7 @@ member_read : (name : List ℕ) (d : Data) (ds : List Data) → MemberIs name d 
 member_read name d ds (missing none empty) = rw (none, empty)
 member_read name d ds (present some) = rw some (ap Ok (listed_items ds))
 
-module _ {A : Type 0} (one_in : Data → Reads A) (Is : Data → A → Type 0) where
+module _ {A : Type 0} (one_in : Data → Parsed A) (Is : Data → A → Type 0) where
   each_found : ((d : Data) (x : A) → one_in d ≡ Ok x → Is d x) → (ds : List Data) (xs : List A)
       → all_in one_in ds ≡ Ok xs → AllZip Is ds xs
   each_found found [] [] e = tt

@@ -19,14 +19,14 @@ use Rattle.bayou_text.specs.declared.line.LineFault.TheVariants as fault
 use Rattle.bayou_text.specs.declared.line.Shape.TheVariants.{Name, Number, Word, Worth, Form}
 use Rattle.bayou_text.specs.Asks.{is_ask, asked, asks_of, asks_in}
 use Rattle.bayou_text.specs.Numbers.{number_in, integer_in, within}
-use Rattle.bayou_text.specs.Reading.{Reads, ◌>>=◌, listed, headed, worded, says}
+use Rattle.bayou_text.specs.Reading.{Parsed, ◌>>=◌, listed, headed, worded, says}
 use Rattle.bayou_text.specs.Spelling.{form}
 use Rattle.bayou_text.specs.Table.{NumberIs, IntegerIs, ValueIs, KeyIs, IsAsk, AsksAre}
 use Rattle.bayou_text.specs.Values.{key_of, key_in, text_of, value_in}
 
 -- ---- steps
 
-pub bound : {A B : Type 0} (r : Reads A) (f : A → Reads B) (y : B) → (r >>= f) ≡ Ok y
+pub bound : {A B : Type 0} (r : Parsed A) (f : A → Parsed B) (y : B) → (r >>= f) ≡ Ok y
     → (x : A) × (r ≡ Ok x) × (f x ≡ Ok y)
 bound (Ok x) f y e = (x, refl, e)
 bound (Err fault) f y e = absurd (cc)
@@ -36,7 +36,7 @@ pub chosen : {A : Type 0} (b : Bool) (x y z : A) → cond b x y ≡ z
 chosen true x y z e = inl (refl, e)
 chosen false x y z e = inr (refl, e)
 
-pub there : {A B : Type 0} (f : A → Reads B) (o : Option A) (e : LineFault) (y : B) → (ok_or o e >>= f) ≡ Ok y
+pub there : {A B : Type 0} (f : A → Parsed B) (o : Option A) (e : LineFault) (y : B) → (ok_or o e >>= f) ≡ Ok y
     → (x : A) × (o ≡ Some x) × (f x ≡ Ok y)
 there f None e y given = absurd (cc)
 there f (Some x) e y given = (x, refl, given)
@@ -45,7 +45,7 @@ pub same_word : (a b : List ℕ) → bytes_eq a b ≡ true → a ≡ b
 same_word a b e = (bytes_eq-Decides a b).0 e
 
 -- the word in front is this one, or what follows for others was read
-pub word_or : {A : Type 0} (d : Data) (word name : List ℕ) (parts : List Data) (x y : Reads A) (a : A)
+pub word_or : {A : Type 0} (d : Data) (word name : List ℕ) (parts : List Data) (x y : Parsed A) (a : A)
     → d ≡ form word parts → cond (bytes_eq word name) x y ≡ Ok a
     → ((d ≡ form name parts) × (x ≡ Ok a)) ⊎ (y ≡ Ok a)
 word_or d word name parts x y a is e = elim (chosen (bytes_eq word name) x y (Ok a) e) [

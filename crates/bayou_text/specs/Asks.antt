@@ -7,7 +7,7 @@ use Rattle.serde_json.specs.Find.{as_array}
 use Rattle.bayou_base.specs.declared.asks.Asks.{Asks}
 use Rattle.bayou_text.specs.declared.line.LineFault.TheVariants.{BadShape}
 use Rattle.bayou_text.specs.declared.line.Shape.TheVariants.{Form, Word}
-use Rattle.bayou_text.specs.Reading.{Reads, ◌>>=◌, listed, says}
+use Rattle.bayou_text.specs.Reading.{Parsed, ◌>>=◌, listed, says}
 
 -- one of the four words
 abbrev pub is_ask : Data → Bool
@@ -22,8 +22,8 @@ asked ds = record {
   mw = list_any (says (codes "mw")) ds;
 }
 
-abbrev pub asks_of : List Data → Reads Asks
+abbrev pub asks_of : List Data → Parsed Asks
 asks_of ds = if list_all is_ask ds then Ok (asked ds) else Err (BadShape Word)
 
-abbrev pub asks_in : Data → Reads Asks
+abbrev pub asks_in : Data → Parsed Asks
 asks_in d = ok_or (as_array d) (BadShape Form) >>= λ items. asks_of (listed items)

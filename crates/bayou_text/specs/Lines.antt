@@ -11,12 +11,12 @@ use Rattle.bayou_text.specs.declared.line.Shape.TheVariants.{Arity, Command, Lin
 use Rattle.bayou_text.specs.Asks.{asks_in}
 use Rattle.bayou_text.specs.Numbers.{count_in, limit_in, session_in, server_in, calls_in, kept_in, lost_in}
 use Rattle.bayou_text.specs.Programs.{program_in}
-use Rattle.bayou_text.specs.Reading.{Reads, ◌>>=◌, worded}
+use Rattle.bayou_text.specs.Reading.{Parsed, ◌>>=◌, worded}
 use Rattle.bayou_text.specs.Said.{Said, servers, session, write, read, log, fuse, lose, reopen, restart}
 use Rattle.bayou_text.specs.Values.{key_in}
 
 -- ["servers", count] and ["servers", count, limit], behind the word
-unfoldable pub servers_in : List Data → Reads Said
+unfoldable pub servers_in : List Data → Parsed Said
 servers_in (count ∷ []) = count_in count >>= λ n. Ok (servers n None)
 servers_in (count ∷ limit ∷ []) = do
   n ← count_in count
@@ -25,7 +25,7 @@ servers_in (count ∷ limit ∷ []) = do
 servers_in _ = Err (BadShape Arity)
 
 -- ["session", session, asks]
-unfoldable pub opening_in : List Data → Reads Said
+unfoldable pub opening_in : List Data → Parsed Said
 opening_in (who ∷ asks ∷ []) = do
   n ← session_in who
   wanted ← asks_in asks
@@ -33,7 +33,7 @@ opening_in (who ∷ asks ∷ []) = do
 opening_in _ = Err (BadShape Arity)
 
 -- ["write", session, server, program]
-unfoldable pub writing_in : List Data → Reads Said
+unfoldable pub writing_in : List Data → Parsed Said
 writing_in (who ∷ place ∷ program ∷ []) = do
   n ← session_in who
   at ← server_in place
@@ -42,7 +42,7 @@ writing_in (who ∷ place ∷ program ∷ []) = do
 writing_in _ = Err (BadShape Arity)
 
 -- ["read", session, server, key]
-unfoldable pub reading_in : List Data → Reads Said
+unfoldable pub reading_in : List Data → Parsed Said
 reading_in (who ∷ place ∷ key ∷ []) = do
   n ← session_in who
   at ← server_in place
@@ -51,12 +51,12 @@ reading_in (who ∷ place ∷ key ∷ []) = do
 reading_in _ = Err (BadShape Arity)
 
 -- ["log", server], ["reopen", server] and ["restart", server]
-unfoldable pub alone_in : List Data → Reads ℕ
+unfoldable pub alone_in : List Data → Parsed ℕ
 alone_in (place ∷ []) = server_in place
 alone_in _ = Err (BadShape Arity)
 
 -- ["fuse", server, calls, kept]
-unfoldable pub fusing_in : List Data → Reads Said
+unfoldable pub fusing_in : List Data → Parsed Said
 fusing_in (place ∷ calls ∷ kept ∷ []) = do
   at ← server_in place
   n ← calls_in calls
@@ -65,7 +65,7 @@ fusing_in (place ∷ calls ∷ kept ∷ []) = do
 fusing_in _ = Err (BadShape Arity)
 
 -- ["lose", server, count]
-unfoldable pub losing_in : List Data → Reads Said
+unfoldable pub losing_in : List Data → Parsed Said
 losing_in (place ∷ count ∷ []) = do
   at ← server_in place
   n ← lost_in count
@@ -73,7 +73,7 @@ losing_in (place ∷ count ∷ []) = do
 losing_in _ = Err (BadShape Arity)
 
 -- what tries one server: its device fails or loses bytes, and it comes up again
-unfoldable pub trial_of : List ℕ → List Data → Reads Said
+unfoldable pub trial_of : List ℕ → List Data → Parsed Said
 trial_of word parts =
     if bytes_eq word (codes "fuse") then fusing_in parts
     else (if bytes_eq word (codes "lose") then losing_in parts
@@ -81,7 +81,7 @@ trial_of word parts =
     else (if bytes_eq word (codes "restart") then (alone_in parts >>= λ at. Ok (restart at))
     else Err (BadShape Command))))
 
-abbrev pub command_of : List ℕ → List Data → Reads Said
+abbrev pub command_of : List ℕ → List Data → Parsed Said
 command_of word parts =
     if bytes_eq word (codes "servers") then servers_in parts
     else (if bytes_eq word (codes "session") then opening_in parts
@@ -90,15 +90,15 @@ command_of word parts =
     else (if bytes_eq word (codes "log") then (alone_in parts >>= λ at. Ok (log at))
     else trial_of word parts))))
 
-unfoldable pub line_in : Data → Reads Said
+unfoldable pub line_in : Data → Parsed Said
 line_in d = ok_or (worded d) (BadShape Line) >>= λ parts. command_of parts.0 parts.1
 
 -- the line that a text is
-abbrev pub text_line : List ℕ → Reads Said
+abbrev pub text_line : List ℕ → Parsed Said
 text_line text = ok_or (json_of text) NotJson >>= line_in
 
 -- the line that bytes in UTF-8 are
-abbrev pub line_of : List ℕ → Reads Said
+abbrev pub line_of : List ℕ → Parsed Said
 line_of bytes = if nat_lt MAX_LINE_BYTES (length bytes) then Err (BadShape Line) else text_line bytes
 
 -- bytes that are looked into: not too many, and UTF-8

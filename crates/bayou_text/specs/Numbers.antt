@@ -6,43 +6,43 @@ use Rattle.serde_json.specs.Find.{as_number, as_i64, as_u64}
 use Rattle.bayou_base.specs.declared.limits.TheConstants.{SERVERS, SESSIONS, MAX_WRITES, MAX_FUSE_CALLS, MAX_FUSE_KEPT, MAX_LOST_BYTES}
 use Rattle.bayou_text.specs.declared.line.LineFault.TheVariants.{BadShape}
 use Rattle.bayou_text.specs.declared.line.Shape.TheVariants.{Number}
-use Rattle.bayou_text.specs.Reading.{Reads, ◌>>=◌}
+use Rattle.bayou_text.specs.Reading.{Parsed, ◌>>=◌}
 
-abbrev pub within : ℕ → ℕ → ℕ → Reads ℕ
+abbrev pub within : ℕ → ℕ → ℕ → Parsed ℕ
 within least most n = if nat_le least n && nat_le n most then Ok n else Err (BadShape Number)
 
 -- the integer, from the least to the most
-abbrev pub number_in : ℕ → ℕ → Data → Reads ℕ
+abbrev pub number_in : ℕ → ℕ → Data → Parsed ℕ
 number_in least most d = ok_or (option_and_then as_u64 (as_number d)) (BadShape Number) >>= within least most
 
 -- how many servers
-abbrev pub count_in : Data → Reads ℕ
+abbrev pub count_in : Data → Parsed ℕ
 count_in = number_in 1 SERVERS
 
 -- how many Writes a log holds at the most
-abbrev pub limit_in : Data → Reads ℕ
+abbrev pub limit_in : Data → Parsed ℕ
 limit_in = number_in 1 MAX_WRITES
 
 -- the session of this number
-abbrev pub session_in : Data → Reads ℕ
+abbrev pub session_in : Data → Parsed ℕ
 session_in = number_in 0 (SESSIONS - 1)
 
 -- the server of this number
-abbrev pub server_in : Data → Reads ℕ
+abbrev pub server_in : Data → Parsed ℕ
 server_in = number_in 0 (SERVERS - 1)
 
 -- which device call from now fails
-abbrev pub calls_in : Data → Reads ℕ
+abbrev pub calls_in : Data → Parsed ℕ
 calls_in = number_in 1 MAX_FUSE_CALLS
 
 -- how many bytes of its piece a failing append adds
-abbrev pub kept_in : Data → Reads ℕ
+abbrev pub kept_in : Data → Parsed ℕ
 kept_in = number_in 0 MAX_FUSE_KEPT
 
 -- how many bytes a device loses
-abbrev pub lost_in : Data → Reads ℕ
+abbrev pub lost_in : Data → Parsed ℕ
 lost_in = number_in 0 MAX_LOST_BYTES
 
 -- an integer of i64
-abbrev pub integer_in : Data → Reads ℤ
+abbrev pub integer_in : Data → Parsed ℤ
 integer_in d = ok_or (option_and_then as_i64 (as_number d)) (BadShape Number)

@@ -14,73 +14,73 @@ use Rattle.bayou_lang.specs.declared.program.Cond.TheVariants.{Equals, Absent, A
 use Rattle.bayou_text.specs.declared.line.LineFault.TheVariants.{BadShape}
 use Rattle.bayou_text.specs.declared.line.Shape.TheVariants.{Arity, Form, Word}
 use Rattle.bayou_text.specs.Numbers.{integer_in}
-use Rattle.bayou_text.specs.Reading.{Reads, ◌>>=◌, worded}
+use Rattle.bayou_text.specs.Reading.{Parsed, ◌>>=◌, worded}
 use Rattle.bayou_text.specs.Values.{key_in, value_in}
 
 -- behind a word: a key alone
-unfoldable pub named_in : List Data → Reads (List ℕ)
+unfoldable pub named_in : List Data → Parsed (List ℕ)
 named_in (key ∷ []) = key_in key
 named_in _ = Err (BadShape Arity)
 
 -- behind a word: a key, and one more member
-unfoldable pub keyed_in : List Data → Reads (List ℕ × Data)
+unfoldable pub keyed_in : List Data → Parsed (List ℕ × Data)
 keyed_in (key ∷ last ∷ []) = key_in key >>= λ name. Ok (name, last)
 keyed_in _ = Err (BadShape Arity)
 
 -- ["plus", key, n], behind its word
-abbrev pub plus_in : List Data → Reads Term
+abbrev pub plus_in : List Data → Parsed Term
 plus_in parts = do
   named ← keyed_in parts
   n ← integer_in named.1
   Ok (Plus named.0 n)
 
-abbrev pub term_of : List ℕ → List Data → Reads Term
+abbrev pub term_of : List ℕ → List Data → Parsed Term
 term_of word parts =
     if bytes_eq word (codes "copy") then (named_in parts >>= λ key. Ok (Copy key))
     else (if bytes_eq word (codes "plus") then plus_in parts else Err (BadShape Word))
 
 -- a term that is an array
-abbrev pub array_term_in : Data → Reads Term
+abbrev pub array_term_in : Data → Parsed Term
 array_term_in d = ok_or (worded d) (BadShape Form) >>= λ parts. term_of parts.0 parts.1
 
 -- a term that is no array is read as a value
-unfoldable pub term_in : Data → Reads Term
+unfoldable pub term_in : Data → Parsed Term
 term_in d = option_map_or (λ _. array_term_in d) (as_array d) (value_in d >>= λ value. Ok (Lit value))
 
 -- ["put", key, term], behind its word
-abbrev pub put_in : List Data → Reads Op
+abbrev pub put_in : List Data → Parsed Op
 put_in parts = do
   named ← keyed_in parts
   what ← term_in named.1
   Ok (Put named.0 what)
 
-abbrev pub op_of : List ℕ → List Data → Reads Op
+abbrev pub op_of : List ℕ → List Data → Parsed Op
 op_of word parts =
     if bytes_eq word (codes "put") then put_in parts
     else (if bytes_eq word (codes "del") then (named_in parts >>= λ key. Ok (Del key)) else Err (BadShape Word))
 
-unfoldable pub op_in : Data → Reads Op
+unfoldable pub op_in : Data → Parsed Op
 op_in d = ok_or (worded d) (BadShape Form) >>= λ parts. op_of parts.0 parts.1
 
 -- ["equals", key, value], behind its word
-abbrev pub equals_in : List Data → Reads Cond
+abbrev pub equals_in : List Data → Parsed Cond
 equals_in parts = do
   named ← keyed_in parts
   value ← value_in named.1
   Ok (Equals named.0 value)
 
 -- ["atleast", key, n], behind its word
-abbrev pub at_least_in : List Data → Reads Cond
+abbrev pub at_least_in : List Data → Parsed Cond
 at_least_in parts = do
   named ← keyed_in parts
   n ← integer_in named.1
   Ok (AtLeast named.0 n)
 
-abbrev pub cond_of : List ℕ → List Data → Reads Cond
+abbrev pub cond_of : List ℕ → List Data → Parsed Cond
 cond_of word parts =
     if bytes_eq word (codes "equals") then equals_in parts
     else (if bytes_eq word (codes "absent") then (named_in parts >>= λ key. Ok (Absent key))
     else (if bytes_eq word (codes "atleast") then at_least_in parts else Err (BadShape Word)))
 
-unfoldable pub cond_in : Data → Reads Cond
+unfoldable pub cond_in : Data → Parsed Cond
 cond_in d = ok_or (worded d) (BadShape Form) >>= λ parts. cond_of parts.0 parts.1

@@ -8,29 +8,29 @@ use Rattle.bayou_text.specs.declared.line.LineFault.{LineFault}
 use Rattle.bayou_text.specs.declared.line.LineFault.TheVariants as fault
 
 -- what a reader answers
-abbrev pub Reads : Type 0 → Type 0
-Reads A = Result A LineFault
+abbrev pub Parsed : Type 0 → Type 0
+Parsed A = Result A LineFault
 
 -- the first fault, or what follows of what was read
 infixl 10 ◌>>=◌
-abbrev pub ◌>>=◌ : {A B : Type 0} → Reads A → (A → Reads B) → Reads B
+abbrev pub ◌>>=◌ : {A B : Type 0} → Parsed A → (A → Parsed B) → Parsed B
 (Ok x) >>= f = f x
 (Err e) >>= f = Err e
 
 -- a function that may run out of memory gives, seen by view, what reading gives, unless it did
-abbrev pub Fails : {B : Type 0} → LineFault → Reads B → Type 0
+abbrev pub Fails : {B : Type 0} → LineFault → Parsed B → Type 0
 Fails fault.OutOfMemory read = Unit {0}
 Fails fault.NotJson read = read ≡ Err fault.NotJson
 Fails (fault.BadShape what) read = read ≡ Err (fault.BadShape what)
 Fails (fault.Key why) read = read ≡ Err (fault.Key why)
 Fails (fault.Program why) read = read ≡ Err (fault.Program why)
 
-abbrev pub Gives : {A B : Type 0} → (A → B) → Reads A → Reads B → Type 0
+abbrev pub Gives : {A B : Type 0} → (A → B) → Parsed A → Parsed B → Type 0
 Gives view (Ok x) read = read ≡ Ok (view x)
 Gives view (Err e) read = Fails e read
 
 -- a function that takes no memory gives it in each case
-abbrev pub Answers : {A B : Type 0} → (A → B) → Reads A → Reads B → Type 0
+abbrev pub Answers : {A B : Type 0} → (A → B) → Parsed A → Parsed B → Type 0
 Answers view (Ok x) read = read ≡ Ok (view x)
 Answers view (Err e) read = read ≡ Err e
 
@@ -58,7 +58,7 @@ abbrev pub says : List ℕ → Data → Bool
 says word d = option_map_or (λ text. bytes_eq text word) (as_str d) false
 
 -- each read in turn, up to the first fault
-abbrev pub all_in : {A : Type 0} → (Data → Reads A) → List Data → Reads (List A)
+abbrev pub all_in : {A : Type 0} → (Data → Parsed A) → List Data → Parsed (List A)
 all_in one_in [] = Ok []
 all_in one_in (d ∷ ds) = do
   one ← one_in d

@@ -129,11 +129,15 @@ pub(crate) fn value_of(bytes: &[u8]) -> Option<(Value, &[u8])>
 {
     match bytes {
         [VALUE_NUM, rest @ ..] => {
-            let (number, rest) = i64_of(rest)?;
+            let Some((number, rest)) = i64_of(rest) else {
+                return None;
+            };
             Some((Value::Num(number), rest))
         }
         [VALUE_TEXT, rest @ ..] => {
-            let (text, rest) = text_of(rest)?;
+            let Some((text, rest)) = text_of(rest) else {
+                return None;
+            };
             Some((Value::Text(text), rest))
         }
         _ => None,
@@ -146,16 +150,24 @@ fn term_of(bytes: &[u8]) -> Option<(Term, &[u8])>
 {
     match bytes {
         [TERM_LIT, rest @ ..] => {
-            let (value, rest) = value_of(rest)?;
+            let Some((value, rest)) = value_of(rest) else {
+                return None;
+            };
             Some((Term::Lit(value), rest))
         }
         [TERM_COPY, rest @ ..] => {
-            let (key, rest) = key_of(rest)?;
+            let Some((key, rest)) = key_of(rest) else {
+                return None;
+            };
             Some((Term::Copy(key), rest))
         }
         [TERM_PLUS, rest @ ..] => {
-            let (key, rest) = key_of(rest)?;
-            let (number, rest) = i64_of(rest)?;
+            let Some((key, rest)) = key_of(rest) else {
+                return None;
+            };
+            let Some((number, rest)) = i64_of(rest) else {
+                return None;
+            };
             Some((Term::Plus(key, number), rest))
         }
         _ => None,
@@ -169,12 +181,18 @@ impl Member for Op {
     fn take(bytes: &[u8]) -> Option<(Self, &[u8])> {
         match bytes {
             [OP_PUT, rest @ ..] => {
-                let (key, rest) = key_of(rest)?;
-                let (term, rest) = term_of(rest)?;
+                let Some((key, rest)) = key_of(rest) else {
+                    return None;
+                };
+                let Some((term, rest)) = term_of(rest) else {
+                    return None;
+                };
                 Some((Op::Put(key, term), rest))
             }
             [OP_DEL, rest @ ..] => {
-                let (key, rest) = key_of(rest)?;
+                let Some((key, rest)) = key_of(rest) else {
+                    return None;
+                };
                 Some((Op::Del(key), rest))
             }
             _ => None,
@@ -189,17 +207,27 @@ impl Member for Cond {
     fn take(bytes: &[u8]) -> Option<(Self, &[u8])> {
         match bytes {
             [COND_EQUALS, rest @ ..] => {
-                let (key, rest) = key_of(rest)?;
-                let (value, rest) = value_of(rest)?;
+                let Some((key, rest)) = key_of(rest) else {
+                    return None;
+                };
+                let Some((value, rest)) = value_of(rest) else {
+                    return None;
+                };
                 Some((Cond::Equals(key, value), rest))
             }
             [COND_ABSENT, rest @ ..] => {
-                let (key, rest) = key_of(rest)?;
+                let Some((key, rest)) = key_of(rest) else {
+                    return None;
+                };
                 Some((Cond::Absent(key), rest))
             }
             [COND_AT_LEAST, rest @ ..] => {
-                let (key, rest) = key_of(rest)?;
-                let (number, rest) = i64_of(rest)?;
+                let Some((key, rest)) = key_of(rest) else {
+                    return None;
+                };
+                let Some((number, rest)) = i64_of(rest) else {
+                    return None;
+                };
                 Some((Cond::AtLeast(key, number), rest))
             }
             _ => None,
@@ -212,8 +240,12 @@ impl Member for Alt {
 
     #[tactic(auto, unfolding(crate::specs::Inner::Reading::alt_at))]
     fn take(bytes: &[u8]) -> Option<(Self, &[u8])> {
-        let (when, rest) = list_of(bytes)?;
-        let (ops, rest) = list_of(rest)?;
+        let Some((when, rest)) = list_of(bytes) else {
+            return None;
+        };
+        let Some((ops, rest)) = list_of(rest) else {
+            return None;
+        };
         Some((Alt { when, ops }, rest))
     }
 }
@@ -231,9 +263,15 @@ impl Member for u32 {
 pub(crate) fn program_of(bytes: &[u8]) -> Option<(Program, &[u8])>
     ensures { Gives (λ x. (x.0, x.1.now)) result (program_at bytes.now) }
 {
-    let (check, rest) = list_of(bytes)?;
-    let (update, rest) = list_of(rest)?;
-    let (merge, rest) = list_of(rest)?;
+    let Some((check, rest)) = list_of(bytes) else {
+        return None;
+    };
+    let Some((update, rest)) = list_of(rest) else {
+        return None;
+    };
+    let Some((merge, rest)) = list_of(rest) else {
+        return None;
+    };
     Some((
         Program {
             check,
@@ -285,10 +323,18 @@ fn accepted_from(wid: Wid, clock: u32, deps: Vector) -> Option<Accepted>
 pub(crate) fn wid_of(bytes: &[u8]) -> Option<(Wid, &[u8])>
     ensures { Gives (λ x. (x.0, x.1.now)) result (wid_at bytes.now) }
 {
-    let (index, rest) = byte_of(bytes)?;
-    let origin = server_from(index)?;
-    let (seq, rest) = u32_of(rest)?;
-    let wid = wid_from(origin, seq)?;
+    let Some((index, rest)) = byte_of(bytes) else {
+        return None;
+    };
+    let Some(origin) = server_from(index) else {
+        return None;
+    };
+    let Some((seq, rest)) = u32_of(rest) else {
+        return None;
+    };
+    let Some(wid) = wid_from(origin, seq) else {
+        return None;
+    };
     Some((wid, rest))
 }
 
@@ -299,11 +345,15 @@ pub(crate) fn accepted_of(bytes: &[u8]) -> Option<(Accepted, &[u8])>
     let Some((wid, rest)) = wid_of(bytes) else {
         return None;
     };
-    let (clock, rest) = u32_of(rest)?;
+    let Some((clock, rest)) = u32_of(rest) else {
+        return None;
+    };
     let Some((deps, rest)) = vector_of(rest) else {
         return None;
     };
-    let accepted = accepted_from(wid, clock, deps)?;
+    let Some(accepted) = accepted_from(wid, clock, deps) else {
+        return None;
+    };
     Some((accepted, rest))
 }
 

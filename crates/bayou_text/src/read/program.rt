@@ -4,7 +4,7 @@ ghost use Rattle.serde_json.specs.Data.{Data};
 ghost use Rattle.serde_json.specs.View.{view, members_view};
 ghost use Rattle.bayou_text.specs.Parts as parts;
 ghost use Rattle.bayou_text.specs.Programs as grammar;
-ghost use Rattle.bayou_text.specs.Reading.{Answers, Reads, names};
+ghost use Rattle.bayou_text.specs.Reading.{Answers, Parsed, names};
 
 use crate::line::{LineFault, Shape};
 use crate::read::part::{cond_in, op_in};
@@ -15,7 +15,7 @@ use serde_json::{Map, Value};
 
 /// What stands in the lists of a program.
 trait Part: Default + Drop {
-    ghost reads: { Data → Reads Self };
+    ghost reads: { Data → Parsed Self };
 
     fn part_in(json: &Value) -> Result<Self, LineFault>
         ensures { result ≡ reads (view json.now) };
