@@ -22,4 +22,3 @@ status_of Output = 3
 abbrev pub exit_status : Result (Unit {0}) Fault → ℕ
 exit_status (Ok done) = 0
 exit_status (Err fault) = status_of fault
-

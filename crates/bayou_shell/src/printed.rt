@@ -2,7 +2,7 @@ ghost use Rattle.std.specs.Prelude.{◌≡◌, ◌≤◌, Some, IfOk, string_byt
 ghost use Rattle.serde_json.specs.Data.{string};
 ghost use Rattle.serde_json.specs.Written.{compact_text};
 ghost use Rattle.bayou_base.specs.declared.limits.TheConstants.{SERVERS};
-ghost use Rattle.bayou_shell.specs.declared.answer.Answer.TheVariants.{Read, Wrote};
+ghost use Rattle.bayou_shell.specs.declared.answer.Answer.TheVariants.{NotServed, Read, Wrote};
 ghost use Rattle.bayou_shell.specs.Printed.{adopted_text, counts_text, last_text, listed_text, recovery_text, refusal_text, reopening_text, starting_text, value_text};
 
 use crate::answer::{Answer, Recovery};
@@ -177,6 +177,21 @@ fn read_line(
     format!(in alloc; "{session} read {key} {found} at {counts}\n")
 }
 
+/// The line of a read that was refused.
+fn behind_line(
+    alloc: Global,
+    servers: u8,
+    session: SessionId,
+    vector: &Vector,
+) -> Result<String, AllocError>
+    requires { servers ≤ SERVERS }
+    ensures { IfOk result (λ line. string_bytes line ≡ last_text servers (NotServed session vector.now)) }
+{
+    let session = session.index;
+    let counts = Counts { vector, servers };
+    format!(in alloc; "{session} refused behind at {counts}\n")
+}
+
 /// The line of a server that was to be reopened or restarted.
 fn recovery_line(alloc: Global, recovery: &Recovery) -> Result<String, AllocError>
     ensures { IfOk result (λ text. string_bytes text ≡ recovery_text recovery.now) }
@@ -221,11 +236,7 @@ pub fn printed(alloc: Global, servers: u8, answer: &Answer) -> Result<String, Al
             let why = refusal_words(alloc, servers, refusal)?;
             format!(in alloc; "{session} refused {why}\n")
         }
-        Answer::NotServed { session, vector } => {
-            let session = session.index;
-            let counts = Counts { vector, servers };
-            format!(in alloc; "{session} refused behind at {counts}\n")
-        }
+        Answer::NotServed { session, vector } => behind_line(alloc, servers, *session, vector),
         Answer::Lost { session } => {
             let session = session.index;
             format!(in alloc; "{session} lost\n")
