@@ -48,4 +48,3 @@ Names words (Ok Run) = NamesRun words
 Names words (Err (Asked text)) = AskForText words
 Names words (Err (Refused text)) = AreMistaken words
 Names words (Err Memory) = Unit {0}
-
