@@ -24,6 +24,7 @@
 pub mod answer;
 pub mod fault;
 pub mod laws;
+mod making;
 mod reopen;
 pub mod server;
 mod start;
