@@ -8,6 +8,7 @@ use Rattle.bayou_journal.specs.declared.fault.AppendFault.TheVariants as append
 use Rattle.bayou_journal.specs.Chain.{chain_end, entry, journal, link}
 use Rattle.bayou_journal.specs.Laws.Chain.{chain_end-push, journal-push}
 use Rattle.bayou_journal.specs.Journal.{JournalState}
+use Rattle.bayou_journal.specs.declared.format.TheConstants.{VERSION}
 use Rattle.bayou_lang.specs.declared.program.Program.{Program}
 use Rattle.bayou_lang.specs.declared.write.Write.{Write}
 use Rattle.bayou_lang.specs.Writes.{IsNextWrite}
@@ -32,10 +33,10 @@ none_of (Some write) up = absurd cc
 
 -- while the server is up its journal is, and ends as the Writes held say
 pub stands_up : {D : Type 0} (journal : JournalState D) (log : Log) (id : ℕ) (doubt : Option Write) → BelongTogether journal log id doubt → is_some doubt ≡ false
-    → (journal.is_down ≡ false) × (journal.last ≡ chain_end id (bodies_of log.receipts))
+    → (journal.is_down ≡ false) × (journal.last ≡ chain_end VERSION id (bodies_of log.receipts))
 stands_up journal log id doubt together up =
     let stands : Stands journal log None = subst (λ (d : Option Write). Stands journal log d) (none_of doubt up) together.stands in
-    (stands.0, stands.1 ∙ ap (λ (s : ℕ). chain_end s (bodies_of log.receipts)) together.owner)
+    (stands.0, stands.1 ∙ ap (λ (s : ℕ). chain_end VERSION s (bodies_of log.receipts)) together.owner)
 
 -- one body more
 pub bodies_of-push : (held : List Write) (write : Write) → bodies_of (held ++ write ∷ []) ≡ bodies_of held ++ write_bytes write ∷ []
@@ -50,7 +51,7 @@ entry_is journal log id doubt made bytes together up spelled = record {
   before = refl;
   after = sym (bodies_of-push log.receipts made);
   is = ap (λ (l : List ℕ). entry l bytes) (stands_up journal log id doubt together up).1
-      ∙ ap (λ (b : List ℕ). entry (chain_end id (bodies_of log.receipts)) b) spelled;
+      ∙ ap (λ (b : List ℕ). entry (chain_end VERSION id (bodies_of log.receipts)) b) spelled;
 }
 
 -- the fields still belong together once the entry and the Write were added
@@ -62,14 +63,14 @@ after_adding {D} journal new log after id doubt asked made bytes together up nex
     let before = stands_up journal log id doubt together up in
     let owner : new.server ≡ id = ap (λ (j : JournalState D). j.server) new_is ∙ together.owner in
     let receipts : after.receipts ≡ log.receipts ++ made ∷ [] = ap (λ (l : Log). l.receipts) after_is in
-    let last : new.last ≡ chain_end new.server (bodies_of after.receipts) =
+    let last : new.last ≡ chain_end VERSION new.server (bodies_of after.receipts) =
     ap (λ (j : JournalState D). j.last) new_is
     ∙ ap (λ (l : List ℕ). link l bytes) before.1
-    ∙ ap (λ (b : List ℕ). link (chain_end id (bodies_of log.receipts)) b) spelled
-    ∙ sym (chain_end-push id (bodies_of log.receipts) (write_bytes made))
-    ∙ ap (λ (bodies : List (List ℕ)). chain_end id bodies) (sym (bodies_of-push log.receipts made))
-    ∙ ap (λ (writes : List Write). chain_end id (bodies_of writes)) (sym receipts)
-    ∙ ap (λ (s : ℕ). chain_end s (bodies_of after.receipts)) (sym owner) in
+    ∙ ap (λ (b : List ℕ). link (chain_end VERSION id (bodies_of log.receipts)) b) spelled
+    ∙ sym (chain_end-push VERSION id (bodies_of log.receipts) (write_bytes made))
+    ∙ ap (λ (bodies : List (List ℕ)). chain_end VERSION id bodies) (sym (bodies_of-push log.receipts made))
+    ∙ ap (λ (writes : List Write). chain_end VERSION id (bodies_of writes)) (sym receipts)
+    ∙ ap (λ (s : ℕ). chain_end VERSION s (bodies_of after.receipts)) (sym owner) in
     record {
       owner = owner;
       limit = subst (λ (l : Log). l.limit ≤ MAX_WRITES) (sym after_is) together.limit;
@@ -86,8 +87,8 @@ stored_after {D} d old new modelled same has stored =
       one.bodies ++ one.body ∷ [],
       one.after ∙ ap bodies_of (sym has.held),
       has.behind modelled
-          ∙ ap (λ (l : List ℕ). l ++ has.added) (stored.2 ∙ ap (journal old.core.id) both)
-          ∙ ap (λ (l : List ℕ). journal old.core.id one.bodies ++ l) one.is
-          ∙ sym (journal-push old.core.id one.bodies one.body)
-          ∙ ap (λ (s : ℕ). journal s (one.bodies ++ one.body ∷ [])) (sym same),
+          ∙ ap (λ (l : List ℕ). l ++ has.added) (stored.2 ∙ ap (journal VERSION old.core.id) both)
+          ∙ ap (λ (l : List ℕ). journal VERSION old.core.id one.bodies ++ l) one.is
+          ∙ sym (journal-push VERSION old.core.id one.bodies one.body)
+          ∙ ap (λ (s : ℕ). journal VERSION s (one.bodies ++ one.body ∷ [])) (sym same),
     )
