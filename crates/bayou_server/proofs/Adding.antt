@@ -12,13 +12,13 @@ use Rattle.bayou_journal.specs.declared.format.TheConstants.{VERSION}
 use Rattle.bayou_lang.specs.declared.program.Program.{Program}
 use Rattle.bayou_lang.specs.declared.write.Write.{Write}
 use Rattle.bayou_lang.specs.Writes.{IsNextWrite}
-use Rattle.bayou_log.specs.Log.{Log}
+use Rattle.bayou_log.specs.Log.{Log, IsReserved}
 use Rattle.bayou_lang.specs.Ranges.{IsWrite}
 use Rattle.bayou_wire.specs.Spelling.{write_bytes}
 use Rattle.bayou_server.specs.Inner.Fields.{BelongTogether, Stands, core_of}
 use Rattle.bayou_server.specs.Server.{IsSoundServer, ServerState}
 use Rattle.bayou_server.specs.Stored.{HasAdded, IsEntryOf, IsStored, bodies_of}
-use Rattle.bayou_server.proofs.Steps.{sound_next}
+use Rattle.bayou_server.proofs.Steps.{next_as_itself, next_may_be_in_doubt, sound_next}
 use Rattle.bayou_device.specs.declared.device.Device.{Ghosts}
 
 -- an append that fails is the device's fault, unless the journal was down
@@ -74,9 +74,34 @@ after_adding {D} journal new log after id doubt asked made bytes together up nex
     record {
       owner = owner;
       limit = subst (λ (l : Log). l.limit ≤ MAX_WRITES) (sym after_is) together.limit;
-      sound = subst (λ (l : Log). IsSoundServer (core_of l id doubt)) (sym after_is) (sound_next (core_of log id doubt) asked made together.sound next room is);
+      sound = subst (λ (l : Log). IsSoundServer (core_of l id doubt)) (sym after_is) (sound_next (core_of log id doubt) asked made together.sound (none_of doubt up) next room is);
       stands = subst (λ (d : Option Write). Stands new after d) (sym (none_of doubt up))
           (ap (λ (j : JournalState D). j.is_down) new_is ∙ before.0, last);
+    }
+
+-- and they do once the Write is in doubt, whatever the append left of the journal
+pub after_failing : {D : Type 0} (journal new : JournalState D) (log after : Log) (id : ℕ) (doubt : Option Write) (asked : Program) (made : Write)
+    → BelongTogether journal log id doubt → IsNextWrite log.receipts id asked made → length log.receipts < log.limit → IsWrite made → new.server ≡ journal.server
+    → after ≡ record log { room = after.room } → IsReserved after.room made → BelongTogether new after id (Some made)
+after_failing {D} journal new log after id doubt asked made together next room is same after_is reserved =
+    let sound = together.sound in
+    let owner : new.server ≡ id = same ∙ together.owner in
+    let down : IsSoundServer (core_of log id (Some made)) = record {
+      known = sound.known;
+      holds = sound.holds;
+      spelled = sound.spelled;
+      doubted = next_may_be_in_doubt (core_of log id doubt) asked made sound next room is;
+    } in
+    let here : IsNextWrite log.receipts new.server made.program made = subst (λ (s : ℕ). IsNextWrite log.receipts s made.program made) (sym owner) (next_as_itself log.receipts id asked made next) in
+    record {
+      owner = owner;
+      limit = subst (λ (l : Log). l.limit ≤ MAX_WRITES) (sym after_is) together.limit;
+      sound = subst (λ (l : Log). IsSoundServer (core_of l id (Some made))) (sym after_is) down;
+      stands = (
+        subst (λ (l : Log). IsNextWrite l.receipts new.server made.program made) (sym after_is) here,
+        reserved,
+        subst (λ (l : Log). length l.receipts < l.limit) (sym after_is) room,
+      );
     }
 
 -- a device that had the journal of the Writes held has that of those and the new one

@@ -18,7 +18,7 @@ use Rattle.bayou_server.specs.Faults.{reopen_fault}
 use Rattle.bayou_server.specs.Inner.Fields.{BelongTogether, Stands, core_of}
 use Rattle.bayou_server.specs.Reopens.{Reopens}
 use Rattle.bayou_server.specs.Inner.Replaying.{AreOthers}
-use Rattle.bayou_server.specs.Server.{Core, IsDown, IsSoundServer, ServerState}
+use Rattle.bayou_server.specs.Server.{Core, IsDown, IsSoundServer, MayBeInDoubt, ServerState}
 use Rattle.bayou_server.specs.Stored.{OpensWith, ReopensJournal, bodies_of}
 use Rattle.bayou_server.proofs.Steps.{sound_next}
 use Rattle.bayou_device.specs.declared.device.Device.{Ghosts}
@@ -86,15 +86,15 @@ pub after_adopting : {D : Type 0} (journal new : JournalState D) (log after : Lo
     → after ≡ record log { receipts = log.receipts ++ write ∷ []; room = after.room } → BelongTogether new after id left
 after_adopting {D} journal new log after id doubt left write bodies together is none new_is last bodies_are after_is =
     let down = stands_down journal log id doubt write together is in
-    let spelled : IsWrite write = subst (λ (d : Option Write). IfSome d IsWrite) is together.sound.doubt_spelled in
-    let up : IsSoundServer (core_of log id None) = record { known = together.sound.known; holds = together.sound.holds; spelled = together.sound.spelled; doubt_spelled = tt } in
+    let may : MayBeInDoubt id log.count log.limit log.receipts write = subst (λ (d : Option Write). IfSome d (MayBeInDoubt id log.count log.limit log.receipts)) is together.sound.doubted in
+    let up : IsSoundServer (core_of log id None) = record { known = together.sound.known; holds = together.sound.holds; spelled = together.sound.spelled; doubted = tt } in
     let owner : new.server ≡ journal.server = ap (λ (j : JournalState D). j.server) new_is in
     let receipts : after.receipts ≡ log.receipts ++ write ∷ [] = ap (λ (l : Log). l.receipts) after_is in
     record {
       owner = owner ∙ together.owner;
       limit = subst (λ (l : Log). l.limit ≤ MAX_WRITES) (sym after_is) together.limit;
       sound = subst (λ (l : Log). IsSoundServer (core_of l id left)) (sym after_is)
-          (subst (λ (d : Option Write). IsSoundServer (record (core_of log id d) { held = log.receipts ++ write ∷ [] })) (sym none) (sound_next (core_of log id None) write.program write up down.0 down.2 spelled));
+          (subst (λ (d : Option Write). IsSoundServer (record (core_of log id d) { held = log.receipts ++ write ∷ [] })) (sym none) (sound_next (core_of log id None) write.program write up refl down.0 down.2 may.spelled));
       stands = subst (λ (d : Option Write). Stands new after d) (sym none) (
         ap (λ (j : JournalState D). j.is_down) new_is,
         last

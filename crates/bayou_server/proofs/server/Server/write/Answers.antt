@@ -1,10 +1,11 @@
 use Rattle.std.proofs.Common.{◌≢◌, ◌<◌, ℕ, List, length, Ok, Err, refl, sym, ◌∙◌, ap, subst, arith}
 use Rattle.std.specs.Prelude.{is_err}
 use Rattle.bayou_base.specs.Vector.{Dominates}
+use Rattle.bayou_journal.specs.Journal.{JournalState}
 use Rattle.bayou_lang.specs.Laws.Fitting.{next_fits}
 use Rattle.bayou_server.specs.declared.fault.WriteFault.TheVariants.{Journal}
 use Rattle.bayou_server.specs.Server.{Core, IsSoundServer}
-use Rattle.bayou_server.proofs.Adding.{after_adding, device_fault, entry_is, none_of, stands_up, stored_after}
+use Rattle.bayou_server.proofs.Adding.{after_adding, after_failing, device_fault, entry_is, none_of, stands_up, stored_after}
 use Rattle.bayou_server.proofs.Steps.{own_of_write, writes_keep}
 use Rattle.bayou_server.proofs.server.Server.write.Goals as goal
 
@@ -73,6 +74,16 @@ returns-in-Ok-clause-stores g c =
 pub returns-in-Ok-clause-stored : goal.returns-in-Ok-clause-stored
 returns-in-Ok-clause-stored g c = λ modelled.
     stored_after g.D.Device c.args.self.now _ modelled (ap (λ (s : Core). s.id) (returns-in-Ok-clause-writes g c).is) (returns-in-Ok-clause-stores g c)
+
+pub invariant_of-self-in-Err : goal.invariant_of-self-in-Err
+invariant_of-self-in-Err g c =
+    let inside = c.self.inside in
+    let up = stands_up inside.journal inside.log inside.id.index inside.doubt c.self.invariant (sym c.is_some.ensures ∙ c.if-is_some.false) in
+    let fault = device_fault c.append.result (ap is_err c.in-Err.is) (λ down. absurd (let was = c.append.ensures.down.0 down in let is = up.0 in cc)) in
+    let differ : length inside.log.receipts ≢ inside.log.limit = λ same. absurd (let no = c.if-is_full.ensures.full.1 same in cc) in
+    let room : length inside.log.receipts < inside.log.limit = omega (arith, c.if-is_full.ensures.within) in
+    after_failing inside.journal c.append.new.self inside.log c.reserve.new.self inside.id.index inside.doubt c.args.program c.next_write-write.result
+    c.self.invariant c.next_write-write.ensures room c.in_ok-body.ensures.spelling.is (ap (λ (j : JournalState g.row.D.Denot). j.server) (c.append.ensures.fault fault)) c.reserve.ensures.same c.in_ok-reserve.ensures.ok
 
 pub returns-clause-writes : goal.returns-clause-writes
 returns-clause-writes g c =
