@@ -6,7 +6,7 @@ use Rattle.bayou_device.specs.declared.device.Device.{Ghosts}
 use Rattle.bayou_journal.specs.Chain.{chain_end, entry, journal}
 use Rattle.bayou_journal.specs.declared.format.TheConstants.{VERSION}
 use Rattle.bayou_journal.specs.Opening.{FailsToAdd, HasOpened, HasRefused}
-pub use Rattle.bayou_journal.specs.Opening.{OpensInCalls}
+use Rattle.bayou_journal.specs.Opening as journals
 use Rattle.bayou_journal.specs.declared.fault.OpenFault.TheVariants as opening
 use Rattle.bayou_lang.specs.declared.write.Write.{Write}
 use Rattle.bayou_wire.specs.Spelling.{write_bytes}
@@ -69,6 +69,10 @@ StoresWrite d old (Err OutOfMemory) new = new.device ≡ old.device
 StoresWrite d old (Err Journal) new = HasFailed d old new
 
 -- ---- an opening
+
+-- how many device calls the opening of a server's journal makes at the most
+abbrev pub OpensInCalls : {D : Type 0} → Ghosts D → (id : ℕ) → (old new : D) → Type 0
+OpensInCalls d id old new = journals.OpensInCalls d VERSION id old new
 
 -- the journal was opened: these bodies were found, and are all that it is left with
 pub record OpensWith {D : Type 0} (d : Ghosts D) (id : ℕ) (old new : D) (bodies : List (List ℕ)) : Type 0 where

@@ -1,8 +1,7 @@
 ghost use Rattle.std.specs.Prelude.{◌≡◌, ◌≢◌, ◌+◌, ◌<◌, ◌≤◌, ◌↔◌, ℕ, All, Contains, IfErr, IfOk, IsSome, IsTrue, MatchOption, MatchResult, OnOk, length};
 ghost use Rattle.std.specs.Borrow.{Lends, sem};
 ghost use Rattle.bayou_base.specs.declared.limits.TheConstants.{SERVERS, MAX_WRITES};
-ghost use Rattle.bayou_journal.specs.Opening.{KeepsChains, OpensInCalls};
-ghost use Rattle.bayou_journal.specs.declared.format.TheConstants.{VERSION};
+ghost use Rattle.bayou_journal.specs.Opening.{KeepsChains};
 ghost use Rattle.bayou_lang.specs.Writes.{IsNextWrite, count_of};
 ghost use Rattle.bayou_log.specs.Listing.{listing_of};
 ghost use Rattle.bayou_server.specs.contracts.server.Server.{the_row};
@@ -10,7 +9,7 @@ ghost use Rattle.bayou_server.specs.Reads.{Reads};
 ghost use Rattle.bayou_server.specs.Reopens.{Reopens, own_adopted};
 ghost use Rattle.bayou_server.specs.Server.{IsSoundServer, own_count, with_device};
 ghost use Rattle.bayou_server.specs.Starts.{FailsToStart, Starts, StartsOn};
-ghost use Rattle.bayou_server.specs.Stored.{IsStored, ReopensJournal, StoresWrite};
+ghost use Rattle.bayou_server.specs.Stored.{IsStored, OpensInCalls, ReopensJournal, StoresWrite};
 ghost use Rattle.bayou_server.specs.Writes.{Writes};
 
 use crate::answer::{Reopened, Stopped};
@@ -92,8 +91,8 @@ impl<D: Device> Server<D> {
             (λ started. KeepsChains (D.kept device) (D.kept started.0.device))
             (λ refused. KeepsChains (D.kept device) (D.kept refused.device)) }
         ensures calls { MatchResult result
-            (λ started. OpensInCalls D.Device VERSION id.index device started.0.device)
-            (λ refused. OpensInCalls D.Device VERSION id.index device refused.device) }
+            (λ started. OpensInCalls D.Device id.index device started.0.device)
+            (λ refused. OpensInCalls D.Device id.index device refused.device) }
     {
         let (journal, opened) = match Journal::open(alloc, id, device) {
             Ok(opened) => opened,
@@ -192,7 +191,7 @@ impl<D: Device> Server<D> {
         ensures opens { ReopensJournal D.Device self.old result self.new }
         ensures stored { D.is_modelled → OnOk result (IsStored D.Device self.new) }
         ensures safe { D.is_modelled → KeepsChains (D.kept self.old.device) (D.kept self.new.device) }
-        ensures calls { OpensInCalls D.Device VERSION self.old.core.id self.old.device self.new.device }
+        ensures calls { OpensInCalls D.Device self.old.core.id self.old.device self.new.device }
     {
         let Some(doubt) = &self.doubt else {
             return Err(ReopenFault::NotDown);
