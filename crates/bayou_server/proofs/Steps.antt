@@ -7,7 +7,7 @@ use Rattle.bayou_base.specs.declared.wid.Wid.{Wid}
 use Rattle.bayou_lang.specs.declared.program.Program.{Program}
 use Rattle.bayou_lang.specs.declared.write.Write.{Write}
 use Rattle.bayou_lang.specs.Writes.{IsNextWrite, count_of, counted}
-use Rattle.bayou_lang.specs.Laws.Fitting.{IsSound-next, next_fits, count_of-push, counted-own}
+use Rattle.bayou_lang.specs.Laws.Fitting.{IsSound-push, next_fits, count_of-push, counted-own}
 use Rattle.bayou_lang.specs.Ranges.{IsWrite}
 use Rattle.bayou_server.specs.declared.fault.WriteFault.{WriteFault}
 use Rattle.bayou_server.specs.declared.fault.WriteFault.TheVariants.{Down, Behind, LogFull, OutOfMemory, Journal}
@@ -21,7 +21,7 @@ pub sound_next : (core : Core) (asked : Program) (made : Write) → IsSoundServe
 sound_next core asked made sound up next room is = record {
   known = sound.known;
   holds = record {
-    sound = IsSound-next core.id core.count core.held asked made sound.holds.sound sound.known next;
+    sound = IsSound-push core.id core.count core.held made sound.holds.sound (next_fits core.count core.held core.id asked made sound.holds.sound.fitting sound.known next) (λ is_own. next.deps);
     within = omega (arith, room, length-append core.held (made ∷ []));
   };
   spelled = All-push IsWrite core.held made sound.spelled is;
