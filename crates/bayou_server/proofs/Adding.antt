@@ -10,6 +10,7 @@ use Rattle.bayou_journal.specs.declared.fault.AppendFault.TheVariants as append
 use Rattle.bayou_journal.specs.Chain.{chain_end, entry, journal, link}
 use Rattle.bayou_journal.specs.Laws.Chain.{chain_end-push, journal-push}
 use Rattle.bayou_journal.specs.Journal.{JournalState}
+use Rattle.bayou_journal.specs.declared.format.TheConstants.{VERSION}
 use Rattle.bayou_journal.specs.Opening.{FailsToAdd}
 use Rattle.bayou_lang.specs.declared.program.Program.{Program}
 use Rattle.bayou_lang.specs.declared.write.Write.{Write}
@@ -23,7 +24,7 @@ use Rattle.bayou_server.specs.Inner.Making.{Settles}
 use Rattle.bayou_server.specs.Server.{Core, IsSoundServer, ServerState}
 use Rattle.bayou_server.specs.Stored.{HasAdded, IsEntryOf, IsStored, StoresWrite, bodies_of}
 use Rattle.bayou_server.specs.Writes.{Makes, Writes}
-use Rattle.bayou_server.proofs.Steps.{sound_next}
+use Rattle.bayou_server.proofs.Steps.{next_may_be_in_doubt, sound_next}
 use Rattle.bayou_device.specs.declared.device.Device.{Ghosts}
 
 -- an append that fails is the device's fault, unless the journal was down
@@ -38,10 +39,10 @@ none_of (Some write) up = absurd cc
 
 -- while the server is up its journal is, and ends as the Writes held say
 pub stands_up : {D : Type 0} (journal : JournalState D) (log : Log) (id : ℕ) (doubt : Option Write) → BelongTogether journal log id doubt → is_some doubt ≡ false
-    → (journal.is_down ≡ false) × (journal.last ≡ chain_end id (bodies_of log.receipts))
+    → (journal.is_down ≡ false) × (journal.last ≡ chain_end VERSION id (bodies_of log.receipts))
 stands_up journal log id doubt together up =
     let stands : Stands journal log None = subst (λ (d : Option Write). Stands journal log d) (none_of doubt up) together.stands in
-    (stands.0, stands.1 ∙ ap (λ (s : ℕ). chain_end s (bodies_of log.receipts)) together.owner)
+    (stands.0, stands.1 ∙ ap (λ (s : ℕ). chain_end VERSION s (bodies_of log.receipts)) together.owner)
 
 -- one body more
 pub bodies_of-push : (held : List Write) (write : Write) → bodies_of (held ++ write ∷ []) ≡ bodies_of held ++ write_bytes write ∷ []
@@ -56,7 +57,7 @@ entry_is journal log id doubt made bytes together up spelled = record {
   before = refl;
   after = sym (bodies_of-push log.receipts made);
   is = ap (λ (l : List ℕ). entry l bytes) (stands_up journal log id doubt together up).1
-      ∙ ap (λ (b : List ℕ). entry (chain_end id (bodies_of log.receipts)) b) spelled;
+      ∙ ap (λ (b : List ℕ). entry (chain_end VERSION id (bodies_of log.receipts)) b) spelled;
 }
 
 -- the fields still belong together once the entry and the Write were added
@@ -68,18 +69,18 @@ after_adding {D} journal new log after id doubt asked made bytes together up nex
     let before = stands_up journal log id doubt together up in
     let owner : new.server ≡ id = ap (λ (j : JournalState D). j.server) new_is ∙ together.owner in
     let receipts : after.receipts ≡ log.receipts ++ made ∷ [] = ap (λ (l : Log). l.receipts) after_is in
-    let last : new.last ≡ chain_end new.server (bodies_of after.receipts) =
+    let last : new.last ≡ chain_end VERSION new.server (bodies_of after.receipts) =
     ap (λ (j : JournalState D). j.last) new_is
     ∙ ap (λ (l : List ℕ). link l bytes) before.1
-    ∙ ap (λ (b : List ℕ). link (chain_end id (bodies_of log.receipts)) b) spelled
-    ∙ sym (chain_end-push id (bodies_of log.receipts) (write_bytes made))
-    ∙ ap (λ (bodies : List (List ℕ)). chain_end id bodies) (sym (bodies_of-push log.receipts made))
-    ∙ ap (λ (writes : List Write). chain_end id (bodies_of writes)) (sym receipts)
-    ∙ ap (λ (s : ℕ). chain_end s (bodies_of after.receipts)) (sym owner) in
+    ∙ ap (λ (b : List ℕ). link (chain_end VERSION id (bodies_of log.receipts)) b) spelled
+    ∙ sym (chain_end-push VERSION id (bodies_of log.receipts) (write_bytes made))
+    ∙ ap (λ (bodies : List (List ℕ)). chain_end VERSION id bodies) (sym (bodies_of-push log.receipts made))
+    ∙ ap (λ (writes : List Write). chain_end VERSION id (bodies_of writes)) (sym receipts)
+    ∙ ap (λ (s : ℕ). chain_end VERSION s (bodies_of after.receipts)) (sym owner) in
     record {
       owner = owner;
       limit = subst (λ (l : Log). l.limit ≤ MAX_WRITES) (sym after_is) together.limit;
-      sound = subst (λ (l : Log). IsSoundServer (core_of l id doubt)) (sym after_is) (sound_next (core_of log id doubt) asked made together.sound next room is);
+      sound = subst (λ (l : Log). IsSoundServer (core_of l id doubt)) (sym after_is) (sound_next (core_of log id doubt) asked made together.sound (none_of doubt up) next room is);
       stands = subst (λ (d : Option Write). Stands new after d) (sym (none_of doubt up))
           (ap (λ (j : JournalState D). j.is_down) new_is ∙ before.0, last);
     }
@@ -188,7 +189,7 @@ after_failing {D} journal new log reserved after id doubt left asked made bytes 
         known = together.sound.known;
         holds = together.sound.holds;
         spelled = together.sound.spelled;
-        doubt_spelled = adds.is;
+        doubted = next_may_be_in_doubt (core_of log id doubt) asked made together.sound adds.next adds.room adds.is;
       }));
       stands = subst (λ (d : Option Write). Stands new after d) (sym left_is) (
         subst (λ (l : Log). IsNextWrite l.receipts new.server made.program made) (sym log_is) (subst (λ (s : ℕ). IsNextWrite log.receipts s made.program made) (sym owner) next),
@@ -219,10 +220,10 @@ stored_after {D} d old new modelled same has stored =
       one.bodies ++ one.body ∷ [],
       one.after ∙ ap bodies_of (sym has.held),
       has.behind modelled
-          ∙ ap (λ (l : List ℕ). l ++ has.added) (stored.2 ∙ ap (journal old.core.id) both)
-          ∙ ap (λ (l : List ℕ). journal old.core.id one.bodies ++ l) one.is
-          ∙ sym (journal-push old.core.id one.bodies one.body)
-          ∙ ap (λ (s : ℕ). journal s (one.bodies ++ one.body ∷ [])) (sym same),
+          ∙ ap (λ (l : List ℕ). l ++ has.added) (stored.2 ∙ ap (journal VERSION old.core.id) both)
+          ∙ ap (λ (l : List ℕ). journal VERSION old.core.id one.bodies ++ l) one.is
+          ∙ sym (journal-push VERSION old.core.id one.bodies one.body)
+          ∙ ap (λ (s : ℕ). journal VERSION s (one.bodies ++ one.body ∷ [])) (sym same),
     )
 
 pub stored_by : {D : Type 0} (d : Ghosts D) (old new : ServerState D) (result : Result Accepted WriteFault) → d.is_modelled → new.core.id ≡ old.core.id → StoresWrite d old result new

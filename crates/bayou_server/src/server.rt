@@ -1,7 +1,7 @@
 ghost use Rattle.std.specs.Prelude.{◌≡◌, ◌≢◌, ◌+◌, ◌<◌, ◌≤◌, ◌↔◌, ℕ, All, Contains, IfErr, IfOk, IsSome, IsTrue, MatchOption, MatchResult, OnOk, length};
 ghost use Rattle.std.specs.Borrow.{Lends, sem};
 ghost use Rattle.bayou_base.specs.declared.limits.TheConstants.{SERVERS, MAX_WRITES};
-ghost use Rattle.bayou_journal.specs.Opening.{KeepsChains, OpensInCalls};
+ghost use Rattle.bayou_journal.specs.Opening.{KeepsChains};
 ghost use Rattle.bayou_lang.specs.Writes.{IsNextWrite, count_of};
 ghost use Rattle.bayou_log.specs.Listing.{listing_of};
 ghost use Rattle.bayou_server.specs.contracts.server.Server.{the_row};
@@ -9,7 +9,7 @@ ghost use Rattle.bayou_server.specs.Reads.{Reads};
 ghost use Rattle.bayou_server.specs.Reopens.{Reopens, own_adopted};
 ghost use Rattle.bayou_server.specs.Server.{IsSoundServer, own_count, with_device};
 ghost use Rattle.bayou_server.specs.Starts.{FailsToStart, Starts, StartsOn};
-ghost use Rattle.bayou_server.specs.Stored.{IsStored, ReopensJournal, StoresWrite};
+ghost use Rattle.bayou_server.specs.Stored.{IsStored, OpensInCalls, ReopensJournal, StoresWrite};
 ghost use Rattle.bayou_server.specs.Writes.{Writes};
 
 use crate::answer::{Reopened, Stopped};
