@@ -42,16 +42,6 @@ next_may_be_in_doubt core asked made sound next room is = record {
   own = λ is_own. next_as_itself core.held core.id asked made next;
 }
 
-pub writes_keep : (old : Core) (need : List ℕ) (program : Program) (result : Result Accepted WriteFault) (new : Core) → IsSoundServer old → Writes old need program result new → IsSoundServer new
-writes_keep old need program (Ok accepted) new sound writes =
-    subst IsSoundServer (sym writes.is) (sound_next old program writes.made sound writes.makes.ready.up writes.makes.next writes.makes.room writes.makes.spelled)
-writes_keep old need program (Err Down) new sound writes = subst IsSoundServer (sym writes.1) sound
-writes_keep old need program (Err (Behind vector)) new sound writes = subst IsSoundServer (sym writes.2) sound
-writes_keep old need program (Err LogFull) new sound writes = subst IsSoundServer (sym writes.2) sound
-writes_keep old need program (Err OutOfMemory) new sound writes = subst IsSoundServer (sym writes.2) sound
-writes_keep old need program (Err Journal) new sound writes =
-    subst IsSoundServer (sym writes.is) (record { known = sound.known; holds = sound.holds; spelled = sound.spelled; doubted = next_may_be_in_doubt old program writes.made sound writes.makes.next writes.makes.room writes.makes.spelled })
-
 -- one own Write more
 one_more : (held : List Write) (id : ℕ) (made : Write) → made.wid.origin.index ≡ id → slice_index (count_of (held ++ made ∷ [])) id ≡ slice_index (count_of held) id + 1
 one_more held id made own =
