@@ -1,7 +1,8 @@
 //! Lines of JSON: what each is read as, in its spelling, or its first fault.
 use crate::notation::{parts, repeated};
 use arrayvec::ArrayString;
-use bayou_text::{Line, LineFault, read_line, write_line};
+use bayou_text::{Line, LineFault, read_line};
+use bayou_text_writer::write_line;
 use std::alloc::{AllocError, Global};
 use std::fmt::Write;
 use std::process::Abort;

@@ -1,10 +1,6 @@
 pub mod Views
 pub mod Lists
 pub mod Faults
-pub mod Spelled
-pub mod Written
-pub mod Again
-pub mod Lengths
 pub mod Readers
 pub mod PartTable
 pub mod ProgramTable

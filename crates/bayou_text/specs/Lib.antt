@@ -1,5 +1,4 @@
 pub mod Asks
-pub mod Inner
 pub mod Lines
 pub mod Numbers
 pub mod Parts

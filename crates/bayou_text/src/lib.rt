@@ -3,8 +3,8 @@
 //! Callers see a [`Line`] as what it says, `said`: a command with its numbers, its key or its program. `Spells` in
 //! `specs/Table` is the table of the lines: which JSON data spells which command, member by member. [`read_line`]
 //! answers exactly what the bytes spell, or the first fault, which `specs/Lines` and the files below it compute.
-//! [`write_line`] gives the one spelling of `specs/Spelling`, and what it wrote is read as the line that was written.
-//! A new command is an arm of [`Command`], of `line_in` or `trial_in` in the reader, of `line_json` in the writer, of `command_said`,
+//! `specs/Spelling` has one spelling of each line, which `bayou_text_writer` writes.
+//! A new command is an arm of [`Command`], of `line_in` or `trial_in` in the reader, of `line_json` in that writer, of `command_said`,
 //! `command_of` or `trial_of` and `line_json` in the grammar, of `LineIs` in the table, and of the ranges that its types
 //! keep.
 //!
@@ -17,9 +17,7 @@ pub mod command;
 pub mod laws;
 pub mod line;
 pub mod read;
-pub mod write;
 
 pub use command::{Command, PlannedFailure};
 pub use line::{Line, LineFault, Shape};
 pub use read::read_line;
-pub use write::write_line;

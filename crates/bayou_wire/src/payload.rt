@@ -35,7 +35,9 @@ fn optional_value_of(bytes: &[u8]) -> Option<(Option<Value>, &[u8])>
         [] => None,
         [ABSENT, rest @ ..] => Some((None, rest)),
         [_, ..] => {
-            let (value, rest) = value_of(bytes)?;
+            let Some((value, rest)) = value_of(bytes) else {
+                return None;
+            };
             Some((Some(value), rest))
         }
     }
@@ -73,7 +75,9 @@ fn refusal_of(bytes: &[u8]) -> Option<(Refusal, &[u8])>
         [CODE_JOURNAL, rest @ ..] => Some((Refusal::Journal, rest)),
         [CODE_NOT_DOWN, rest @ ..] => Some((Refusal::NotDown, rest)),
         [CODE_BAD_RECORD, rest @ ..] => {
-            let (at, rest) = u32_of(rest)?;
+            let Some((at, rest)) = u32_of(rest) else {
+                return None;
+            };
             Some((Refusal::BadRecord(at), rest))
         }
         [CODE_LOST, rest @ ..] => Some((Refusal::Lost, rest)),
@@ -86,7 +90,9 @@ fn refusal_of(bytes: &[u8]) -> Option<(Refusal, &[u8])>
 fn seen_of(bytes: &[u8]) -> Option<(Seen, &[u8])>
     ensures { Gives (λ x. (x.0, x.1.now)) result (seen_at bytes.now) }
 {
-    let (value, rest) = optional_value_of(bytes)?;
+    let Some((value, rest)) = optional_value_of(bytes) else {
+        return None;
+    };
     let Some((vector, rest)) = vector_of(rest) else {
         return None;
     };
@@ -129,7 +135,9 @@ fn reply_of(kind: u8, bytes: &[u8]) -> Option<(Frame, &[u8])>
             Some((Frame::Item(write), rest))
         }
         KIND_END => {
-            let (number, rest) = u32_of(bytes)?;
+            let Some((number, rest)) = u32_of(bytes) else {
+                return None;
+            };
             Some((Frame::End(number), rest))
         }
         _ => None,
@@ -146,14 +154,18 @@ pub(crate) fn payload_of(kind: u8, bytes: &[u8]) -> Option<(Frame, &[u8])>
             let Some((need, rest)) = vector_of(bytes) else {
                 return None;
             };
-            let (key, rest) = key_of(rest)?;
+            let Some((key, rest)) = key_of(rest) else {
+                return None;
+            };
             Some((Frame::Read(need, key), rest))
         }
         KIND_WRITE => {
             let Some((need, rest)) = vector_of(bytes) else {
                 return None;
             };
-            let (program, rest) = program_of(rest)?;
+            let Some((program, rest)) = program_of(rest) else {
+                return None;
+            };
             Some((Frame::Write(need, program), rest))
         }
         KIND_REOPEN => Some((Frame::Reopen, bytes)),

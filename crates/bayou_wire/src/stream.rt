@@ -59,10 +59,9 @@ fn held_fault(held: &[u8]) -> Option<Fault>
 fn first_fault(taken: &Taken) -> Option<Fault>
     ensures { IsFirst taken.now.frames.items taken.now.fault result }
 {
-    if taken.frames.is_empty() {
-        taken.fault
-    } else {
-        None
+    match taken.frames.as_slice() {
+        [] => taken.fault,
+        [_, ..] => None,
     }
 }
 

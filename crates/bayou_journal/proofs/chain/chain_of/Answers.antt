@@ -2,7 +2,7 @@
 use Rattle.std.proofs.Common.{ℕ, ◌+◌, ◌-◌, ◌≤◌, List, [], ◌∷◌, ◌++◌, length, map, arith, refl, sym, ap, subst, length-append}
 use Rattle.bayou_journal.specs.Opened.{bytes_at}
 use Rattle.bayou_journal.specs.declared.opened.Place.{Place}
-use Rattle.bayou_journal.specs.Chain.{journal}
+use Rattle.bayou_journal.specs.Chain.{NoEntry, journal}
 use Rattle.bayou_journal.specs.declared.format.TheConstants.{VERSION}
 use Rattle.bayou_journal.proofs.Walking.{IsWalked, walks_on}
 use Rattle.bayou_journal.proofs.chain.chain_of.Goals as goal
@@ -16,3 +16,12 @@ loop-first-preserved c =
     let on = walks_on VERSION c.args.server.index c.args.bytes.now so_far.places.items so_far.last so_far.rest.now first.body.now first.rest.now place so_far.invariant c.in-Some.ensures.body c.in-Some.ensures.split (omega arith) refl in
     let moved = subst (λ (d : List ℕ). IsWalked VERSION c.args.server.index c.args.bytes.now (so_far.places.items ++ place ∷ []) d first.rest.now) (sym c.in-Some.ensures.digest) on in
     subst (λ (ps : List Place). IsWalked VERSION c.args.server.index c.args.bytes.now ps first.digest first.rest.now) (sym c.in_ok-push.ensures.items) moved
+
+pub returns-clause-chain : goal.returns-clause-chain
+returns-clause-chain c =
+    let walked = c.loop-first.invariant in
+    let bodies = map (bytes_at c.args.bytes.now) c.loop-first.places.items in (
+      c.loop-first.rest.now,
+      record { split = walked.split; sizes = walked.sizes; longest = subst (λ (l : List ℕ). NoEntry l c.loop-first.rest.now) walked.ends c.in_default.ensures.none },
+      omega (arith, ap length walked.split, length-append (journal VERSION c.args.server.index bodies) c.loop-first.rest.now),
+    )

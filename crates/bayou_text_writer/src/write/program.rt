@@ -110,7 +110,7 @@ fn alts_json(alloc: Global, alternatives: &[Alt]) -> Result<Value, AllocError>
     Ok(Value::Array(list))
 }
 
-#[tactic(auto, unfolding(crate::specs::Spelling::program_json))]
+#[tactic(auto, unfolding(bayou_text::specs::Spelling::program_json))]
 pub(crate) fn program_json(alloc: Global, program: &Program) -> Result<Value, AllocError>
     ensures spelling { IfOk result (λ json. view json ≡ spelling.program_json program.now) }
     ensures kept { OnOk result (ranges.IsProgram program.now) }

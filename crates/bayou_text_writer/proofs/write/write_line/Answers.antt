@@ -1,6 +1,6 @@
 use Rattle.bayou_text.specs.Said.{said}
-use Rattle.bayou_text.proofs.Written.{text_of_line, line_short, line_read, line_spelled}
-use Rattle.bayou_text.proofs.write.write_line.Goals as goal
+use Rattle.bayou_text_writer.proofs.Written.{text_of_line, line_short, line_read, line_spelled}
+use Rattle.bayou_text_writer.proofs.write.write_line.Goals as goal
 
 pub returns : goal.returns
 returns c =

@@ -2,18 +2,17 @@ ghost use Rattle.std.specs.Prelude.{◌≡◌, ◌≤◌, [], ◌∷◌, IfOk, O
 ghost use Rattle.serde_json.specs.View.{view};
 ghost use Rattle.serde_json.specs.Written.{compact_text};
 ghost use Rattle.bayou_text.specs.Ranges.{IsReadable};
-ghost use Rattle.bayou_text.specs.Inner.Kept.{IsLine};
+ghost use Rattle.bayou_text_writer.specs.Inner.Kept.{IsLine};
 ghost use Rattle.bayou_base.specs.declared.limits.TheConstants.{MAX_LINE_BYTES};
 ghost use Rattle.bayou_text.specs.Lines.{line_of};
 ghost use Rattle.bayou_text.specs.Said.{said};
 ghost use Rattle.bayou_text.specs.Spelling as spelling;
 ghost use Rattle.bayou_text.specs.Table.{Spells};
 
-use crate::command::Command;
-use crate::line::Line;
 use crate::write::asks::asks_json;
 use crate::write::program::program_json;
 use bayou_base::{ServerId, SessionId};
+use bayou_text::{Command, Line};
 use serde_json::{Value, json};
 use std::alloc::{AllocError, Global};
 

@@ -26,7 +26,7 @@ use Rattle.bayou_text.specs.declared.command.Command.TheVariants as command
 use Rattle.bayou_text.specs.declared.line.Line.{Line}
 use Rattle.bayou_text.specs.declared.line.Line.TheVariants as line
 use Rattle.bayou_lang.specs.Ranges.{IsKey, IsValue, IsTerm, IsOp, IsCond, IsAlt, AreAtMost, IsProgram}
-use Rattle.bayou_text.specs.Inner.Kept.{IsLine}
+use Rattle.bayou_text_writer.specs.Inner.Kept.{IsLine}
 use Rattle.bayou_text.specs.Said.{said}
 use Rattle.bayou_text.specs.Spelling.{form, count_json, value_json, term_json, op_json, cond_json, alt_json, program_json, asks_json, list_json, line_json}
 

@@ -4,10 +4,10 @@ use Rattle.serde_json.specs.Data.{Data, depth}
 use Rattle.serde_json.specs.Read.{read, max_depth}
 use Rattle.serde_json.specs.Written.{has_float, compact_text}
 use Rattle.std.specs.declared.alloc.AllocError.{AllocError}
-use Rattle.bayou_text.proofs.Spelled.{line_plain}
+use Rattle.bayou_text_writer.proofs.Spelled.{line_plain}
 use Rattle.bayou_base.specs.declared.limits.TheConstants.{MAX_LINE_BYTES}
-use Rattle.bayou_text.proofs.Again.{line_again}
-use Rattle.bayou_text.proofs.Lengths.{line_size}
+use Rattle.bayou_text_writer.proofs.Again.{line_again}
+use Rattle.bayou_text_writer.proofs.Lengths.{line_size}
 use Rattle.bayou_text.specs.declared.line.Line.{Line}
 use Rattle.bayou_text.specs.declared.line.LineFault.TheVariants.{BadShape}
 use Rattle.bayou_text.specs.declared.line.Shape.TheVariants.{Line as TooLong}
@@ -16,7 +16,7 @@ use Rattle.bayou_text.specs.Table.{Spells}
 use Rattle.bayou_text.proofs.LineTable.{spells_from_line}
 use Rattle.std.proofs.lemmas.Str.{IsUtf8-string_bytes}
 use Rattle.bayou_text.specs.Ranges.{IsReadable}
-use Rattle.bayou_text.specs.Inner.Kept.{IsLine}
+use Rattle.bayou_text_writer.specs.Inner.Kept.{IsLine}
 use Rattle.bayou_text.specs.Said.{Said, said}
 use Rattle.bayou_text.specs.Spelling.{line_json}
 

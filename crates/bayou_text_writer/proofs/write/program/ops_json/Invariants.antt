@@ -3,7 +3,7 @@ use Rattle.std.specs.List.{AllByRecursion}
 use Rattle.serde_json.specs.View.{view}
 use Rattle.bayou_lang.specs.Ranges.{IsOp}
 use Rattle.bayou_text.specs.Spelling.{op_json}
-use Rattle.bayou_text.proofs.write.program.ops_json.Given as goal
+use Rattle.bayou_text_writer.proofs.write.program.ops_json.Given as goal
 
 -- those so far are spelled, and keep their ranges
 abbrev pub invariant-loop-op : goal.invariant-loop-op

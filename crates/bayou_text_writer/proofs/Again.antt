@@ -34,7 +34,7 @@ use Rattle.bayou_text.specs.Parts.{named_in, keyed_in, term_in, op_in, cond_in}
 use Rattle.bayou_text.specs.Programs.{few_in, alt_in, program_in}
 use Rattle.bayou_lang.specs.Ranges.{IsKey, IsValue, IsTerm, IsOp, IsCond, AreAtMost, IsAlt, IsProgram}
 use Rattle.bayou_text.specs.Ranges.{IsReadable}
-use Rattle.bayou_text.specs.Inner.Kept.{IsLine}
+use Rattle.bayou_text_writer.specs.Inner.Kept.{IsLine}
 use Rattle.bayou_text.specs.Reading.{Parsed, listed, all_in}
 use Rattle.bayou_text.specs.Said.{said}
 use Rattle.bayou_text.specs.Spelling.{count_json, value_json, term_json, op_json, cond_json, alt_json, program_json, asks_json, line_json}

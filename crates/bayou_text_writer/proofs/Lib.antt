@@ -1,0 +1,4 @@
+pub mod Spelled
+pub mod Written
+pub mod Again
+pub mod Lengths
