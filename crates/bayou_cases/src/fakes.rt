@@ -73,3 +73,20 @@ impl Write for FakeWriter {
         Ok(())
     }
 }
+
+/// A writer that takes all that it is given, and keeps how many bytes that were at each call.
+#[derive(Drop)]
+pub struct Pieces {
+    pub lengths: Vec<usize>,
+}
+
+impl Write for Pieces {
+    fn write(&mut self, buf: &[u8]) -> io::Result<usize> {
+        self.lengths.push(buf.len())?;
+        Ok(buf.len())
+    }
+
+    fn flush(&mut self) -> io::Result<()> {
+        Ok(())
+    }
+}

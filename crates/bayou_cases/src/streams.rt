@@ -1,5 +1,5 @@
 //! The program over readers and writers that are slow, fail, or never end.
-use crate::fakes::{FakeReader, FakeWriter};
+use crate::fakes::{FakeReader, FakeWriter, Pieces};
 use crate::memory::roomy;
 use bayou_shell::{Input, Output, run_main};
 use std::alloc::{AllocError, Global};
@@ -222,5 +222,37 @@ fn streams_without_an_end(rt: HostRuntime) -> Result<(), Fail> {
     for case in ENDLESS.iter() {
         assert!(rt; ends_so(rt.alloc(), case)?, "{}", case.name);
     }
+    Ok(())
+}
+
+/// How many reads of 19 printed bytes make more than a piece.
+const READS: usize = 4_000;
+
+/// Printed lines are written in pieces of whole lines, of at most 65,536 bytes, and the last ones too.
+#[test]
+fn pieces(rt: HostRuntime) -> Result<(), Fail> {
+    let alloc = rt.alloc();
+    let mut script = Vec::new(alloc);
+    script.extend_from_slice(b"[\"servers\",1]\n[\"session\",0,[]]\n")?;
+    for _ in 0..READS {
+        script.extend_from_slice(b"[\"read\",0,0,\"x\"]\n")?;
+    }
+    let mut reader = script.as_slice();
+    let mut writer = Pieces {
+        lengths: Vec::new(alloc),
+    };
+    let mut errors = roomy(alloc)?;
+    let status = run_main(
+        alloc,
+        &["bayou", "run"],
+        &mut Input::new(&mut reader),
+        &mut Output::new(&mut writer),
+        &mut Output::new(&mut errors),
+    );
+    let wanted = [3_449 * 19, (READS - 3_449) * 19];
+    assert!(rt;
+        status == 0 && writer.lengths.as_slice() == wanted.as_slice(),
+        "pieces"
+    );
     Ok(())
 }

@@ -1,6 +1,6 @@
 -- Runs, one step after another.
-use Rattle.std.proofs.Common.{◌≡◌, ℕ, Bool, true, false, ◌&&◌, List, [], ◌∷◌, ◌++◌, Option, None, Some, IfSome, IfErr, Result, Err, inl, IsTrue, map, take, length, ap, sym, ◌∙◌, refl, subst, append_assoc}
-use Rattle.std.proofs.lemmas.List.{append-nil}
+use Rattle.std.proofs.Common.{◌≡◌, ℕ, Bool, true, false, ◌&&◌, List, [], ◌∷◌, ◌++◌, Option, None, Some, IfSome, IfErr, Result, Err, inl, IsTrue, map, take, length, ap, sym, ◌∙◌, refl, subst, append_assoc, arith}
+use Rattle.std.proofs.lemmas.List.{append-nil, take_all}
 use Rattle.std.proofs.lemmas.Grind.{flat_map-append}
 use Rattle.std.proofs.KnownBytes.{Keeps-refl}
 use Rattle.std.proofs.Math.Seq.{take-append_seam}
@@ -19,10 +19,11 @@ use Rattle.bayou_shell.specs.Printed.{answer_text}
 use Rattle.bayou_shell.specs.Run.{Step, Run, RunsAs, Prints, PrintsPart, answers_text}
 use Rattle.bayou_script.specs.Script.{Plan, IsRefused, RefusedFor, is_served, lines_of}
 use Rattle.bayou_text.specs.Said.{command_said}
-use Rattle.bayou_shell.specs.Inner.Taken.{Takes, TakesFront}
 use Rattle.bayou_shell.specs.Account.{Account}
+use Rattle.bayou_shell.specs.Inner.Taken.{Takes, TakesFront}
+use Rattle.bayou_shell.specs.Inner.Waiting.{Gathers, Stage}
 use Rattle.bayou_shell.specs.Turns.{EndsReading, EndsWriting}
-use Rattle.bayou_shell.proofs.Taken.{Takes-trans}
+use Rattle.bayou_shell.proofs.Gathered.{Gathers-trans, Takes-all, Takes-front, Takes-rest}
 
 -- a run goes on by one step
 pub Run-more : (old mid new : Machine) (done : List Said) (answers : List Answer) (said : Said) (answer : Answer) → Run old done answers mid
@@ -54,7 +55,7 @@ answers_more count answers answer =
     flat_map-append (answer_text count) answers (answer ∷ []) ∙ ap (λ line. answers_text count answers ++ line) (append-nil (answer_text count answer))
 
 -- what was answered so far, and what is left
-pub record SoFar (plan : Plan) (store : Machine) (rest : List Command) (old new : Account) : Type 0 where
+pub record SoFar (plan : Plan) (store : Machine) (rest : List Command) (old new : Stage) : Type 0 where
   pub done : List Said
   pub answers : List Answer
   pub first : Machine
@@ -63,11 +64,11 @@ pub record SoFar (plan : Plan) (store : Machine) (rest : List Command) (old new 
   pub run : Run first done answers store
   pub count : store.count ≡ plan.count
   pub served : IsTrue (list_all (λ command. is_served plan.count (command_said command)) rest)
-  pub written : Takes old new (answers_text plan.count answers)
+  pub written : Gathers old new (answers_text plan.count answers) []
 
 -- one command more was answered
-pub SoFar-more : (plan : Plan) (store after : Machine) (command : Command) (rest : List Command) (answer : Answer) (old mid new : Account)
-    → SoFar plan store (command ∷ rest) old mid → Step store (command_said command) answer after → Takes mid new (answer_text plan.count answer)
+pub SoFar-more : (plan : Plan) (store after : Machine) (command : Command) (rest : List Command) (answer : Answer) (old mid new : Stage)
+    → SoFar plan store (command ∷ rest) old mid → Step store (command_said command) answer after → Gathers mid new (answer_text plan.count answer) []
     → SoFar plan after rest old new
 SoFar-more plan store after command rest answer old mid new so_far step written =
     let said = command_said command in
@@ -80,13 +81,13 @@ SoFar-more plan store after command rest answer old mid new so_far step written 
       run = Run-more so_far.first store after so_far.done so_far.answers said answer so_far.run step;
       count = Step-count store after said answer step ∙ so_far.count;
       served = and_right (is_served plan.count said) _ so_far.served;
-      written = subst (Takes old new) (sym (answers_more plan.count so_far.answers answer))
-          (Takes-trans old mid new (answers_text plan.count so_far.answers) (answer_text plan.count answer) so_far.written written);
+      written = subst (λ text. Gathers old new text []) (sym (answers_more plan.count so_far.answers answer))
+          (Gathers-trans old mid new (answers_text plan.count so_far.answers) (answer_text plan.count answer) [] so_far.written written);
     }
 
 -- all commands were answered
-pub SoFar-all : (plan : Plan) (store : Machine) (old new : Account) → SoFar plan store [] old new
-    → (text : List ℕ) × Prints plan text × Takes old new text
+pub SoFar-all : (plan : Plan) (store : Machine) (old new : Stage) → SoFar plan store [] old new
+    → (text : List ℕ) × Prints plan text × Gathers old new text []
 SoFar-all plan store old new so_far =
     let all : plan.commands ≡ so_far.done = so_far.whole ∙ append-nil so_far.done in (
       answers_text plan.count so_far.answers,
@@ -101,18 +102,19 @@ SoFar-all plan store old new so_far =
       so_far.written,
     )
 
--- a part of what is printed for one command more was written
-pub SoFar-part : (plan : Plan) (store after : Machine) (command : Command) (rest : List Command) (answer : Answer) (old mid new : Account)
-    → SoFar plan store (command ∷ rest) old mid → Step store (command_said command) answer after → TakesFront mid new (answer_text plan.count answer)
-    → (text : List ℕ) × PrintsPart plan text × Takes old new text
-SoFar-part plan store after command rest answer old mid new so_far step (front, missing, split, written) =
+-- one command more was answered, and a part of what is printed for it is missing
+pub SoFar-part : (plan : Plan) (store after : Machine) (command : Command) (rest : List Command) (answer : Answer) (old mid new : Stage) (missing : List ℕ)
+    → SoFar plan store (command ∷ rest) old mid → Step store (command_said command) answer after → Gathers mid new (answer_text plan.count answer) missing
+    → (text : List ℕ) × (missing : List ℕ) × PrintsPart plan text × Gathers old new text missing
+SoFar-part plan store after command rest answer old mid new missing so_far step some =
     let said = command_said command in
     let before = answers_text plan.count so_far.answers in
     let done = so_far.done ++ said ∷ [] in
     let first : take (length done) plan.commands ≡ done =
     ap (take (length done)) (so_far.whole ∙ sym (append_assoc so_far.done (said ∷ []) (map command_said rest)))
     ∙ take-append_seam done (map command_said rest) in (
-      before ++ front,
+      before ++ answer_text plan.count answer,
+      missing,
       record {
         number = length done;
         answers = so_far.answers ++ answer ∷ [];
@@ -121,20 +123,21 @@ SoFar-part plan store after command rest answer old mid new so_far step (front, 
         begun = so_far.begun;
         run = subst (λ commands. Run so_far.first commands (so_far.answers ++ answer ∷ []) after) (sym first)
             (Run-more so_far.first store after so_far.done so_far.answers said answer so_far.run step);
-        missing = missing;
-        lines = answers_more plan.count so_far.answers answer ∙ ap (λ line. before ++ line) split ∙ sym (append_assoc before front missing);
+        missing = [];
+        lines = answers_more plan.count so_far.answers answer ∙ sym (append-nil (before ++ answer_text plan.count answer));
       },
-      Takes-trans old mid new before front so_far.written written,
+      Gathers-trans old mid new before (answer_text plan.count answer) missing so_far.written some,
     )
 
 -- nothing was written for one command more
-pub SoFar-stopped : (plan : Plan) (store : Machine) (rest : List Command) (old mid new : Account)
-    → SoFar plan store rest old mid → new ≡ mid → (text : List ℕ) × PrintsPart plan text × Takes old new text
+pub SoFar-stopped : (plan : Plan) (store : Machine) (rest : List Command) (old mid new : Stage)
+    → SoFar plan store rest old mid → new ≡ mid → (text : List ℕ) × (missing : List ℕ) × PrintsPart plan text × Gathers old new text missing
 SoFar-stopped plan store rest old mid new so_far same =
     let before = answers_text plan.count so_far.answers in
     let first : take (length so_far.done) plan.commands ≡ so_far.done =
     ap (take (length so_far.done)) so_far.whole ∙ take-append_seam so_far.done (map command_said rest) in (
       before,
+      [],
       record {
         number = length so_far.done;
         answers = so_far.answers;
@@ -145,8 +148,53 @@ SoFar-stopped plan store rest old mid new so_far same =
         missing = [];
         lines = sym (append-nil before);
       },
-      subst (λ stands. Takes old stands before) (sym same) so_far.written,
+      subst (λ stands. Gathers old stands before []) (sym same) so_far.written,
     )
+
+-- what is a front of a front is one
+pub PrintsPart-front : (plan : Plan) (text front rest : List ℕ) → text ≡ front ++ rest → PrintsPart plan text → PrintsPart plan front
+PrintsPart-front plan text front rest split part = record {
+  number = part.number;
+  answers = part.answers;
+  first = part.first;
+  last = part.last;
+  begun = part.begun;
+  run = part.run;
+  missing = rest ++ part.missing;
+  lines = part.lines ∙ ap (λ l. l ++ part.missing) split ∙ append_assoc front rest part.missing;
+}
+
+-- the whole is a front
+pub PrintsPart-whole : (plan : Plan) (text : List ℕ) → Prints plan text → PrintsPart plan text
+PrintsPart-whole plan text all = record {
+  number = length plan.commands;
+  answers = all.answers;
+  first = all.first;
+  last = all.last;
+  begun = all.begun;
+  run = subst (λ commands. Run all.first commands all.answers all.last) (sym (take_all (length plan.commands) plan.commands (omega arith))) all.run;
+  missing = [];
+  lines = sym all.lines ∙ sym (append-nil text);
+}
+
+-- what waited at the end was written too
+pub all_written : (plan : Plan) (a b : Stage) (c : Account) → a.waiting ≡ [] → (text : List ℕ) × Prints plan text × Gathers a b text [] → Takes b.output c b.waiting
+    → (text : List ℕ) × Prints plan text × Takes a.output c text
+all_written plan a b c none (text, prints, gathered) took = (text, prints, Takes-all a b c text none gathered took)
+
+-- or a part of it
+pub part_written : (plan : Plan) (a b : Stage) (c : Account) (text missing : List ℕ) → a.waiting ≡ [] → PrintsPart plan text → Gathers a b text missing
+    → TakesFront b.output c b.waiting → (text : List ℕ) × PrintsPart plan text × Takes a.output c text
+part_written plan a b c text missing none prints gathered more =
+    let (front, rest, split, took) = Takes-rest a b c text missing none gathered more in
+    (front, PrintsPart-front plan text front rest split prints, took)
+
+-- or nothing of it
+pub part_taken : (plan : Plan) (a b : Stage) (text missing : List ℕ) → a.waiting ≡ [] → PrintsPart plan text → Gathers a b text missing
+    → (text : List ℕ) × PrintsPart plan text × Takes a.output b.output text
+part_taken plan a b text missing none prints gathered =
+    let (front, rest, split, took) = Takes-front a b text missing none gathered in
+    (front, PrintsPart-front plan text front rest split prints, took)
 
 -- a script that is refused is answered with nothing
 pub RunsAs-refused : (known contents : Option (List ℕ)) (text : List ℕ) (refusal : Refusal) → IfSome known (λ input. text ≡ input) → RefusedFor (lines_of text) refusal

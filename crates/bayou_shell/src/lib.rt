@@ -7,8 +7,8 @@
 //! a fault is told; where a fault comes later, a front of those lines is printed.
 //!
 //! Streams come as an [`Input`] and an [`Output`], which alone call them: an input is read in at most
-//! [`MAX_TURNS`](bayou_base::MAX_TURNS) turns, and each printed line is written in at most as many. That the input or the
-//! output is at fault is told only where a call of it failed, or no turn was left.
+//! [`MAX_TURNS`](bayou_base::MAX_TURNS) turns, and each printed line is written in at most as many, however lines are gathered
+//! into pieces. That the input or the output is at fault is told only where a call of it failed, or no turn was left.
 //!
 //! A caller owes nothing. The theorem on what is printed is about readers and writers that tell their bytes, as those over
 //! memory do; of others only safety and the turns are promised. It isn't promised that memory suffices, or that a stream
@@ -17,6 +17,7 @@
 
 mod answer;
 pub mod fault;
+mod limits;
 mod printed;
 pub mod program;
 mod reading;
@@ -25,6 +26,7 @@ pub mod run;
 mod store;
 mod telling;
 pub mod turns;
+mod waiting;
 mod writing;
 
 pub use fault::Fault;

@@ -1,4 +1,4 @@
-ghost use Rattle.std.specs.Prelude.{◌≡◌, ◌≤◌, ◌⊎◌, List, ℕ, IfErr, IfSome, IsTrue, MatchResult, OnOk};
+ghost use Rattle.std.specs.Prelude.{◌≡◌, ◌≤◌, ◌⊎◌, [], List, ℕ, IfErr, IfSome, IsTrue, MatchResult, OnOk};
 ghost use Rattle.bayou_script.specs.Plan.{plan_of};
 ghost use Rattle.bayou_script.specs.Script.{is_served};
 ghost use Rattle.bayou_text.specs.Said.{command_said};
@@ -7,7 +7,8 @@ ghost use Rattle.bayou_shell.specs.Machine.{HasBegun};
 ghost use Rattle.bayou_shell.specs.Printed.{answer_text};
 ghost use Rattle.bayou_shell.specs.Run.{Prints, PrintsPart, RunsAs, Step};
 ghost use Rattle.bayou_shell.specs.Inner.Faults.{IsRunFault};
-ghost use Rattle.bayou_shell.specs.Inner.Taken.{Takes, TakesFront};
+ghost use Rattle.bayou_shell.specs.Inner.Taken.{Takes};
+ghost use Rattle.bayou_shell.specs.Inner.Waiting.{Gathers, stage};
 ghost use Rattle.bayou_shell.specs.Account.{Pays, account, cut_lines};
 ghost use Rattle.bayou_shell.specs.Turns.{EndsReading, EndsWriting};
 
@@ -16,44 +17,48 @@ use crate::reading::read_text;
 use crate::store::Store;
 use crate::telling::write_answer;
 use crate::turns::{Input, Output};
+use crate::waiting::Waiting;
 use bayou_script::{Script, Servers, read_script};
 use bayou_text::Command;
 use std::alloc::Global;
 use std::io::{Read, Write};
 
-/// Answers one command, and writes what is printed for it. Where a log wants memory, nothing is written for it.
+/// Answers one command, and writes what is printed for it, or has it wait. Where a log wants memory, nothing is printed for it.
 fn answer_one<W: Write>(
     alloc: Global,
     servers: Servers,
     store: &mut Store,
     command: Command,
     output: &mut Output<W>,
+    waiting: &mut Waiting,
 ) -> Result<(), Fault>
     requires { IsTrue (is_served store.old.count (command_said command)) }
     ensures answered { MatchResult result
         (λ _. (answer : Answer) × Step store.old (command_said command) answer store.new
-        × Takes (account W.contents output.old) (account W.contents output.new) (answer_text servers.count answer))
-        (λ fault. IsRunFault fault × ((account W.contents output.new ≡ account W.contents output.old)
+        × Gathers (stage W.contents output.old waiting.old) (stage W.contents output.new waiting.new) (answer_text servers.count answer) [])
+        (λ fault. IsRunFault fault × ((stage W.contents output.new waiting.new ≡ stage W.contents output.old waiting.old)
         ⊎ (answer : Answer) × Step store.old (command_said command) answer store.new
-        × TakesFront (account W.contents output.old) (account W.contents output.new) (answer_text servers.count answer))) }
+        × (missing : List ℕ) × Gathers (stage W.contents output.old waiting.old) (stage W.contents output.new waiting.new) (answer_text servers.count answer) missing)) }
     ensures ended { IfErr result (EndsWriting output.new.has_failed output.new.turns_left) }
     ensures ready { OnOk result (output.old.turns_left ≤ output.new.turns_left) }
 {
     let answer = store.answer(alloc, command)?;
-    write_answer(alloc, servers.count, &answer, output)
+    write_answer(alloc, servers.count, &answer, output, waiting)
 }
 
-/// Answers the commands in order, from what the servers hold as a script begins, and writes what is printed for each.
-fn answer_all<W: Write>(
+/// Answers the commands in order, from what the servers hold as a script begins, and writes what is printed for each, or has
+/// it wait.
+fn answer_each<W: Write>(
     alloc: Global,
     script: Script,
     store: Store,
     output: &mut Output<W>,
+    waiting: &mut Waiting,
 ) -> Result<(), Fault>
     requires { HasBegun script.servers.count script.servers.limit store }
-    ensures ok { OnOk result ((text : List ℕ) × Prints (plan_of script) text × Takes (account W.contents output.old) (account W.contents output.new) text) }
-    ensures err { IfErr result (λ fault. IsRunFault fault
-        × (text : List ℕ) × PrintsPart (plan_of script) text × Takes (account W.contents output.old) (account W.contents output.new) text) }
+    ensures ok { OnOk result ((text : List ℕ) × Prints (plan_of script) text × Gathers (stage W.contents output.old waiting.old) (stage W.contents output.new waiting.new) text []) }
+    ensures err { IfErr result (λ fault. IsRunFault fault × (text : List ℕ) × (missing : List ℕ) × PrintsPart (plan_of script) text
+        × Gathers (stage W.contents output.old waiting.old) (stage W.contents output.new waiting.new) text missing) }
     ensures ended { IfErr result (EndsWriting output.new.has_failed output.new.turns_left) }
     ensures ready { OnOk result (output.old.turns_left ≤ output.new.turns_left) }
 {
@@ -63,9 +68,37 @@ fn answer_all<W: Write>(
     } = script;
     let mut store = store;
     while let Some(command) = commands.pop_front() {
-        answer_one(alloc, servers, &mut store, command, output)?;
+        answer_one(alloc, servers, &mut store, command, output, waiting)?;
     }
     Ok(())
+}
+
+/// Answers the commands, and writes what is printed for them. What was printed before a fault is written too.
+fn answer_all<W: Write>(
+    alloc: Global,
+    script: Script,
+    store: Store,
+    output: &mut Output<W>,
+    waiting: Waiting,
+) -> Result<(), Fault>
+    requires begun { HasBegun script.servers.count script.servers.limit store }
+    requires none { waiting.lines.items ≡ [] }
+    ensures ok { OnOk result ((text : List ℕ) × Prints (plan_of script) text × Takes (account W.contents output.old) (account W.contents output.new) text) }
+    ensures err { IfErr result (λ fault. IsRunFault fault
+        × (text : List ℕ) × PrintsPart (plan_of script) text × Takes (account W.contents output.old) (account W.contents output.new) text) }
+    ensures ended { IfErr result (EndsWriting output.new.has_failed output.new.turns_left) }
+    ensures ready { OnOk result (output.old.turns_left ≤ output.new.turns_left) }
+{
+    let mut waiting = waiting;
+    match answer_each(alloc, script, store, output, &mut waiting) {
+        Ok(()) => waiting.write(output),
+        Err(Fault::Memory) => {
+            // What was printed before is written. Where that fails, want of memory still came first.
+            let _ = waiting.write(output);
+            Err(Fault::Memory)
+        }
+        Err(fault) => Err(fault),
+    }
 }
 
 /// Reads a script to its end, checks it, and writes the lines of its answers.
@@ -83,6 +116,7 @@ pub fn run_script<R: Read, W: Write>(
     let text = read_text(alloc, input)?;
     let script = read_script(alloc, text.as_slice())?;
     drop(text);
+    let waiting = Waiting::new(alloc)?;
     let store = Store::new(alloc, script.servers)?;
-    answer_all(alloc, script, store, output)
+    answer_all(alloc, script, store, output, waiting)
 }

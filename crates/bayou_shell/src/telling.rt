@@ -1,17 +1,16 @@
 //! Answers to what is written for them, line by line.
-ghost use Rattle.std.specs.Prelude.{◌≤◌, IfErr, OnOk, flat_map};
+ghost use Rattle.std.specs.Prelude.{◌≤◌, [], List, ℕ, IfErr, OnOk, flat_map};
 ghost use Rattle.bayou_base.specs.declared.limits.TheConstants.{SERVERS};
 ghost use Rattle.bayou_shell.specs.Printed.{answer_text, last_text, listed_text};
 ghost use Rattle.bayou_shell.specs.Inner.Faults.{IsRunFault};
-ghost use Rattle.bayou_shell.specs.Inner.Taken.{Takes, TakesFront};
-ghost use Rattle.bayou_shell.specs.Account.{account};
+ghost use Rattle.bayou_shell.specs.Inner.Waiting.{Gathers, stage};
 ghost use Rattle.bayou_shell.specs.Turns.{EndsWriting};
 
 use crate::answer::Answer;
 use crate::fault::Fault;
 use crate::printed::{listed_line, printed};
 use crate::turns::Output;
-use crate::writing::write_text;
+use crate::waiting::Waiting;
 use bayou_base::ServerId;
 use bayou_log::Listed;
 use std::alloc::Global;
@@ -23,16 +22,17 @@ fn write_listing<W: Write>(
     server: ServerId,
     listing: &[Listed],
     output: &mut Output<W>,
+    waiting: &mut Waiting,
 ) -> Result<(), Fault>
-    ensures whole { OnOk result (Takes (account W.contents output.old) (account W.contents output.new) (flat_map (listed_text server.index) listing.now)) }
+    ensures whole { OnOk result (Gathers (stage W.contents output.old waiting.old) (stage W.contents output.new waiting.new) (flat_map (listed_text server.index) listing.now) []) }
     ensures fault { IfErr result IsRunFault }
     ensures ended { IfErr result (EndsWriting output.new.has_failed output.new.turns_left) }
-    ensures part { TakesFront (account W.contents output.old) (account W.contents output.new) (flat_map (listed_text server.index) listing.now) }
+    ensures part { (missing : List ℕ) × Gathers (stage W.contents output.old waiting.old) (stage W.contents output.new waiting.new) (flat_map (listed_text server.index) listing.now) missing }
     ensures ready { OnOk result (output.old.turns_left ≤ output.new.turns_left) }
 {
     for listed in listing {
         let line = listed_line(alloc, server, listed)?;
-        write_text(output, line.as_bytes())?;
+        waiting.print(output, line.as_bytes())?;
     }
     Ok(())
 }
@@ -43,16 +43,17 @@ fn write_last<W: Write>(
     servers: u8,
     answer: &Answer,
     output: &mut Output<W>,
+    waiting: &mut Waiting,
 ) -> Result<(), Fault>
     requires { servers ≤ SERVERS }
-    ensures whole { OnOk result (Takes (account W.contents output.old) (account W.contents output.new) (last_text servers answer.now)) }
+    ensures whole { OnOk result (Gathers (stage W.contents output.old waiting.old) (stage W.contents output.new waiting.new) (last_text servers answer.now) []) }
     ensures fault { IfErr result IsRunFault }
     ensures ended { IfErr result (EndsWriting output.new.has_failed output.new.turns_left) }
-    ensures part { TakesFront (account W.contents output.old) (account W.contents output.new) (last_text servers answer.now) }
+    ensures part { (missing : List ℕ) × Gathers (stage W.contents output.old waiting.old) (stage W.contents output.new waiting.new) (last_text servers answer.now) missing }
     ensures ready { OnOk result (output.old.turns_left ≤ output.new.turns_left) }
 {
     let last = printed(alloc, servers, answer)?;
-    write_text(output, last.as_bytes())
+    waiting.print(output, last.as_bytes())
 }
 
 /// Writes what is printed for an answer where there are so many servers.
@@ -61,12 +62,13 @@ pub(crate) fn write_answer<W: Write>(
     servers: u8,
     answer: &Answer,
     output: &mut Output<W>,
+    waiting: &mut Waiting,
 ) -> Result<(), Fault>
     requires { servers ≤ SERVERS }
-    ensures whole { OnOk result (Takes (account W.contents output.old) (account W.contents output.new) (answer_text servers answer.now)) }
+    ensures whole { OnOk result (Gathers (stage W.contents output.old waiting.old) (stage W.contents output.new waiting.new) (answer_text servers answer.now) []) }
     ensures fault { IfErr result IsRunFault }
     ensures ended { IfErr result (EndsWriting output.new.has_failed output.new.turns_left) }
-    ensures part { TakesFront (account W.contents output.old) (account W.contents output.new) (answer_text servers answer.now) }
+    ensures part { (missing : List ℕ) × Gathers (stage W.contents output.old waiting.old) (stage W.contents output.new waiting.new) (answer_text servers answer.now) missing }
     ensures ready { OnOk result (output.old.turns_left ≤ output.new.turns_left) }
 {
     match answer {
@@ -75,8 +77,8 @@ pub(crate) fn write_answer<W: Write>(
             listing,
             ..
         } => {
-            write_listing(alloc, *server, listing.as_slice(), output)?;
-            write_last(alloc, servers, answer, output)
+            write_listing(alloc, *server, listing.as_slice(), output, waiting)?;
+            write_last(alloc, servers, answer, output, waiting)
         }
         Answer::Done
         | Answer::Wrote { .. }
@@ -85,6 +87,6 @@ pub(crate) fn write_answer<W: Write>(
         | Answer::NotServed { .. }
         | Answer::Lost { .. }
         | Answer::Stopped { .. }
-        | Answer::Recovered(_) => write_last(alloc, servers, answer, output),
+        | Answer::Recovered(_) => write_last(alloc, servers, answer, output, waiting),
     }
 }

@@ -1,51 +1,46 @@
-use Rattle.std.proofs.Common.{List, [], ◌∷◌, arith, inl, inr, refl, subst}
-use Rattle.std.proofs.lemmas.Result.{err_from_is_err_and}
-use Rattle.bayou_text.specs.declared.command.Command.{Command}
+use Rattle.std.proofs.Common.{List, [], ℕ}
+use Rattle.std.proofs.lemmas.Result.{IfErr-weaker}
 use Rattle.bayou_script.specs.Plan.{plan_of}
 use Rattle.bayou_shell.specs.Account.{account}
-use Rattle.bayou_shell.proofs.Taken.{Takes-nil}
-use Rattle.bayou_shell.proofs.Runs.{SoFar, SoFar-more, SoFar-part, SoFar-stopped}
+use Rattle.bayou_shell.specs.Inner.Faults.{IsRunFault}
+use Rattle.bayou_shell.specs.Inner.Taken.{Takes}
+use Rattle.bayou_shell.specs.Inner.Waiting.{stage}
+use Rattle.bayou_shell.specs.Run.{PrintsPart}
+use Rattle.bayou_shell.proofs.Runs.{PrintsPart-whole, all_written, part_taken, part_written}
+use Rattle.bayou_shell.proofs.Taken.{on_ok}
 use Rattle.bayou_shell.proofs.run.answer_all.Goals as goal
 
-pub loop-command-init : goal.loop-command-init
-loop-command-init g c = let so_far : SoFar (plan_of c.args.script) c.args.store c.args.script.commands.items (account g.W.Write.contents c.args.output.now) (account g.W.Write.contents c.args.output.now) = record {
-  done = [];
-  answers = [];
-  first = c.args.store;
-  begun = c.requires;
-  whole = refl;
-  run = refl;
-  count = let begun = c.requires in begun.count_is;
-  served = c.args.script.served;
-  written = Takes-nil _;
-} in record { so_far = so_far; ready = omega arith }
+pub returns-in-Ok-clause-ok : goal.returns-in-Ok-clause-ok
+returns-in-Ok-clause-ok g c =
+    let now = stage g.W.Write.contents in
+    on_ok c.write.result
+    (λ took. all_written (plan_of c.args.script) (now c.args.output.now c.args.waiting) (now c.answer_each.new.output c.answer_each.new.waiting) (account g.W.Write.contents c.write.new.output)
+    c.requires.none c.in-Ok.ensures.ok took) c.write.ensures.whole
 
-pub loop-command-preserved : goal.loop-command-preserved
-loop-command-preserved g c =
+pub returns-in-Ok-clause-err : goal.returns-in-Ok-clause-err
+returns-in-Ok-clause-err g c =
+    let now = stage g.W.Write.contents in
+    let bytes = account g.W.Write.contents in
     let plan = plan_of c.args.script in
-    let bytes = g.W.Write.contents in
-    let before = subst (λ (commands : List Command). SoFar plan c.loop-command.store commands (account bytes c.args.output.now) (account bytes c.loop-command.output))
-    c.in-Some.ensures.items c.loop-command.invariant.so_far in
-    let (answer, step, written) = c.in_ok-answer_one.ensures.answered in
-    record {
-      so_far = SoFar-more plan c.loop-command.store c.answer_one.new.store c.in-Some.command c.pop_front.new.self.items answer _ _ _ before step written;
-      ready = omega (arith, c.loop-command.invariant.ready, c.in_ok-answer_one.ensures.ready);
-    }
+    let (text, prints, gathered) = c.in-Ok.ensures.ok in
+    let some = part_written plan (now c.args.output.now c.args.waiting) (now c.answer_each.new.output c.answer_each.new.waiting) (bytes c.write.new.output) text [] c.requires.none
+    (PrintsPart-whole plan text prints) gathered c.write.ensures.part in
+    IfErr-weaker c.write.result IsRunFault
+    (λ fault. IsRunFault fault × (text : List ℕ) × PrintsPart plan text × Takes (bytes c.args.output.now) (bytes c.write.new.output) text)
+    (λ fault is. (is, some.0, some.1, some.2)) c.write.ensures.fault
 
-pub returns-in_err-answer_one-clause-err : goal.returns-in_err-answer_one-clause-err
-returns-in_err-answer_one-clause-err g c =
-    let p = err_from_is_err_and c.from_residual.result c.from_residual.ensures.1 in
-    let plan = plan_of c.args.script in
-    let bytes = g.W.Write.contents in
-    let before = subst (λ (commands : List Command). SoFar plan c.loop-command.store commands (account bytes c.args.output.now) (account bytes c.loop-command.output))
-    c.in-Some.ensures.items c.loop-command.invariant.so_far in
-    let fault = c.in_err-answer_one.ensures.answered in
-    elim fault.1 [
-      | inl same ↦
-          let (text, part, written) = SoFar-stopped plan c.loop-command.store (c.in-Some.command ∷ c.pop_front.new.self.items) _ _ _ before same in
-          rw (p.1, p.2) (fault.0, text, part, written)
-      | inr (answer, step, some) ↦
-          let (text, part, written) =
-          SoFar-part plan c.loop-command.store c.answer_one.new.store c.in-Some.command c.pop_front.new.self.items answer _ _ _ before step some in
-          rw (p.1, p.2) (fault.0, text, part, written)
-    ]
+pub returns-in-Err-Memory-clause-err : goal.returns-in-Err-Memory-clause-err
+returns-in-Err-Memory-clause-err g c =
+    let now = stage g.W.Write.contents in
+    let (is, text, missing, prints, gathered) = c.in-Err-Memory.ensures.err in
+    let some = part_written (plan_of c.args.script) (now c.args.output.now c.args.waiting) (now c.answer_each.new.output c.answer_each.new.waiting)
+    (account g.W.Write.contents c.write-in-Err-Memory.new.output) text missing c.requires.none prints gathered c.write-in-Err-Memory.ensures.part in
+    (tt, some.0, some.1, some.2)
+
+pub returns-clause-err : goal.returns-clause-err
+returns-clause-err g c =
+    let now = stage g.W.Write.contents in
+    let (is, text, missing, prints, gathered) = c.in-Err.ensures.err in
+    let some = part_taken (plan_of c.args.script) (now c.args.output.now c.args.waiting) (now c.answer_each.new.output c.answer_each.new.waiting) text missing c.requires.none prints
+    gathered in
+    (is, some.0, some.1, some.2)

@@ -1,11 +1,12 @@
-use Rattle.std.proofs.Common.{◌≡◌, ℕ, ◌+◌, ◌<◌, List, ◌++◌, ◌∙◌, ap, sym, length, drop, get_or, append_assoc, arith, subst}
+use Rattle.std.proofs.Common.{◌≡◌, ℕ, ◌+◌, ◌<◌, List, [], ◌++◌, ◌∙◌, ap, sym, length, drop, get_or, append_assoc, arith, subst}
 use Rattle.std.specs.Prelude.{flat_map}
 use Rattle.std.proofs.lemmas.List.{at_drop_more}
 use Rattle.std.specs.Io.{IsEmptyOrEndsWith}
 use Rattle.bayou_log.specs.declared.listing.Listed.{Listed}
 use Rattle.bayou_shell.specs.Printed.{listed_text}
 use Rattle.bayou_shell.proofs.Ended.{listed_ends}
-use Rattle.bayou_shell.proofs.Taken.{Takes-trans}
+use Rattle.bayou_shell.specs.Inner.Waiting.{Gathers, Stage, stage}
+use Rattle.bayou_shell.proofs.Gathered.{Gathers-less, Gathers-none, Gathers-trans}
 use Rattle.bayou_shell.proofs.telling.write_listing.Goals as goal
 
 -- the lines from here on are the next one's text and those behind it
@@ -17,7 +18,8 @@ next_lines f all i next text within is written =
 
 pub loop-listed-preserved : goal.loop-listed-preserved
 loop-listed-preserved g c =
-    let (front, split, took, ready) = c.loop-listed.invariant in
+    let (front, split, gathered, ready) = c.loop-listed.invariant in
+    let now = stage g.W.Write.contents in
     let f = listed_text c.args.server.index in
     let all = c.args.listing.now in
     let text = c.as_bytes.result.now in
@@ -25,27 +27,44 @@ loop-listed-preserved g c =
       front ++ text,
       split ∙ ap (λ l. front ++ l) (next_lines f all c.loop-listed.listed-index c.listed-item.result text c.loop-listed-test.true c.listed-item.is
           (c.as_bytes.ensures.value ∙ c.in_ok-line.ensures)) ∙ sym (append_assoc front text rest),
-      Takes-trans _ _ _ _ _ took c.in_ok-write_text.ensures.whole,
-      omega (
-        arith,
-        ready,
-        c.in_ok-write_text.ensures.ready (subst (λ (l : List ℕ). IsEmptyOrEndsWith l 10) (sym (c.as_bytes.ensures.value ∙ c.in_ok-line.ensures))
-            (listed_ends c.args.server.index c.listed-item.result)),
-      ),
+      Gathers-trans (now c.args.output.now c.args.waiting.now) (now c.loop-listed.output c.loop-listed.waiting) (now c.print.new.output c.print.new.self) front text []
+          gathered c.in_ok-print.ensures.whole,
+      omega (arith, ready, c.in_ok-print.ensures.ready),
     )
 
-pub returns-in_err-write_text-clause-part : goal.returns-in_err-write_text-clause-part
-returns-in_err-write_text-clause-part g c =
-    let (front, split, took, ready) = c.loop-listed.invariant in
-    let (part, missing, cut, written) = c.in_err-write_text.ensures.part in
+pub print-requires : goal.print-requires
+print-requires g c =
+    subst (λ (l : List ℕ). IsEmptyOrEndsWith l 10) (sym (c.as_bytes.ensures.value ∙ c.in_ok-line.ensures)) (listed_ends c.args.server.index c.listed-item.result)
+
+-- the lines from this one on are missing, or a part of them
+stopped : (f : Listed → List ℕ) (all : List Listed) (old now new : Stage) (front line rest missing : List ℕ) → flat_map f all ≡ front ++ (line ++ rest)
+    → Gathers old now front [] → Gathers now new line missing → (missing : List ℕ) × Gathers old new (flat_map f all) missing
+stopped f all old now new front line rest missing split before some = (
+  missing ++ rest,
+  subst (λ text. Gathers old new text (missing ++ rest)) (append_assoc front line rest ∙ sym split)
+      (Gathers-less old new (front ++ line) rest missing (Gathers-trans old now new front line missing before some)),
+)
+
+pub returns-in_err-print-clause-part : goal.returns-in_err-print-clause-part
+returns-in_err-print-clause-part g c =
+    let now = stage g.W.Write.contents in
+    let (front, split, gathered, ready) = c.loop-listed.invariant in
+    let (missing, some) = c.in_err-print.ensures.part in
     let f = listed_text c.args.server.index in
     let all = c.args.listing.now in
     let text = c.as_bytes.result.now in
-    let rest = flat_map f (drop (c.loop-listed.listed-index + 1) all) in (
-      front ++ part,
-      missing ++ rest,
-      split ∙ ap (λ l. front ++ l) (next_lines f all c.loop-listed.listed-index c.listed-item.result text c.loop-listed-test.true c.listed-item.is
-          (c.as_bytes.ensures.value ∙ c.in_ok-line.ensures)) ∙ ap (λ l. front ++ (l ++ rest)) cut ∙ ap (λ l. front ++ l) (append_assoc part missing rest)
-          ∙ sym (append_assoc front part (missing ++ rest)),
-      Takes-trans _ _ _ _ _ took written,
-    )
+    let rest = flat_map f (drop (c.loop-listed.listed-index + 1) all) in
+    stopped f all (now c.args.output.now c.args.waiting.now) (now c.loop-listed.output c.loop-listed.waiting) (now c.print.new.output c.print.new.self) front text rest missing
+    (split ∙ ap (λ l. front ++ l) (next_lines f all c.loop-listed.listed-index c.listed-item.result text c.loop-listed-test.true
+    c.listed-item.is (c.as_bytes.ensures.value ∙ c.in_ok-line.ensures))) gathered some
+
+unfinished : (old now : Stage) (all front rest : List ℕ) → all ≡ front ++ rest → Gathers old now front [] → Gathers old now all rest
+unfinished old now all front rest split before =
+    subst (λ text. Gathers old now text rest) (sym split) (Gathers-trans old now now front rest rest before (Gathers-none now rest))
+
+pub returns-in_err-line-clause-part : goal.returns-in_err-line-clause-part
+returns-in_err-line-clause-part g c =
+    let now = stage g.W.Write.contents in
+    let (front, split, gathered, ready) = c.loop-listed.invariant in
+    let rest = flat_map (listed_text c.args.server.index) (drop c.loop-listed.listed-index c.args.listing.now) in
+    (rest, unfinished (now c.args.output.now c.args.waiting.now) (now c.loop-listed.output c.loop-listed.waiting) _ front rest split gathered)

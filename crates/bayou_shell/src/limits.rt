@@ -1,0 +1,2 @@
+/// How many bytes of lines are written at once at the most, but for a line that is longer.
+pub(crate) const PIECE_BYTES: usize = 65_536;

@@ -1,0 +1,79 @@
+//! Lines wait for one another, and are written in pieces.
+ghost use Rattle.std.specs.Prelude.{◌≡◌, ◌≤◌, [], List, ℕ, IfErr, IfOk, OnOk};
+ghost use Rattle.std.specs.Io.{IsEmptyOrEndsWith};
+ghost use Rattle.bayou_shell.specs.Inner.Taken.{Takes, TakesFront};
+
+use crate::fault::Fault;
+use crate::limits::PIECE_BYTES;
+use crate::turns::Output;
+use crate::writing::write_text;
+use std::alloc::{AllocError, Global};
+use std::io::Write;
+
+/// Lines that wait to be written.
+#[derive(Drop)]
+pub(crate) struct Waiting {
+    lines: Vec<u8>,
+    ghost whole: { IsEmptyOrEndsWith lines.items 10 },
+}
+
+impl Waiting {
+    ghost use Rattle.bayou_shell.specs.Account.{account};
+    ghost use Rattle.bayou_shell.specs.Inner.Waiting.{Gathers, stage};
+    ghost use Rattle.bayou_shell.specs.Inner.Faults.{IsRunFault};
+    ghost use Rattle.bayou_shell.specs.Turns.{EndsWriting};
+
+    /// None, with room for a piece.
+    pub(crate) fn new(alloc: Global) -> Result<Self, AllocError>
+        ensures { IfOk result (λ waiting. waiting.lines.items ≡ []) }
+    {
+        let lines = Vec::with_capacity(alloc, PIECE_BYTES)?;
+        Ok(Waiting { lines })
+    }
+
+    /// Writes them. Where that fails, those that weren't taken are gone.
+    pub(crate) fn write<W: Write>(&mut self, output: &mut Output<W>) -> Result<(), Fault>
+        ensures whole { OnOk result (Takes (account W.contents output.old) (account W.contents output.new) self.old.lines.items) }
+        ensures part { TakesFront (account W.contents output.old) (account W.contents output.new) self.old.lines.items }
+        ensures none { self.new.lines.items ≡ [] }
+        ensures fault { IfErr result IsRunFault }
+        ensures ended { IfErr result (EndsWriting output.new.has_failed output.new.turns_left) }
+        ensures ready { OnOk result (output.old.turns_left ≤ output.new.turns_left) }
+    {
+        let written = write_text(output, self.lines.as_slice());
+        self.lines.clear();
+        written
+    }
+
+    /// Writes them where they would be more than a piece with so many bytes more.
+    fn make_room<W: Write>(&mut self, output: &mut Output<W>, more: usize) -> Result<(), Fault>
+        ensures whole { OnOk result (Gathers (stage W.contents output.old self.old) (stage W.contents output.new self.new) [] []) }
+        ensures part { (missing : List ℕ) × Gathers (stage W.contents output.old self.old) (stage W.contents output.new self.new) [] missing }
+        ensures fault { IfErr result IsRunFault }
+        ensures ended { IfErr result (EndsWriting output.new.has_failed output.new.turns_left) }
+        ensures ready { OnOk result (output.old.turns_left ≤ output.new.turns_left) }
+    {
+        if more > PIECE_BYTES.saturating_sub(self.lines.len()) {
+            return self.write(output);
+        }
+        Ok(())
+    }
+
+    /// Puts a line, or nothing, behind them.
+    pub(crate) fn print<W: Write>(
+        &mut self,
+        output: &mut Output<W>,
+        line: &[u8],
+    ) -> Result<(), Fault>
+        requires { IsEmptyOrEndsWith line.now 10 }
+        ensures whole { OnOk result (Gathers (stage W.contents output.old self.old) (stage W.contents output.new self.new) line.now []) }
+        ensures part { (missing : List ℕ) × Gathers (stage W.contents output.old self.old) (stage W.contents output.new self.new) line.now missing }
+        ensures fault { IfErr result IsRunFault }
+        ensures ended { IfErr result (EndsWriting output.new.has_failed output.new.turns_left) }
+        ensures ready { OnOk result (output.old.turns_left ≤ output.new.turns_left) }
+    {
+        self.make_room(output, line.len())?;
+        self.lines.extend_from_slice(line)?;
+        Ok(())
+    }
+}
