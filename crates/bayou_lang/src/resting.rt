@@ -2,6 +2,7 @@
 //! the Writes themselves, so that no contract tells the one form from the other.
 ghost use Rattle.std.specs.Prelude.{◌≡◌, ◌≤◌, IfOk, length};
 ghost use Rattle.bayou_base.specs.declared.limits.TheConstants.{MAX_CONDITIONS, MAX_OPS, MAX_ALTERNATIVES};
+ghost use Rattle.bayou_lang.specs.Changes.{most_changes, most_ops};
 
 use crate::program::{Alt, Cond, Op, Program, conditions_of, ops_of};
 use crate::write::Write;
@@ -121,6 +122,18 @@ fn unfolded_alternatives(alternatives: &[RestingAlt]) -> ArrayVec<Alt, MAX_ALTER
     list
 }
 
+/// The greatest number of ops that one of them has.
+fn most_ops_of(alternatives: &[RestingAlt]) -> usize
+    ensures value { result ≡ most_ops alternatives.now }
+    ensures within { result ≤ MAX_OPS }
+{
+    let mut most = 0;
+    for alternative in alternatives {
+        most = most.max(alternative.ops().len());
+    }
+    most
+}
+
 impl Alt {
     /// The alternative at rest.
     pub fn rest(&self, alloc: Global) -> Result<RestingAlt, AllocError>
@@ -207,6 +220,14 @@ impl RestingProgram {
         ensures within { length result.now ≤ MAX_ALTERNATIVES }
     {
         self.merge.as_slice()
+    }
+
+    /// How many keys it changes at the most.
+    pub fn most_changes(&self) -> usize
+        ensures value { result ≡ most_changes self.now }
+        ensures within { result ≤ MAX_OPS }
+    {
+        self.update.len().max(most_ops_of(&self.merge))
     }
 
     /// The same program again, at rest.
