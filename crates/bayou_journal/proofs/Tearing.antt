@@ -4,7 +4,6 @@ use Rattle.std.proofs.lemmas.Bool.{cases_order}
 use Rattle.std.proofs.lemmas.List.{append-nil, append_cancel_left, take_all}
 use Rattle.bayou_device.specs.Device.{BeginsWith}
 use Rattle.bayou_device.specs.Memory.{AddsFront}
-use Rattle.bayou_journal.specs.declared.format.TheConstants.{VERSION}
 use Rattle.bayou_journal.specs.Chain.{AreBodies, IsBody, IsLongestChain, NoEntry, chain_end, entries, entry, first_link, header, journal, link}
 use Rattle.bayou_journal.specs.Laws.Chain.{AreBodies-push, front_of_longest, journal-push, longest_is_one, same_entry}
 use Rattle.bayou_journal.specs.Honest.{IsHonest, torn}
@@ -27,77 +26,77 @@ no_part before body count is short other is_other begins =
     let same = same_entry before other body (begins.0 ++ drop count one) [] is_other is whole in
     omega (arith, short, ap length same.rest, length-append begins.0 (drop count one), length-drop count one)
 
-pub torn_in_part : (server : ℕ) (bodies : List (List ℕ)) (body : List ℕ) (count : ℕ) → AreBodies bodies → IsBody body → count < length (entry (chain_end server bodies) body)
-    → IsLongestChain server (torn server bodies body count) bodies (take count (entry (chain_end server bodies) body))
-torn_in_part server bodies body count are is short = record { split = refl; sizes = are; longest = no_part (chain_end server bodies) body count is short }
+pub torn_in_part : (version server : ℕ) (bodies : List (List ℕ)) (body : List ℕ) (count : ℕ) → AreBodies bodies → IsBody body → count < length (entry (chain_end version server bodies) body)
+    → IsLongestChain version server (torn version server bodies body count) bodies (take count (entry (chain_end version server bodies) body))
+torn_in_part version server bodies body count are is short = record { split = refl; sizes = are; longest = no_part (chain_end version server bodies) body count is short }
 
-whole_entry : (server : ℕ) (bodies : List (List ℕ)) (body : List ℕ) (count : ℕ) → length (entry (chain_end server bodies) body) ≤ count → torn server bodies body count ≡ journal server (bodies ++ body ∷ [])
-whole_entry server bodies body count long =
-    ap (λ (l : List ℕ). journal server bodies ++ l) (take_all count (entry (chain_end server bodies) body) long) ∙ sym (journal-push server bodies body)
+whole_entry : (version server : ℕ) (bodies : List (List ℕ)) (body : List ℕ) (count : ℕ) → length (entry (chain_end version server bodies) body) ≤ count → torn version server bodies body count ≡ journal version server (bodies ++ body ∷ [])
+whole_entry version server bodies body count long =
+    ap (λ (l : List ℕ). journal version server bodies ++ l) (take_all count (entry (chain_end version server bodies) body) long) ∙ sym (journal-push version server bodies body)
 
-pub torn_whole : (server : ℕ) (bodies : List (List ℕ)) (body : List ℕ) (count : ℕ) → AreBodies bodies → IsBody body → length (entry (chain_end server bodies) body) ≤ count
-    → IsLongestChain server (torn server bodies body count) (bodies ++ body ∷ []) []
-torn_whole server bodies body count are is long = record {
-  split = whole_entry server bodies body count long ∙ sym (append-nil (journal server (bodies ++ body ∷ [])));
+pub torn_whole : (version server : ℕ) (bodies : List (List ℕ)) (body : List ℕ) (count : ℕ) → AreBodies bodies → IsBody body → length (entry (chain_end version server bodies) body) ≤ count
+    → IsLongestChain version server (torn version server bodies body count) (bodies ++ body ∷ []) []
+torn_whole version server bodies body count are is long = record {
+  split = whole_entry version server bodies body count long ∙ sym (append-nil (journal version server (bodies ++ body ∷ [])));
   sizes = AreBodies-push bodies body are is;
-  longest = no_entry (chain_end server (bodies ++ body ∷ []));
+  longest = no_entry (chain_end version server (bodies ++ body ∷ []));
 }
 
 -- no journal that begins is new
-not_new : (server : ℕ) (bodies : List (List ℕ)) (body : List ℕ) (count : ℕ) → BeginsWith (journal server bodies) (torn server bodies body count)
-not_new server bodies body count = (take count (entry (chain_end server bodies) body), refl)
+not_new : (version server : ℕ) (bodies : List (List ℕ)) (body : List ℕ) (count : ℕ) → BeginsWith (journal version server bodies) (torn version server bodies body count)
+not_new version server bodies body count = (take count (entry (chain_end version server bodies) body), refl)
 
-pub opens_honestly : (server : ℕ) (bodies : List (List ℕ)) (body : List ℕ) (count : ℕ) (found : List (List ℕ)) (dropped : ℕ) → AreBodies bodies → IsBody body
-    → Finds server (torn server bodies body count) found dropped → IsHonest bodies body found
-opens_honestly server bodies body count found dropped are is (inl new) = absurd (new_begins_not (torn server bodies body count) server bodies new.front (not_new server bodies body count))
-opens_honestly server bodies body count found dropped are is (inr old) = by (cases_order count (length (entry (chain_end server bodies) body)))
+pub opens_honestly : (version server : ℕ) (bodies : List (List ℕ)) (body : List ℕ) (count : ℕ) (found : List (List ℕ)) (dropped : ℕ) → AreBodies bodies → IsBody body
+    → Finds version server (torn version server bodies body count) found dropped → IsHonest bodies body found
+opens_honestly version server bodies body count found dropped are is (inl new) = absurd (new_begins_not version (torn version server bodies body count) version server bodies new.front (not_new version server bodies body count))
+opens_honestly version server bodies body count found dropped are is (inr old) = by (cases_order count (length (entry (chain_end version server bodies) body)))
   where
-    part : count < length (entry (chain_end server bodies) body) → IsHonest bodies body found
-    part short = inl (longest_is_one server (torn server bodies body count) found bodies old.rest (take count (entry (chain_end server bodies) body)) old.chain (torn_in_part server bodies body count are is short)).0
+    part : count < length (entry (chain_end version server bodies) body) → IsHonest bodies body found
+    part short = inl (longest_is_one version server (torn version server bodies body count) found bodies old.rest (take count (entry (chain_end version server bodies) body)) old.chain (torn_in_part version server bodies body count are is short)).0
 
-    whole : length (entry (chain_end server bodies) body) ≤ count → IsHonest bodies body found
-    whole long = inr (longest_is_one server (torn server bodies body count) found (bodies ++ body ∷ []) old.rest [] old.chain (torn_whole server bodies body count are is long)).0
+    whole : length (entry (chain_end version server bodies) body) ≤ count → IsHonest bodies body found
+    whole long = inr (longest_is_one version server (torn version server bodies body count) found (bodies ++ body ∷ []) old.rest [] old.chain (torn_whole version server bodies body count are is long)).0
 
-    by : (count ≡ length (entry (chain_end server bodies) body)) ⊎ ((count < length (entry (chain_end server bodies) body)) ⊎ (length (entry (chain_end server bodies) body) < count)) → IsHonest bodies body found
+    by : (count ≡ length (entry (chain_end version server bodies) body)) ⊎ ((count < length (entry (chain_end version server bodies) body)) ⊎ (length (entry (chain_end version server bodies) body) < count)) → IsHonest bodies body found
     by (inl same) = whole (omega (arith, same))
     by (inr (inl short)) = part short
     by (inr (inr long)) = whole (omega (arith, long))
 
 -- a chain with which the bytes begin is a front of the longest
-pub front_of_chain : (server : ℕ) (bytes : List ℕ) (bodies longest : List (List ℕ)) (rest : List ℕ) → AreBodies bodies → BeginsWith (journal server bodies) bytes
-    → IsLongestChain server bytes longest rest → (more : List (List ℕ)) × (longest ≡ bodies ++ more)
-front_of_chain server bytes bodies longest rest are begins chain =
-    let whole : journal server bodies ++ begins.0 ≡ journal server longest ++ rest = sym begins.1 ∙ chain.split in
-    let tails : entries (first_link server) bodies ++ begins.0 ≡ entries (first_link server) longest ++ rest =
-    append_cancel_left (header VERSION server) (entries (first_link server) bodies ++ begins.0) (entries (first_link server) longest ++ rest)
-    (sym (append_assoc (header VERSION server) (entries (first_link server) bodies) begins.0) ∙ whole ∙ append_assoc (header VERSION server) (entries (first_link server) longest) rest) in
-    let front = front_of_longest (first_link server) bodies longest begins.0 rest are chain.sizes chain.longest tails in
+pub front_of_chain : (version server : ℕ) (bytes : List ℕ) (bodies longest : List (List ℕ)) (rest : List ℕ) → AreBodies bodies → BeginsWith (journal version server bodies) bytes
+    → IsLongestChain version server bytes longest rest → (more : List (List ℕ)) × (longest ≡ bodies ++ more)
+front_of_chain version server bytes bodies longest rest are begins chain =
+    let whole : journal version server bodies ++ begins.0 ≡ journal version server longest ++ rest = sym begins.1 ∙ chain.split in
+    let tails : entries (first_link version server) bodies ++ begins.0 ≡ entries (first_link version server) longest ++ rest =
+    append_cancel_left (header version server) (entries (first_link version server) bodies ++ begins.0) (entries (first_link version server) longest ++ rest)
+    (sym (append_assoc (header version server) (entries (first_link version server) bodies) begins.0) ∙ whole ∙ append_assoc (header version server) (entries (first_link version server) longest) rest) in
+    let front = front_of_longest (first_link version server) bodies longest begins.0 rest are chain.sizes chain.longest tails in
     (front.more, front.is)
 
 no_front : (before after : List ℕ) → AddsFront [] before after → after ≡ before
 no_front before after left = left.1 ∙ ap (λ (l : List ℕ). before ++ l) (take_all left.0 [] (omega arith)) ∙ append-nil before
 
 -- what a failed append leaves behind a journal
-pub append_tears : (server : ℕ) (bodies : List (List ℕ)) (body after : List ℕ) → FailsToAdd AddsFront (entry (chain_end server bodies) body) (journal server bodies) after
-    → (count : ℕ) × (after ≡ torn server bodies body count)
-append_tears server bodies body after (inl left) = left
-append_tears server bodies body after (inr left) =
-    let one = entry (chain_end server bodies) body in
-    (length one, no_front (journal server bodies ++ one) after left ∙ ap (λ (l : List ℕ). journal server bodies ++ l) (sym (take_all (length one) one (omega arith))))
+pub append_tears : (version server : ℕ) (bodies : List (List ℕ)) (body after : List ℕ) → FailsToAdd AddsFront (entry (chain_end version server bodies) body) (journal version server bodies) after
+    → (count : ℕ) × (after ≡ torn version server bodies body count)
+append_tears version server bodies body after (inl left) = left
+append_tears version server bodies body after (inr left) =
+    let one = entry (chain_end version server bodies) body in
+    (length one, no_front (journal version server bodies ++ one) after left ∙ ap (λ (l : List ℕ). journal version server bodies ++ l) (sym (take_all (length one) one (omega arith))))
 
 -- and what a failed opening leaves of that
-pub opening_tears : (server : ℕ) (bodies : List (List ℕ)) (body : List ℕ) (count : ℕ) (after : List ℕ) → AreBodies bodies → IsBody body
-    → FailsToOpen AddsFront server (torn server bodies body count) after → (left : ℕ) × (after ≡ torn server bodies body left)
-opening_tears server bodies body count after are is (inl left) = (count, no_front (torn server bodies body count) after left)
-opening_tears server bodies body count after are is (inr (inl left)) = absurd (new_begins_not (torn server bodies body count) server bodies left.0 (not_new server bodies body count))
-opening_tears server bodies body count after are is (inr (inr left)) =
+pub opening_tears : (version server : ℕ) (bodies : List (List ℕ)) (body : List ℕ) (count : ℕ) (after : List ℕ) → AreBodies bodies → IsBody body
+    → FailsToOpen AddsFront version server (torn version server bodies body count) after → (left : ℕ) × (after ≡ torn version server bodies body left)
+opening_tears version server bodies body count after are is (inl left) = (count, no_front (torn version server bodies body count) after left)
+opening_tears version server bodies body count after are is (inr (inl left)) = absurd (new_begins_not version (torn version server bodies body count) version server bodies left.0 (not_new version server bodies body count))
+opening_tears version server bodies body count after are is (inr (inr left)) =
     let found = left.0 in
-    let left_is : after ≡ journal server found = no_front (journal server found) after left.3 in
-    by (opens_honestly server bodies body count found left.1 are is left.2) left_is
+    let left_is : after ≡ journal version server found = no_front (journal version server found) after left.3 in
+    by (opens_honestly version server bodies body count found left.1 are is left.2) left_is
   where
     one : List ℕ
-    one = entry (chain_end server bodies) body
+    one = entry (chain_end version server bodies) body
 
-    by : {found : List (List ℕ)} → IsHonest bodies body found → after ≡ journal server found → (left : ℕ) × (after ≡ torn server bodies body left)
-    by (inl same) left_is = (0, left_is ∙ ap (journal server) same ∙ sym (append-nil (journal server bodies)))
-    by (inr more) left_is = (length one, left_is ∙ ap (journal server) more ∙ sym (whole_entry server bodies body (length one) (omega arith)))
+    by : {found : List (List ℕ)} → IsHonest bodies body found → after ≡ journal version server found → (left : ℕ) × (after ≡ torn version server bodies body left)
+    by (inl same) left_is = (0, left_is ∙ ap (journal version server) same ∙ sym (append-nil (journal version server bodies)))
+    by (inr more) left_is = (length one, left_is ∙ ap (journal version server) more ∙ sym (whole_entry version server bodies body (length one) (omega arith)))

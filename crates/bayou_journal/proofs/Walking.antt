@@ -9,9 +9,9 @@ use Rattle.bayou_journal.specs.Laws.Chain.{journal-push, chain_end-push, AreBodi
 use Rattle.bayou_journal.specs.Opened.{IsWithin, bytes_at}
 
 -- the bytes are the journal of the bodies at these places, and a rest
-pub record IsWalked (server : ℕ) (bytes : List ℕ) (places : List Place) (last rest : List ℕ) : Type 0 where
-  pub split : bytes ≡ journal server (map (bytes_at bytes) places) ++ rest
-  pub ends : last ≡ chain_end server (map (bytes_at bytes) places)
+pub record IsWalked (version server : ℕ) (bytes : List ℕ) (places : List Place) (last rest : List ℕ) : Type 0 where
+  pub split : bytes ≡ journal version server (map (bytes_at bytes) places) ++ rest
+  pub ends : last ≡ chain_end version server (map (bytes_at bytes) places)
   pub sizes : AreBodies (map (bytes_at bytes) places)
   pub within : All (IsWithin (length bytes)) places
 
@@ -33,20 +33,20 @@ map-push bytes [] place = refl
 map-push bytes (first ∷ places) place = ap (λ (l : List (List ℕ)). bytes_at bytes first ∷ l) (map-push bytes places place)
 
 -- one entry more
-pub walks_on : (server : ℕ) (bytes : List ℕ) (places : List Place) (last rest body behind : List ℕ) (place : Place) → IsWalked server bytes places last rest → IsBody body → rest ≡ entry last body ++ behind
-    → place.start + length rest ≡ length bytes + 2 → place.end ≡ place.start + length body → IsWalked server bytes (places ++ place ∷ []) (link last body) behind
-walks_on server bytes places last rest body behind place so_far is front start end =
+pub walks_on : (version server : ℕ) (bytes : List ℕ) (places : List Place) (last rest body behind : List ℕ) (place : Place) → IsWalked version server bytes places last rest → IsBody body → rest ≡ entry last body ++ behind
+    → place.start + length rest ≡ length bytes + 2 → place.end ≡ place.start + length body → IsWalked version server bytes (places ++ place ∷ []) (link last body) behind
+walks_on version server bytes places last rest body behind place so_far is front start end =
     let bodies = map (bytes_at bytes) places in
-    let whole : bytes ≡ journal server bodies ++ (entry last body ++ behind) = so_far.split ∙ ap (λ (l : List ℕ). journal server bodies ++ l) front in
-    let parts : bytes ≡ (journal server bodies ++ sized body) ++ (link last body ++ behind) = whole ∙ simp append_assoc in
-    let here = at_place bytes (journal server bodies) (to_be_bytes w16 (length body)) body (link last body ++ behind) place parts refl
-    (omega (arith, ap length so_far.split, length-append (journal server bodies) rest)) end in
+    let whole : bytes ≡ journal version server bodies ++ (entry last body ++ behind) = so_far.split ∙ ap (λ (l : List ℕ). journal version server bodies ++ l) front in
+    let parts : bytes ≡ (journal version server bodies ++ sized body) ++ (link last body ++ behind) = whole ∙ simp append_assoc in
+    let here = at_place bytes (journal version server bodies) (to_be_bytes w16 (length body)) body (link last body ++ behind) place parts refl
+    (omega (arith, ap length so_far.split, length-append (journal version server bodies) rest)) end in
     let more : map (bytes_at bytes) (places ++ place ∷ []) ≡ bodies ++ body ∷ [] = map-push bytes places place ∙ ap (λ (b : List ℕ). bodies ++ b ∷ []) here.0 in
     record {
-      split = whole ∙ sym (append_assoc (journal server bodies) (entry last body) behind)
-          ∙ ap (λ (l : List ℕ). (journal server bodies ++ entry l body) ++ behind) so_far.ends
-          ∙ ap (λ (l : List ℕ). l ++ behind) (sym (journal-push server bodies body) ∙ ap (journal server) (sym more));
-      ends = ap (λ (l : List ℕ). link l body) so_far.ends ∙ sym (chain_end-push server bodies body) ∙ ap (chain_end server) (sym more);
+      split = whole ∙ sym (append_assoc (journal version server bodies) (entry last body) behind)
+          ∙ ap (λ (l : List ℕ). (journal version server bodies ++ entry l body) ++ behind) so_far.ends
+          ∙ ap (λ (l : List ℕ). l ++ behind) (sym (journal-push version server bodies body) ∙ ap (journal version server) (sym more));
+      ends = ap (λ (l : List ℕ). link l body) so_far.ends ∙ sym (chain_end-push version server bodies body) ∙ ap (chain_end version server) (sym more);
       sizes = subst AreBodies (sym more) (AreBodies-push bodies body so_far.sizes is);
       within = All-push (IsWithin (length bytes)) places place so_far.within here.1;
     }

@@ -3,14 +3,14 @@ use Rattle.std.specs.Prelude.{◌≡◌, ℕ, ◌<◌, ◌≤◌, List, [], ◌�
 use Rattle.std.specs.Int.{w16, to_be_bytes}
 use Rattle.bayou_base.specs.declared.limits.TheConstants.{MAX_BODY_BYTES}
 use Rattle.bayou_device.specs.Device.{BeginsWith}
-use Rattle.bayou_journal.specs.declared.format.TheConstants.{MAGIC, VERSION}
+use Rattle.bayou_journal.specs.declared.format.TheConstants.{MAGIC}
 use Rattle.sha2.specs.Sha256.{sha256}
 
--- what every journal begins with
-abbrev pub name : List ℕ
-name = MAGIC ++ VERSION ∷ []
+-- what every journal begins with, in a version of the format
+abbrev pub name : ℕ → List ℕ
+name version = MAGIC ++ version ∷ []
 
--- the header of a server's journal, in a version of the format
+-- the header of a server's journal, in that version
 abbrev pub header : ℕ → ℕ → List ℕ
 header version server = MAGIC ++ version ∷ server ∷ []
 
@@ -47,23 +47,23 @@ last_link before [] = before
 last_link before (body ∷ bodies) = last_link (link before body) bodies
 
 -- the digest that the first entry stands behind
-abbrev pub first_link : ℕ → List ℕ
-first_link server = sha256 (header VERSION server)
+abbrev pub first_link : ℕ → ℕ → List ℕ
+first_link version server = sha256 (header version server)
 
 -- the digest that the next entry stands behind
-abbrev pub chain_end : ℕ → List (List ℕ) → List ℕ
-chain_end server bodies = last_link (first_link server) bodies
+abbrev pub chain_end : ℕ → ℕ → List (List ℕ) → List ℕ
+chain_end version server bodies = last_link (first_link version server) bodies
 
--- the journal of a server with these bodies
-abbrev pub journal : ℕ → List (List ℕ) → List ℕ
-journal server bodies = header VERSION server ++ entries (first_link server) bodies
+-- the journal of a server with these bodies, in a version of the format
+abbrev pub journal : ℕ → ℕ → List (List ℕ) → List ℕ
+journal version server bodies = header version server ++ entries (first_link version server) bodies
 
 -- no entry of any body stands there, behind that digest
 abbrev pub NoEntry : List ℕ → List ℕ → Type 0
 NoEntry before bytes = (body : List ℕ) → IsBody body → BeginsWith (entry before body) bytes → ⊥
 
 -- the bytes are the server's journal with these bodies and a rest at whose front no entry stands
-pub record IsLongestChain (server : ℕ) (bytes : List ℕ) (bodies : List (List ℕ)) (rest : List ℕ) : Type 0 where
-  pub split : bytes ≡ journal server bodies ++ rest
+pub record IsLongestChain (version server : ℕ) (bytes : List ℕ) (bodies : List (List ℕ)) (rest : List ℕ) : Type 0 where
+  pub split : bytes ≡ journal version server bodies ++ rest
   pub sizes : AreBodies bodies
-  pub longest : NoEntry (chain_end server bodies) rest
+  pub longest : NoEntry (chain_end version server bodies) rest

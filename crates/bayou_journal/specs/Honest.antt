@@ -7,5 +7,5 @@ abbrev pub IsHonest : (bodies : List (List ℕ)) → (body : List ℕ) → (foun
 IsHonest bodies body found = (found ≡ bodies) ⊎ (found ≡ bodies ++ body ∷ [])
 
 -- the journal of these bodies, and behind it the first so many bytes of the entry of one more
-abbrev pub torn : ℕ → List (List ℕ) → List ℕ → ℕ → List ℕ
-torn server bodies body count = journal server bodies ++ take count (entry (chain_end server bodies) body)
+abbrev pub torn : ℕ → ℕ → List (List ℕ) → List ℕ → ℕ → List ℕ
+torn version server bodies body count = journal version server bodies ++ take count (entry (chain_end version server bodies) body)

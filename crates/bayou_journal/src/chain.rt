@@ -76,7 +76,7 @@ pub fn first_entry<'a>(before: &[u8; DIGEST_BYTES], bytes: &'a [u8]) -> Option<E
 
 // The digest that a server's first entry stands behind.
 pub fn first_link_of(server: ServerId) -> [u8; DIGEST_BYTES]
-    ensures { result ≡ Chain.first_link server.index }
+    ensures { result ≡ Chain.first_link VERSION server.index }
 {
     Sha256::digest(header_of(server))
 }
@@ -84,8 +84,8 @@ pub fn first_link_of(server: ServerId) -> [u8; DIGEST_BYTES]
 // The longest chain of a server's journal.
 pub fn chain_of(alloc: Global, server: ServerId, bytes: &[u8]) -> Result<Links, AllocError>
     requires { BeginsWith (header VERSION server.index) bytes.now }
-    ensures chain { IfOk result (λ links. (rest : List ℕ) × IsLongestChain server.index bytes.now (map (bytes_at bytes.now) links.places.items) rest × (links.end + length rest ≡ length bytes.now)) }
-    ensures last { IfOk result (λ links. links.last ≡ chain_end server.index (map (bytes_at bytes.now) links.places.items)) }
+    ensures chain { IfOk result (λ links. (rest : List ℕ) × IsLongestChain VERSION server.index bytes.now (map (bytes_at bytes.now) links.places.items) rest × (links.end + length rest ≡ length bytes.now)) }
+    ensures last { IfOk result (λ links. links.last ≡ chain_end VERSION server.index (map (bytes_at bytes.now) links.places.items)) }
     ensures within { IfOk result (λ links. All (IsWithin (length bytes.now)) links.places.items) }
 {
     let mut places = Vec::new(alloc);
@@ -107,7 +107,7 @@ pub fn chain_of(alloc: Global, server: ServerId, bytes: &[u8]) -> Result<Links, 
 
 // What stands at the front of the bytes of what should be a server's journal.
 pub fn head_of(server: ServerId, bytes: &[u8]) -> Head
-    ensures { HasHead server.index bytes.now result }
+    ensures { HasHead VERSION server.index bytes.now result }
 {
     let header = header_of(server);
     if bytes.len() < HEADER_BYTES {
@@ -130,13 +130,13 @@ pub fn head_of(server: ServerId, bytes: &[u8]) -> Head
 
 // The chain that an opening finds.
 pub fn links_of(alloc: Global, server: ServerId, bytes: &[u8]) -> Result<Links, OpenFault>
-    ensures finds { IfOk result (λ links. Finds server.index bytes.now (map (bytes_at bytes.now) links.places.items) (length bytes.now - links.end)) }
-    ensures end { IfOk result (λ links. EndsAt server.index bytes.now (map (bytes_at bytes.now) links.places.items) links.end) }
-    ensures last { IfOk result (λ links. links.last ≡ chain_end server.index (map (bytes_at bytes.now) links.places.items)) }
+    ensures finds { IfOk result (λ links. Finds VERSION server.index bytes.now (map (bytes_at bytes.now) links.places.items) (length bytes.now - links.end)) }
+    ensures end { IfOk result (λ links. EndsAt VERSION server.index bytes.now (map (bytes_at bytes.now) links.places.items) links.end) }
+    ensures last { IfOk result (λ links. links.last ≡ chain_end VERSION server.index (map (bytes_at bytes.now) links.places.items)) }
     ensures sizes { IfOk result (λ links. AreBodies (map (bytes_at bytes.now) links.places.items)) }
     ensures within { IfOk result (λ links. All (IsWithin (length bytes.now)) links.places.items) }
-    ensures foreign { IsErrOf result OpenFault.NotAJournal → IsForeign bytes.now }
-    ensures other { IsErrOf result OpenFault.OtherServer → IsOfAnother server.index bytes.now }
+    ensures foreign { IsErrOf result OpenFault.NotAJournal → IsForeign VERSION bytes.now }
+    ensures other { IsErrOf result OpenFault.OtherServer → IsOfAnother VERSION server.index bytes.now }
     ensures no_device { IsErrOf result OpenFault.Device → ⊥ }
 {
     match head_of(server, bytes) {

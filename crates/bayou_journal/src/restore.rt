@@ -59,7 +59,7 @@ pub fn drop_tail<D: Device>(device: &mut D, total: usize, end: usize) -> Result<
 
 // The header, where nothing is left.
 fn missing_of(end: usize, header: &[u8; HEADER_BYTES]) -> &[u8]
-    ensures { (server : ℕ) → header.now ≡ Chain.header VERSION server → result.now ≡ missing server end }
+    ensures { (server : ℕ) → header.now ≡ Chain.header VERSION server → result.now ≡ missing VERSION server end }
 {
     if end == 0 { header.as_slice() } else { &[] }
 }
@@ -70,10 +70,10 @@ pub fn restore<D: Device>(
     server: ServerId,
     device: &mut D,
 ) -> Result<Restored, OpenFault>
-    ensures opened { IfOk result (λ restored. HasOpened D.Device server.index device.old device.new restored.opened restored.last) }
-    ensures refused { IfErr result (λ fault. HasRefused D.Device server.index device.old device.new fault) }
+    ensures opened { IfOk result (λ restored. HasOpened D.Device VERSION server.index device.old device.new restored.opened restored.last) }
+    ensures refused { IfErr result (λ fault. HasRefused D.Device VERSION server.index device.old device.new fault) }
     ensures safe { D.is_modelled → KeepsChains (D.kept device.old) (D.kept device.new) }
-    ensures calls { OpensInCalls D.Device server.index device.old device.new }
+    ensures calls { OpensInCalls D.Device VERSION server.index device.old device.new }
     ensures uncut { IfOk result (λ restored. restored.opened.dropped ≡ 0 → D.leads_to 3 device.old device.new) }
 {
     let bytes = device.read_all(alloc)?;

@@ -19,6 +19,7 @@ pub mod db;
 pub mod fitting;
 pub mod laws;
 pub mod listing;
+mod next;
 mod order;
 pub mod plain;
 mod undo;

@@ -9,6 +9,7 @@ use Rattle.bayou_device.specs.declared.device.Device.{Ghosts}
 use Rattle.bayou_journal.specs.Chain.{AreBodies, IsBody, chain_end, entries, entry, first_link, journal}
 use Rattle.bayou_journal.specs.Honest.{IsHonest, torn}
 use Rattle.bayou_journal.specs.Opening.{FailsToAdd, FailsToOpen, Finds, IsForeign, IsOfAnother}
+use Rattle.bayou_journal.specs.declared.format.TheConstants.{VERSION}
 use Rattle.bayou_lang.specs.declared.write.Write.{Write}
 use Rattle.bayou_lang.specs.Ranges.{IsWrite}
 use Rattle.bayou_wire.specs.Spelling.{write_bytes}
@@ -25,22 +26,22 @@ use Rattle.bayou_server.proofs.Deciding.{BeginsNone, one_list}
 
 -- what the journal's laws say of a torn one
 abbrev pub OpensHonestly : Type 0
-OpensHonestly = (server : ℕ) (bodies : List (List ℕ)) (body : List ℕ) (count : ℕ) (found : List (List ℕ)) (dropped : ℕ) → AreBodies bodies → IsBody body
-    → Finds server (torn server bodies body count) found dropped → IsHonest bodies body found
+OpensHonestly = (version server : ℕ) (bodies : List (List ℕ)) (body : List ℕ) (count : ℕ) (found : List (List ℕ)) (dropped : ℕ) → AreBodies bodies → IsBody body
+    → Finds version server (torn version server bodies body count) found dropped → IsHonest bodies body found
 
 abbrev pub AppendTears : Type 0
-AppendTears = (server : ℕ) (bodies : List (List ℕ)) (body after : List ℕ) → FailsToAdd AddsFront (entry (chain_end server bodies) body) (journal server bodies) after
-    → (count : ℕ) × (after ≡ torn server bodies body count)
+AppendTears = (version server : ℕ) (bodies : List (List ℕ)) (body after : List ℕ) → FailsToAdd AddsFront (entry (chain_end version server bodies) body) (journal version server bodies) after
+    → (count : ℕ) × (after ≡ torn version server bodies body count)
 
 abbrev pub OpeningTears : Type 0
-OpeningTears = (server : ℕ) (bodies : List (List ℕ)) (body : List ℕ) (count : ℕ) (after : List ℕ) → AreBodies bodies → IsBody body
-    → FailsToOpen AddsFront server (torn server bodies body count) after → (left : ℕ) × (after ≡ torn server bodies body left)
+OpeningTears = (version server : ℕ) (bodies : List (List ℕ)) (body : List ℕ) (count : ℕ) (after : List ℕ) → AreBodies bodies → IsBody body
+    → FailsToOpen AddsFront version server (torn version server bodies body count) after → (left : ℕ) × (after ≡ torn version server bodies body left)
 
 fails_to_add : {D : Type 0} (d : Ghosts D) (piece before after : List ℕ) → IsHonestDevice d → FailsToAdd d.may_leave piece before after → FailsToAdd AddsFront piece before after
 fails_to_add d piece before after honest (inl left) = inl (honest.adds_front piece before after left)
 fails_to_add d piece before after honest (inr left) = inr (honest.adds_front [] (before ++ piece) after left)
 
-fails_to_open : {D : Type 0} (d : Ghosts D) (server : ℕ) (before after : List ℕ) → IsHonestDevice d → FailsToOpen d.may_leave server before after → FailsToOpen AddsFront server before after
+fails_to_open : {D : Type 0} (d : Ghosts D) (server : ℕ) (before after : List ℕ) → IsHonestDevice d → FailsToOpen d.may_leave VERSION server before after → FailsToOpen AddsFront VERSION server before after
 fails_to_open d server before after honest (inl left) = inl (honest.adds_front [] before after left)
 fails_to_open d server before after honest (inr (inl left)) = inr (inl (left.0, honest.adds_front _ [] after left.1))
 fails_to_open d server before after honest (inr (inr left)) = inr (inr (left.0, left.1, left.2, honest.adds_front [] _ after left.3))
@@ -51,11 +52,11 @@ pub tears : {D : Type 0} (d : Ghosts D) → AppendTears → (old new : ServerSta
 tears d law old new honest stored failed =
     let one = failed.entry_of in
     let same : stored.0 ≡ one.bodies = stored.1 ∙ sym one.before in
-    let before : d.content old.device ≡ journal old.core.id one.bodies = stored.2 ∙ ap (journal old.core.id) same in
+    let before : d.content old.device ≡ journal VERSION old.core.id one.bodies = stored.2 ∙ ap (journal VERSION old.core.id) same in
     let left = fails_to_add d failed.added (d.content old.device) (d.content new.device) honest (failed.left honest.modelled) in
     let here = subst (λ (b : List ℕ). FailsToAdd AddsFront failed.added b (d.content new.device)) before left in
-    let whole = subst (λ (p : List ℕ). FailsToAdd AddsFront p (journal old.core.id one.bodies) (d.content new.device)) one.is here in
-    let count = law old.core.id one.bodies one.body (d.content new.device) whole in (
+    let whole = subst (λ (p : List ℕ). FailsToAdd AddsFront p (journal VERSION old.core.id one.bodies) (d.content new.device)) one.is here in
+    let count = law VERSION old.core.id one.bodies one.body (d.content new.device) whole in (
       failed.made,
       failed.doubt,
       record { bodies = one.bodies; body = one.body; count = count.0; before = one.before; after = one.after; is = count.1 },
@@ -81,11 +82,11 @@ has_bodies law laws held doubt one all is = record {
   is = subst IsBody (sym (body_is held doubt one.bodies one.body one.before one.after)) (law doubt is);
 }
 
-not_foreign : (id : ℕ) (held : List Write) (doubt : Write) (bytes : List ℕ) → IsTorn id held doubt bytes → IsForeign bytes → ⊥
+not_foreign : (id : ℕ) (held : List Write) (doubt : Write) (bytes : List ℕ) → IsTorn id held doubt bytes → IsForeign VERSION bytes → ⊥
 not_foreign id held doubt bytes one foreign =
-    foreign.no_journal (id ∷ (entries (first_link id) one.bodies ++ take one.count (entry (chain_end id one.bodies) one.body)), one.is)
+    foreign.no_journal (id ∷ (entries (first_link VERSION id) one.bodies ++ take one.count (entry (chain_end VERSION id one.bodies) one.body)), one.is)
 
-not_of_another : (id : ℕ) (held : List Write) (doubt : Write) (bytes : List ℕ) → IsTorn id held doubt bytes → IsOfAnother id bytes → ⊥
+not_of_another : (id : ℕ) (held : List Write) (doubt : Write) (bytes : List ℕ) → IsTorn id held doubt bytes → IsOfAnother VERSION id bytes → ⊥
 not_of_another id held doubt bytes one other =
     let tenth : other.owner ≡ id = ap (λ (l : List ℕ). get_or l 9 0) (sym other.begins.1 ∙ one.is) in other.another tenth
 
@@ -103,7 +104,7 @@ abbrev pub StaysTorn : {D : Type 0} → Ghosts D → (old new : ServerState D) �
 StaysTorn d old new doubt result = IsHonestAnswer result
     × MatchResult result (λ _. AreHonest old.core.held doubt new.core.held) (λ _. IsTorn old.core.id old.core.held doubt (d.content new.device))
 
-again : {id : ℕ} {held : List Write} {doubt : Write} {bytes : List ℕ} (one : IsTorn id held doubt bytes) (after : List ℕ) → ((left : ℕ) × (after ≡ torn id one.bodies one.body left)) → IsTorn id held doubt after
+again : {id : ℕ} {held : List Write} {doubt : Write} {bytes : List ℕ} (one : IsTorn id held doubt bytes) (after : List ℕ) → ((left : ℕ) × (after ≡ torn VERSION id one.bodies one.body left)) → IsTorn id held doubt after
 again one after left = record { bodies = one.bodies; body = one.body; count = left.0; before = one.before; after = one.after; is = left.1 }
 
 recovers : (old new : Core) (doubt : Write) (adopted : Option Wid) → old.doubt ≡ Some doubt → Recovers old adopted new → AreHonest old.held doubt new.held
@@ -123,39 +124,39 @@ reopens_honestly d opens tear law laws old new doubt (Err NotDown) honest all is
 reopens_honestly d opens tear law laws old new doubt (Err (Journal Device)) honest all is was one reopens journals =
     let bodies = has_bodies law laws old.core.held doubt one all is in
     let left = fails_to_open d old.core.id (d.content old.device) (d.content new.device) honest (journals.1 honest.modelled) in
-    let here = subst (λ (b : List ℕ). FailsToOpen AddsFront old.core.id b (d.content new.device)) one.is left in
-    (tt, again one (d.content new.device) (tear old.core.id one.bodies one.body one.count (d.content new.device) bodies.are bodies.is here))
+    let here = subst (λ (b : List ℕ). FailsToOpen AddsFront VERSION old.core.id b (d.content new.device)) one.is left in
+    (tt, again one (d.content new.device) (tear VERSION old.core.id one.bodies one.body one.count (d.content new.device) bodies.are bodies.is here))
 reopens_honestly d opens tear law laws old new doubt (Err (Journal NotAJournal)) honest all is was one reopens journals =
     absurd (not_foreign old.core.id old.core.held doubt (d.content old.device) one (journals.1 honest.modelled))
 reopens_honestly d opens tear law laws old new doubt (Err (Journal OtherServer)) honest all is was one reopens journals =
     absurd (not_of_another old.core.id old.core.held doubt (d.content old.device) one (journals.1 honest.modelled))
 reopens_honestly d opens tear law laws old new doubt (Err Lost) honest all is was one reopens journals =
     let bodies = has_bodies law laws old.core.held doubt one all is in
-    let found = subst (λ (b : List ℕ). Finds old.core.id b journals.0 journals.1.dropped) one.is (journals.1.opened.finds honest.modelled) in
-    absurd (journals.2 (begins old.core.id old.core.held doubt (d.content old.device) journals.0 one (opens old.core.id one.bodies one.body one.count journals.0 journals.1.dropped bodies.are bodies.is found)))
+    let found = subst (λ (b : List ℕ). Finds VERSION old.core.id b journals.0 journals.1.dropped) one.is (journals.1.opened.finds honest.modelled) in
+    absurd (journals.2 (begins old.core.id old.core.held doubt (d.content old.device) journals.0 one (opens VERSION old.core.id one.bodies one.body one.count journals.0 journals.1.dropped bodies.are bodies.is found)))
 reopens_honestly d opens tear law laws old new doubt (Err (BadRecord at)) honest all is was one reopens (other, was_other, rest) =
     let bodies = has_bodies law laws old.core.held doubt one all is in
     let both : Some other ≡ Some doubt = sym was_other ∙ was in
     let same : other ≡ doubt = cc in
-    let found = subst (λ (b : List ℕ). Finds old.core.id b rest.0 rest.1.dropped) one.is (rest.1.opened.finds honest.modelled) in
-    absurd (nothing_other old.core.id old.core.held doubt (d.content old.device) rest.0 one (opens old.core.id one.bodies one.body one.count rest.0 rest.1.dropped bodies.are bodies.is found)
+    let found = subst (λ (b : List ℕ). Finds VERSION old.core.id b rest.0 rest.1.dropped) one.is (rest.1.opened.finds honest.modelled) in
+    absurd (nothing_other old.core.id old.core.held doubt (d.content old.device) rest.0 one (opens VERSION old.core.id one.bodies one.body one.count rest.0 rest.1.dropped bodies.are bodies.is found)
     (subst (λ (w : Write). HasOther old.core.held w rest.0) same rest.2))
 reopens_honestly d opens tear law laws old new doubt (Err OutOfMemory) honest all is was one reopens (inl same) =
     (tt, again one (d.content new.device) (one.count, same.same ∙ one.is))
 reopens_honestly d opens tear law laws old new doubt (Err OutOfMemory) honest all is was one reopens (inr (found, opened)) =
     let bodies = has_bodies law laws old.core.held doubt one all is in
-    let finds = subst (λ (b : List ℕ). Finds old.core.id b found opened.dropped) one.is (opened.opened.finds honest.modelled) in
-    let left : FailsToOpen AddsFront old.core.id (torn old.core.id one.bodies one.body one.count) (d.content new.device) =
-    inr (inr (found, opened.dropped, finds, (0, opened.opened.leaves honest.modelled ∙ sym (append-nil (journal old.core.id found))))) in
-    (tt, again one (d.content new.device) (tear old.core.id one.bodies one.body one.count (d.content new.device) bodies.are bodies.is left))
+    let finds = subst (λ (b : List ℕ). Finds VERSION old.core.id b found opened.dropped) one.is (opened.opened.finds honest.modelled) in
+    let left : FailsToOpen AddsFront VERSION old.core.id (torn VERSION old.core.id one.bodies one.body one.count) (d.content new.device) =
+    inr (inr (found, opened.dropped, finds, (0, opened.opened.leaves honest.modelled ∙ sym (append-nil (journal VERSION old.core.id found))))) in
+    (tt, again one (d.content new.device) (tear VERSION old.core.id one.bodies one.body one.count (d.content new.device) bodies.are bodies.is left))
 
 -- and a start on it holds what was held, or that and the Write in doubt
 pub starts_honestly : OpensHonestly → BeginsNone → ((write : Write) → IsWrite write → IsBody (write_bytes write))
     → ((bodies : List (List ℕ)) (writes : List Write) → All IsWrite writes → Stores bodies writes → AreBodies bodies)
     → (id : ℕ) (held : List Write) (doubt : Write) (bytes : List ℕ) (found : List (List ℕ)) (dropped : ℕ) (writes : List Write) → All IsWrite held → IsWrite doubt → IsTorn id held doubt bytes
-    → All IsWrite writes → Stores found writes → Finds id bytes found dropped → AreHonest held doubt writes
+    → All IsWrite writes → Stores found writes → Finds VERSION id bytes found dropped → AreHonest held doubt writes
 starts_honestly opens none law laws id held doubt bytes found dropped writes all is one every stores finds =
-    by (opens id one.bodies one.body one.count found dropped bodies.are bodies.is (subst (λ (b : List ℕ). Finds id b found dropped) one.is finds))
+    by (opens VERSION id one.bodies one.body one.count found dropped bodies.are bodies.is (subst (λ (b : List ℕ). Finds VERSION id b found dropped) one.is finds))
   where
     bodies : HasBodies one.bodies one.body
     bodies = has_bodies law laws held doubt one all is

@@ -8,6 +8,7 @@ use Rattle.bayou_journal.specs.Chain.{chain_end}
 use Rattle.bayou_journal.specs.Journal.{JournalState}
 use Rattle.bayou_journal.specs.Opened.{Found}
 use Rattle.bayou_journal.specs.Opening.{HasOpened, HasRefused}
+use Rattle.bayou_journal.specs.declared.format.TheConstants.{VERSION}
 use Rattle.bayou_lang.specs.declared.write.Write.{Write}
 use Rattle.bayou_lang.specs.Writes.{IsNextWrite}
 use Rattle.bayou_log.specs.Log.{Log, IsReserved}
@@ -17,7 +18,7 @@ use Rattle.bayou_server.specs.Faults.{reopen_fault}
 use Rattle.bayou_server.specs.Inner.Fields.{BelongTogether, Stands, core_of}
 use Rattle.bayou_server.specs.Reopens.{Reopens}
 use Rattle.bayou_server.specs.Inner.Replaying.{AreOthers}
-use Rattle.bayou_server.specs.Server.{Core, IsDown, IsSoundServer, ServerState}
+use Rattle.bayou_server.specs.Server.{Core, IsDown, IsSoundServer, MayBeInDoubt, ServerState}
 use Rattle.bayou_server.specs.Stored.{OpensWith, ReopensJournal, bodies_of}
 use Rattle.bayou_server.proofs.Steps.{sound_next}
 use Rattle.bayou_device.specs.declared.device.Device.{Ghosts}
@@ -30,7 +31,7 @@ stays_refused core opening.NotAJournal down = (down, refl)
 stays_refused core opening.OtherServer down = (down, refl)
 stays_refused core opening.OutOfMemory down = (down, refl)
 
-pub journal_refuses : {D : Type 0} (d : Ghosts D) (old new : ServerState D) (fault : OpenFault) → HasRefused d old.core.id old.device new.device fault
+pub journal_refuses : {D : Type 0} (d : Ghosts D) (old new : ServerState D) (fault : OpenFault) → HasRefused d VERSION old.core.id old.device new.device fault
     → ReopensJournal d old (Err (reopen_fault fault)) new
 journal_refuses d old new opening.Device refused = refused
 journal_refuses d old new opening.NotAJournal refused = refused
@@ -38,7 +39,7 @@ journal_refuses d old new opening.OtherServer refused = refused
 journal_refuses d old new opening.OutOfMemory refused = inl refused
 
 -- the journal was opened, as one that ends where its bodies say
-pub opens_with : {D : Type 0} (d : Ghosts D) (server id : ℕ) (old new : D) (found : Found) (last : List ℕ) → server ≡ id → HasOpened d server old new found last
+pub opens_with : {D : Type 0} (d : Ghosts D) (server id : ℕ) (old new : D) (found : Found) (last : List ℕ) → server ≡ id → HasOpened d VERSION server old new found last
     → OpensWith d id old new found.bodies
 opens_with d server id old new found last owner has =
     let whole : OpensWith d server old new found.bodies = record {
@@ -81,25 +82,25 @@ stands_down journal log id doubt write together is =
 pub after_adopting : {D : Type 0} (journal new : JournalState D) (log after : Log) (id : ℕ) (doubt left : Option Write) (write : Write) (bodies : List (List ℕ))
     → BelongTogether journal log id doubt → doubt ≡ Some write → left ≡ None
     → new ≡ record journal { device = new.device; last = new.last; is_down = false }
-    → new.last ≡ chain_end journal.server bodies → bodies ≡ bodies_of (log.receipts ++ write ∷ [])
+    → new.last ≡ chain_end VERSION journal.server bodies → bodies ≡ bodies_of (log.receipts ++ write ∷ [])
     → after ≡ record log { receipts = log.receipts ++ write ∷ []; room = after.room } → BelongTogether new after id left
 after_adopting {D} journal new log after id doubt left write bodies together is none new_is last bodies_are after_is =
     let down = stands_down journal log id doubt write together is in
-    let spelled : IsWrite write = subst (λ (d : Option Write). IfSome d IsWrite) is together.sound.doubt_spelled in
-    let up : IsSoundServer (core_of log id None) = record { known = together.sound.known; holds = together.sound.holds; spelled = together.sound.spelled; doubt_spelled = tt } in
+    let may : MayBeInDoubt id log.count log.limit log.receipts write = subst (λ (d : Option Write). IfSome d (MayBeInDoubt id log.count log.limit log.receipts)) is together.sound.doubted in
+    let up : IsSoundServer (core_of log id None) = record { known = together.sound.known; holds = together.sound.holds; spelled = together.sound.spelled; doubted = tt } in
     let owner : new.server ≡ journal.server = ap (λ (j : JournalState D). j.server) new_is in
     let receipts : after.receipts ≡ log.receipts ++ write ∷ [] = ap (λ (l : Log). l.receipts) after_is in
     record {
       owner = owner ∙ together.owner;
       limit = subst (λ (l : Log). l.limit ≤ MAX_WRITES) (sym after_is) together.limit;
       sound = subst (λ (l : Log). IsSoundServer (core_of l id left)) (sym after_is)
-          (subst (λ (d : Option Write). IsSoundServer (record (core_of log id d) { held = log.receipts ++ write ∷ [] })) (sym none) (sound_next (core_of log id None) write.program write up down.0 down.2 spelled));
+          (subst (λ (d : Option Write). IsSoundServer (record (core_of log id d) { held = log.receipts ++ write ∷ [] })) (sym none) (sound_next (core_of log id None) write.program write up refl down.0 down.2 may.spelled));
       stands = subst (λ (d : Option Write). Stands new after d) (sym none) (
         ap (λ (j : JournalState D). j.is_down) new_is,
         last
-            ∙ ap (λ (b : List (List ℕ)). chain_end journal.server b) bodies_are
-            ∙ ap (λ (writes : List Write). chain_end journal.server (bodies_of writes)) (sym receipts)
-            ∙ ap (λ (s : ℕ). chain_end s (bodies_of after.receipts)) (sym owner),
+            ∙ ap (λ (b : List (List ℕ)). chain_end VERSION journal.server b) bodies_are
+            ∙ ap (λ (writes : List Write). chain_end VERSION journal.server (bodies_of writes)) (sym receipts)
+            ∙ ap (λ (s : ℕ). chain_end VERSION s (bodies_of after.receipts)) (sym owner),
       );
     }
 

@@ -3,6 +3,7 @@ use Rattle.std.specs.Prelude.{◌≡◌, ◌⊎◌, ℕ, List, [], ◌∷◌, �
 use Rattle.bayou_device.specs.Memory.{AddsFront}
 use Rattle.bayou_device.specs.declared.device.Device.{Ghosts}
 use Rattle.bayou_journal.specs.Honest.{torn}
+use Rattle.bayou_journal.specs.declared.format.TheConstants.{VERSION}
 use Rattle.bayou_lang.specs.declared.write.Write.{Write}
 use Rattle.bayou_server.specs.declared.answer.Reopened.{Reopened}
 use Rattle.bayou_server.specs.declared.fault.JournalFault.TheVariants.{Device, NotAJournal, OtherServer}
@@ -22,7 +23,7 @@ pub record IsTorn (id : ℕ) (held : List Write) (doubt : Write) (bytes : List �
   pub count : ℕ
   pub before : Stores bodies held
   pub after : Stores (bodies ++ body ∷ []) (held ++ doubt ∷ [])
-  pub is : bytes ≡ torn id bodies body count
+  pub is : bytes ≡ torn VERSION id bodies body count
 
 -- the Writes are those that were held, or those and the one that was in doubt
 abbrev pub AreHonest : (held : List Write) → (doubt : Write) → List Write → Type 0

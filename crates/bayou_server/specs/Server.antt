@@ -1,7 +1,7 @@
 -- A server as its callers see it: this project's own.
 use Rattle.std.specs.Prelude.{◌≡◌, ◌<◌, ◌≤◌, ℕ, List, Option, None, IfSome, IsSome, All, length, slice_index}
 use Rattle.bayou_lang.specs.declared.write.Write.{Write}
-use Rattle.bayou_lang.specs.Writes.{Fits, IsSound, count_of}
+use Rattle.bayou_lang.specs.Writes.{Fits, IsNextWrite, IsSound, count_of}
 use Rattle.bayou_lang.specs.Ranges.{IsWrite}
 
 -- What the steps of the store read and change of a server: which one it is, and among how many; how many Writes it may hold;
@@ -46,10 +46,18 @@ pub record MayFollow (server count : ℕ) (held : List Write) (write : Write) : 
   pub fits : Fits count held write
   pub own : write.wid.origin.index ≡ server → write.deps ≡ count_of held
 
--- What is true of each server, before and after each call: it is one of the servers, it holds what it may, and what it holds
--- and what is in doubt has a spelling.
+-- The Write may be in doubt: it has a spelling, there is room for it, it fits what is held, and the server's own is its next.
+-- So it may be held as it is.
+pub record MayBeInDoubt (server count limit : ℕ) (held : List Write) (write : Write) : Type 0 where
+  pub spelled : IsWrite write
+  pub room : length held < limit
+  pub fits : Fits count held write
+  pub own : write.wid.origin.index ≡ server → IsNextWrite held server write.program write
+
+-- What is true of each server, before and after each call: it is one of the servers, it holds what it may, what it holds has a
+-- spelling, and so has the Write in doubt, which it may hold next.
 pub record IsSoundServer (core : Core) : Type 0 where
   pub known : core.id < core.count
   pub holds : MayHold core.id core.count core.limit core.held
   pub spelled : All IsWrite core.held
-  pub doubt_spelled : IfSome core.doubt IsWrite
+  pub doubted : IfSome core.doubt (MayBeInDoubt core.id core.count core.limit core.held)

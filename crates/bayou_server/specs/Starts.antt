@@ -3,6 +3,7 @@ use Rattle.std.specs.Prelude.{◌≡◌, ◌⊎◌, ℕ, List, ◌∷◌, ◌++�
 use Rattle.bayou_device.specs.declared.device.Device.{Ghosts}
 use Rattle.bayou_journal.specs.Chain.{chain_end}
 use Rattle.bayou_journal.specs.Opening.{HasOpened, HasRefused}
+use Rattle.bayou_journal.specs.declared.format.TheConstants.{VERSION}
 use Rattle.bayou_journal.specs.declared.fault.OpenFault.TheVariants as opening
 use Rattle.bayou_lang.specs.declared.write.Write.{Write}
 use Rattle.bayou_lang.specs.Ranges.{IsWrite}
@@ -22,7 +23,7 @@ pub record Starts (id count limit : ℕ) (core : Core) : Type 0 where
 pub record StartsOn {D : Type 0} (d : Ghosts D) (device : D) (server : ServerState D) (dropped : ℕ) : Type 0 where
   pub bodies : List (List ℕ)
   pub stores : Stores bodies server.core.held
-  pub opened : HasOpened d server.core.id device server.device (record { bodies = bodies; dropped = dropped }) (chain_end server.core.id bodies)
+  pub opened : HasOpened d VERSION server.core.id device server.device (record { bodies = bodies; dropped = dropped }) (chain_end VERSION server.core.id bodies)
 
 -- What is wrong with the body of an entry behind those of the Writes held: it is no Write's; or a Write's that may not follow;
 -- or one's that may, and as many are held as may be.
@@ -55,9 +56,9 @@ pub record StopsAtEntry {D : Type 0} (d : Ghosts D) (id count limit : ℕ) (devi
 
 -- A server doesn't start: the journal's refusal, or the first entry that it doesn't take; and what is left of the device.
 abbrev pub FailsToStart : {D : Type 0} → Ghosts D → (id count limit : ℕ) → (device left : D) → StartFault → Type 0
-FailsToStart d id count limit device left (Journal fault) = HasRefused d id device left (open_fault fault)
+FailsToStart d id count limit device left (Journal fault) = HasRefused d VERSION id device left (open_fault fault)
 FailsToStart d id count limit device left (BadRecord at) = StopsAtEntry d id count limit device left (BadRecord at)
 FailsToStart d id count limit device left (Gap at) = StopsAtEntry d id count limit device left (Gap at)
 FailsToStart d id count limit device left LogFull = StopsAtEntry d id count limit device left LogFull
 FailsToStart d id count limit device left OutOfMemory =
-    HasRefused d id device left opening.OutOfMemory ⊎ ((bodies : List (List ℕ)) × OpensWith d id device left bodies)
+    HasRefused d VERSION id device left opening.OutOfMemory ⊎ ((bodies : List (List ℕ)) × OpensWith d id device left bodies)

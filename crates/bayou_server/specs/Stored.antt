@@ -4,8 +4,9 @@ use Rattle.bayou_base.specs.declared.answer.Accepted.{Accepted}
 use Rattle.bayou_device.specs.Device.{Rose}
 use Rattle.bayou_device.specs.declared.device.Device.{Ghosts}
 use Rattle.bayou_journal.specs.Chain.{chain_end, entry, journal}
+use Rattle.bayou_journal.specs.declared.format.TheConstants.{VERSION}
 use Rattle.bayou_journal.specs.Opening.{FailsToAdd, HasOpened, HasRefused}
-pub use Rattle.bayou_journal.specs.Opening.{OpensInCalls}
+use Rattle.bayou_journal.specs.Opening as journals
 use Rattle.bayou_journal.specs.declared.fault.OpenFault.TheVariants as opening
 use Rattle.bayou_lang.specs.declared.write.Write.{Write}
 use Rattle.bayou_wire.specs.Spelling.{write_bytes}
@@ -27,7 +28,7 @@ Stores bodies writes = bodies ≡ bodies_of writes
 
 -- the device has the server's journal, with the Writes held and nothing else
 abbrev pub IsStored : {D : Type 0} → Ghosts D → ServerState D → Type 0
-IsStored d server = (bodies : List (List ℕ)) × Stores bodies server.core.held × (d.content server.device ≡ journal server.core.id bodies)
+IsStored d server = (bodies : List (List ℕ)) × Stores bodies server.core.held × (d.content server.device ≡ journal VERSION server.core.id bodies)
 
 -- ---- a Write
 
@@ -37,7 +38,7 @@ pub record IsEntryOf (server : ℕ) (held : List Write) (made : Write) (added : 
   pub body : List ℕ
   pub before : Stores bodies held
   pub after : Stores (bodies ++ body ∷ []) (held ++ made ∷ [])
-  pub is : added ≡ entry (chain_end server bodies) body
+  pub is : added ≡ entry (chain_end VERSION server bodies) body
 
 -- the entry of the Write that is held now was added, and all was synced
 pub record HasAdded {D : Type 0} (d : Ghosts D) (old new : ServerState D) : Type 0 where
@@ -69,10 +70,14 @@ StoresWrite d old (Err Journal) new = HasFailed d old new
 
 -- ---- an opening
 
+-- how many device calls the opening of a server's journal makes at the most
+abbrev pub OpensInCalls : {D : Type 0} → Ghosts D → (id : ℕ) → (old new : D) → Type 0
+OpensInCalls d id old new = journals.OpensInCalls d VERSION id old new
+
 -- the journal was opened: these bodies were found, and are all that it is left with
 pub record OpensWith {D : Type 0} (d : Ghosts D) (id : ℕ) (old new : D) (bodies : List (List ℕ)) : Type 0 where
   pub dropped : ℕ
-  pub opened : HasOpened d id old new (record { bodies = bodies; dropped = dropped }) (chain_end id bodies)
+  pub opened : HasOpened d VERSION id old new (record { bodies = bodies; dropped = dropped }) (chain_end VERSION id bodies)
 
 -- the journal was opened, and these Writes are what it stores
 abbrev pub OpensWithWrites : {D : Type 0} → Ghosts D → (id : ℕ) → (old new : D) → List Write → Type 0
@@ -96,12 +101,12 @@ pub record HasOther (held : List Write) (doubt : Write) (bodies : List (List ℕ
 abbrev pub ReopensJournal : {D : Type 0} → Ghosts D → (old : ServerState D) → Result Reopened ReopenFault → (new : ServerState D) → Type 0
 ReopensJournal d old (Ok reopened) new = OpensWithWrites d old.core.id old.device new.device new.core.held
 ReopensJournal d old (Err reopening.NotDown) new = new.device ≡ old.device
-ReopensJournal d old (Err (reopening.Journal fault)) new = HasRefused d old.core.id old.device new.device (open_fault fault)
+ReopensJournal d old (Err (reopening.Journal fault)) new = HasRefused d VERSION old.core.id old.device new.device (open_fault fault)
 ReopensJournal d old (Err reopening.Lost) new =
     (bodies : List (List ℕ)) × OpensWith d old.core.id old.device new.device bodies × (¬ BeginsWithHeld old.core.held bodies)
 ReopensJournal d old (Err (reopening.BadRecord at)) new =
     (doubt : Write) × (old.core.doubt ≡ Some doubt)
     × ((bodies : List (List ℕ)) × OpensWith d old.core.id old.device new.device bodies × HasOther old.core.held doubt bodies)
 ReopensJournal d old (Err reopening.OutOfMemory) new =
-    HasRefused d old.core.id old.device new.device opening.OutOfMemory
+    HasRefused d VERSION old.core.id old.device new.device opening.OutOfMemory
     ⊎ ((bodies : List (List ℕ)) × OpensWith d old.core.id old.device new.device bodies)

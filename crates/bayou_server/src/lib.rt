@@ -1,11 +1,12 @@
 //! One server of a Bayou store (Terry et al. 1995): a log of Writes behind a journal.
 //!
-//! Callers see a [`Server`] as its core and its device. The core is which server it is and among how many, how many Writes it
-//! may hold, the Writes that it holds, in order of receipt, and the Write in doubt, if any: while there is one the server is
-//! down, and else up. The Writes held are sound: each fits those before it, and the server's own say all that was held; and
-//! each has a spelling. `specs/` has two relations for each call that changes something or may be refused. `Starts`,
-//! `Reads`, `Writes` and `Reopens` say of each answer when it comes and what core it leaves: they are the steps of the store,
-//! and no device stands in them. `StartsOn`, `FailsToStart`, `StoresWrite` and `ReopensJournal` say how the device stands then.
+//! Callers see a [`Server`] as its core and its device. The core is which server it is and among how many, how many Writes
+//! it may hold, the Writes that it holds, in order of receipt, and the Write in doubt, if any: while there is one the
+//! server is down, and else up. The Writes held are sound: each fits those before it, and the server's own say all that was
+//! held; and each has a spelling. The Write in doubt may be held next as it is. `specs/` has two relations for each call
+//! that changes something or may be refused. `Starts`, `Reads`, `Writes` and `Reopens` say of each answer when it comes and
+//! what core it leaves: they are the steps of the store, and no device stands in them. `StartsOn`, `FailsToStart`,
+//! `StoresWrite` and `ReopensJournal` say how the device stands then.
 //!
 //! A Write is stored and synced before it is held, so that none is acknowledged that its journal hasn't got. Where a
 //! device call fails meanwhile, it isn't known whether the journal has it: the Write is in doubt, and the server refuses
@@ -24,6 +25,7 @@
 pub mod answer;
 pub mod fault;
 pub mod laws;
+mod making;
 mod reopen;
 pub mod server;
 mod start;

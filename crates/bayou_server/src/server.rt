@@ -1,7 +1,7 @@
 ghost use Rattle.std.specs.Prelude.{◌≡◌, ◌≢◌, ◌+◌, ◌<◌, ◌≤◌, ◌↔◌, ℕ, All, Contains, IfErr, IfOk, IsSome, IsTrue, MatchOption, MatchResult, OnOk, length};
 ghost use Rattle.std.specs.Borrow.{Lends, sem};
 ghost use Rattle.bayou_base.specs.declared.limits.TheConstants.{SERVERS, MAX_WRITES};
-ghost use Rattle.bayou_journal.specs.Opening.{KeepsChains, OpensInCalls};
+ghost use Rattle.bayou_journal.specs.Opening.{KeepsChains};
 ghost use Rattle.bayou_lang.specs.Writes.{IsNextWrite, count_of};
 ghost use Rattle.bayou_log.specs.Listing.{listing_of};
 ghost use Rattle.bayou_server.specs.contracts.server.Server.{the_row};
@@ -9,14 +9,15 @@ ghost use Rattle.bayou_server.specs.Reads.{Reads};
 ghost use Rattle.bayou_server.specs.Reopens.{Reopens, own_adopted};
 ghost use Rattle.bayou_server.specs.Server.{IsSoundServer, own_count, with_device};
 ghost use Rattle.bayou_server.specs.Starts.{FailsToStart, Starts, StartsOn};
-ghost use Rattle.bayou_server.specs.Stored.{IsStored, ReopensJournal, StoresWrite};
+ghost use Rattle.bayou_server.specs.Stored.{IsStored, OpensInCalls, ReopensJournal, StoresWrite};
 ghost use Rattle.bayou_server.specs.Writes.{Writes};
 
 use crate::answer::{Reopened, Stopped};
 use crate::fault::{Behind, NotStarted, ReopenFault, StartFault, WriteFault};
+use crate::making::{refusal, settle};
 use crate::reopen::has_doubt;
 use crate::start::log_of;
-use bayou_base::{Accepted, Key, Seen, ServerId, Stamp, Vector, Wid};
+use bayou_base::{Accepted, Key, Seen, ServerId, Vector, Wid};
 use bayou_device::Device;
 use bayou_journal::Journal;
 use bayou_lang::{Program, Write};
@@ -43,29 +44,6 @@ impl<D> Model for Server<D> {
     ghost view = { λ s. record { core = core_of s.log s.id.index s.doubt; device = s.journal.device } };
 
     ghost invariant = { λ s. BelongTogether s.journal s.log s.id.index s.doubt };
-}
-
-// The Write that a server with this log makes of the program.
-fn next_write(log: &WriteLog, id: ServerId, program: Program) -> Write
-    requires room { length log.now.receipts < log.now.limit }
-    requires limit { log.now.limit ≤ MAX_WRITES }
-    ensures { IsNextWrite log.now.receipts id.index program result }
-{
-    let deps = log.vector();
-    let wid = Wid {
-        origin: id,
-        seq: deps.get(id) + 1,
-    };
-    let stamp = Stamp {
-        clock: log.clock() + 1,
-        origin: id,
-    };
-    Write {
-        wid,
-        stamp,
-        deps,
-        program,
-    }
 }
 
 impl<D: Device> Server<D> {
@@ -151,34 +129,14 @@ impl<D: Device> Server<D> {
         ensures safe { D.is_modelled → KeepsChains (D.kept self.old.device) (D.kept self.new.device) }
         ensures calls { D.leads_to 2 self.old.device self.new.device }
     {
-        if self.doubt.is_some() {
-            return Err(WriteFault::Down);
+        if let Some(fault) = refusal(&self.log, &self.doubt, need) {
+            return Err(fault);
         }
-        let vector = self.log.vector();
-        if !vector.dominates(need) {
-            return Err(WriteFault::Behind(vector));
-        }
-        if self.log.is_full() {
-            return Err(WriteFault::LogFull);
-        }
-        let write = next_write(&self.log, self.id, program);
+        let write = self.log.next_write(self.id, program);
         self.log.reserve(&write)?;
         let body = encode_write(alloc, &write)?;
-        match self.journal.append(&body) {
-            Ok(()) => {
-                let accepted = Accepted {
-                    wid: write.wid,
-                    stamp: write.stamp,
-                    deps: write.deps,
-                };
-                self.log.insert(write);
-                Ok(accepted)
-            }
-            Err(_) => {
-                self.doubt = Some(write);
-                Err(WriteFault::Journal)
-            }
-        }
+        let added = self.journal.append(&body);
+        settle(&mut self.log, &mut self.doubt, write, added)
     }
 
     /// Brings the server up again: it opens its journal again, and compares what it finds there with the Writes held. Device

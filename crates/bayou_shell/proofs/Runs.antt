@@ -2,9 +2,8 @@
 use Rattle.std.proofs.Common.{◌≡◌, ℕ, Bool, true, false, ◌&&◌, List, [], ◌∷◌, ◌++◌, Option, None, Some, IfSome, IfErr, Result, Err, inl, IsTrue, map, take, length, ap, sym, ◌∙◌, refl, subst, append_assoc}
 use Rattle.std.proofs.lemmas.List.{append-nil}
 use Rattle.std.proofs.lemmas.Grind.{flat_map-append}
-use Rattle.std.proofs.KnownBytes.{Appends-trans, Keeps-refl}
+use Rattle.std.proofs.KnownBytes.{Keeps-refl}
 use Rattle.std.proofs.Math.Seq.{take-append_seam}
-use Rattle.std.specs.Io.KnownBytes.{Appends}
 use Rattle.std.specs.List.{list_all}
 use Rattle.bayou_text.specs.Said.{Said, servers, session, write, read, log, fuse, lose, reopen, restart}
 use Rattle.bayou_shell.specs.declared.answer.Answer.{Answer}
@@ -20,8 +19,10 @@ use Rattle.bayou_shell.specs.Printed.{answer_text}
 use Rattle.bayou_shell.specs.Run.{Step, Run, RunsAs, Prints, PrintsPart, answers_text}
 use Rattle.bayou_script.specs.Script.{Plan, IsRefused, RefusedFor, is_served, lines_of}
 use Rattle.bayou_text.specs.Said.{command_said}
+use Rattle.bayou_shell.specs.Inner.Taken.{Takes, TakesFront}
+use Rattle.bayou_shell.specs.Account.{Account}
 use Rattle.bayou_shell.specs.Turns.{EndsReading, EndsWriting}
-use Rattle.bayou_shell.specs.Written.{AppendsFront}
+use Rattle.bayou_shell.proofs.Taken.{Takes-trans}
 
 -- a run goes on by one step
 pub Run-more : (old mid new : Machine) (done : List Said) (answers : List Answer) (said : Said) (answer : Answer) → Run old done answers mid
@@ -53,7 +54,7 @@ answers_more count answers answer =
     flat_map-append (answer_text count) answers (answer ∷ []) ∙ ap (λ line. answers_text count answers ++ line) (append-nil (answer_text count answer))
 
 -- what was answered so far, and what is left
-pub record SoFar (plan : Plan) (store : Machine) (rest : List Command) (old new : Option (List ℕ)) : Type 0 where
+pub record SoFar (plan : Plan) (store : Machine) (rest : List Command) (old new : Account) : Type 0 where
   pub done : List Said
   pub answers : List Answer
   pub first : Machine
@@ -62,11 +63,11 @@ pub record SoFar (plan : Plan) (store : Machine) (rest : List Command) (old new 
   pub run : Run first done answers store
   pub count : store.count ≡ plan.count
   pub served : IsTrue (list_all (λ command. is_served plan.count (command_said command)) rest)
-  pub written : Appends old new (answers_text plan.count answers)
+  pub written : Takes old new (answers_text plan.count answers)
 
 -- one command more was answered
-pub SoFar-more : (plan : Plan) (store after : Machine) (command : Command) (rest : List Command) (answer : Answer) (old mid new : Option (List ℕ))
-    → SoFar plan store (command ∷ rest) old mid → Step store (command_said command) answer after → Appends mid new (answer_text plan.count answer)
+pub SoFar-more : (plan : Plan) (store after : Machine) (command : Command) (rest : List Command) (answer : Answer) (old mid new : Account)
+    → SoFar plan store (command ∷ rest) old mid → Step store (command_said command) answer after → Takes mid new (answer_text plan.count answer)
     → SoFar plan after rest old new
 SoFar-more plan store after command rest answer old mid new so_far step written =
     let said = command_said command in
@@ -79,13 +80,13 @@ SoFar-more plan store after command rest answer old mid new so_far step written 
       run = Run-more so_far.first store after so_far.done so_far.answers said answer so_far.run step;
       count = Step-count store after said answer step ∙ so_far.count;
       served = and_right (is_served plan.count said) _ so_far.served;
-      written = subst (Appends old new) (sym (answers_more plan.count so_far.answers answer))
-          (Appends-trans old mid new (answers_text plan.count so_far.answers) (answer_text plan.count answer) so_far.written written);
+      written = subst (Takes old new) (sym (answers_more plan.count so_far.answers answer))
+          (Takes-trans old mid new (answers_text plan.count so_far.answers) (answer_text plan.count answer) so_far.written written);
     }
 
 -- all commands were answered
-pub SoFar-all : (plan : Plan) (store : Machine) (old new : Option (List ℕ)) → SoFar plan store [] old new
-    → (text : List ℕ) × Prints plan text × Appends old new text
+pub SoFar-all : (plan : Plan) (store : Machine) (old new : Account) → SoFar plan store [] old new
+    → (text : List ℕ) × Prints plan text × Takes old new text
 SoFar-all plan store old new so_far =
     let all : plan.commands ≡ so_far.done = so_far.whole ∙ append-nil so_far.done in (
       answers_text plan.count so_far.answers,
@@ -101,9 +102,9 @@ SoFar-all plan store old new so_far =
     )
 
 -- a part of what is printed for one command more was written
-pub SoFar-part : (plan : Plan) (store after : Machine) (command : Command) (rest : List Command) (answer : Answer) (old mid new : Option (List ℕ))
-    → SoFar plan store (command ∷ rest) old mid → Step store (command_said command) answer after → AppendsFront mid new (answer_text plan.count answer)
-    → (text : List ℕ) × PrintsPart plan text × Appends old new text
+pub SoFar-part : (plan : Plan) (store after : Machine) (command : Command) (rest : List Command) (answer : Answer) (old mid new : Account)
+    → SoFar plan store (command ∷ rest) old mid → Step store (command_said command) answer after → TakesFront mid new (answer_text plan.count answer)
+    → (text : List ℕ) × PrintsPart plan text × Takes old new text
 SoFar-part plan store after command rest answer old mid new so_far step (front, missing, split, written) =
     let said = command_said command in
     let before = answers_text plan.count so_far.answers in
@@ -123,12 +124,12 @@ SoFar-part plan store after command rest answer old mid new so_far step (front, 
         missing = missing;
         lines = answers_more plan.count so_far.answers answer ∙ ap (λ line. before ++ line) split ∙ sym (append_assoc before front missing);
       },
-      Appends-trans old mid new before front so_far.written written,
+      Takes-trans old mid new before front so_far.written written,
     )
 
 -- nothing was written for one command more
-pub SoFar-stopped : (plan : Plan) (store : Machine) (rest : List Command) (old mid new : Option (List ℕ))
-    → SoFar plan store rest old mid → new ≡ mid → (text : List ℕ) × PrintsPart plan text × Appends old new text
+pub SoFar-stopped : (plan : Plan) (store : Machine) (rest : List Command) (old mid new : Account)
+    → SoFar plan store rest old mid → new ≡ mid → (text : List ℕ) × PrintsPart plan text × Takes old new text
 SoFar-stopped plan store rest old mid new so_far same =
     let before = answers_text plan.count so_far.answers in
     let first : take (length so_far.done) plan.commands ≡ so_far.done =
@@ -144,7 +145,7 @@ SoFar-stopped plan store rest old mid new so_far same =
         missing = [];
         lines = sym (append-nil before);
       },
-      subst (λ bytes. Appends old bytes before) (sym same) so_far.written,
+      subst (λ stands. Takes old stands before) (sym same) so_far.written,
     )
 
 -- a script that is refused is answered with nothing

@@ -1,3 +1,4 @@
+pub mod Account
 pub mod Fault
 pub mod Inner
 pub mod Machine

@@ -1,5 +1,5 @@
 -- What the program does with words that name no run.
-use Rattle.std.specs.Prelude.{◌≡◌, ℕ, List, Bool, true, Option, Result, Ok, Err}
+use Rattle.std.specs.Prelude.{◌≡◌, ℕ, List, Option, Result, Ok, Err}
 use Rattle.std.specs.Io.KnownBytes.{Appends, Keeps}
 use Rattle.bayou_command.specs.Words.{AreMistaken, AskForText}
 use Rattle.bayou_shell.specs.declared.fault.Fault.{Fault}

@@ -6,6 +6,7 @@ ghost use Rattle.bayou_shell.specs.declared.fault.Fault.TheVariants.{Memory};
 ghost use Rattle.bayou_shell.specs.Fault.{exit_status, status_of};
 ghost use Rattle.bayou_shell.specs.Program.{TellsOf, refused_status};
 ghost use Rattle.bayou_shell.specs.Run.{RunsAs};
+ghost use Rattle.bayou_shell.specs.Account.{Pays, account};
 ghost use Rattle.bayou_shell.specs.Turns.{EndsReading, EndsWriting};
 
 use crate::fault::Fault;
@@ -23,7 +24,8 @@ const REFUSED: u8 = 2;
 
 /// Tells a fault, as far as that can be written, and gives the exit status.
 fn tell<E: Write>(errors: &mut Output<E>, fault: Fault) -> u8
-    ensures { result ≡ status_of fault }
+    ensures status { result ≡ status_of fault }
+    ensures paid { Pays (account E.contents errors.old) (account E.contents errors.new) 1 }
 {
     // Where the fault can't be told, the status still tells it.
     let _ = write_text(errors, fault.to_line().as_bytes());
@@ -32,7 +34,8 @@ fn tell<E: Write>(errors: &mut Output<E>, fault: Fault) -> u8
 
 /// Tells how a task ended, where it ended with a fault, and gives the exit status.
 fn finish<E: Write>(errors: &mut Output<E>, ended: Result<(), Fault>) -> u8
-    ensures { result ≡ exit_status ended }
+    ensures status { result ≡ exit_status ended }
+    ensures paid { Pays (account E.contents errors.old) (account E.contents errors.new) 1 }
 {
     match ended {
         Ok(()) => 0,
@@ -44,6 +47,7 @@ fn finish<E: Write>(errors: &mut Output<E>, ended: Result<(), Fault>) -> u8
 pub fn refuse_words<E: Write>(errors: &mut Output<E>, error: &io::Error) -> u8
     ensures memory { error_kind error.now ≡ ErrorKind.OutOfMemory → result ≡ status_of Memory }
     ensures others { error_kind error.now ≢ ErrorKind.OutOfMemory → result ≡ refused_status }
+    ensures paid { Pays (account E.contents errors.old) (account E.contents errors.new) 1 }
 {
     if error.kind() == ErrorKind::OutOfMemory {
         return tell(errors, Fault::Memory);
@@ -69,6 +73,9 @@ pub fn run_main<'a, S: AsStr, R: Read, W: Write, E: Write>(
     // A text that was asked for is not lost in silence.
     ensures clean { ¬ (NamesRun (map S.text words.entry.now)) → result ≡ 0 → output.new.has_failed ≡ true → output.old.has_failed ≡ true }
     ensures turns { input.new.turns_left ≤ input.old.turns_left }
+    ensures paid { Pays (account W.contents output.old) (account W.contents output.new) 1 }
+    ensures paid_whole { NamesRun (map S.text words.entry.now) → result ≡ 0 → Pays (account W.contents output.old) (account W.contents output.new) 0 }
+    ensures paid_errors { Pays (account E.contents errors.old) (account E.contents errors.new) 1 }
 {
     match read_words(alloc, words) {
         Ok(Task::Run) => {

@@ -1,5 +1,4 @@
 ghost use Rattle.std.specs.Prelude.{◌≡◌, ◌≤◌, ◌⊎◌, List, ℕ, IfErr, IfSome, IsTrue, MatchResult, OnOk};
-ghost use Rattle.std.specs.Io.KnownBytes.{Appends};
 ghost use Rattle.bayou_script.specs.Plan.{plan_of};
 ghost use Rattle.bayou_script.specs.Script.{is_served};
 ghost use Rattle.bayou_text.specs.Said.{command_said};
@@ -8,8 +7,9 @@ ghost use Rattle.bayou_shell.specs.Machine.{HasBegun};
 ghost use Rattle.bayou_shell.specs.Printed.{answer_text};
 ghost use Rattle.bayou_shell.specs.Run.{Prints, PrintsPart, RunsAs, Step};
 ghost use Rattle.bayou_shell.specs.Inner.Faults.{IsRunFault};
+ghost use Rattle.bayou_shell.specs.Inner.Taken.{Takes, TakesFront};
+ghost use Rattle.bayou_shell.specs.Account.{Pays, account, cut_lines};
 ghost use Rattle.bayou_shell.specs.Turns.{EndsReading, EndsWriting};
-ghost use Rattle.bayou_shell.specs.Written.{AppendsFront};
 
 use crate::fault::Fault;
 use crate::reading::read_text;
@@ -32,11 +32,12 @@ fn answer_one<W: Write>(
     requires { IsTrue (is_served store.old.count (command_said command)) }
     ensures answered { MatchResult result
         (λ _. (answer : Answer) × Step store.old (command_said command) answer store.new
-        × Appends (W.contents output.old.stream) (W.contents output.new.stream) (answer_text servers.count answer))
-        (λ fault. IsRunFault fault × ((W.contents output.new.stream ≡ W.contents output.old.stream)
+        × Takes (account W.contents output.old) (account W.contents output.new) (answer_text servers.count answer))
+        (λ fault. IsRunFault fault × ((account W.contents output.new ≡ account W.contents output.old)
         ⊎ (answer : Answer) × Step store.old (command_said command) answer store.new
-        × AppendsFront (W.contents output.old.stream) (W.contents output.new.stream) (answer_text servers.count answer))) }
+        × TakesFront (account W.contents output.old) (account W.contents output.new) (answer_text servers.count answer))) }
     ensures ended { IfErr result (EndsWriting output.new.has_failed output.new.turns_left) }
+    ensures ready { OnOk result (output.old.turns_left ≤ output.new.turns_left) }
 {
     let answer = store.answer(alloc, command)?;
     write_answer(alloc, servers.count, &answer, output)
@@ -50,10 +51,11 @@ fn answer_all<W: Write>(
     output: &mut Output<W>,
 ) -> Result<(), Fault>
     requires { HasBegun script.servers.count script.servers.limit store }
-    ensures ok { OnOk result ((text : List ℕ) × Prints (plan_of script) text × Appends (W.contents output.old.stream) (W.contents output.new.stream) text) }
+    ensures ok { OnOk result ((text : List ℕ) × Prints (plan_of script) text × Takes (account W.contents output.old) (account W.contents output.new) text) }
     ensures err { IfErr result (λ fault. IsRunFault fault
-        × (text : List ℕ) × PrintsPart (plan_of script) text × Appends (W.contents output.old.stream) (W.contents output.new.stream) text) }
+        × (text : List ℕ) × PrintsPart (plan_of script) text × Takes (account W.contents output.old) (account W.contents output.new) text) }
     ensures ended { IfErr result (EndsWriting output.new.has_failed output.new.turns_left) }
+    ensures ready { OnOk result (output.old.turns_left ≤ output.new.turns_left) }
 {
     let Script {
         servers,
@@ -76,6 +78,7 @@ pub fn run_script<R: Read, W: Write>(
     ensures read { IfErr result (EndsReading input.new.has_failed input.new.turns_left) }
     ensures written { IfErr result (EndsWriting output.new.has_failed output.new.turns_left) }
     ensures turns { input.new.turns_left ≤ input.old.turns_left }
+    ensures paid { Pays (account W.contents output.old) (account W.contents output.new) (cut_lines result) }
 {
     let text = read_text(alloc, input)?;
     let script = read_script(alloc, text.as_slice())?;

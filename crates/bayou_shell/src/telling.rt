@@ -1,11 +1,11 @@
 //! Answers to what is written for them, line by line.
 ghost use Rattle.std.specs.Prelude.{◌≤◌, IfErr, OnOk, flat_map};
-ghost use Rattle.std.specs.Io.KnownBytes.{Appends};
 ghost use Rattle.bayou_base.specs.declared.limits.TheConstants.{SERVERS};
 ghost use Rattle.bayou_shell.specs.Printed.{answer_text, last_text, listed_text};
 ghost use Rattle.bayou_shell.specs.Inner.Faults.{IsRunFault};
+ghost use Rattle.bayou_shell.specs.Inner.Taken.{Takes, TakesFront};
+ghost use Rattle.bayou_shell.specs.Account.{account};
 ghost use Rattle.bayou_shell.specs.Turns.{EndsWriting};
-ghost use Rattle.bayou_shell.specs.Written.{AppendsFront};
 
 use crate::answer::Answer;
 use crate::fault::Fault;
@@ -24,10 +24,11 @@ fn write_listing<W: Write>(
     listing: &[Listed],
     output: &mut Output<W>,
 ) -> Result<(), Fault>
-    ensures whole { OnOk result (Appends (W.contents output.old.stream) (W.contents output.new.stream) (flat_map (listed_text server.index) listing.now)) }
+    ensures whole { OnOk result (Takes (account W.contents output.old) (account W.contents output.new) (flat_map (listed_text server.index) listing.now)) }
     ensures fault { IfErr result IsRunFault }
     ensures ended { IfErr result (EndsWriting output.new.has_failed output.new.turns_left) }
-    ensures part { AppendsFront (W.contents output.old.stream) (W.contents output.new.stream) (flat_map (listed_text server.index) listing.now) }
+    ensures part { TakesFront (account W.contents output.old) (account W.contents output.new) (flat_map (listed_text server.index) listing.now) }
+    ensures ready { OnOk result (output.old.turns_left ≤ output.new.turns_left) }
 {
     for listed in listing {
         let line = listed_line(alloc, server, listed)?;
@@ -44,10 +45,11 @@ fn write_last<W: Write>(
     output: &mut Output<W>,
 ) -> Result<(), Fault>
     requires { servers ≤ SERVERS }
-    ensures whole { OnOk result (Appends (W.contents output.old.stream) (W.contents output.new.stream) (last_text servers answer.now)) }
+    ensures whole { OnOk result (Takes (account W.contents output.old) (account W.contents output.new) (last_text servers answer.now)) }
     ensures fault { IfErr result IsRunFault }
     ensures ended { IfErr result (EndsWriting output.new.has_failed output.new.turns_left) }
-    ensures part { AppendsFront (W.contents output.old.stream) (W.contents output.new.stream) (last_text servers answer.now) }
+    ensures part { TakesFront (account W.contents output.old) (account W.contents output.new) (last_text servers answer.now) }
+    ensures ready { OnOk result (output.old.turns_left ≤ output.new.turns_left) }
 {
     let last = printed(alloc, servers, answer)?;
     write_text(output, last.as_bytes())
@@ -61,10 +63,11 @@ pub(crate) fn write_answer<W: Write>(
     output: &mut Output<W>,
 ) -> Result<(), Fault>
     requires { servers ≤ SERVERS }
-    ensures whole { OnOk result (Appends (W.contents output.old.stream) (W.contents output.new.stream) (answer_text servers answer.now)) }
+    ensures whole { OnOk result (Takes (account W.contents output.old) (account W.contents output.new) (answer_text servers answer.now)) }
     ensures fault { IfErr result IsRunFault }
     ensures ended { IfErr result (EndsWriting output.new.has_failed output.new.turns_left) }
-    ensures part { AppendsFront (W.contents output.old.stream) (W.contents output.new.stream) (answer_text servers answer.now) }
+    ensures part { TakesFront (account W.contents output.old) (account W.contents output.new) (answer_text servers answer.now) }
+    ensures ready { OnOk result (output.old.turns_left ≤ output.new.turns_left) }
 {
     match answer {
         Answer::Logged {

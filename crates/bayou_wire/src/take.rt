@@ -30,7 +30,9 @@ fn members_of<T: Member, const CAP: usize>(
     let mut members = ArrayVec::new();
     let mut rest = bytes;
     for _ in 0..count {
-        let (member, behind) = T::take(rest)?;
+        let Some((member, behind)) = T::take(rest) else {
+            return None;
+        };
         members.push(member);
         rest = behind;
     }
@@ -101,7 +103,9 @@ fn short_of(bytes: &[u8]) -> Option<(&[u8], &[u8])>
 pub(crate) fn key_of(bytes: &[u8]) -> Option<(Key, &[u8])>
     ensures { Gives (λ x. (x.0, x.1.now)) result (key_at bytes.now) }
 {
-    let (name, rest) = short_of(bytes)?;
+    let Some((name, rest)) = short_of(bytes) else {
+        return None;
+    };
     let Ok(name) = str::from_utf8(name) else {
         return None;
     };
@@ -115,11 +119,15 @@ pub(crate) fn key_of(bytes: &[u8]) -> Option<(Key, &[u8])>
 fn text_of(bytes: &[u8]) -> Option<(Text, &[u8])>
     ensures { Gives (λ x. (x.0, x.1.now)) result (text_at bytes.now) }
 {
-    let (text, rest) = short_of(bytes)?;
+    let Some((text, rest)) = short_of(bytes) else {
+        return None;
+    };
     let Ok(text) = str::from_utf8(text) else {
         return None;
     };
-    let text = Text::new(text)?;
+    let Some(text) = Text::new(text) else {
+        return None;
+    };
     Some((text, rest))
 }
 
@@ -295,8 +303,12 @@ fn vector_from(list: &[u32]) -> Option<Vector>
 pub(crate) fn vector_of(bytes: &[u8]) -> Option<(Vector, &[u8])>
     ensures { Gives (λ x. (x.0, x.1.now)) result (vector_at bytes.now) }
 {
-    let (list, rest) = members_of::<u32, SERVERS>(SERVERS, bytes)?;
-    let vector = vector_from(list.as_slice())?;
+    let Some((list, rest)) = members_of::<u32, SERVERS>(SERVERS, bytes) else {
+        return None;
+    };
+    let Some(vector) = vector_from(list.as_slice()) else {
+        return None;
+    };
     Some((vector, rest))
 }
 
@@ -315,7 +327,9 @@ fn wid_from(origin: ServerId, seq: u32) -> Option<Wid>
 fn accepted_from(wid: Wid, clock: u32, deps: Vector) -> Option<Accepted>
     ensures { result ≡ accepted_of_parts wid clock deps }
 {
-    let stamp = Stamp::new(clock, wid.origin)?;
+    let Some(stamp) = Stamp::new(clock, wid.origin) else {
+        return None;
+    };
     Some(Accepted { wid, stamp, deps })
 }
 
@@ -364,7 +378,9 @@ pub(crate) fn write_of(bytes: &[u8]) -> Option<(Write, &[u8])>
     let Some((head, rest)) = accepted_of(bytes) else {
         return None;
     };
-    let (program, rest) = program_of(rest)?;
+    let Some((program, rest)) = program_of(rest) else {
+        return None;
+    };
     Some((
         Write {
             wid: head.wid,

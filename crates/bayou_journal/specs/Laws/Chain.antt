@@ -4,7 +4,6 @@ use Rattle.std.specs.Int.{w16, to_be_bytes, from_be_bytes}
 use Rattle.std.proofs.Common.{sym, ◌∙◌, ap, arith, append_assoc, length-append}
 use Rattle.std.proofs.lemmas.List.{append_cancel_left, append-nil}
 use Rattle.std.proofs.lemmas.Nat.{from_be_bytes-to_be_bytes_2}
-use Rattle.bayou_journal.specs.declared.format.TheConstants.{VERSION}
 use Rattle.bayou_journal.specs.Chain.{IsBody, AreBodies, NoEntry, IsLongestChain, header, link, entry, entries, last_link, first_link, chain_end, journal}
 
 -- one more body: its entry stands behind the others
@@ -19,13 +18,13 @@ pub last_link-push : (before : List ℕ) (bodies : List (List ℕ)) (body : List
 last_link-push before [] body = refl
 last_link-push before (first ∷ bodies) body = last_link-push (link before first) bodies body
 
-pub journal-push : (server : ℕ) (bodies : List (List ℕ)) (body : List ℕ) → journal server (bodies ++ body ∷ []) ≡ journal server bodies ++ entry (chain_end server bodies) body
-journal-push server bodies body =
-    ap (λ (l : List ℕ). header VERSION server ++ l) (entries-push (first_link server) bodies body)
-    ∙ sym (append_assoc (header VERSION server) (entries (first_link server) bodies) (entry (chain_end server bodies) body))
+pub journal-push : (version server : ℕ) (bodies : List (List ℕ)) (body : List ℕ) → journal version server (bodies ++ body ∷ []) ≡ journal version server bodies ++ entry (chain_end version server bodies) body
+journal-push version server bodies body =
+    ap (λ (l : List ℕ). header version server ++ l) (entries-push (first_link version server) bodies body)
+    ∙ sym (append_assoc (header version server) (entries (first_link version server) bodies) (entry (chain_end version server bodies) body))
 
-pub chain_end-push : (server : ℕ) (bodies : List (List ℕ)) (body : List ℕ) → chain_end server (bodies ++ body ∷ []) ≡ link (chain_end server bodies) body
-chain_end-push server bodies body = last_link-push (first_link server) bodies body
+pub chain_end-push : (version server : ℕ) (bodies : List (List ℕ)) (body : List ℕ) → chain_end version server (bodies ++ body ∷ []) ≡ link (chain_end version server bodies) body
+chain_end-push version server bodies body = last_link-push (first_link version server) bodies body
 
 pub AreBodies-push : (bodies : List (List ℕ)) (body : List ℕ) → AreBodies bodies → IsBody body → AreBodies (bodies ++ body ∷ [])
 AreBodies-push [] body are is = (is, tt)
@@ -38,10 +37,10 @@ entries-append before (first ∷ bodies) more =
     ap (λ (l : List ℕ). entry before first ++ l) (entries-append (link before first) bodies more)
     ∙ sym (append_assoc (entry before first) (entries (link before first) bodies) (entries (last_link (link before first) bodies) more))
 
-pub journal-append : (server : ℕ) (bodies more : List (List ℕ)) → journal server (bodies ++ more) ≡ journal server bodies ++ entries (chain_end server bodies) more
-journal-append server bodies more =
-    ap (λ (l : List ℕ). header VERSION server ++ l) (entries-append (first_link server) bodies more)
-    ∙ sym (append_assoc (header VERSION server) (entries (first_link server) bodies) (entries (chain_end server bodies) more))
+pub journal-append : (version server : ℕ) (bodies more : List (List ℕ)) → journal version server (bodies ++ more) ≡ journal version server bodies ++ entries (chain_end version server bodies) more
+journal-append version server bodies more =
+    ap (λ (l : List ℕ). header version server ++ l) (entries-append (first_link version server) bodies more)
+    ∙ sym (append_assoc (header version server) (entries (first_link version server) bodies) (entries (chain_end version server bodies) more))
 
 -- two fronts of one length, and what stands behind each
 pub record Same (xs ys ts us : List ℕ) : Type 0 where
@@ -101,17 +100,17 @@ no_more bodies [] none = append-nil bodies
 no_more bodies (body ∷ more) none = absurd (omega arith)
 
 -- the longest chain is one
-pub longest_is_one : (server : ℕ) (bytes : List ℕ) (bodies others : List (List ℕ)) (rest behind : List ℕ) → IsLongestChain server bytes bodies rest → IsLongestChain server bytes others behind
+pub longest_is_one : (version server : ℕ) (bytes : List ℕ) (bodies others : List (List ℕ)) (rest behind : List ℕ) → IsLongestChain version server bytes bodies rest → IsLongestChain version server bytes others behind
     → (bodies ≡ others) × (rest ≡ behind)
-longest_is_one server bytes bodies others rest behind one other =
-    let whole : journal server bodies ++ rest ≡ journal server others ++ behind = sym one.split ∙ other.split in
-    let tails : entries (first_link server) bodies ++ rest ≡ entries (first_link server) others ++ behind =
-    append_cancel_left (header VERSION server) (entries (first_link server) bodies ++ rest) (entries (first_link server) others ++ behind)
-    (sym (append_assoc (header VERSION server) (entries (first_link server) bodies) rest) ∙ whole ∙ append_assoc (header VERSION server) (entries (first_link server) others) behind) in
-    let left = front_of_longest (first_link server) bodies others rest behind one.sizes other.sizes other.longest tails in
-    let right = front_of_longest (first_link server) others bodies behind rest other.sizes one.sizes one.longest (sym tails) in
+longest_is_one version server bytes bodies others rest behind one other =
+    let whole : journal version server bodies ++ rest ≡ journal version server others ++ behind = sym one.split ∙ other.split in
+    let tails : entries (first_link version server) bodies ++ rest ≡ entries (first_link version server) others ++ behind =
+    append_cancel_left (header version server) (entries (first_link version server) bodies ++ rest) (entries (first_link version server) others ++ behind)
+    (sym (append_assoc (header version server) (entries (first_link version server) bodies) rest) ∙ whole ∙ append_assoc (header version server) (entries (first_link version server) others) behind) in
+    let left = front_of_longest (first_link version server) bodies others rest behind one.sizes other.sizes other.longest tails in
+    let right = front_of_longest (first_link version server) others bodies behind rest other.sizes one.sizes one.longest (sym tails) in
     let none : length left.more ≡ 0 = omega (arith, ap length left.is, ap length right.is, length-append bodies left.more, length-append others right.more) in
     let same : bodies ≡ others = sym (left.is ∙ no_more bodies left.more none) in (
       same,
-      append_cancel_left (entries (first_link server) others) rest behind (ap (λ (b : List (List ℕ)). entries (first_link server) b ++ rest) (sym same) ∙ tails),
+      append_cancel_left (entries (first_link version server) others) rest behind (ap (λ (b : List (List ℕ)). entries (first_link version server) b ++ rest) (sym same) ∙ tails),
     )

@@ -373,9 +373,3 @@ IsSound-front server count before after sound = record {
   fitting = fitting-front count before after sound.fitting;
   own = λ front write rest same. sound.own front write (rest ++ after) (ap (λ list. list ++ after) same ∙ append_assoc front (write ∷ rest) after);
 }
-
--- with the next Write of the server's own
-pub IsSound-next : (server count : ℕ) (writes : List Write) (asked : Program) (write : Write) → IsSound server count writes → server < count
-    → IsNextWrite writes server asked write → IsSound server count (writes ++ write ∷ [])
-IsSound-next server count writes asked write sound known next =
-    IsSound-push server count writes write sound (next_fits count writes server asked write sound.fitting known next) (λ is_own. next.deps)

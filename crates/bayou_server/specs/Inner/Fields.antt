@@ -2,6 +2,7 @@
 use Rattle.std.specs.Prelude.{◌≡◌, ◌<◌, ◌≤◌, ℕ, Option, None, Some, false, length}
 use Rattle.bayou_base.specs.declared.limits.TheConstants.{MAX_WRITES}
 use Rattle.bayou_journal.specs.Chain.{chain_end}
+use Rattle.bayou_journal.specs.declared.format.TheConstants.{VERSION}
 use Rattle.bayou_journal.specs.Journal.{JournalState}
 use Rattle.bayou_lang.specs.declared.write.Write.{Write}
 use Rattle.bayou_lang.specs.Writes.{IsNextWrite}
@@ -15,7 +16,7 @@ core_of log id doubt = record { id = id; count = log.count; limit = log.limit; h
 -- While it is up, the journal's next entry stands behind those of the Writes held. While it is down nothing is known of the
 -- journal; the Write in doubt is the server's next, and the log has room for it.
 abbrev pub Stands : {D : Type 0} → JournalState D → Log → Option Write → Type 0
-Stands journal log None = (journal.is_down ≡ false) × (journal.last ≡ chain_end journal.server (bodies_of log.receipts))
+Stands journal log None = (journal.is_down ≡ false) × (journal.last ≡ chain_end VERSION journal.server (bodies_of log.receipts))
 Stands journal log (Some write) =
     IsNextWrite log.receipts journal.server write.program write × IsReserved log.room write × (length log.receipts < log.limit)
 

@@ -1,9 +1,11 @@
-use Rattle.std.proofs.Common.{◌≡◌, ℕ, ◌+◌, ◌<◌, List, ◌++◌, ◌∙◌, ap, sym, length, drop, get_or, append_assoc}
+use Rattle.std.proofs.Common.{◌≡◌, ℕ, ◌+◌, ◌<◌, List, ◌++◌, ◌∙◌, ap, sym, length, drop, get_or, append_assoc, arith, subst}
 use Rattle.std.specs.Prelude.{flat_map}
 use Rattle.std.proofs.lemmas.List.{at_drop_more}
-use Rattle.std.proofs.KnownBytes.{Appends-trans}
+use Rattle.std.specs.Io.{IsEmptyOrEndsWith}
 use Rattle.bayou_log.specs.declared.listing.Listed.{Listed}
 use Rattle.bayou_shell.specs.Printed.{listed_text}
+use Rattle.bayou_shell.proofs.Ended.{listed_ends}
+use Rattle.bayou_shell.proofs.Taken.{Takes-trans}
 use Rattle.bayou_shell.proofs.telling.write_listing.Goals as goal
 
 -- the lines from here on are the next one's text and those behind it
@@ -15,7 +17,7 @@ next_lines f all i next text within is written =
 
 pub loop-listed-preserved : goal.loop-listed-preserved
 loop-listed-preserved g c =
-    let (front, split, appended) = c.loop-listed.invariant in
+    let (front, split, took, ready) = c.loop-listed.invariant in
     let f = listed_text c.args.server.index in
     let all = c.args.listing.now in
     let text = c.as_bytes.result.now in
@@ -23,12 +25,18 @@ loop-listed-preserved g c =
       front ++ text,
       split ∙ ap (λ l. front ++ l) (next_lines f all c.loop-listed.listed-index c.listed-item.result text c.loop-listed-test.true c.listed-item.is
           (c.as_bytes.ensures.value ∙ c.in_ok-line.ensures)) ∙ sym (append_assoc front text rest),
-      Appends-trans _ _ _ _ _ appended c.in_ok-write_text.ensures.whole,
+      Takes-trans _ _ _ _ _ took c.in_ok-write_text.ensures.whole,
+      omega (
+        arith,
+        ready,
+        c.in_ok-write_text.ensures.ready (subst (λ (l : List ℕ). IsEmptyOrEndsWith l 10) (sym (c.as_bytes.ensures.value ∙ c.in_ok-line.ensures))
+            (listed_ends c.args.server.index c.listed-item.result)),
+      ),
     )
 
 pub returns-in_err-write_text-clause-part : goal.returns-in_err-write_text-clause-part
 returns-in_err-write_text-clause-part g c =
-    let (front, split, appended) = c.loop-listed.invariant in
+    let (front, split, took, ready) = c.loop-listed.invariant in
     let (part, missing, cut, written) = c.in_err-write_text.ensures.part in
     let f = listed_text c.args.server.index in
     let all = c.args.listing.now in
@@ -39,5 +47,5 @@ returns-in_err-write_text-clause-part g c =
       split ∙ ap (λ l. front ++ l) (next_lines f all c.loop-listed.listed-index c.listed-item.result text c.loop-listed-test.true c.listed-item.is
           (c.as_bytes.ensures.value ∙ c.in_ok-line.ensures)) ∙ ap (λ l. front ++ (l ++ rest)) cut ∙ ap (λ l. front ++ l) (append_assoc part missing rest)
           ∙ sym (append_assoc front part (missing ++ rest)),
-      Appends-trans _ _ _ _ _ appended written,
+      Takes-trans _ _ _ _ _ took written,
     )

@@ -3,7 +3,7 @@ use Rattle.bayou_wire.proofs.Readers.{accepted_of-given, accepted_of-none}
 use Rattle.bayou_wire.proofs.take.accepted_from.Goals as goal
 
 pub returns : goal.returns
-returns c = sym (accepted_of-given _ _ _ _ refl c.in_ok-stamp.ensures.value.0 refl)
+returns c = sym (accepted_of-given _ _ _ _ refl c.in-Some.ensures.value.0 refl)
 
-pub returns-in_err-stamp : goal.returns-in_err-stamp
-returns-in_err-stamp c = rw c.from_residual.ensures (sym (accepted_of-none _ _ _ (λ h. absurd (let e : false ≡ true = c.in_err-stamp.ensures.within.1 h in cc))))
+pub returns-in_default : goal.returns-in_default
+returns-in_default c = sym (accepted_of-none _ _ _ (λ h. absurd (let e : false ≡ true = c.in_default.ensures.within.1 h in cc)))

@@ -2,6 +2,7 @@ use Rattle.std.proofs.Common.{◌≡◌, ℕ, List, [], ◌∷◌, ◌++◌, Boo
 use Rattle.std.specs.Prelude.{IsSome}
 use Rattle.std.proofs.lemmas.Result.{err_from_is_err_and}
 use Rattle.bayou_journal.specs.Opening.{HasRefused}
+use Rattle.bayou_journal.specs.declared.format.TheConstants.{VERSION}
 use Rattle.bayou_lang.specs.declared.write.Write.{Write}
 use Rattle.bayou_lang.specs.Laws.Fitting.{next_fits}
 use Rattle.bayou_server.specs.Inner.Fields.{core_of}
@@ -29,7 +30,7 @@ returns-in_err-opened-clause-opens g c =
     rw (p.1, p.2)
     (subst (λ (s : ServerState g.row.D.Denot). ReopensJournal g.D.Device s (Err (reopen_fault c.in_err-opened.field-0.0)) (record { core = core_of inside.log inside.id.index inside.doubt; device = c.reopen.new.self.device })) c.self.view_is
     (journal_refuses g.D.Device (record { core = core_of inside.log inside.id.index inside.doubt; device = inside.journal.device }) (record { core = core_of inside.log inside.id.index inside.doubt; device = c.reopen.new.self.device }) c.in_err-opened.field-0.0
-    (subst (λ (s : ℕ). HasRefused g.D.Device s inside.journal.device c.reopen.new.self.device c.in_err-opened.field-0.0) c.self.invariant.owner c.in_err-opened.ensures.refused)))
+    (subst (λ (s : ℕ). HasRefused g.D.Device VERSION s inside.journal.device c.reopen.new.self.device c.in_err-opened.field-0.0) c.self.invariant.owner c.in_err-opened.ensures.refused)))
 
 pub returns-in_err-opened-clause-safe : goal.returns-in_err-opened-clause-safe
 returns-in_err-opened-clause-safe g c = rw (← c.self.view_is) c.reopen.ensures.safe

@@ -1,118 +1,91 @@
-use Rattle.std.proofs.Common.{◌≢◌, ◌<◌, ℕ, List, length, Ok, Err, refl, sym, ◌∙◌, ap, subst, arith}
-use Rattle.std.specs.Prelude.{is_err}
-use Rattle.bayou_base.specs.Vector.{Dominates}
+use Rattle.std.proofs.Common.{ap, ◌∙◌}
 use Rattle.bayou_lang.specs.Laws.Fitting.{next_fits}
-use Rattle.bayou_server.specs.declared.fault.WriteFault.TheVariants.{Journal}
-use Rattle.bayou_server.specs.Server.{Core, IsSoundServer}
-use Rattle.bayou_server.proofs.Adding.{after_adding, device_fault, entry_is, none_of, stands_up, stored_after}
-use Rattle.bayou_server.proofs.Steps.{own_of_write, writes_keep}
+use Rattle.bayou_server.specs.Server.{ServerState}
+use Rattle.bayou_server.proofs.Adding.{settled_stores, settled_together, settled_writes, stored_by}
+use Rattle.bayou_server.proofs.Steps.{own_of_write}
 use Rattle.bayou_server.proofs.server.Server.write.Goals as goal
 
-pub insert-requires-clause-fits : goal.insert-requires-clause-fits
-insert-requires-clause-fits g c =
-    let log = c.self.inside.log in
+pub settle-requires-clause-fits : goal.settle-requires-clause-fits
+settle-requires-clause-fits g c =
+    let inside = c.self.inside in
     rw c.reserve.ensures.same
-    (next_fits log.count log.receipts c.self.inside.id.index c.args.program c.next_write-write.result c.self.invariant.sound.holds.sound.fitting c.self.invariant.sound.known c.next_write-write.ensures)
+    (next_fits inside.log.count inside.log.receipts inside.id.index c.args.program c.next_write-write.result c.self.invariant.sound.holds.sound.fitting c.self.invariant.sound.known c.next_write-write.ensures)
 
-pub invariant_of-self-in-Ok : goal.invariant_of-self-in-Ok
-invariant_of-self-in-Ok g c =
+pub invariant_of-self-2 : goal.invariant_of-self-2
+invariant_of-self-2 g c =
     let inside = c.self.inside in
-    let differ : length inside.log.receipts ≢ inside.log.limit = λ same. absurd (let no = c.if-is_full.ensures.full.1 same in cc) in
-    let room : length inside.log.receipts < inside.log.limit = omega (arith, c.if-is_full.ensures.within) in
-    after_adding inside.journal c.append.new.self inside.log c.insert.new.self inside.id.index inside.doubt c.args.program c.next_write-write.result c.deref.result.now
-    c.self.invariant (sym c.is_some.ensures ∙ c.if-is_some.false) c.next_write-write.ensures room c.in_ok-body.ensures.spelling.is (c.deref.ensures.value ∙ c.in_ok-body.ensures.spelling.spelled)
-    c.in-Ok.ensures.ends
-    (rw (c.insert.ensures, c.reserve.ensures.same) refl)
-
-pub returns-in-Ok-clause-writes : goal.returns-in-Ok-clause-writes
-returns-in-Ok-clause-writes g c =
-    let inside = c.self.inside in
-    let differ : length inside.log.receipts ≢ inside.log.limit = λ same. absurd (let no = c.if-is_full.ensures.full.1 same in cc) in
-    let room : length inside.log.receipts < inside.log.limit = omega (arith, c.if-is_full.ensures.within) in
-    rw (← c.self.view_is)
-    record {
-      made = c.next_write-write.result;
-      makes = record {
-        ready = record {
-          up = none_of inside.doubt (sym c.is_some.ensures ∙ c.if-is_some.false);
-          covered = subst (λ (v : List ℕ). Dominates v c.args.need.now) c.vector-vector.ensures.value (c.if-not-dominates.ensures.counts.0 refl);
-        };
-        room = room;
-        next = c.next_write-write.ensures;
-        spelled = c.in_ok-body.ensures.spelling.is;
-      };
-      wid = refl;
-      stamp = refl;
-      deps = refl;
-      is = rw (c.insert.ensures, c.reserve.ensures.same) refl;
-    }
-
-pub returns-in-Ok-clause-own : goal.returns-in-Ok-clause-own
-returns-in-Ok-clause-own g c = own_of_write c.args.self.now.core c.args.need.now c.args.program (Ok _) _ (returns-in-Ok-clause-writes g c)
-
-pub returns-in-Ok-clause-sound : goal.returns-in-Ok-clause-sound
-returns-in-Ok-clause-sound g c =
-    let before : IsSoundServer c.args.self.now.core = rw (← c.self.view_is) c.self.invariant.sound in
-    (before, writes_keep c.args.self.now.core c.args.need.now c.args.program (Ok _) _ before (returns-in-Ok-clause-writes g c))
-
-pub returns-in-Ok-clause-stores : goal.returns-in-Ok-clause-stores
-returns-in-Ok-clause-stores g c =
-    let inside = c.self.inside in
-    rw (← c.self.view_is)
-    record {
-      made = c.next_write-write.result;
-      held = rw (c.insert.ensures, c.reserve.ensures.same) refl;
-      added = _;
-      entry_of = entry_is inside.journal inside.log inside.id.index inside.doubt c.next_write-write.result c.deref.result.now c.self.invariant (sym c.is_some.ensures ∙ c.if-is_some.false)
-          (c.deref.ensures.value ∙ c.in_ok-body.ensures.spelling.spelled);
-      behind = c.in-Ok.ensures.added;
-      synced = c.in-Ok.ensures.synced;
-      counts = c.in-Ok.ensures.counts;
-    }
-
-pub returns-in-Ok-clause-stored : goal.returns-in-Ok-clause-stored
-returns-in-Ok-clause-stored g c = λ modelled.
-    stored_after g.D.Device c.args.self.now _ modelled (ap (λ (s : Core). s.id) (returns-in-Ok-clause-writes g c).is) (returns-in-Ok-clause-stores g c)
+    settled_together g.D.Device inside.journal c.append-added.new.self inside.log c.reserve.new.self c.settle.new.log inside.id.index inside.doubt c.settle.new.doubt
+    c.args.program c.next_write-write.result c.deref.result.now c.append-added.result c.settle.result
+    (record {
+      together = c.self.invariant;
+      up = c.in_default.ensures.0.0;
+      room = c.in_default.ensures.1;
+      next = c.next_write-write.ensures;
+      is = c.in_ok-body.ensures.spelling.is;
+      spelled = c.deref.ensures.value ∙ c.in_ok-body.ensures.spelling.spelled;
+      same = c.reserve.ensures.same;
+      has_room = c.in_ok-reserve.ensures.ok;
+    })
+    (record {
+      down = c.append-added.ensures.down.0;
+      added = c.append-added.ensures.added;
+      synced = c.append-added.ensures.synced;
+      ends = c.append-added.ensures.ends;
+      counts = c.append-added.ensures.counts;
+      fault = c.append-added.ensures.fault;
+      rose = c.append-added.ensures.rose;
+      left = c.append-added.ensures.left;
+    })
+    c.settle.ensures
 
 pub returns-clause-writes : goal.returns-clause-writes
 returns-clause-writes g c =
     let inside = c.self.inside in
-    let up = stands_up inside.journal inside.log inside.id.index inside.doubt c.self.invariant (sym c.is_some.ensures ∙ c.if-is_some.false) in
-    let fault = device_fault c.append.result (ap is_err c.in-Err.is) (λ down. absurd (let was = c.append.ensures.down.0 down in let is = up.0 in cc)) in
-    let differ : length inside.log.receipts ≢ inside.log.limit = λ same. absurd (let no = c.if-is_full.ensures.full.1 same in cc) in
-    let room : length inside.log.receipts < inside.log.limit = omega (arith, c.if-is_full.ensures.within) in
     rw (← c.self.view_is)
-    record {
-      made = c.next_write-write.result;
-      makes = record {
-        ready = record {
-          up = none_of inside.doubt (sym c.is_some.ensures ∙ c.if-is_some.false);
-          covered = subst (λ (v : List ℕ). Dominates v c.args.need.now) c.vector-vector.ensures.value (c.if-not-dominates.ensures.counts.0 refl);
-        };
-        room = room;
-        next = c.next_write-write.ensures;
-        spelled = c.in_ok-body.ensures.spelling.is;
-      };
-      is = rw c.reserve.ensures.same refl;
-    }
+    (settled_writes inside.log c.reserve.new.self c.settle.new.log inside.id.index inside.doubt c.settle.new.doubt c.args.need.now c.args.program c.next_write-write.result c.append-added.result c.settle.result
+    c.reserve.ensures.same
+    (record {
+      ready = record { up = c.in_default.ensures.0.0; covered = c.in_default.ensures.0.1 };
+      room = c.in_default.ensures.1;
+      next = c.next_write-write.ensures;
+      spelled = c.in_ok-body.ensures.spelling.is;
+    })
+    c.settle.ensures)
+
+pub returns-clause-own : goal.returns-clause-own
+returns-clause-own g c = own_of_write c.args.self.now.core c.args.need.now c.args.program c.settle.result _ (returns-clause-writes g c)
 
 pub returns-clause-sound : goal.returns-clause-sound
-returns-clause-sound g c =
-    let before : IsSoundServer c.args.self.now.core = rw (← c.self.view_is) c.self.invariant.sound in
-    (before, writes_keep c.args.self.now.core c.args.need.now c.args.program (Err Journal) _ before (returns-clause-writes g c))
+returns-clause-sound g c = (rw (← c.self.view_is) c.self.invariant.sound, (invariant_of-self-2 g c).sound)
 
 pub returns-clause-stores : goal.returns-clause-stores
 returns-clause-stores g c =
     let inside = c.self.inside in
-    let up = stands_up inside.journal inside.log inside.id.index inside.doubt c.self.invariant (sym c.is_some.ensures ∙ c.if-is_some.false) in
-    let fault = device_fault c.append.result (ap is_err c.in-Err.is) (λ down. absurd (let was = c.append.ensures.down.0 down in let is = up.0 in cc)) in
     rw (← c.self.view_is)
-    record {
-      made = c.next_write-write.result;
-      doubt = refl;
-      added = _;
-      entry_of = entry_is inside.journal inside.log inside.id.index inside.doubt c.next_write-write.result c.deref.result.now c.self.invariant (sym c.is_some.ensures ∙ c.if-is_some.false)
-          (c.deref.ensures.value ∙ c.in_ok-body.ensures.spelling.spelled);
-      left = λ modelled. c.append.ensures.left modelled fault;
-      rose = c.append.ensures.rose fault;
-    }
+    (settled_stores g.D.Device inside.journal c.append-added.new.self inside.log c.reserve.new.self c.settle.new.log inside.id.index inside.doubt c.settle.new.doubt
+    c.args.program c.next_write-write.result c.deref.result.now c.append-added.result c.settle.result
+    (record {
+      together = c.self.invariant;
+      up = c.in_default.ensures.0.0;
+      room = c.in_default.ensures.1;
+      next = c.next_write-write.ensures;
+      is = c.in_ok-body.ensures.spelling.is;
+      spelled = c.deref.ensures.value ∙ c.in_ok-body.ensures.spelling.spelled;
+      same = c.reserve.ensures.same;
+      has_room = c.in_ok-reserve.ensures.ok;
+    })
+    (record {
+      down = c.append-added.ensures.down.0;
+      added = c.append-added.ensures.added;
+      synced = c.append-added.ensures.synced;
+      ends = c.append-added.ensures.ends;
+      counts = c.append-added.ensures.counts;
+      fault = c.append-added.ensures.fault;
+      rose = c.append-added.ensures.rose;
+      left = c.append-added.ensures.left;
+    })
+    c.settle.ensures)
+
+pub returns-clause-stored : goal.returns-clause-stored
+returns-clause-stored g c = λ modelled.
+    stored_by g.D.Device c.args.self.now _ c.settle.result modelled (ap (λ (s : ServerState g.row.D.Denot). s.core.id) c.self.view_is) (returns-clause-stores g c)
