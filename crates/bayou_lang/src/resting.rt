@@ -168,8 +168,8 @@ impl RestingAlt {
         ensures { IfOk result (λ alt. alt ≡ self.now) }
     {
         Ok(RestingAlt {
-            when: resting_conditions(alloc, &self.when)?,
-            ops: resting_ops(alloc, &self.ops)?,
+            when: resting_conditions(alloc, self.when())?,
+            ops: resting_ops(alloc, self.ops())?,
         })
     }
 
