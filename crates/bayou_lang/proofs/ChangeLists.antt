@@ -1,5 +1,5 @@
 -- Lists of changes: a new one in the place of an older one of its key.
-use Rattle.std.proofs.Common.{◌≡◌, ℕ, zero, suc, ◌+◌, ◌<◌, Bool, true, false, cond, not, List, [], ◌∷◌, length, drop, map, Contains, Option, ap, sym, ◌∙◌, refl, arith, Decides, get_or}
+use Rattle.std.proofs.Common.{◌≡◌, ℕ, zero, suc, ◌+◌, ◌<◌, ◌≤◌, Bool, true, false, cond, not, List, [], ◌∷◌, length, drop, map, Contains, Option, ap, sym, ◌∙◌, refl, arith, Decides, get_or}
 use Rattle.std.specs.List.{filter, flat_map, IsDistinct, AllByRecursion}
 use Rattle.std.specs.Cmp.Lexicographic.{bytes_decides}
 use Rattle.std.proofs.lemmas.List.{at_drop_more}
@@ -12,7 +12,7 @@ use Rattle.bayou_lang.specs.Places.{Places, changed, same_key, value_at}
 use Rattle.bayou_lang.specs.Laws.Places.{same_key-turned, same_places, value_at-changed}
 use Rattle.bayou_lang.specs.declared.program.Alt.{Alt}
 use Rattle.bayou_lang.specs.declared.program.Program.{Program}
-use Rattle.bayou_lang.specs.Changes.{after_changes, op_key, program_writes, ChangeOnly}
+use Rattle.bayou_lang.specs.Changes.{after_changes, most_ops, op_key, program_writes, ChangeOnly}
 
 -- those of the other keys
 abbrev pub others : List ℕ → List Change → List Change
@@ -135,3 +135,12 @@ ChangeOnly-merge program changes = ChangeOnly-wider _ _ changes (λ key. Contain
 
 pub ChangeOnly-update : (program : Program) (changes : List Change) → ChangeOnly (map op_key program.update.items) changes → ChangeOnly (program_writes program) changes
 ChangeOnly-update program changes = ChangeOnly-wider _ _ changes (λ key. Contains-append_left (map op_key program.update.items) _ key)
+
+-- no alternative has more ops than the greatest number of them
+pub most_ops-one : (alternatives : List Alt) (index : ℕ) (alternative : Alt) → index < length alternatives → alternative ≡ get_or alternatives index alternative → length alternative.ops.items ≤ most_ops alternatives
+most_ops-one [] index alternative within is = absurd (omega arith)
+most_ops-one (first ∷ alternatives) zero alternative within is =
+    let same : length alternative.ops.items ≡ length first.ops.items = ap (λ (alt : Alt). length alt.ops.items) is in
+    omega (arith, same)
+most_ops-one (first ∷ alternatives) (suc index) alternative within is =
+    omega (arith, most_ops-one alternatives index alternative (omega arith) is)

@@ -1,8 +1,9 @@
 -- What a program changes, as a list.
-use Rattle.std.specs.Prelude.{ℕ, List, [], ◌∷◌, ◌++◌, map, All, Contains}
+use Rattle.std.specs.Prelude.{ℕ, List, [], ◌∷◌, ◌++◌, map, max, length, All, Contains}
 use Rattle.std.specs.List.{flat_map, IsDistinct}
 use Rattle.bayou_lang.specs.declared.program.Op.{Op}
 use Rattle.bayou_lang.specs.declared.program.Op.TheVariants.{Put, Del}
+use Rattle.bayou_lang.specs.declared.program.Alt.{Alt}
 use Rattle.bayou_lang.specs.declared.program.Program.{Program}
 use Rattle.bayou_lang.specs.declared.change.Change.{Change}
 use Rattle.bayou_lang.specs.Places.{Places, changed, same_key}
@@ -21,6 +22,15 @@ op_key (Del key) = key
 abbrev pub program_writes : Program → List (List ℕ)
 program_writes program =
     map op_key program.update.items ++ flat_map (λ alt. map op_key alt.ops.items) program.merge.items
+
+-- the greatest number of ops that one of the alternatives has
+abbrev pub most_ops : List Alt → ℕ
+most_ops [] = 0
+most_ops (alt ∷ alts) = max (length alt.ops.items) (most_ops alts)
+
+-- how many keys a program changes at the most: it applies its update or one of its alternatives
+abbrev pub most_changes : Program → ℕ
+most_changes program = max (length program.update.items) (most_ops program.merge.items)
 
 -- no key is changed twice, and each is one of these
 pub record ChangeOnly (keys : List (List ℕ)) (changes : List Change) : Type 0 where

@@ -4,11 +4,12 @@ ghost use Rattle.std.specs.Option.{option_map};
 ghost use Rattle.arrayvec.specs.ArrayVec.{array_vec_len};
 ghost use Rattle.bayou_base.specs.declared.limits.TheConstants.{MAX_ALTERNATIVES, MAX_OPS};
 ghost use Rattle.bayou_lang.specs.Places.{Places, changed, same_key, value_at};
-ghost use Rattle.bayou_lang.specs.Changes.{ChangeOnly, after_changes, op_key, program_writes};
+ghost use Rattle.bayou_lang.specs.Changes.{ChangeOnly, after_changes, most_changes, most_ops, op_key, program_writes};
 ghost use Rattle.bayou_lang.specs.Meaning as meaning;
 
 use crate::change::{Change, Changes};
 use crate::program::{Alt, Cond, Op, Program, Term};
+use crate::resting::{RestingAlt, RestingProgram};
 use arrayvec::ArrayVec;
 use bayou_base::{Key, Value};
 
@@ -143,6 +144,7 @@ fn ops_changes<L: Look>(ops: &[Op], look: &L) -> Option<Changes>
     ensures value { meaning.after_ops ops.now (L.places look.now)
         ≡ option_map (λ changes. after_changes changes.items (L.places look.now)) result }
     ensures only { IfSome result (λ changes. ChangeOnly (map op_key ops.now) changes.items) }
+    ensures few { IfSome result (λ changes. array_vec_len changes ≤ length ops.now) }
 {
     let mut changes = Changes::new();
     for op in ops {
@@ -184,6 +186,56 @@ fn merge_changes<L: Look>(alternatives: &[Alt], look: &L) -> (Outcome, Changes)
         number += 1;
     }
     (Outcome::Nothing, Changes::new())
+}
+
+/// What a resting alternative changes where it fits, else `None`.
+fn resting_alternative_changes<L: Look>(alternative: &RestingAlt, look: &L) -> Option<Changes>
+    ensures value { meaning.after_alternative alternative.now (L.places look.now)
+        ≡ option_map (λ changes. after_changes changes.items (L.places look.now)) result }
+    ensures only { IfSome result (λ changes. ChangeOnly (map op_key alternative.now.ops.items) changes.items) }
+    ensures few { IfSome result (λ changes. array_vec_len changes ≤ length alternative.now.ops.items) }
+{
+    if all_hold(alternative.when(), look) {
+        ops_changes(alternative.ops(), look)
+    } else {
+        None
+    }
+}
+
+/// The first resting alternative that fits, and what it changes.
+fn resting_merge_changes<L: Look>(alternatives: &[RestingAlt], look: &L) -> (Outcome, Changes)
+    requires { length alternatives.now ≤ MAX_ALTERNATIVES }
+    ensures value { meaning.merged 0 alternatives.now (L.places look.now)
+        ≡ (result.0, after_changes result.1.items (L.places look.now)) }
+    ensures only { ChangeOnly (flat_map (λ alt. map op_key alt.ops.items) alternatives.now) result.1.items }
+    ensures few { array_vec_len result.1 ≤ most_ops alternatives.now }
+{
+    let mut number = 0;
+    for alternative in alternatives {
+        if let Some(changes) = resting_alternative_changes(alternative, look) {
+            return (Outcome::Merged(number), changes);
+        }
+        number += 1;
+    }
+    (Outcome::Nothing, Changes::new())
+}
+
+impl RestingProgram {
+    /// What the program does to a database: how it is applied, and what it changes.
+    pub fn eval<L: Look>(&self, look: &L) -> (Outcome, Changes)
+        ensures value { meaning.mean self.now (L.places look.now)
+            ≡ (result.0, after_changes result.1.items (L.places look.now)) }
+        ensures only { ChangeOnly (program_writes self.now) result.1.items }
+        ensures few { array_vec_len result.1 ≤ most_changes self.now }
+    {
+        if !all_hold(self.check(), look) {
+            return resting_merge_changes(self.merge(), look);
+        }
+        match ops_changes(self.update(), look) {
+            Some(changes) => (Outcome::Updated, changes),
+            None => (Outcome::Nothing, Changes::new()),
+        }
+    }
 }
 
 impl Program {

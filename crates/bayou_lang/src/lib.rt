@@ -10,9 +10,11 @@ pub mod change;
 pub mod eval;
 pub mod laws;
 pub mod program;
+pub mod resting;
 pub mod write;
 
 pub use change::{Change, Changes};
 pub use eval::{Look, Outcome};
 pub use program::{Alt, Cond, Op, Program, ProgramFault, Term};
+pub use resting::{RestingAlt, RestingProgram, RestingWrite};
 pub use write::Write;

@@ -92,7 +92,7 @@ impl Default for Alt {
     }
 }
 
-fn conditions_of(conditions: &[Cond]) -> ArrayVec<Cond, MAX_CONDITIONS>
+pub(crate) fn conditions_of(conditions: &[Cond]) -> ArrayVec<Cond, MAX_CONDITIONS>
     requires { length conditions.now ≤ MAX_CONDITIONS }
     ensures { result.items ≡ conditions.now }
 {
@@ -103,7 +103,7 @@ fn conditions_of(conditions: &[Cond]) -> ArrayVec<Cond, MAX_CONDITIONS>
     list
 }
 
-fn ops_of(ops: &[Op]) -> ArrayVec<Op, MAX_OPS>
+pub(crate) fn ops_of(ops: &[Op]) -> ArrayVec<Op, MAX_OPS>
     requires { length ops.now ≤ MAX_OPS }
     ensures { result.items ≡ ops.now }
 {

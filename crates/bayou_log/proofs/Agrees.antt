@@ -1,8 +1,8 @@
 -- The fields of a log still belong together after its calls.
 use Rattle.std.proofs.Common.{◌≡◌, ◌≢◌, ℕ, ◌+◌, ◌<◌, ◌≤◌, ◌-◌, max, set, true, false, List, [], ◌∷◌, ◌++◌, length, take, drop, get_or, All, ap, sym, ◌∙◌, refl, subst, arith, length-append}
 use Rattle.std.specs.List.{insert}
-use Rattle.std.proofs.lemmas.List.{take_all, drop_all}
 use Rattle.std.proofs.lemmas.List.Elements.{All-push, All-weaker}
+use Rattle.bayou_base.specs.declared.stamp.Stamp.{Stamp}
 use Rattle.bayou_base.specs.Order.{is_before}
 use Rattle.bayou_base.specs.Vector.{raised}
 use Rattle.bayou_lang.specs.declared.write.Write.{Write}
@@ -10,11 +10,12 @@ use Rattle.bayou_lang.specs.Places.{Places, empty}
 use Rattle.bayou_lang.specs.Meaning.{mean}
 use Rattle.bayou_lang.specs.Writes.{count_of, in_stamp_order, AreFitting, Fits}
 use Rattle.bayou_log.specs.Db.{Slots, places, room, HasRoomFor, KeepsRoom}
-use Rattle.bayou_log.specs.Inner.Fields.{AgreesWith, AreKept, picked}
+use Rattle.bayou_log.specs.Inner.Fields.{AgreesWith, AreKept, AreTakenBack, picked}
+use Rattle.bayou_log.specs.Inner.Undone.{AreUndos, Stack}
 use Rattle.bayou_lang.specs.Laws.Fitting.{count_of-most, count_of-push, fits_new_stamp, greatest_clock-push, AreFitting-push}
 use Rattle.bayou_log.specs.Replay.{after_writes, replay}
 use Rattle.bayou_log.proofs.Picked.{picked-insert, AreInside, AreInside-insert, length-picked}
-use Rattle.bayou_lang.specs.Laws.StampOrder.{IsInOrder-in_stamp_order, place_by_stamp-at, in_stamp_order-push, length-in_stamp_order}
+use Rattle.bayou_lang.specs.Laws.StampOrder.{IsInOrder-in_stamp_order, place_by_stamp-at, in_stamp_order-push}
 
 -- with more room
 pub AgreesWith-more_room : (writes : List Write) (order : List ℕ) (old new : Slots) (vector : List ℕ) (clock : ℕ) → AgreesWith writes order old vector clock
@@ -72,17 +73,6 @@ pub after_writes-append : (xs ys : List Write) (before : Places) → after_write
 after_writes-append [] ys before = refl
 after_writes-append (write ∷ xs) ys before = after_writes-append xs ys (mean write.program before).1
 
--- a Write behind all the others is applied on top
-pub replay-last : (writes : List Write) (write : Write) (n : ℕ) → All (λ held. held.stamp ≢ write.stamp) writes → IsPlaceOf write (in_stamp_order writes) n → length (in_stamp_order writes) ≤ n
-    → replay (writes ++ write ∷ []) ≡ (mean write.program (replay writes)).1
-replay-last writes write n others place last =
-    let ordered = in_stamp_order writes in
-    ap (λ list. after_writes list empty)
-    (in_stamp_order-insert writes write n others place
-    ∙ ap (λ front. front ++ write ∷ drop n ordered) (take_all n ordered last)
-    ∙ ap (λ back. ordered ++ write ∷ back) (drop_all n ordered last))
-    ∙ after_writes-append ordered (write ∷ []) empty
-
 -- with one more Write
 pub AgreesWith-insert : (count : ℕ) (writes : List Write) (order : List ℕ) (old new : Slots) (vector : List ℕ) (clock : ℕ) (write : Write) (n : ℕ)
     → AgreesWith writes order old vector clock → AreFitting count writes → Fits count writes write → HasRoomFor (room old) write.program → IsPlaceOf write (picked writes order) n
@@ -105,46 +95,22 @@ AgreesWith-insert count writes order old new vector clock write n agrees fitting
     }
 
 -- what the search for a place finds
-pub IsPlaceOf-found : (writes slice : List Write) (order places : List ℕ) (write : Write) (n : ℕ) → slice ≡ writes → places ≡ order → AreInside writes order
+pub IsPlaceOf-found : (writes slice : List Write) (order places : List ℕ) (write : Write) (stamp : Stamp) (n : ℕ) → slice ≡ writes → places ≡ order → stamp ≡ write.stamp → AreInside writes order
     → n ≤ length places
-    → All (λ next. is_before write.stamp next.stamp ≡ true) (drop n (picked slice places))
-    → ((d : Write) → 0 < n → is_before write.stamp (get_or (picked slice places) (n - 1) d).stamp ≡ false)
+    → All (λ next. is_before stamp next.stamp ≡ true) (drop n (picked slice places))
+    → ((d : Write) → 0 < n → is_before stamp (get_or (picked slice places) (n - 1) d).stamp ≡ false)
     → IsPlaceOf write (picked writes order) n
-IsPlaceOf-found writes slice order places write n same_writes same_order inside within later not_earlier =
+IsPlaceOf-found writes slice order places write stamp n same_writes same_order same_stamp inside within later not_earlier =
     let ordered : picked slice places ≡ picked writes order = ap (λ list. picked list places) same_writes ∙ ap (picked writes) same_order in
-    let found = subst (λ list. All (λ (next : Write). is_before write.stamp next.stamp ≡ true) (drop n list)
-    × ((d : Write) → 0 < n → is_before write.stamp (get_or list (n - 1) d).stamp ≡ false)) ordered (later, not_earlier) in
+    let found = subst (λ stamp. All (λ (next : Write). is_before stamp next.stamp ≡ true) (drop n (picked writes order))
+    × ((d : Write) → 0 < n → is_before stamp (get_or (picked writes order) (n - 1) d).stamp ≡ false)) same_stamp
+    (subst (λ list. All (λ (next : Write). is_before stamp next.stamp ≡ true) (drop n list)
+    × ((d : Write) → 0 < n → is_before stamp (get_or list (n - 1) d).stamp ≡ false)) ordered (later, not_earlier)) in
     record {
       within = omega (arith, length-picked writes order inside, ap length same_order);
       later = found.0;
       not_earlier = found.1;
     }
-
-module _ (count : ℕ) (writes : List Write) (order : List ℕ) (old new : Slots) (vector : List ℕ) (clock : ℕ) (write : Write) (n : ℕ)
-    (agrees : AgreesWith writes order old vector clock) (fitting : AreFitting count writes) (fits : Fits count writes write)
-    (reserved : HasRoomFor (room old) write.program) (place : IsPlaceOf write (picked writes order) n) (same : room new ≡ room old) where
-  others : All (λ held. held.stamp ≢ write.stamp) writes
-  others = fits_new_stamp count writes write fitting fits
-
-  placed : IsPlaceOf write (in_stamp_order writes) n
-  placed = subst (λ ordered. IsPlaceOf write ordered n) agrees.in_order place
-
-  -- the Write is applied on top, where it goes behind the others
-  pub AgreesWith-insert_last : length writes ≤ n → places new ≡ (mean write.program (places old)).1
-      → AgreesWith (writes ++ write ∷ []) (insert order n (length writes)) new (raised vector write.wid) (max clock write.stamp.clock)
-  AgreesWith-insert_last last after =
-      AgreesWith-insert count writes order old new vector clock write n agrees fitting fits reserved place same
-      (after ∙ ap (λ before. (mean write.program before).1) agrees.replayed
-      ∙ sym (replay-last writes write n others placed (omega (arith, length-in_stamp_order writes))))
-
-  -- all are applied again
-  pub AgreesWith-insert_late : places new ≡ after_writes (picked (writes ++ write ∷ []) (insert order n (length writes))) empty
-      → AgreesWith (writes ++ write ∷ []) (insert order n (length writes)) new (raised vector write.wid) (max clock write.stamp.clock)
-  AgreesWith-insert_late after =
-      let in_order = in_stamp_order-insert writes write n others placed in
-      AgreesWith-insert count writes order old new vector clock write n agrees fitting fits reserved place same
-      (after ∙ ap (λ list. after_writes list empty)
-      (picked-insert writes write order n agrees.inside ∙ ap (λ ordered. take n ordered ++ write ∷ drop n ordered) agrees.in_order ∙ sym in_order))
 
 pub AgreesWith-same : (writes more : List Write) (order placed : List ℕ) (slots : Slots) (vector counts : List ℕ) (clock later : ℕ)
     → more ≡ writes → placed ≡ order → counts ≡ vector → later ≡ clock → AgreesWith writes order slots vector clock → AgreesWith more placed slots counts later
@@ -153,3 +119,13 @@ AgreesWith-same writes more order placed slots vector counts clock later same_wr
     (subst (λ list. AgreesWith writes list slots counts later) (sym same_order)
     (subst (λ list. AgreesWith writes order slots list later) (sym same_vector)
     (subst (AgreesWith writes order slots vector) (sym same_clock) agrees)))
+
+pub AreTakenBack-more_room : (writes more : List Write) (old new : Stack) → more ≡ writes → AreTakenBack writes old → new.undos ≡ old.undos → new.promised ≡ old.promised
+    → (old.room ≤ new.room) × (old.places ≤ new.places) → AreTakenBack more new
+AreTakenBack-more_room writes more old new same_writes taken same_undos same_promise kept =
+    subst (λ list. AreTakenBack list new) (sym same_writes) (record {
+      undos = subst (λ undos. AreUndos undos (in_stamp_order writes) empty) (sym same_undos) taken.undos;
+      promised = same_promise ∙ taken.promised;
+      room = omega (arith, same_promise, taken.room, kept.0);
+      places = omega (arith, taken.places, kept.1);
+    })

@@ -133,3 +133,12 @@ room_has_slot slots key here none =
 pub after_changes-push : (changes : List Change) (change : Change) (before : Places) → after_changes (changes ++ change ∷ []) before ≡ after_changes changes (changed change.key change.value before)
 after_changes-push [] change before = refl
 after_changes-push (first ∷ changes) change before = ap (changed first.key first.value) (after_changes-push changes change before)
+
+-- a change is taken back by the value that the key had
+pub changed-back : (key : List ℕ) (value : Option Value) (before : Places) → changed key (value_at before key) (changed key value before) ≡ before
+changed-back key value before = same_places _ before (λ other.
+    value_at-changed key (value_at before key) (changed key value before) other
+    ∙ elim (same_key key other) as (λ same. same_key key other ≡ same → cond same (value_at before key) (value_at (changed key value before) other) ≡ value_at before other) [
+      | true ↦ λ is. ap (value_at before) ((bytes_decides key other).0 is)
+      | false ↦ λ isnt. value_at-changed key value before other ∙ ap (λ same. cond same value (value_at before other)) isnt
+    ] refl)

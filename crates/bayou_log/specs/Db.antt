@@ -1,11 +1,13 @@
 -- A database with room for keys ahead of their values: this project's own.
-use Rattle.std.specs.Prelude.{ℕ, Bool, List, [], ◌∷◌, Option, All, IsTrue}
+use Rattle.std.specs.Prelude.{◌≡◌, ℕ, ◌≤◌, Bool, List, [], ◌∷◌, Option, length, All, Contains, IsTrue}
 use Rattle.std.specs.List.{list_any}
 use Rattle.std.specs.Map.{keys_of}
 use Rattle.bayou_base.specs.declared.value.Value.{Value}
 use Rattle.bayou_lang.specs.declared.program.Program.{Program}
 use Rattle.bayou_lang.specs.Places.{Places, changed, empty, same_key}
-use Rattle.bayou_lang.specs.Changes.{program_writes}
+use Rattle.bayou_lang.specs.declared.change.Change.{Change}
+use Rattle.bayou_lang.specs.Changes.{after_changes, most_changes, program_writes}
+use Rattle.bayou_lang.specs.Meaning.{mean}
 
 -- the keys that there is room for, each with what it has, if anything
 abbrev pub Slots : Type 0
@@ -35,3 +37,10 @@ HasRoomFor keys program = HasRoomAt keys (program_writes program)
 -- there is still room for each key that there was room for
 abbrev pub KeepsRoom : List (List ℕ) → List (List ℕ) → Type 0
 KeepsRoom old new = (key : List ℕ) → IsTrue (has_room old key) → IsTrue (has_room new key)
+
+-- The changes take the program back, which was applied to this database (undo, Terry et al. 1995): they make of what it left
+-- the database before, whole. They are no more than the program may make, and of keys that it may write.
+pub record IsUndo (program : Program) (before : Places) (undo : List Change) : Type 0 where
+  pub whole : after_changes undo (mean program before).1 ≡ before
+  pub among : All (λ change. Contains (program_writes program) change.key) undo
+  pub few : length undo ≤ most_changes program

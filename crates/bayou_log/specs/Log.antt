@@ -1,12 +1,14 @@
 -- A log of Writes as its callers see it: this project's own.
-use Rattle.std.specs.Prelude.{ℕ, ◌<◌, List}
+use Rattle.std.specs.Prelude.{ℕ, ◌<◌, ◌≤◌, List}
 use Rattle.bayou_lang.specs.declared.write.Write.{Write}
+use Rattle.bayou_lang.specs.Changes.{most_changes}
 use Rattle.bayou_log.specs.Db.{HasRoomFor}
 
--- room taken ahead: for so many more Writes, and for these keys
+-- room taken ahead: for so many more Writes, for these keys, and for so many more changes, so that they can be taken back
 pub record Room : Type 0 where
   pub writes : ℕ
   pub keys : List (List ℕ)
+  pub changes : ℕ
 
 -- the Writes held, in order of receipt; the number of servers; how many Writes it may hold; and the room taken ahead
 pub record Log : Type 0 where
@@ -17,4 +19,4 @@ pub record Log : Type 0 where
 
 -- the room is enough for the Write to be inserted
 abbrev pub IsReserved : Room → Write → Type 0
-IsReserved room write = (0 < room.writes) × HasRoomFor room.keys write.program
+IsReserved room write = (0 < room.writes) × HasRoomFor room.keys write.program × (most_changes write.program ≤ room.changes)

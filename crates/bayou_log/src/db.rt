@@ -1,15 +1,17 @@
-ghost use Rattle.std.specs.Prelude.{◌≡◌, IsTrue, OnOk, IfOk, All, map};
+ghost use Rattle.std.specs.Prelude.{◌≡◌, List, ℕ, IsTrue, OnOk, IfOk, All, Contains, map};
+ghost use Rattle.arrayvec.specs.ArrayVec.{array_vec_len};
 ghost use Rattle.std.specs.List.{flat_map};
 ghost use Rattle.bayou_lang.specs.Changes.{after_changes, op_key, ChangeOnly};
 ghost use Rattle.bayou_lang.specs.Meaning.{mean};
 ghost use Rattle.bayou_lang.specs.Places.{changed, empty, value_at};
-ghost use Rattle.bayou_log.specs.Db.{places, room, has_room, HasRoomAt, HasRoomFor, KeepsRoom};
+ghost use Rattle.bayou_log.specs.Db.{places, room, has_room, HasRoomAt, HasRoomFor, IsUndo, KeepsRoom};
 
 use bayou_base::{Key, Value};
-use bayou_lang::{Alt, Change, Changes, Look, Op, Outcome, Program, Write};
+use bayou_lang::{Change, Changes, Look, Op, Outcome, RestingAlt, RestingProgram, RestingWrite};
 use std::alloc::{AllocError, Global};
 use std::collections::BTreeMap;
 use std::marker::Model;
+use std::mem;
 
 type Slots = BTreeMap<Key, Option<Value>>;
 
@@ -25,6 +27,21 @@ impl Model for Db {
     ghost Value = { Slots };
 
     ghost view = { λ d. d.slots.entries };
+}
+
+/// What takes a program back that was applied to a database (Terry et al. 1995): what each key that it changed had before.
+#[derive(Drop)]
+pub struct Undo {
+    pub(crate) before: Changes,
+}
+
+impl Model for Undo {
+    ghost use Rattle.std.specs.Prelude.{List};
+    ghost use Rattle.bayou_lang.specs.declared.change.Change.{Change};
+
+    ghost Value = { List Change };
+
+    ghost view = { λ u. u.before.items };
 }
 
 fn key_of(op: &Op) -> &Key
@@ -67,47 +84,47 @@ fn make_room_for(slots: &mut Slots, ops: &[Op]) -> Result<(), AllocError>
     Ok(())
 }
 
-fn make_room_for_all(slots: &mut Slots, alternatives: &[Alt]) -> Result<(), AllocError>
+fn make_room_for_all(slots: &mut Slots, alternatives: &[RestingAlt]) -> Result<(), AllocError>
     ensures same { places slots.new.entries ≡ places slots.old.entries }
     ensures keeps { KeepsRoom (room slots.old.entries) (room slots.new.entries) }
     ensures ok { OnOk result (HasRoomAt (room slots.new.entries) (flat_map (λ alt. map op_key alt.ops.items) alternatives.now)) }
 {
     for alternative in alternatives {
-        make_room_for(slots, &alternative.ops)?;
+        make_room_for(slots, alternative.ops())?;
     }
     Ok(())
 }
 
-fn set_value(slots: &mut Slots, change: Change)
+/// Makes the change, and gives the one that puts back what the key had.
+fn replace(slots: &mut Slots, change: Change) -> Change
     requires { IsTrue (has_room (room slots.old.entries) change.key) }
     ensures places { places slots.new.entries ≡ changed change.key change.value (places slots.old.entries) }
     ensures room { room slots.new.entries ≡ room slots.old.entries }
+    ensures key { result.key ≡ change.key }
+    ensures value { result.value ≡ value_at (places slots.old.entries) change.key }
 {
     let Change { key, value } = change;
-    if let Some(slot) = slots.get_mut(&key) {
-        *slot = value;
-    }
+    let Some(slot) = slots.get_mut(&key) else {
+        return Change { key, value: None };
+    };
+    let before = mem::replace(slot, value);
+    Change { key, value: before }
 }
 
-/// The first of the changes is made last.
-fn set_values(slots: &mut Slots, mut changes: Changes)
+/// Makes the changes, the first of them last, and gives those that put back what the keys had.
+fn replace_all(slots: &mut Slots, mut changes: Changes) -> Changes
     requires { All (λ change. IsTrue (has_room (room slots.old.entries) change.key)) changes.items }
     ensures places { places slots.new.entries ≡ after_changes changes.items (places slots.old.entries) }
     ensures room { room slots.new.entries ≡ room slots.old.entries }
+    ensures undone { after_changes result.items (places slots.new.entries) ≡ places slots.old.entries }
+    ensures among { (keys : List (List ℕ)) → All (λ change. Contains keys change.key) changes.items → All (λ change. Contains keys change.key) result.items }
+    ensures as_many { array_vec_len result ≡ array_vec_len changes }
 {
+    let mut before = Changes::new();
     while let Some(change) = changes.pop() {
-        set_value(slots, change);
+        before.push(replace(slots, change));
     }
-}
-
-fn forget_values(slots: &mut Slots)
-    ensures places { places slots.new.entries ≡ empty }
-    ensures room { room slots.new.entries ≡ room slots.old.entries }
-{
-    slots.retain(|_, value| {
-        *value = None;
-        true
-    });
+    before
 }
 
 impl Db {
@@ -122,13 +139,13 @@ impl Db {
 
     /// Makes room for every key that the program may write. Where memory is refused, the room that there was, and
     /// what was made, stays.
-    pub fn prepare(&mut self, program: &Program) -> Result<(), AllocError>
+    pub fn prepare(&mut self, program: &RestingProgram) -> Result<(), AllocError>
         ensures same { places self.new ≡ places self.old }
         ensures keeps { KeepsRoom (room self.old) (room self.new) }
         ensures ok { OnOk result (HasRoomFor (room self.new) program.now) }
     {
-        make_room_for(&mut self.slots, &program.update)?;
-        make_room_for_all(&mut self.slots, &program.merge)?;
+        make_room_for(&mut self.slots, program.update())?;
+        make_room_for_all(&mut self.slots, program.merge())?;
         Ok(())
     }
 
@@ -142,35 +159,38 @@ impl Db {
         }
     }
 
-    /// Applies the program, which takes no memory.
-    pub fn apply(&mut self, program: &Program) -> Outcome
+    /// Applies the program, which takes no memory. It gives, beside the outcome, what [`Db::undo`] needs to take that back.
+    pub fn apply(&mut self, program: &RestingProgram) -> (Outcome, Undo)
         requires { HasRoomFor (room self.old) program.now }
-        ensures outcome { result ≡ (mean program.now (places self.old)).0 }
+        ensures outcome { result.0 ≡ (mean program.now (places self.old)).0 }
         ensures places { places self.new ≡ (mean program.now (places self.old)).1 }
         ensures room { room self.new ≡ room self.old }
+        ensures undo { IsUndo program.now (places self.old) result.1 }
     {
         let (outcome, changes) = program.eval(self);
-        set_values(&mut self.slots, changes);
-        outcome
+        let before = replace_all(&mut self.slots, changes);
+        (outcome, Undo { before })
     }
 
-    /// Takes every value away and keeps the room.
-    pub fn clear(&mut self)
-        ensures places { places self.new ≡ empty }
+    /// Puts back the values that an undo has, which takes no memory. Where that is of the last program that was applied and not
+    /// undone since, the database is what it was before.
+    pub fn undo(&mut self, undo: Undo)
+        requires { All (λ change. IsTrue (has_room (room self.old) change.key)) undo }
+        ensures places { places self.new ≡ after_changes undo (places self.old) }
         ensures room { room self.new ≡ room self.old }
     {
-        forget_values(&mut self.slots);
+        replace_all(&mut self.slots, undo.before);
     }
 }
 
 /// An empty database with room for all that the Writes may write.
-pub(crate) fn prepared(alloc: Global, writes: &[Write]) -> Result<Db, AllocError>
+pub(crate) fn prepared(alloc: Global, writes: &[RestingWrite]) -> Result<Db, AllocError>
     ensures empty { IfOk result (λ db. places db ≡ empty) }
     ensures room { IfOk result (λ db. All (λ write. HasRoomFor (room db) write.program) writes.now) }
 {
     let mut db = Db::new(alloc);
     for write in writes {
-        db.prepare(&write.program)?;
+        db.prepare(write.program())?;
     }
     Ok(db)
 }

@@ -22,9 +22,10 @@ pub mod listing;
 mod next;
 mod order;
 pub mod plain;
+mod undo;
 pub mod write_log;
 
-pub use db::Db;
+pub use db::{Db, Undo};
 pub use fitting::Misfit;
 pub use listing::Listed;
 pub use write_log::WriteLog;

@@ -6,7 +6,7 @@ ghost use Rattle.bayou_log.specs.Listing.{listed_after};
 
 use crate::db::prepared;
 use bayou_base::{Stamp, Wid};
-use bayou_lang::{Outcome, Write};
+use bayou_lang::{Outcome, RestingWrite};
 use std::alloc::{AllocError, Global};
 
 /// A Write as a log lists it.
@@ -22,7 +22,7 @@ pub struct Listed {
 /// one is made anew, so that the log's own stays as it is.
 pub(crate) fn outcomes_in_turn(
     alloc: Global,
-    writes: &[Write],
+    writes: &[RestingWrite],
     order: &[usize],
 ) -> Result<Vec<Listed>, AllocError>
     requires inside { All (λ at. at < length writes.now) order.now }
@@ -32,10 +32,10 @@ pub(crate) fn outcomes_in_turn(
     let mut outcomes = Vec::new(alloc);
     for at in order {
         let write = &writes[*at];
-        let outcome = db.apply(&write.program);
+        let (outcome, _) = db.apply(write.program());
         outcomes.push(Listed {
-            wid: write.wid,
-            stamp: write.stamp,
+            wid: write.wid(),
+            stamp: write.stamp(),
             outcome,
         })?;
     }

@@ -5,11 +5,11 @@ ghost use Rattle.bayou_lang.specs.Writes.{IsNextWrite};
 
 use crate::write_log::WriteLog;
 use bayou_base::{ServerId, Stamp, Wid};
-use bayou_lang::{Program, Write};
+use bayou_lang::{RestingProgram, RestingWrite};
 
 impl WriteLog {
     /// The Write that the server `origin`, which holds the Writes of this log, makes of the program. The log stays.
-    pub fn next_write(&self, origin: ServerId, program: Program) -> Write
+    pub fn next_write(&self, origin: ServerId, program: RestingProgram) -> RestingWrite
         requires room { length self.now.receipts < self.now.limit }
         requires limit { self.now.limit ≤ MAX_WRITES }
         ensures { IsNextWrite self.now.receipts origin.index program result }
@@ -23,11 +23,6 @@ impl WriteLog {
             clock: self.clock() + 1,
             origin,
         };
-        Write {
-            wid,
-            stamp,
-            deps,
-            program,
-        }
+        RestingWrite::new(wid, stamp, deps, program)
     }
 }

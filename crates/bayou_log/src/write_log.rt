@@ -11,9 +11,10 @@ ghost use Rattle.bayou_log.specs.Replay.{replay};
 use crate::db::Db;
 use crate::fitting::{Misfit, clock_of, is_next};
 use crate::listing::{Listed, outcomes_in_turn};
-use crate::order::{apply_in_turn, place_of};
+use crate::order::place_of;
+use crate::undo::{UndoStack, apply_in_turn, take_back};
 use bayou_base::{Key, MAX_WRITES, SERVERS, Value, Vector, Wid};
-use bayou_lang::Write;
+use bayou_lang::{RestingWrite, Write};
 use std::alloc::{AllocError, Global};
 use std::marker::Model;
 
@@ -21,10 +22,12 @@ use std::marker::Model;
 #[derive(Drop)]
 pub struct WriteLog {
     // In order of receipt.
-    writes: Vec<Write>,
+    writes: Vec<RestingWrite>,
     // Their places, in stamp order.
     order: Vec<usize>,
     db: Db,
+    // What takes the Writes back, those in stamp order.
+    undone: UndoStack,
     vector: Vector,
     // The greatest that a Write has, or 0.
     clock: u32,
@@ -35,7 +38,7 @@ pub struct WriteLog {
 impl Model for WriteLog {
     ghost use Rattle.std.specs.Prelude.{◌-◌, min, vec_len, vec_capacity};
     ghost use Rattle.bayou_log.specs.Log.{Log};
-    ghost use Rattle.bayou_log.specs.Inner.Fields.{AgreesWith, AreKept};
+    ghost use Rattle.bayou_log.specs.Inner.Fields.{AgreesWith, AreKept, AreTakenBack};
     ghost use Rattle.bayou_log.specs.Db as database;
 
     ghost Value = { Log };
@@ -45,12 +48,13 @@ impl Model for WriteLog {
       count = l.count;
       limit = l.limit;
       room = record {
-        writes = min (vec_capacity l.writes - vec_len l.writes) (vec_capacity l.order - vec_len l.order);
+        writes = min (min (vec_capacity l.writes - vec_len l.writes) (vec_capacity l.order - vec_len l.order)) (l.undone.places - vec_len l.writes);
         keys = database.room l.db;
+        changes = l.undone.room - l.undone.promised;
       };
     } };
 
-    ghost invariant = { λ l. AreKept l.count l.limit l.writes.items × AgreesWith l.writes.items l.order.items l.db l.vector l.clock };
+    ghost invariant = { λ l. AreKept l.count l.limit l.writes.items × AgreesWith l.writes.items l.order.items l.db l.vector l.clock × AreTakenBack l.writes.items l.undone };
 }
 
 impl WriteLog {
@@ -66,6 +70,7 @@ impl WriteLog {
             writes: Vec::new(alloc),
             order: Vec::new(alloc),
             db: Db::new(alloc),
+            undone: UndoStack::new(alloc),
             vector: Vector::zero(),
             clock: 0,
             count,
@@ -74,7 +79,7 @@ impl WriteLog {
     }
 
     /// The Writes held, in order of receipt.
-    pub fn receipts(&self) -> &[Write]
+    pub fn receipts(&self) -> &[RestingWrite]
         ensures value { result.now ≡ self.now.receipts }
         ensures fitting { AreFitting self.now.count result.now }
         ensures within { length result.now ≤ self.now.limit }
@@ -132,12 +137,12 @@ impl WriteLog {
     }
 
     /// The Write of this name, if it is held.
-    pub fn find(&self, wid: Wid) -> Option<&Write>
+    pub fn find(&self, wid: Wid) -> Option<&RestingWrite>
         ensures held { IfSome result (λ write. Contains self.now.receipts write.now × (write.now.wid ≡ wid)) }
         ensures missing { IfNone result (All (λ held. held.wid ≢ wid) self.now.receipts) }
     {
         for held in self.receipts() {
-            if held.wid == wid {
+            if held.wid() == wid {
                 return Some(held);
             }
         }
@@ -187,39 +192,36 @@ impl WriteLog {
     }
 
     /// Takes room ahead, so that the Write can be inserted. Where memory is refused, the room that there was stays.
-    pub fn reserve(&mut self, write: &Write) -> Result<(), AllocError>
+    pub fn reserve(&mut self, write: &RestingWrite) -> Result<(), AllocError>
         ensures same { self.new ≡ record self.old { room = self.new.room } }
         ensures kept { (other : Write) → IsReserved self.old.room other → IsReserved self.new.room other }
         ensures ok { OnOk result (IsReserved self.new.room write.now) }
     {
         self.writes.try_reserve(1)?;
         self.order.try_reserve(1)?;
-        self.db.prepare(&write.program)
+        self.undone
+            .reserve(write.program().most_changes())?;
+        self.db.prepare(write.program())
     }
 
-    /// Adds the Write, which takes no memory. A Write that comes after all others is applied on top; at any other, all are
-    /// applied again.
-    pub fn insert(&mut self, write: Write)
+    /// Adds the Write, which takes no memory. Those that come after it in stamp order are taken back, the last first, and are
+    /// applied again behind it (Terry et al. 1995).
+    pub fn insert(&mut self, write: RestingWrite)
         requires fits { Fits self.old.count self.old.receipts write }
         requires reserved { IsReserved self.old.room write }
         requires below_limit { length self.old.receipts < self.old.limit }
         ensures { self.new ≡ record self.old { receipts = self.old.receipts ++ write ∷ []; room = self.new.room } }
     {
         let at = self.writes.len();
-        let place = place_of(write.stamp, &self.writes, &self.order);
-        self.vector.raise(write.wid);
-        self.clock = self.clock.max(write.stamp.clock);
+        let place = place_of(write.stamp(), &self.writes, &self.order);
+        self.vector.raise(write.wid());
+        self.clock = self.clock.max(write.stamp().clock);
+        self.undone.promise(write.program().most_changes());
         let Ok(()) = self.order.insert(place, at) else {
             unreachable!();
         };
         self.writes.push_reserved(write);
-        if place == at {
-            // Every other Write comes before it.
-            self.db.apply(&self.writes[at].program);
-        } else {
-            // Those behind it have to follow it: all are applied again, from nothing.
-            self.db.clear();
-            apply_in_turn(&mut self.db, &self.writes, &self.order);
-        }
+        take_back(&mut self.db, &mut self.undone, place);
+        apply_in_turn(&mut self.db, &mut self.undone, &self.writes, &self.order[place..]);
     }
 }

@@ -1,6 +1,6 @@
 //! Frames and Writes, byte for byte. Behind `=>` stands the value as it prints itself, or the fault, which a `!` begins.
 use crate::notation::{AS_PRINTED, bytes_of, expanded, parts, repeated};
-use bayou_wire::{Fault, decode_frame, decode_write, encode_frame, encode_write};
+use bayou_wire::{Fault, decode_frame, decode_write, encode_frame, encode_resting_write, encode_write};
 use std::alloc::{AllocError, Global};
 use std::process::Abort;
 use std::test::Fail;
@@ -16,13 +16,16 @@ fn frame_of(alloc: Global, bytes: &[u8]) -> Result<(String, Vec<u8>), AllocError
     }
 }
 
-/// As frame_of, of a Write.
+/// As frame_of, of a Write, which has the same bytes at rest.
 fn write_of(alloc: Global, bytes: &[u8]) -> Result<(String, Vec<u8>), AllocError> {
     match decode_write(bytes) {
-        Ok(write) => Ok((
-            format!(in alloc; "{write:?}")?,
-            encode_write(alloc, &write)?,
-        )),
+        Ok(write) => {
+            let mut spelling = encode_write(alloc, &write)?;
+            if encode_resting_write(alloc, &write.rest(alloc)?)? != spelling {
+                spelling.clear();
+            }
+            Ok((format!(in alloc; "{write:?}")?, spelling))
+        }
         Err(fault) => Ok((format!(in alloc; "!{fault:?}")?, Vec::new(alloc))),
     }
 }

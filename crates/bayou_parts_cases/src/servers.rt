@@ -3,6 +3,7 @@ use crate::fixtures::{key, put, vector, wid};
 use crate::notation::bytes_of;
 use bayou_base::{MAX_WRITES, ServerId, Value, Vector};
 use bayou_device::{MemoryDevice, OpenGate};
+use bayou_lang::RestingWrite;
 use bayou_server::{JournalFault, ReopenFault, Server, StartFault, WriteFault};
 use std::alloc::Global;
 use std::process::Abort;
@@ -52,7 +53,8 @@ fn puts(
     server: &mut Served,
     number: i64,
 ) -> Result<u32, WriteFault> {
-    let accepted = server.write(alloc, &Vector::zero(), put(rt, number))?;
+    let program = put(rt, number).rest(alloc)?;
+    let accepted = server.write(alloc, &Vector::zero(), program)?;
     Ok(accepted.wid.seq)
 }
 
@@ -282,13 +284,22 @@ fn is_behind(rt: &impl Abort, server: &Served, held: u32) -> bool {
     }
 }
 
+/// Whether the two have the same Writes.
+fn are_same(some: &[RestingWrite], others: &[RestingWrite]) -> bool {
+    some.len() == others.len()
+        && some
+            .iter()
+            .zip(others)
+            .all(|(one, other)| one.unfold() == other.unfold())
+}
+
 #[test]
 fn a_server_tells_what_it_holds(rt: HostRuntime) -> Result<(), Fail> {
     let alloc = rt.alloc();
     let steps = [Has(Some(2), 2), Put(3, Err(WriteFault::LogFull))];
     let device = all_go(&rt, alloc, 2, with_writes(&rt, alloc, 2)?, &steps)?;
     let server = start(&rt, alloc, 2, device)?;
-    let is_dumped = server.dump(alloc)?.as_slice() == server.receipts();
+    let is_dumped = are_same(&server.dump(alloc)?, server.receipts());
     let is_found = server.find(wid(&rt, 0, 2)).is_some();
     let listed = server.listing(alloc)?.len();
     assert!(rt; is_dumped && is_found && is_behind(&rt, &server, 2));

@@ -91,7 +91,8 @@ fn served(
     session: &Session,
 ) -> Option<(bool, bool)> {
     let is_read = server.read(&session.need_read(), &key(rt, "a")).is_ok();
-    match server.write(alloc, &session.need_write(), put(rt, 2)) {
+    let program = put(rt, 2).rest(alloc).ok()?;
+    match server.write(alloc, &session.need_write(), program) {
         Ok(_) => Some((is_read, true)),
         Err(WriteFault::Behind(_)) => Some((is_read, false)),
         Err(_) => None,
@@ -103,7 +104,7 @@ fn served(
 fn a_server_checks_what_is_asked(rt: HostRuntime) -> Result<(), Fail> {
     let alloc = rt.alloc();
     let mut server = start(&rt, alloc, 99, MemoryDevice::new(alloc, OpenGate))?;
-    server.write(alloc, &Vector::zero(), put(&rt, 1))?;
+    server.write(alloc, &Vector::zero(), put(&rt, 1).rest(alloc)?)?;
     for number in 0..64_u8 {
         let (asks, read, wrote) = (asks_of(number % 16), number / 16 % 2, number / 32);
         let seen = if read > 0 {

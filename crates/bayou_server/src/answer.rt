@@ -1,5 +1,5 @@
 use bayou_base::Wid;
-use bayou_lang::Write;
+use bayou_lang::RestingWrite;
 use bayou_log::WriteLog;
 
 /// A server that is up again.
@@ -16,5 +16,5 @@ pub struct Stopped<D> {
     /// The Writes that it held.
     pub log: WriteLog,
     /// The Write in doubt, where it was down.
-    pub doubt: Option<Write>,
+    pub doubt: Option<RestingWrite>,
 }

@@ -7,11 +7,11 @@ ghost use Rattle.bayou_server.specs.Inner.Making.{IsRefusal, Settles};
 use crate::fault::WriteFault;
 use bayou_base::{Accepted, Vector};
 use bayou_journal::AppendFault;
-use bayou_lang::Write;
+use bayou_lang::RestingWrite;
 use bayou_log::WriteLog;
 
 // Why no Write is made, if none may be.
-pub fn refusal(log: &WriteLog, doubt: &Option<Write>, need: &Vector) -> Option<WriteFault>
+pub fn refusal(log: &WriteLog, doubt: &Option<RestingWrite>, need: &Vector) -> Option<WriteFault>
     ensures { IsRefusal log.now doubt.now need.now result }
 {
     if doubt.is_some() {
@@ -28,23 +28,23 @@ pub fn refusal(log: &WriteLog, doubt: &Option<Write>, need: &Vector) -> Option<W
 }
 
 // What the Write was given.
-fn accepted(write: &Write) -> Accepted
+fn accepted(write: &RestingWrite) -> Accepted
     ensures wid { result.wid ≡ write.now.wid }
     ensures stamp { result.stamp ≡ write.now.stamp }
     ensures deps { result.deps ≡ write.now.deps }
 {
     Accepted {
-        wid: write.wid,
-        stamp: write.stamp,
-        deps: write.deps,
+        wid: write.wid(),
+        stamp: write.stamp(),
+        deps: *write.deps(),
     }
 }
 
 // Holds the Write, where its entry was added, and else puts it in doubt.
 pub fn settle(
     log: &mut WriteLog,
-    doubt: &mut Option<Write>,
-    write: Write,
+    doubt: &mut Option<RestingWrite>,
+    write: RestingWrite,
     added: Result<(), AppendFault>,
 ) -> Result<Accepted, WriteFault>
     requires fits { Fits log.old.count log.old.receipts write }

@@ -6,20 +6,20 @@ ghost use Rattle.bayou_server.specs.Inner.Replaying.{AreHeldAnd, AreOthers};
 
 use crate::fault::ReopenFault;
 use bayou_journal::Opened;
-use bayou_lang::Write;
-use bayou_wire::encode_write;
+use bayou_lang::RestingWrite;
+use bayou_wire::encode_resting_write;
 use std::alloc::{AllocError, Global};
 
 // Whether the bytes are the Write's.
-fn is_spelled(alloc: Global, bytes: &[u8], write: &Write) -> Result<bool, AllocError>
+fn is_spelled(alloc: Global, bytes: &[u8], write: &RestingWrite) -> Result<bool, AllocError>
     ensures { IfOk result (λ is. IsTrue is ↔ (bytes.now ≡ write_bytes write.now)) }
 {
-    let spelling = encode_write(alloc, write)?;
+    let spelling = encode_resting_write(alloc, write)?;
     Ok(bytes == spelling.as_slice())
 }
 
 // Whether the bodies begin with the Writes, in their order.
-fn begins_with(alloc: Global, opened: &Opened, held: &[Write]) -> Result<bool, AllocError>
+fn begins_with(alloc: Global, opened: &Opened, held: &[RestingWrite]) -> Result<bool, AllocError>
     ensures { IfOk result (λ begins. IsTrue begins ↔ BeginsWithHeld held.now opened.now.bodies) }
 {
     if opened.len() < held.len() {
@@ -37,8 +37,8 @@ fn begins_with(alloc: Global, opened: &Opened, held: &[Write]) -> Result<bool, A
 pub fn has_doubt(
     alloc: Global,
     opened: &Opened,
-    held: &[Write],
-    doubt: &Write,
+    held: &[RestingWrite],
+    doubt: &RestingWrite,
 ) -> Result<bool, ReopenFault>
     requires { length held.now ≤ MAX_WRITES }
     ensures { MatchResult result

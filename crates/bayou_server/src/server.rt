@@ -20,9 +20,9 @@ use crate::start::log_of;
 use bayou_base::{Accepted, Key, Seen, ServerId, Vector, Wid};
 use bayou_device::Device;
 use bayou_journal::Journal;
-use bayou_lang::{Program, Write};
+use bayou_lang::{RestingProgram, RestingWrite};
 use bayou_log::{Listed, WriteLog};
-use bayou_wire::encode_write;
+use bayou_wire::encode_resting_write;
 use std::alloc::{AllocError, Global};
 use std::marker::Model;
 
@@ -32,7 +32,7 @@ pub struct Server<D> {
     journal: Journal<D>,
     log: WriteLog,
     id: ServerId,
-    doubt: Option<Write>,
+    doubt: Option<RestingWrite>,
 }
 
 impl<D> Model for Server<D> {
@@ -118,7 +118,7 @@ impl<D: Device> Server<D> {
         &mut self,
         alloc: Global,
         need: &Vector,
-        program: Program,
+        program: RestingProgram,
     ) -> Result<Accepted, WriteFault>
         ensures writes { Writes self.old.core need.now program result self.new.core }
         ensures own { MatchResult result (λ _. own_count self.new.core ≡ own_count self.old.core + 1) (λ _. own_count self.new.core ≡ own_count self.old.core) }
@@ -134,7 +134,7 @@ impl<D: Device> Server<D> {
         }
         let write = self.log.next_write(self.id, program);
         self.log.reserve(&write)?;
-        let body = encode_write(alloc, &write)?;
+        let body = encode_resting_write(alloc, &write)?;
         let added = self.journal.append(&body);
         settle(&mut self.log, &mut self.doubt, write, added)
     }
@@ -162,7 +162,7 @@ impl<D: Device> Server<D> {
         if !adopts {
             return Ok(Reopened { adopted: None });
         }
-        let wid = write.wid;
+        let wid = write.wid();
         self.log.insert(write);
         Ok(Reopened { adopted: Some(wid) })
     }
@@ -206,14 +206,14 @@ impl<D: Device> Server<D> {
     }
 
     /// The Write of this name, if it is held.
-    pub fn find(&self, wid: Wid) -> Option<&Write>
+    pub fn find(&self, wid: Wid) -> Option<&RestingWrite>
         ensures { MatchOption result (All (λ write. write.wid ≢ wid) self.now.core.held) (λ write. Contains self.now.core.held write.now × (write.now.wid ≡ wid)) }
     {
         self.log.find(wid)
     }
 
     /// The Writes held, in order of receipt.
-    pub fn receipts(&self) -> &[Write]
+    pub fn receipts(&self) -> &[RestingWrite]
         ensures value { result.now ≡ self.now.core.held }
         ensures sound { IsSoundServer self.now.core }
     {
@@ -228,7 +228,7 @@ impl<D: Device> Server<D> {
     }
 
     /// Copies of the Writes held, in order of receipt.
-    pub fn dump(&self, alloc: Global) -> Result<Vec<Write>, AllocError>
+    pub fn dump(&self, alloc: Global) -> Result<Vec<RestingWrite>, AllocError>
         ensures { IfOk result (λ writes. writes.items ≡ self.now.core.held) }
     {
         copies(alloc, self.log.receipts())
@@ -264,12 +264,12 @@ impl<D: Device> Server<D> {
 }
 
 // The Writes again.
-fn copies(alloc: Global, writes: &[Write]) -> Result<Vec<Write>, AllocError>
+fn copies(alloc: Global, writes: &[RestingWrite]) -> Result<Vec<RestingWrite>, AllocError>
     ensures { IfOk result (λ copies. copies.items ≡ writes.now) }
 {
     let mut copies = Vec::new(alloc);
     for write in writes {
-        copies.push(write.copy())?;
+        copies.push(write.copy(alloc)?)?;
     }
     Ok(copies)
 }

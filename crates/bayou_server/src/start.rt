@@ -60,7 +60,8 @@ pub fn log_of(
 {
     let mut log = WriteLog::new(alloc, count, limit);
     for at in 0..opened.len() {
-        let write = next_of(&log, id, opened.body(at))?;
+        let admitted = next_of(&log, id, opened.body(at))?;
+        let write = admitted.rest(alloc)?;
         log.reserve(&write)?;
         log.insert(write);
     }

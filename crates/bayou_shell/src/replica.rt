@@ -5,7 +5,7 @@ use crate::answer::{Answer, Recovery};
 use crate::fault::Fault;
 use bayou_base::{Key, ServerId, SessionId};
 use bayou_device::{MemoryDevice, OpenGate};
-use bayou_lang::Program;
+use bayou_lang::RestingProgram;
 use bayou_script::Servers;
 use bayou_server::{NotStarted, Server, StartFault, Stopped};
 use bayou_session::Session;
@@ -49,7 +49,7 @@ impl Replica {
         alloc: Global,
         who: SessionId,
         session: &mut Session,
-        program: Program,
+        program: RestingProgram,
     ) -> Answer
         ensures { IsWritten who program self.old session.old result self.new session.new }
     {

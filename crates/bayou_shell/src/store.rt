@@ -6,7 +6,7 @@ use crate::answer::{Answer, Recovery};
 use crate::fault::Fault;
 use crate::replica::Replica;
 use bayou_base::{Asks, Key, SESSIONS, ServerId, SessionId};
-use bayou_lang::Program;
+use bayou_lang::RestingProgram;
 use bayou_script::Servers;
 use bayou_session::Session;
 use bayou_text::{Command, PlannedFailure};
@@ -81,7 +81,7 @@ impl Store {
                 session,
                 server,
                 program,
-            } => Ok(self.write(alloc, session, server, Box::into_inner(program))),
+            } => Ok(self.write(alloc, session, server, program)),
             Command::Read {
                 session,
                 server,
@@ -135,7 +135,7 @@ impl Store {
         self.replicas[usize::from(server.index)].reopen(alloc, server)
     }
 
-    fn write(&mut self, alloc: Global, who: SessionId, server: ServerId, program: Program) -> Answer
+    fn write(&mut self, alloc: Global, who: SessionId, server: ServerId, program: RestingProgram) -> Answer
         requires { server.index < self.old.count }
         ensures { Step self.old (write who.index server.index program) result self.new }
     {

@@ -7,7 +7,7 @@ use Rattle.bayou_text.specs.declared.command.Command.TheVariants as command
 use Rattle.bayou_text.specs.declared.line.Line.{Line}
 use Rattle.bayou_text.specs.declared.line.Line.TheVariants as line
 
--- a line: sessions and servers by their numbers, and a program without where it lies in memory
+-- a line: sessions and servers by their numbers
 pub data Said : Type 0 where
   servers : ℕ → Option ℕ → Said
   session : ℕ → Asks → Said
@@ -22,7 +22,7 @@ pub data Said : Type 0 where
 -- what a command says
 abbrev pub command_said : Command → Said
 command_said (command.Session who asks) = session who.index asks
-command_said (command.Write who place program) = write who.index place.index program.value
+command_said (command.Write who place program) = write who.index place.index program
 command_said (command.Read who place key) = read who.index place.index key
 command_said (command.Log place) = log place.index
 command_said (command.Fuse place failure) = fuse place.index failure.calls failure.kept

@@ -1,7 +1,7 @@
 ghost use Rattle.std.specs.Prelude.{◌<◌};
 
 use bayou_base::{Asks, Key, ServerId, SessionId};
-use bayou_lang::Program;
+use bayou_lang::RestingProgram;
 
 /// A failure of a device to come.
 #[derive(Clone, Copy, Debug, PartialEq, Eq)]
@@ -14,7 +14,7 @@ pub struct PlannedFailure {
 }
 
 /// What a line asks of the servers and the sessions, behind the line that starts the servers.
-#[derive(Debug, Drop, PartialEq, Eq)]
+#[derive(Debug, Drop)]
 pub enum Command {
     /// Opens a session that asks for these guarantees.
     Session {
@@ -25,7 +25,7 @@ pub enum Command {
     Write {
         session: SessionId,
         server: ServerId,
-        program: Box<Program>,
+        program: RestingProgram,
     },
     /// The session reads the key at the server.
     Read {

@@ -4,7 +4,7 @@ use bayou_lang::ProgramFault;
 use std::alloc::{AllocError, AllocFailed};
 
 /// A line of a script.
-#[derive(Debug, Drop, PartialEq, Eq)]
+#[derive(Debug, Drop)]
 pub enum Line {
     /// Starts this many servers, each with a log of this many Writes at the most.
     Servers {

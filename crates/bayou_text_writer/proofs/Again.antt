@@ -154,7 +154,7 @@ line_again (line.Servers count (Some limit)) kept readable = rw (
 )
 line_again (line.Command (command.Session who asks)) kept readable = rw (session_again who, asks_again asks)
 line_again (line.Command (command.Write who place program)) kept readable =
-    rw (session_again who, server_again place, program_again program.value kept)
+    rw (session_again who, server_again place, program_again program kept)
 line_again (line.Command (command.Read who place key)) kept readable = rw (session_again who, server_again place, key_again key kept)
 line_again (line.Command (command.Log place)) kept readable = rw (server_again place)
 line_again (line.Command (command.Fuse place failure)) fits readable = rw (

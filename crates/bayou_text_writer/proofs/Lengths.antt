@@ -239,10 +239,10 @@ line_size (line.Command (command.Session who asks)) kept =
 line_size (line.Command (command.Write who place program)) kept =
     omega (
       arith,
-      form_three (codes "write") (count_json who.index) (count_json place.index) (program_json program.value),
+      form_three (codes "write") (count_json who.index) (count_json place.index) (program_json program),
       count_size who.index (omega (arith, who.in_range)),
       count_size place.index (omega (arith, place.in_range)),
-      program_size program.value kept,
+      program_size program kept,
     )
 line_size (line.Command (command.Read who place key)) kept =
     omega (

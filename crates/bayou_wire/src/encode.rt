@@ -6,8 +6,8 @@ ghost use Rattle.bayou_wire.specs.Spelling.{SpellsFrame, SpellsWrite, kind_of};
 
 use crate::frame::Frame;
 use crate::layout::*;
-use crate::put::{put_payload, put_write};
-use bayou_lang::Write;
+use crate::put::{put_payload, put_resting_write, put_write};
+use bayou_lang::{RestingWrite, Write};
 use std::alloc::{AllocError, Global};
 
 /// The one spelling of the Write. Want of memory is the only refusal, and leaves nothing behind.
@@ -17,6 +17,16 @@ pub fn encode_write(alloc: Global, write: &Write) -> Result<Vec<u8>, AllocError>
 {
     let mut bytes = Vec::new(alloc);
     put_write(&mut bytes, write)?;
+    Ok(bytes)
+}
+
+/// The one spelling of a Write at rest, as [`encode_write`] gives it.
+pub fn encode_resting_write(alloc: Global, write: &RestingWrite) -> Result<Vec<u8>, AllocError>
+    ensures spelling { IfOk result (λ bytes. SpellsWrite bytes.items write.now) }
+    ensures size { IfOk result (λ bytes. (0 < length bytes.items) × (length bytes.items ≤ MAX_WRITE_BYTES)) }
+{
+    let mut bytes = Vec::new(alloc);
+    put_resting_write(&mut bytes, write)?;
     Ok(bytes)
 }
 

@@ -9,7 +9,7 @@ ghost use Rattle.std.specs.Option.{IfSome};
 use crate::frame::{Frame, Refusal};
 use crate::layout::*;
 use bayou_base::{Key, Stamp, Text, Value, Vector, Wid};
-use bayou_lang::{Alt, Cond, Op, Program, Term, Write};
+use bayou_lang::{Alt, Cond, Op, Program, RestingAlt, RestingProgram, RestingWrite, Term, Write};
 use std::alloc::AllocError;
 
 /// What stands in lists.
@@ -158,6 +158,26 @@ impl Spelled for Alt {
     }
 }
 
+/// By its value it is an alternative, and so it is spelled as one.
+impl Spelled for RestingAlt {
+    ghost Is = { IsAlt };
+
+    ghost spelling = { alt_bytes };
+
+    fn put(&self, out: &mut Vec<u8>) -> Result<(), AllocError> {
+        put_list(out, self.when())?;
+        put_list(out, self.ops())
+    }
+}
+
+fn put_resting_program(out: &mut Vec<u8>, program: &RestingProgram) -> Result<(), AllocError>
+    ensures { OnOk result (IsProgram program.now × (out.new.items ≡ out.old.items ++ program_bytes program.now)) }
+{
+    put_list(out, program.check())?;
+    put_list(out, program.update())?;
+    put_list(out, program.merge())
+}
+
 pub(crate) fn put_program(out: &mut Vec<u8>, program: &Program) -> Result<(), AllocError>
     ensures { OnOk result (IsProgram program.now × (out.new.items ≡ out.old.items ++ program_bytes program.now)) }
 {
@@ -201,6 +221,13 @@ pub(crate) fn put_write(out: &mut Vec<u8>, write: &Write) -> Result<(), AllocErr
 {
     put_accepted(out, write.wid, write.stamp, &write.deps)?;
     put_program(out, &write.program)
+}
+
+pub(crate) fn put_resting_write(out: &mut Vec<u8>, write: &RestingWrite) -> Result<(), AllocError>
+    ensures { OnOk result (IsWrite write.now × (out.new.items ≡ out.old.items ++ write_bytes write.now)) }
+{
+    put_accepted(out, write.wid(), write.stamp(), write.deps())?;
+    put_resting_program(out, write.program())
 }
 
 fn put_optional_value(out: &mut Vec<u8>, value: &Option<Value>) -> Result<(), AllocError>

@@ -5,6 +5,8 @@ use Rattle.bayou_base.specs.declared.limits.TheConstants.{SERVERS, MAX_WRITES}
 use Rattle.bayou_lang.specs.declared.write.Write.{Write}
 use Rattle.bayou_lang.specs.Writes.{count_of, greatest_clock, in_stamp_order, AreFitting}
 use Rattle.bayou_log.specs.Db.{Slots, places, room, HasRoomFor}
+use Rattle.bayou_lang.specs.Places.{empty}
+use Rattle.bayou_log.specs.Inner.Undone.{changes_of, AreUndos, Stack}
 use Rattle.bayou_log.specs.Replay.{replay}
 
 -- the Writes that stand at these places of the list
@@ -26,3 +28,10 @@ pub record AgreesWith (writes : List Write) (order : List ℕ) (slots : Slots) (
   pub room : All (λ write. HasRoomFor (room slots) write.program) writes
   pub counted : vector ≡ count_of writes
   pub latest : clock ≡ greatest_clock writes
+
+-- the stack has what takes the Writes back, and promises room for as many changes as they make at the most
+pub record AreTakenBack (writes : List Write) (undone : Stack) : Type 0 where
+  pub undos : AreUndos undone.undos (in_stamp_order writes) empty
+  pub promised : undone.promised ≡ changes_of writes
+  pub room : undone.promised ≤ undone.room
+  pub places : length writes ≤ undone.places

@@ -9,7 +9,7 @@ use Rattle.bayou_text.specs.declared.line.Line.TheVariants as line
 -- what each command keeps by its type
 abbrev pub IsCommand : Command → Type 0
 IsCommand (command.Session who asks) = ⊤
-IsCommand (command.Write who place program) = IsProgram program.value
+IsCommand (command.Write who place program) = IsProgram program
 IsCommand (command.Read who place key) = IsKey key
 IsCommand (command.Log place) = ⊤
 IsCommand (command.Fuse place failure) = (failure.calls < 2 ^ 32) × (failure.kept < 2 ^ 64)

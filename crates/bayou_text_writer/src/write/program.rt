@@ -6,7 +6,7 @@ ghost use Rattle.bayou_lang.specs.Ranges as ranges;
 ghost use Rattle.bayou_text.specs.Spelling as spelling;
 
 use bayou_base::{Key, Value as Stored};
-use bayou_lang::{Alt, Cond, Op, Program, Term};
+use bayou_lang::{Cond, Op, RestingAlt, RestingProgram, Term};
 use serde_json::{Value, json};
 use std::alloc::{AllocError, Global};
 
@@ -90,16 +90,16 @@ fn conds_json(alloc: Global, conditions: &[Cond]) -> Result<Value, AllocError>
     Ok(Value::Array(list))
 }
 
-fn alt_json(alloc: Global, alternative: &Alt) -> Result<Value, AllocError>
+fn alt_json(alloc: Global, alternative: &RestingAlt) -> Result<Value, AllocError>
     ensures spelling { IfOk result (λ json. view json ≡ spelling.alt_json alternative.now) }
     ensures kept { OnOk result (ranges.IsAlt alternative.now) }
 {
-    let ops = ops_json(alloc, &alternative.ops)?;
-    let when = conds_json(alloc, &alternative.when)?;
+    let ops = ops_json(alloc, alternative.ops())?;
+    let when = conds_json(alloc, alternative.when())?;
     json!(in alloc; {"ops": ops, "when": when})
 }
 
-fn alts_json(alloc: Global, alternatives: &[Alt]) -> Result<Value, AllocError>
+fn alts_json(alloc: Global, alternatives: &[RestingAlt]) -> Result<Value, AllocError>
     ensures spelling { IfOk result (λ json. view json ≡ spelling.list_json spelling.alt_json alternatives.now) }
     ensures kept { OnOk result (AllByRecursion ranges.IsAlt alternatives.now) }
 {
@@ -111,12 +111,12 @@ fn alts_json(alloc: Global, alternatives: &[Alt]) -> Result<Value, AllocError>
 }
 
 #[tactic(auto, unfolding(bayou_text::specs::Spelling::program_json))]
-pub(crate) fn program_json(alloc: Global, program: &Program) -> Result<Value, AllocError>
+pub(crate) fn program_json(alloc: Global, program: &RestingProgram) -> Result<Value, AllocError>
     ensures spelling { IfOk result (λ json. view json ≡ spelling.program_json program.now) }
     ensures kept { OnOk result (ranges.IsProgram program.now) }
 {
-    let check = conds_json(alloc, &program.check)?;
-    let merge = alts_json(alloc, &program.merge)?;
-    let update = ops_json(alloc, &program.update)?;
+    let check = conds_json(alloc, program.check())?;
+    let merge = alts_json(alloc, program.merge())?;
+    let update = ops_json(alloc, program.update())?;
     json!(in alloc; {"check": check, "merge": merge, "update": update})
 }

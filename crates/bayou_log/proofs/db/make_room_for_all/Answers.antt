@@ -11,7 +11,7 @@ loop-alternative-preserved c = record {
   made = HasRoomAt-more (λ alt. map op_key alt.ops.items) (room c.loop-alternative.slots.entries) (room c.make_room_for.new.slots.entries)
       c.args.alternatives.now c.loop-alternative.alternative-index c.alternative-item.result c.loop-alternative-test.true c.alternative-item.is
       c.in_ok-make_room_for.ensures.keeps c.loop-alternative.invariant.made
-      (subst (λ ops. HasRoomAt (room c.make_room_for.new.slots.entries) (map op_key ops)) c.deref.ensures.0 c.in_ok-make_room_for.ensures.ok);
+      (subst (λ ops. HasRoomAt (room c.make_room_for.new.slots.entries) (map op_key ops)) c.ops.ensures.value c.in_ok-make_room_for.ensures.ok);
 }
 
 pub returns-clause-ok : goal.returns-clause-ok

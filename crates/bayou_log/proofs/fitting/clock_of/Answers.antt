@@ -1,7 +1,9 @@
-use Rattle.std.proofs.Common.{◌≡◌, ℕ, ◌+◌, ◌≤◌, ◌++◌, List, [], ◌∷◌, Bool, true, false, cond, max, nat_le, get_or, take, ap, sym, ◌∙◌, arith}
+use Rattle.std.proofs.Common.{◌≡◌, ℕ, ◌+◌, ◌≤◌, ◌++◌, List, [], ◌∷◌, Bool, true, false, cond, max, nat_le, get_or, take, ap, subst, sym, ◌∙◌, arith}
 use Rattle.std.proofs.lemmas.Bool.Decides.{nat_tests}
 use Rattle.std.proofs.lemmas.List.{append-nil, take_more}
 use Rattle.std.proofs.lemmas.List.Elements.{filter-append}
+use Rattle.bayou_base.specs.declared.stamp.Stamp.{Stamp}
+use Rattle.bayou_base.specs.declared.wid.Wid.{Wid}
 use Rattle.bayou_lang.specs.declared.write.Write.{Write}
 use Rattle.bayou_lang.specs.Writes.{covered_by, greatest_clock}
 use Rattle.bayou_lang.specs.Laws.Fitting.{greatest_clock-push}
@@ -33,12 +35,12 @@ loop-held-preserved c =
     let either = λ (t : Bool). cond t (max before write.stamp.clock) before in
     elim c.if-covers.branch [
       | then-covers w ↦
-          let within : write.wid.seq ≤ get_or counts write.wid.origin.index 0 = c.covers.ensures.0 w.if-covers.true in
+          let within : write.wid.seq ≤ get_or counts write.wid.origin.index 0 = subst (λ (wid : Wid). wid.seq ≤ get_or counts wid.origin.index 0) c.wid.ensures (c.covers.ensures.0 w.if-covers.true) in
           let covered : nat_le write.wid.seq (get_or counts write.wid.origin.index 0) ≡ true = grind (arith, nat_tests) in
-          let greater : w.max-clock.result ≡ max c.loop-held.clock write.stamp.clock = grind (arith, nat_tests) in
+          let greater : w.max-clock.result ≡ max c.loop-held.clock write.stamp.clock = grind (arith, nat_tests, ap (λ (stamp : Stamp). stamp.clock) w.stamp.ensures) in
           w.clock-is ∙ greater ∙ ap (λ clock. max clock write.stamp.clock) c.loop-held.invariant ∙ sym (after ∙ ap either covered)
       | else-covers w ↦
           let missed : nat_le write.wid.seq (get_or counts write.wid.origin.index 0) ≡ false =
-          grind (arith, nat_tests, w.if-covers.ensures) in
+          grind (arith, nat_tests, subst (λ (wid : Wid). wid.seq ≤ get_or counts wid.origin.index 0 → ⊥) c.wid.ensures (λ within. let both : true ≡ false = sym (c.covers.ensures.1 within) ∙ w.if-covers.false in cc)) in
           w.clock-is ∙ c.loop-held.invariant ∙ sym (after ∙ ap either missed)
     ]

@@ -13,8 +13,9 @@ pub apply-outcome-requires : goal.apply-outcome-requires
 apply-outcome-requires c =
     let at = get_or c.args.order.now c.loop-at.at-index 0 in
     let within : at < length c.args.writes.now = c.requires.inside c.loop-at.at-index 0 c.loop-at-test.true in
-    subst (λ (write : Write). HasRoomFor (room c.loop-at.db) write.program) (sym c.index-writes-at.is)
-    (c.loop-at.invariant.made at c.index-writes-at.result within)
+    subst (HasRoomFor (room c.loop-at.db)) (sym c.program.ensures)
+    (subst (λ (write : Write). HasRoomFor (room c.loop-at.db) write.program) (sym c.index-writes-at.is)
+    (c.loop-at.invariant.made at c.index-writes-at.result within))
 
 pub loop-at-preserved : goal.loop-at-preserved
 loop-at-preserved c =
@@ -26,12 +27,14 @@ loop-at-preserved c =
     let after = places c.apply-outcome.new.self in
     let done = c.loop-at.outcomes.items in
     let within : at < length writes = c.requires.inside c.loop-at.at-index 0 c.loop-at-test.true in
-    let told : Listed = record { wid = write.wid; stamp = write.stamp; outcome = c.apply-outcome.result } in
+    let told : Listed = record { wid = c.wid.result; stamp = c.stamp.result; outcome = c.apply-outcome.result.0 } in
     record {
       target = ap (λ items. items ++ listed_after (picked writes rest) after) c.in_ok-push.ensures.items
           ∙ append_assoc done (told ∷ []) (listed_after (picked writes rest) after)
-          ∙ ap (λ outcome. done ++ record { wid = write.wid; stamp = write.stamp; outcome = outcome } ∷ listed_after (picked writes rest) after) c.apply-outcome.ensures.outcome
-          ∙ ap (λ made. done ++ listed_at before write ∷ listed_after (picked writes rest) made) c.apply-outcome.ensures.places
+          ∙ ap (λ wid. done ++ record { wid = wid; stamp = c.stamp.result; outcome = c.apply-outcome.result.0 } ∷ listed_after (picked writes rest) after) c.wid.ensures
+          ∙ ap (λ stamp. done ++ record { wid = write.wid; stamp = stamp; outcome = c.apply-outcome.result.0 } ∷ listed_after (picked writes rest) after) c.stamp.ensures
+          ∙ ap (λ outcome. done ++ record { wid = write.wid; stamp = write.stamp; outcome = outcome } ∷ listed_after (picked writes rest) after) (c.apply-outcome.ensures.outcome ∙ ap (λ program. (mean program before).0) c.program.ensures)
+          ∙ ap (λ made. done ++ listed_at before write ∷ listed_after (picked writes rest) made) (c.apply-outcome.ensures.places ∙ ap (λ program. (mean program before).1) c.program.ensures)
           ∙ ap (λ (shown : Write). done ++ listed_at before shown ∷ listed_after (picked writes rest) (mean shown.program before).1) c.index-writes-at.is
           ∙ sym (ap (λ those. done ++ listed_after those before) (picked-cons writes at rest write within))
           ∙ sym (at_drop_more (λ order. done ++ listed_after (picked writes order) before) c.args.order.now c.loop-at.at-index 0 c.loop-at-test.true)

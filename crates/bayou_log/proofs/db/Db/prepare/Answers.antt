@@ -10,5 +10,5 @@ returns-clause-ok c =
     HasRoomAt-append (room c.make_room_for.new.slots.entries) (room c.make_room_for_all.new.slots.entries)
     (map op_key c.args.program.now.update.items) (flat_map (λ alt. map op_key alt.ops.items) c.args.program.now.merge.items)
     c.in_ok-make_room_for_all.ensures.keeps
-    (subst (λ ops. HasRoomAt (room c.make_room_for.new.slots.entries) (map op_key ops)) c.deref.ensures.0 c.in_ok-make_room_for.ensures.ok)
-    (subst (λ alternatives. HasRoomAt (room c.make_room_for_all.new.slots.entries) (flat_map (λ alt. map op_key alt.ops.items) alternatives)) c.deref-2.ensures.0 c.in_ok-make_room_for_all.ensures.ok)
+    (subst (λ ops. HasRoomAt (room c.make_room_for.new.slots.entries) (map op_key ops)) c.update.ensures.value c.in_ok-make_room_for.ensures.ok)
+    (subst (λ alternatives. HasRoomAt (room c.make_room_for_all.new.slots.entries) (flat_map (λ alt. map op_key alt.ops.items) alternatives)) c.merge.ensures.value c.in_ok-make_room_for_all.ensures.ok)

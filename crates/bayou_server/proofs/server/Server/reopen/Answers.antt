@@ -98,12 +98,12 @@ pub returns-clause-reopens : goal.returns-clause-reopens
 returns-clause-reopens g c =
     let write = c.in-Some-take.write in
     rw (← c.self.view_is, c.insert.ensures)
-    (write, sym c.take.ensures.value ∙ c.in-Some-take.is, refl, rw c.take.ensures.after refl)
+    (write, sym c.take.ensures.value ∙ c.in-Some-take.is, c.wid-wid.ensures, rw c.take.ensures.after refl)
 
 pub returns-clause-own : goal.returns-clause-own
 returns-clause-own g c =
     let inside = c.self.inside in
-    own_of_recovery c.args.self.now.core (Some c.in-Some-take.write.wid) _
+    own_of_recovery c.args.self.now.core (Some c.wid-wid.result) _
     (rw (← c.self.view_is) (λ doubt is. (stands_down inside.journal inside.log inside.id.index inside.doubt doubt c.self.invariant is).0.origin))
     (returns-clause-reopens g c)
 

@@ -1,0 +1,164 @@
+//! What takes the applied Writes back, the last one first.
+ghost use Rattle.std.specs.Prelude.{◌≡◌, ℕ, ◌+◌, ◌<◌, ◌≤◌, [], ◌∷◌, ◌++◌, All, IsTrue, MatchOption, OnOk, drop, length, reverse, take, vec_capacity, vec_len};
+ghost use Rattle.arrayvec.specs.ArrayVec.{array_vec_len};
+ghost use Rattle.bayou_base.specs.declared.limits.TheConstants.{MAX_OPS};
+ghost use Rattle.bayou_log.specs.Db.{places, room, has_room, HasRoomFor};
+ghost use Rattle.bayou_log.specs.Inner.Fields.{picked};
+ghost use Rattle.bayou_log.specs.Inner.Undone.{after_undoing, changes_in, changes_of, AddsUndone};
+ghost use Rattle.bayou_log.specs.Replay.{after_writes};
+
+use crate::db::{Db, Undo};
+use bayou_lang::{Change, Changes, RestingWrite};
+use std::alloc::{AllocError, Global};
+use std::marker::Model;
+
+/// For each Write that is applied, in stamp order, what takes it back. All lie in one list, at their true size.
+#[derive(Drop)]
+pub(crate) struct UndoStack {
+    // Those of the Write applied last are at the end, and of one Write the last is made first.
+    changes: Vec<Change>,
+    // How many each Write has.
+    sizes: Vec<u8>,
+    // For how many changes there is room in any case.
+    promised: usize,
+}
+
+impl Model for UndoStack {
+    ghost use Rattle.std.specs.Prelude.{◌≡◌, ◌≤◌, All, length, vec_capacity};
+    ghost use Rattle.bayou_base.specs.declared.limits.TheConstants.{MAX_OPS};
+    ghost use Rattle.bayou_log.specs.Inner.Undone.{Stack, all_of, undos_of};
+
+    ghost Value = { Stack };
+
+    ghost view = { λ s. record { undos = undos_of s.sizes.items s.changes.items; promised = s.promised; room = vec_capacity s.changes; places = vec_capacity s.sizes } };
+
+    ghost invariant = { λ s. (all_of s.sizes.items ≡ length s.changes.items) × All (λ size. size ≤ MAX_OPS) s.sizes.items × (s.promised ≤ vec_capacity s.changes) };
+}
+
+/// Adds the changes behind those of the list, the last one first.
+fn push_turned(list: &mut Vec<Change>, mut changes: Changes)
+    requires { vec_len list.old + array_vec_len changes ≤ vec_capacity list.old }
+    ensures items { list.new.items ≡ list.old.items ++ reverse changes.items }
+    ensures capacity { vec_capacity list.new ≡ vec_capacity list.old }
+{
+    while let Some(change) = changes.pop() {
+        list.push_reserved(change);
+    }
+}
+
+/// Takes so many from the end of the list, the last one first.
+fn pop_turned(list: &mut Vec<Change>, count: usize) -> Changes
+    requires { (count ≤ vec_len list.old) × (count ≤ MAX_OPS) }
+    ensures items { list.old.items ≡ list.new.items ++ reverse result.items }
+    ensures count { array_vec_len result ≡ count }
+    ensures capacity { vec_capacity list.new ≡ vec_capacity list.old }
+{
+    let mut changes = Changes::new();
+    while changes.len() < count {
+        let Some(change) = list.pop() else {
+            unreachable!();
+        };
+        changes.push(change);
+    }
+    changes
+}
+
+impl UndoStack {
+    pub(crate) fn new(alloc: Global) -> Self
+        ensures { (result.undos ≡ []) × (result.promised ≡ 0) }
+    {
+        UndoStack {
+            changes: Vec::new(alloc),
+            sizes: Vec::new(alloc),
+            promised: 0,
+        }
+    }
+
+    /// How many Writes are applied.
+    pub(crate) fn len(&self) -> usize
+        ensures { result ≡ length self.now.undos }
+    {
+        self.sizes.len()
+    }
+
+    /// Takes room for some changes more than those that are promised, and for one Write more.
+    pub(crate) fn reserve(&mut self, more: usize) -> Result<(), AllocError>
+        requires { more ≤ MAX_OPS }
+        ensures same { (self.new.undos ≡ self.old.undos) × (self.new.promised ≡ self.old.promised) }
+        ensures kept { (self.old.room ≤ self.new.room) × (self.old.places ≤ self.new.places) }
+        ensures ok { OnOk result ((self.new.promised + more ≤ self.new.room) × (length self.new.undos < self.new.places)) }
+    {
+        let _ = self.changes.capacity();
+        let wanted = self.promised + more;
+        self.changes
+            .try_reserve(wanted.saturating_sub(self.changes.len()))?;
+        self.sizes.try_reserve(1)?;
+        Ok(())
+    }
+
+    /// Promises room, which there is, for some changes more.
+    pub(crate) fn promise(&mut self, more: usize)
+        requires { self.old.promised + more ≤ self.old.room }
+        ensures { self.new ≡ record self.old { promised = self.old.promised + more } }
+    {
+        let _ = self.changes.capacity();
+        self.promised += more;
+    }
+
+    /// Adds what takes back the Write that was applied now, which takes no memory.
+    pub(crate) fn push(&mut self, undo: Undo)
+        requires room { changes_in self.old.undos + length undo ≤ self.old.room }
+        requires places { length self.old.undos < self.old.places }
+        ensures { self.new ≡ record self.old { undos = self.old.undos ++ undo ∷ [] } }
+    {
+        self.sizes.push_reserved(undo.before.len() as u8);
+        push_turned(&mut self.changes, undo.before);
+    }
+
+    /// Hands out what takes back the Write that was applied last.
+    pub(crate) fn pop(&mut self) -> Option<Undo>
+        ensures undos { MatchOption result ((self.old.undos ≡ []) × (self.new.undos ≡ [])) (λ undo. self.old.undos ≡ self.new.undos ++ undo ∷ []) }
+        ensures room { (self.new.promised ≡ self.old.promised) × (self.new.room ≡ self.old.room) × (self.new.places ≡ self.old.places) }
+    {
+        let size = self.sizes.pop()?;
+        let before = pop_turned(&mut self.changes, usize::from(size));
+        Some(Undo { before })
+    }
+}
+
+/// Takes Writes back, the one applied last first, until so many are left.
+pub(crate) fn take_back(db: &mut Db, undone: &mut UndoStack, left: usize)
+    requires within { left ≤ length undone.old.undos }
+    requires room { All (λ undo. All (λ change. IsTrue (has_room (room db.old) change.key)) undo) undone.old.undos }
+    ensures places { places db.new ≡ after_undoing (drop left undone.old.undos) (places db.old) }
+    ensures room { room db.new ≡ room db.old }
+    ensures undone { undone.new ≡ record undone.old { undos = take left undone.old.undos } }
+{
+    while undone.len() > left {
+        let Some(undo) = undone.pop() else {
+            unreachable!();
+        };
+        db.undo(undo);
+    }
+}
+
+/// Applies the Writes at these places, one after another, which takes no memory.
+pub(crate) fn apply_in_turn(
+    db: &mut Db,
+    undone: &mut UndoStack,
+    writes: &[RestingWrite],
+    order: &[usize],
+)
+    requires inside { All (λ at. at < length writes.now) order.now }
+    requires room { All (λ write. HasRoomFor (room db.old) write.program) writes.now }
+    requires changes { changes_in undone.old.undos + changes_of (picked writes.now order.now) ≤ undone.old.room }
+    requires entries { length undone.old.undos + length order.now ≤ undone.old.places }
+    ensures places { places db.new ≡ after_writes (picked writes.now order.now) (places db.old) }
+    ensures room { room db.new ≡ room db.old }
+    ensures undone { AddsUndone (picked writes.now order.now) (places db.old) undone.old undone.new }
+{
+    for at in order {
+        let (_, undo) = db.apply(writes[*at].program());
+        undone.push(undo);
+    }
+}
