@@ -1,4 +1,4 @@
-use Rattle.std.proofs.Common.{◌≡◌, ℕ, ◌≢◌, ◌+◌, ◌-◌, ◌++◌, ◌∷◌, [], ◌<◌, length, max, sym, ◌∙◌, ap, subst, arith, All, IsTrue, drop, take, refl}
+use Rattle.std.proofs.Common.{◌≡◌, ℕ, ◌≢◌, ◌+◌, ◌-◌, ◌++◌, ◌∷◌, [], ◌<◌, ◌≤◌, length, max, sym, ◌∙◌, ap, subst, arith, All, IsTrue, drop, take, refl}
 use Rattle.std.specs.List.{insert}
 use Rattle.std.proofs.lemmas.List.{length-drop, length-take-le}
 use Rattle.std.proofs.lemmas.List.Elements.{All-drop, All-push}
@@ -188,7 +188,7 @@ invariant_of-self c =
       kept,
       AgreesWith-same (writes ++ write ∷ []) c.push_reserved.new.self.items (insert order n (length writes)) c.insert.new.self.items c.apply_in_turn.new.db
           (raised inside.vector write.wid) c.raise.new.self (max inside.clock write.stamp.clock) c.max-self-inside.result
-          c.push_reserved.ensures.items placed (c.raise.ensures ∙ ap (raised inside.vector) c.wid.ensures) (c.max-self-inside.ensures ∙ ap (λ (stamp : Stamp). max inside.clock stamp.clock) c.stamp-2.ensures) agrees,
+          c.push_reserved.ensures.items placed (c.raise.ensures ∙ ap (raised inside.vector) c.wid-2.ensures) (c.max-self-inside.ensures ∙ ap (λ (stamp : Stamp). max inside.clock stamp.clock) c.stamp-2.ensures) agrees,
       subst (λ list. AreTakenBack list c.apply_in_turn.new.undone) (sym c.push_reserved.ensures.items) taken,
       subst (AreIndexed c.add.new.self.rows) (sym c.push_reserved.ensures.items) indexed,
     )
