@@ -62,8 +62,14 @@ module _ (count : ℕ) (writes : List Write) (order : List ℕ) (old : Slots) (v
   pub changes_fit : changes_in (take n stack.undos) + changes_of (write ∷ drop n (in_stamp_order writes)) ≤ stack.promised + most_changes write.program
   changes_fit =
       let front = take n (in_stamp_order writes) in
-      omega (arith, AreUndos-few (take n stack.undos) front empty (AreUndos-take stack.undos (in_stamp_order writes) empty n taken.undos),
-      changes_of-append front (drop n (in_stamp_order writes)), ap changes_of (take-append-drop n (in_stamp_order writes)), changes_of-in_stamp_order writes, taken.promised)
+      omega (
+        arith,
+        AreUndos-few (take n stack.undos) front empty (AreUndos-take stack.undos (in_stamp_order writes) empty n taken.undos),
+        changes_of-append front (drop n (in_stamp_order writes)),
+        ap changes_of (take-append-drop n (in_stamp_order writes)),
+        changes_of-in_stamp_order writes,
+        taken.promised,
+      )
 
   -- the database, the Writes behind the place taken back
   taken_back : after_undoing (drop n stack.undos) (places old) ≡ after_writes (take n (in_stamp_order writes)) empty

@@ -1,5 +1,6 @@
 pub mod Agrees
 pub mod InOrder
+pub mod Indexed
 pub mod Inserting
 pub mod ListingLaws
 pub mod Picked

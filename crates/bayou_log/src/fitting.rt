@@ -1,10 +1,9 @@
 //! Whether a Write may follow those that are held.
 ghost use Rattle.std.specs.Prelude.{◌≡◌, ℕ, ◌+◌, ◌<◌, ◌↔◌, IsTrue, slice_index};
 ghost use Rattle.bayou_base.specs.Vector.{Dominates};
-ghost use Rattle.bayou_lang.specs.Writes.{covered_by, greatest_clock};
 
 use bayou_base::Vector;
-use bayou_lang::{RestingWrite, Write};
+use bayou_lang::Write;
 
 /// Why a Write may not follow those that are held.
 #[derive(Clone, Copy, Debug, PartialEq, Eq)]
@@ -24,17 +23,4 @@ pub(crate) fn is_next(write: &Write, count: u8, held: &Vector) -> bool
     write.wid.origin.index < count
         && write.wid.seq == held.get(write.wid.origin) + 1
         && held.dominates(&write.deps)
-}
-
-/// The greatest clock among those of the Writes that the vector counts, 0 where there is none.
-pub(crate) fn clock_of(writes: &[RestingWrite], counts: &Vector) -> u32
-    ensures { result ≡ greatest_clock (covered_by counts.now writes.now) }
-{
-    let mut clock = 0;
-    for held in writes {
-        if counts.covers(held.wid()) {
-            clock = clock.max(held.stamp().clock);
-        }
-    }
-    clock
 }

@@ -17,6 +17,7 @@
 
 pub mod db;
 pub mod fitting;
+mod index;
 pub mod laws;
 pub mod listing;
 mod next;

@@ -3,13 +3,16 @@ ghost use Rattle.bayou_base.specs.declared.limits.TheConstants.{SERVERS, MAX_WRI
 ghost use Rattle.bayou_lang.specs.declared.write.Write.{Write};
 ghost use Rattle.bayou_lang.specs.Places.{value_at};
 ghost use Rattle.bayou_lang.specs.Writes.{count_of, covered_by, greatest_clock, AreFitting, Fits, HasNoGap};
+ghost use Rattle.bayou_base.specs.Vector.{Dominates};
 ghost use Rattle.bayou_log.specs.Fitting.{FitAnswer};
+ghost use Rattle.bayou_log.specs.Inner.Index.{IsLastClock};
 ghost use Rattle.bayou_log.specs.Listing.{listing_of};
 ghost use Rattle.bayou_log.specs.Log.{IsReserved};
 ghost use Rattle.bayou_log.specs.Replay.{replay};
 
 use crate::db::Db;
-use crate::fitting::{Misfit, clock_of, is_next};
+use crate::fitting::{Misfit, is_next};
+use crate::index::Index;
 use crate::listing::{Listed, outcomes_in_turn};
 use crate::order::place_of;
 use crate::undo::{UndoStack, apply_in_turn, take_back};
@@ -26,6 +29,8 @@ pub struct WriteLog {
     // Their places, in stamp order.
     order: Vec<usize>,
     db: Db,
+    // Where the Writes of each server stand among them.
+    own: Index,
     // What takes the Writes back, those in stamp order.
     undone: UndoStack,
     vector: Vector,
@@ -39,6 +44,7 @@ impl Model for WriteLog {
     ghost use Rattle.std.specs.Prelude.{◌-◌, min, vec_len, vec_capacity};
     ghost use Rattle.bayou_log.specs.Log.{Log};
     ghost use Rattle.bayou_log.specs.Inner.Fields.{AgreesWith, AreKept, AreTakenBack};
+    ghost use Rattle.bayou_log.specs.Inner.Index.{AreIndexed};
     ghost use Rattle.bayou_log.specs.Db as database;
 
     ghost Value = { Log };
@@ -48,13 +54,13 @@ impl Model for WriteLog {
       count = l.count;
       limit = l.limit;
       room = record {
-        writes = min (min (vec_capacity l.writes - vec_len l.writes) (vec_capacity l.order - vec_len l.order)) (l.undone.places - vec_len l.writes);
+        writes = min (min (vec_capacity l.writes - vec_len l.writes) (vec_capacity l.order - vec_len l.order)) (min (l.undone.places - vec_len l.writes) l.own.room);
         keys = database.room l.db;
         changes = l.undone.room - l.undone.promised;
       };
     } };
 
-    ghost invariant = { λ l. AreKept l.count l.limit l.writes.items × AgreesWith l.writes.items l.order.items l.db l.vector l.clock × AreTakenBack l.writes.items l.undone };
+    ghost invariant = { λ l. AreKept l.count l.limit l.writes.items × AgreesWith l.writes.items l.order.items l.db l.vector l.clock × AreTakenBack l.writes.items l.undone × AreIndexed l.own.rows l.writes.items };
 }
 
 impl WriteLog {
@@ -70,6 +76,7 @@ impl WriteLog {
             writes: Vec::new(alloc),
             order: Vec::new(alloc),
             db: Db::new(alloc),
+            own: Index::new(alloc),
             undone: UndoStack::new(alloc),
             vector: Vector::zero(),
             clock: 0,
@@ -141,16 +148,15 @@ impl WriteLog {
         ensures held { IfSome result (λ write. Contains self.now.receipts write.now × (write.now.wid ≡ wid)) }
         ensures missing { IfNone result (All (λ held. held.wid ≢ wid) self.now.receipts) }
     {
-        for held in self.receipts() {
-            if held.wid() == wid {
-                return Some(held);
-            }
+        if !self.vector.covers(wid) {
+            return None;
         }
-        None
+        let place = self.own.place(usize::from(wid.origin.index), wid.seq);
+        Some(&self.writes[place])
     }
 
-    /// Whether the Write may be inserted, room aside. It takes no memory. Where the Write's server held all that this log
-    /// holds, nothing is sought; else each held Write is looked at.
+    /// Whether the Write may be inserted, room aside. It takes no memory, and looks at one held Write of each
+    /// server at the most.
     pub fn fits(&self, write: &Write) -> Result<(), Misfit>
         ensures { FitAnswer self.now.count self.now.receipts write.now result }
     {
@@ -171,8 +177,9 @@ impl WriteLog {
         is_next(write, self.count, &self.vector)
     }
 
-    /// The greatest clock among the held Writes that the vector counts.
+    /// The greatest clock among the held Writes that the vector counts, which counts no other.
     fn clock_among(&self, counts: &Vector) -> u32
+        requires { Dominates (count_of self.now.receipts) counts.now }
         ensures value { result ≡ greatest_clock (covered_by counts.now self.now.receipts) }
         ensures in_range { result ≤ MAX_WRITES }
     {
@@ -180,7 +187,23 @@ impl WriteLog {
             // It counts all of them.
             return self.clock;
         }
-        clock_of(&self.writes, counts)
+        let mut clock = 0;
+        for server in 0..SERVERS {
+            clock = clock.max(self.last_clock(server, counts.counts()[server]));
+        }
+        clock
+    }
+
+    /// The clock of the server's Write of this sequence number, which is held, or 0 where the number is.
+    fn last_clock(&self, server: usize, seq: u32) -> u32
+        requires server { server < SERVERS }
+        requires held { seq ≤ slice_index (count_of self.now.receipts) server }
+        ensures { IsLastClock server seq self.now.receipts result }
+    {
+        if seq == 0 {
+            return 0;
+        }
+        self.writes[self.own.place(server, seq)].stamp().clock
     }
 
     /// The Writes held, in stamp order, each with the outcome that it has in the replay. It takes time as an insertion
@@ -199,8 +222,8 @@ impl WriteLog {
     {
         self.writes.try_reserve(1)?;
         self.order.try_reserve(1)?;
-        self.undone
-            .reserve(write.program().most_changes())?;
+        self.own.reserve()?;
+        self.undone.reserve(write.program().most_changes())?;
         self.db.prepare(write.program())
     }
 
@@ -214,6 +237,7 @@ impl WriteLog {
     {
         let at = self.writes.len();
         let place = place_of(write.stamp(), &self.writes, &self.order);
+        self.own.add(write.wid(), at as u32);
         self.vector.raise(write.wid());
         self.clock = self.clock.max(write.stamp().clock);
         self.undone.promise(write.program().most_changes());
@@ -222,6 +246,11 @@ impl WriteLog {
         };
         self.writes.push_reserved(write);
         take_back(&mut self.db, &mut self.undone, place);
-        apply_in_turn(&mut self.db, &mut self.undone, &self.writes, &self.order[place..]);
+        apply_in_turn(
+            &mut self.db,
+            &mut self.undone,
+            &self.writes,
+            &self.order[place..],
+        );
     }
 }

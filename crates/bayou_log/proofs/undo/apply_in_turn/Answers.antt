@@ -51,8 +51,13 @@ picked_more writes order i write more within is =
 pub push-requires-clause-room : goal.push-requires-clause-room
 push-requires-clause-room c =
     let within = c.requires.inside c.loop-at.at-index 0 c.loop-at-test.true in
-    omega (arith, c.loop-at.invariant.changes, changes_left c.args.writes.now c.args.order.now c.loop-at.at-index c.index-writes-at.result c.loop-at-test.true within c.index-writes-at.is,
-    c.apply-undo.ensures.undo.few, ap most_changes c.program.ensures)
+    omega (
+      arith,
+      c.loop-at.invariant.changes,
+      changes_left c.args.writes.now c.args.order.now c.loop-at.at-index c.index-writes-at.result c.loop-at-test.true within c.index-writes-at.is,
+      c.apply-undo.ensures.undo.few,
+      ap most_changes c.program.ensures,
+    )
 
 pub loop-at-preserved : goal.loop-at-preserved
 loop-at-preserved c =
@@ -84,8 +89,24 @@ loop-at-preserved c =
             ∙ ap (λ (stack : Stack). record stack { undos = stack.undos ++ undo ∷ [] }) adds.only
             ∙ ap (λ undos. record c.args.undone.now { undos = undos }) (append_assoc c.args.undone.now.undos adds.more (undo ∷ []));
       });
-      changes = omega (arith, c.loop-at.invariant.changes, changes_left writes order i write c.loop-at-test.true within c.index-writes-at.is, c.apply-undo.ensures.undo.few, ap most_changes c.program.ensures,
-      ap changes_in undos_now, changes_in-push c.loop-at.undone.undos undo, ap (λ (stack : Stack). stack.room) c.push.ensures);
-      entries = omega (arith, c.loop-at.invariant.entries, ap {A = List (List Change)} length undos_now, length-append c.loop-at.undone.undos (undo ∷ []), length-drop i order, length-drop (i + 1) order, c.loop-at-test.true,
-      ap (λ (stack : Stack). stack.places) c.push.ensures);
+      changes = omega (
+        arith,
+        c.loop-at.invariant.changes,
+        changes_left writes order i write c.loop-at-test.true within c.index-writes-at.is,
+        c.apply-undo.ensures.undo.few,
+        ap most_changes c.program.ensures,
+        ap changes_in undos_now,
+        changes_in-push c.loop-at.undone.undos undo,
+        ap (λ (stack : Stack). stack.room) c.push.ensures,
+      );
+      entries = omega (
+        arith,
+        c.loop-at.invariant.entries,
+        ap {A = List (List Change)} length undos_now,
+        length-append c.loop-at.undone.undos (undo ∷ []),
+        length-drop i order,
+        length-drop (i + 1) order,
+        c.loop-at-test.true,
+        ap (λ (stack : Stack). stack.places) c.push.ensures,
+      );
     }

@@ -17,8 +17,17 @@ pub invariant_of-self-2 : goal.invariant_of-self-2
 invariant_of-self-2 c =
     let left = c.pop_turned-before.new.list.items in
     let before = c.pop_turned-before.result.items in (
-      omega (arith, ap all_of c.in_ok-size.ensures.items, all_of-push c.pop.new.self.items c.in_ok-size.size, c.self.invariant.0, ap {A = List Change} length c.pop_turned-before.ensures.items,
-      length-append left (reverse before), length-reverse before, c.pop_turned-before.ensures.count, c.from.ensures),
+      omega (
+        arith,
+        ap all_of c.in_ok-size.ensures.items,
+        all_of-push c.pop.new.self.items c.in_ok-size.size,
+        c.self.invariant.0,
+        ap {A = List Change} length c.pop_turned-before.ensures.items,
+        length-append left (reverse before),
+        length-reverse before,
+        c.pop_turned-before.ensures.count,
+        c.from.ensures,
+      ),
       (All-pop (λ size. size ≤ MAX_OPS) c.self.inside.sizes.items c.pop.new.self.items (Some c.in_ok-size.size) c.in_ok-size.ensures.items c.self.invariant.1).0,
       omega (arith, c.self.invariant.2, c.pop_turned-before.ensures.capacity),
     )
@@ -28,8 +37,17 @@ returns-clause-undos c =
     let left = c.pop_turned-before.new.list.items in
     let before = c.pop_turned-before.result.items in
     let rest : all_of c.pop.new.self.items ≡ length left =
-    omega (arith, ap all_of c.in_ok-size.ensures.items, all_of-push c.pop.new.self.items c.in_ok-size.size, c.self.invariant.0, ap {A = List Change} length c.pop_turned-before.ensures.items,
-    length-append left (reverse before), length-reverse before, c.pop_turned-before.ensures.count, c.from.ensures) in
+    omega (
+      arith,
+      ap all_of c.in_ok-size.ensures.items,
+      all_of-push c.pop.new.self.items c.in_ok-size.size,
+      c.self.invariant.0,
+      ap {A = List Change} length c.pop_turned-before.ensures.items,
+      length-append left (reverse before),
+      length-reverse before,
+      c.pop_turned-before.ensures.count,
+      c.from.ensures,
+    ) in
     let size : c.in_ok-size.size ≡ length before = omega (arith, c.pop_turned-before.ensures.count, c.from.ensures) in
     sym (ap (λ (stack : Stack). stack.undos) c.self.view_is)
     ∙ ap (λ sizes. undos_of sizes c.self.inside.changes.items) c.in_ok-size.ensures.items

@@ -22,8 +22,16 @@ invariant_of-self c =
     let sizes = c.self.inside.sizes.items in
     let changes = c.self.inside.changes.items in
     let before = c.undo.inside.before.items in
-    let as_many : all_of c.push_reserved.new.self.items ≡ length c.push_turned.new.list.items = omega (arith, ap all_of c.push_reserved.ensures.items, all_of-push sizes c.len.result, c.self.invariant.0, ap {A = List Change} length c.push_turned.ensures.items,
-    length-append changes (reverse before), length-reverse before, c.len.ensures.value) in
+    let as_many : all_of c.push_reserved.new.self.items ≡ length c.push_turned.new.list.items = omega (
+      arith,
+      ap all_of c.push_reserved.ensures.items,
+      all_of-push sizes c.len.result,
+      c.self.invariant.0,
+      ap {A = List Change} length c.push_turned.ensures.items,
+      length-append changes (reverse before),
+      length-reverse before,
+      c.len.ensures.value,
+    ) in
     let small = subst (All (λ size. size ≤ MAX_OPS)) (sym c.push_reserved.ensures.items)
     (All-push (λ size. size ≤ MAX_OPS) sizes c.len.result c.self.invariant.1 c.len.ensures.fits) in
     (as_many, small, omega (arith, c.self.invariant.2, c.push_turned.ensures.capacity))

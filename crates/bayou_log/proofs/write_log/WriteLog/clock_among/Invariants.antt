@@ -1,0 +1,10 @@
+use Rattle.std.proofs.Common.{◌≡◌, ◌<◌, ◌≤◌, ◌⊎◌, All, Contains, slice_index}
+use Rattle.bayou_lang.specs.declared.write.Write.{Write}
+use Rattle.bayou_log.proofs.write_log.WriteLog.clock_among.Given as goal
+
+-- the greatest clock of the counted Writes of the servers so far
+abbrev pub invariant-loop-server : goal.invariant-loop-server
+invariant-loop-server l = record {
+  greatest : All (λ write. write.wid.origin.index < l.server → write.wid.seq ≤ slice_index l.counts write.wid.origin.index → write.stamp.clock ≤ l.clock) l.self.receipts;
+  reached : (l.clock ≡ 0) ⊎ ((write : Write) × Contains l.self.receipts write × (write.wid.seq ≤ slice_index l.counts write.wid.origin.index) × (write.stamp.clock ≡ l.clock));
+}
