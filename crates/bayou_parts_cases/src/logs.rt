@@ -71,20 +71,32 @@ const ORDERS: [[u8; 3]; 6] = [
     [2, 1, 0],
 ];
 
+/// Whether the plain replay has the same at the key.
+fn is_plain(alloc: Global, log: &WriteLog, a: &Key) -> Result<bool, AllocError> {
+    let plain = replayed(alloc, log.receipts())?;
+    Ok(plain.get(a) == log.get(a))
+}
+
+/// Adds the three Writes in this order. Whether each is added.
+fn takes(rt: &impl Abort, log: &mut WriteLog, order: [u8; 3], a: &Key) -> Result<bool, AllocError> {
+    let mut are_added = true;
+    for server in order {
+        are_added &= grows(rt, log, server, a)?;
+    }
+    Ok(are_added)
+}
+
 #[test]
 fn every_order_of_receipt_makes_one_database(rt: HostRuntime) -> Result<(), Fail> {
     let a = key(&rt, "a");
     for order in ORDERS {
         let mut log = WriteLog::new(rt.alloc(), 3, 3);
-        for server in order {
-            assert!(rt; grows(&rt, &mut log, server, &a)?, "{order:?}");
-        }
-        let plain = replayed(rt.alloc(), log.receipts())?;
-        let is_so = lists_all(rt.alloc(), &log)? && log.is_full() && log.clock() == 1;
-        assert!(rt; is_so && plain.get(&a) == log.get(&a), "{order:?}");
-        assert_eq!(rt;
-            (told(&log, &a), log.vector().counts()[2]),
-            ((3, 15), 1),
+        let is_so = takes(&rt, &mut log, order, &a)?
+            && lists_all(rt.alloc(), &log)?
+            && is_plain(rt.alloc(), &log, &a)?;
+        let is_told = log.clock() == 1 && told(&log, &a) == (3, 15);
+        assert!(rt;
+            is_so && is_told && log.is_full() && log.vector().counts()[2] == 1,
             "{order:?}"
         );
     }
@@ -95,15 +107,12 @@ fn every_order_of_receipt_makes_one_database(rt: HostRuntime) -> Result<(), Fail
 fn a_full_log_takes_no_write(rt: HostRuntime) -> Result<(), Fail> {
     let mut log = WriteLog::new(rt.alloc(), 2, 1);
     let (held, other) = (first(&rt, 0).wid, first(&rt, 1).wid);
-    let before = (log.is_full(), log.find(held).is_some());
-    let are_added = (add(&mut log, first(&rt, 0))?, add(&mut log, first(&rt, 1))?);
-    let after = (
-        log.is_full(),
-        log.find(held).is_some(),
-        log.find(other).is_some(),
-    );
-    assert_eq!(rt; (before, are_added), ((false, false), (true, false)));
-    assert_eq!(rt; (after, log.receipts().len()), ((true, true, false), 1));
+    let was_empty = !log.is_full() && log.find(held).is_none();
+    let is_added = add(&mut log, first(&rt, 0))?;
+    let is_other_added = add(&mut log, first(&rt, 1))?;
+    let is_full = log.is_full() && log.receipts().len() == 1;
+    let are_found = log.find(held).is_some() && log.find(other).is_none();
+    assert!(rt; was_empty && is_added && !is_other_added && is_full && are_found);
     Ok(())
 }
 
@@ -142,20 +151,12 @@ fn a_database_keeps_its_room_when_cleared(rt: HostRuntime) -> Result<(), Fail> {
     let Write { program, .. } = decode_write(&bytes_of(rt.alloc(), TURNS)?)?;
     let mut db = Db::new(rt.alloc());
     db.prepare(&program)?;
-    let nothing = db.get(&a);
-    let first = (db.apply(&program), db.get(&a));
-    let second = (db.apply(&program), db.get(&a));
-    let third = db.apply(&program);
+    let had_nothing = db.get(&a).is_none();
+    let is_put = db.apply(&program) == Outcome::Updated && db.get(&a) == Some(Value::Num(1));
+    let is_taken = db.apply(&program) == Outcome::Merged(0) && db.get(&a).is_none();
+    let is_put_again = db.apply(&program) == Outcome::Updated;
     db.clear();
-    let cleared = (db.get(&a), db.apply(&program));
-    assert_eq!(rt;
-        (nothing, first),
-        (None, (Outcome::Updated, Some(Value::Num(1))))
-    );
-    assert_eq!(rt;
-        (second, third),
-        ((Outcome::Merged(0), None), Outcome::Updated)
-    );
-    assert_eq!(rt; cleared, (None, Outcome::Updated));
+    let is_cleared = db.get(&a).is_none() && db.apply(&program) == Outcome::Updated;
+    assert!(rt; had_nothing && is_put && is_taken && is_put_again && is_cleared);
     Ok(())
 }
