@@ -1,8 +1,6 @@
 //! A device in memory: what it holds after each call, and which calls fail.
 use bayou_device::{Device, MemoryDevice, OpenGate, ReadFault};
-use std::alloc::{AllocError, Global};
-use std::process::Abort;
-use std::test::Fail;
+use std::alloc::Global;
 
 /// What is done to a device. A device call says whether it succeeds.
 #[derive(Clone, Copy)]
@@ -19,41 +17,30 @@ enum Step {
 
 use Step::{Append, Crash, Cut, Fuse, Lose, Read, Sync};
 
-/// Whether a read succeeds. Where it does, it gives the bytes.
-fn reads(alloc: Global, device: &mut MemoryDevice<OpenGate>) -> Result<bool, AllocError> {
+/// Whether a read goes so: where it succeeds it gives the bytes.
+fn reads(alloc: Global, device: &mut MemoryDevice<OpenGate>, is_ok: bool) -> bool {
     match device.read_all(alloc) {
-        Ok(bytes) => Ok(bytes.as_slice() == device.bytes()),
-        Err(ReadFault::Failed) => Ok(false),
-        Err(ReadFault::OutOfMemory) => Err(AllocError),
+        Ok(bytes) => is_ok && bytes.as_slice() == device.bytes(),
+        Err(fault) => !is_ok && fault == ReadFault::Failed,
     }
 }
 
 /// Does the step. Whether it goes so.
-fn goes(
-    alloc: Global,
-    device: &mut MemoryDevice<OpenGate>,
-    step: Step,
-) -> Result<bool, AllocError> {
+fn goes(alloc: Global, device: &mut MemoryDevice<OpenGate>, step: Step) -> bool {
     match step {
-        Append(piece, is_ok) => Ok(device.append(piece.as_bytes()).is_ok() == is_ok),
-        Sync(is_ok) => Ok(device.sync().is_ok() == is_ok),
-        Cut(len, is_ok) => {
-            let len = len.min(device.bytes().len());
-            Ok(device.cut(len).is_ok() == is_ok)
-        }
-        Read(is_ok) => Ok(reads(alloc, device)? == is_ok),
+        Append(piece, is_ok) => device.append(piece.as_bytes()).is_ok() == is_ok,
+        Sync(is_ok) => device.sync().is_ok() == is_ok,
+        Cut(len, is_ok) => device.cut(len.min(device.bytes().len())).is_ok() == is_ok,
+        Read(is_ok) => reads(alloc, device, is_ok),
         Fuse(calls, kept) => {
             device.fuse(calls.max(1), kept);
-            Ok(true)
+            true
         }
         Lose(count) => {
             device.lose(count);
-            Ok(true)
+            true
         }
-        Crash(tail) => {
-            device.crash(tail.as_bytes())?;
-            Ok(true)
-        }
+        Crash(tail) => device.crash(tail.as_bytes()).is_ok(),
     }
 }
 
@@ -97,17 +84,11 @@ static STEPS: [(Step, &str); 31] = [
 ];
 
 /// The steps go as the table says.
-fn all_go(rt: &impl Abort, alloc: Global, steps: &[(Step, &str)]) -> Result<(), AllocError> {
-    let mut device = MemoryDevice::new(alloc, OpenGate);
-    for (at, (step, held)) in steps.iter().enumerate() {
-        let is_so = goes(alloc, &mut device, *step)?;
+#[test]
+fn steps_of_a_device(rt: HostRuntime) {
+    let mut device = MemoryDevice::new(rt.alloc(), OpenGate);
+    for (at, (step, held)) in STEPS.iter().enumerate() {
+        let is_so = goes(rt.alloc(), &mut device, *step);
         assert!(rt; is_so && device.bytes() == held.as_bytes(), "step {at}");
     }
-    Ok(())
-}
-
-#[test]
-fn steps_of_a_device(rt: HostRuntime) -> Result<(), Fail> {
-    all_go(&rt, rt.alloc(), &STEPS)?;
-    Ok(())
 }

@@ -72,10 +72,7 @@ fn bodies_are_found_again(rt: HostRuntime) -> Result<(), Fail> {
     let long = with_bodies(alloc, server_id(&rt, 7), &[b"\x09", &longest])?;
     let is_page = page.bytes() == bytes_of(alloc, EXAMPLE)?.as_slice();
     let are_three = three.bytes() == bytes_of(alloc, THREE)?.as_slice();
-    assert_eq!(rt;
-        (is_page, are_three, long.bytes().len()),
-        (true, true, 8271)
-    );
+    assert!(rt; is_page && are_three && long.bytes().len() == 8271);
     Ok(())
 }
 
@@ -114,7 +111,7 @@ fn in_front(len: usize) -> (Found, usize) {
 fn each_front_is_a_journal(rt: HostRuntime) -> Result<(), Fail> {
     let server = server_id(&rt, 0);
     let bytes = bytes_of(rt.alloc(), THREE)?;
-    assert_eq!(rt; bytes.len(), 292);
+    assert!(rt; bytes.len() == 292);
     for len in 0..293 {
         let (found, left) = in_front(len);
         let is_so = is_found(

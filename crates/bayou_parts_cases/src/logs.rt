@@ -1,5 +1,5 @@
 //! Logs of Writes, and the databases that they make.
-use crate::fixtures::{key, plus, put, write};
+use crate::fixtures::{key, plus, put, wid, write};
 use crate::notation::bytes_of;
 use arrayvec::ArrayVec;
 use bayou_base::{Key, Value};
@@ -90,22 +90,43 @@ fn order_of(number: usize) -> ArrayVec<u8, 5> {
     order
 }
 
+/// Whether the plain replay has the same at the key.
+fn is_plain(alloc: Global, log: &WriteLog, a: &Key) -> Result<bool, AllocError> {
+    let plain = replayed(alloc, log.receipts())?;
+    Ok(plain.get(a) == log.get(a))
+}
+
+/// Adds the five Writes in this order. Whether each is added.
+fn takes(
+    rt: &impl Abort,
+    alloc: Global,
+    log: &mut WriteLog,
+    order: &[u8],
+    a: &Key,
+) -> Result<bool, AllocError> {
+    let mut are_added = true;
+    for server in order {
+        are_added &= grows(rt, alloc, log, *server, a)?;
+    }
+    Ok(are_added)
+}
+
 #[test]
 fn every_order_of_receipt_makes_one_database(rt: HostRuntime) -> Result<(), Fail> {
+    let alloc = rt.alloc();
     let a = key(&rt, "a");
     for number in 0..ORDERS {
-        let mut log = WriteLog::new(rt.alloc(), 5, 5);
-        let mut added = 0;
-        for server in order_of(number).as_slice() {
-            added += i64::from(grows(&rt, rt.alloc(), &mut log, *server, &a)?);
-        }
-        let plain = replayed(rt.alloc(), log.receipts())?;
-        let is_so = lists_all(rt.alloc(), &log, 5)? && log.is_full() && log.clock() == 1;
-        assert_eq!(rt;
-            (added, is_so && plain.get(&a) == log.get(&a), told(&log, &a)),
-            (5, true, (5, 1115)),
-            "{number}"
-        );
+        let mut log = WriteLog::new(alloc, 5, 5);
+        let is_so = takes(
+            &rt,
+            alloc,
+            &mut log,
+            order_of(number).as_slice(),
+            &a,
+        )? && lists_all(alloc, &log, 5)?
+            && is_plain(alloc, &log, &a)?;
+        let is_told = log.clock() == 1 && told(&log, &a) == (5, 1115);
+        assert!(rt; is_so && is_told && log.is_full(), "{number}");
     }
     Ok(())
 }
@@ -113,46 +134,46 @@ fn every_order_of_receipt_makes_one_database(rt: HostRuntime) -> Result<(), Fail
 /// How many Writes server 0 made while server 1 was away.
 const MADE_APART: u32 = 200;
 
+/// The log of these Writes, each of which adds 1.
+fn made_apart(rt: &impl Abort, alloc: Global) -> Result<WriteLog, AllocError> {
+    let mut log = WriteLog::new(alloc, 2, 300);
+    for seq in 1..=MADE_APART {
+        let next = write(rt, 0, seq, seq, [seq - 1, 0], plus(rt, 1));
+        add(alloc, &mut log, &next)?;
+    }
+    Ok(log)
+}
+
+/// The first of the Writes has nothing to add to; the late one, of the same clock and a later server, puts 5 before all others.
 #[test]
 fn a_late_write_goes_below_two_hundred(rt: HostRuntime) -> Result<(), Fail> {
+    let alloc = rt.alloc();
     let a = key(&rt, "a");
-    let mut log = WriteLog::new(rt.alloc(), 2, 300);
-    for seq in 1..=MADE_APART {
-        let next = write(&rt, 0, seq, seq, [seq - 1, 0], plus(&rt, 1));
-        add(rt.alloc(), &mut log, &next)?;
-    }
-    let before = told(&log, &a);
-    let is_added = add(rt.alloc(), &mut log, &first(&rt, 1))?;
-    let plain = replayed(rt.alloc(), log.receipts())?;
+    let mut log = made_apart(&rt, alloc)?;
+    let was_empty = told(&log, &a) == (200, 0);
+    let is_added = add(alloc, &mut log, &first(&rt, 1))?;
     let updated = log
-        .listing(rt.alloc())?
+        .listing(alloc)?
         .iter()
         .filter(|listed| listed.outcome == Outcome::Updated)
         .count();
-    // The first Write has nothing to add to; the late one, of the same clock and a later server, puts 5.
-    assert_eq!(rt;
-        (before, is_added, told(&log, &a), updated, plain.get(&a) == log.get(&a)),
-        ((200, 0), true, (201, 204), 200, true)
-    );
+    let is_told = told(&log, &a) == (201, 204) && updated == 200;
+    let is_found = log.find(wid(&rt, 0, 200)).is_some() && log.find(wid(&rt, 1, 2)).is_none();
+    assert!(rt; was_empty && is_added && is_told && is_found && is_plain(alloc, &log, &a)?);
     Ok(())
 }
 
 #[test]
 fn a_full_log_takes_no_write(rt: HostRuntime) -> Result<(), Fail> {
-    let mut log = WriteLog::new(rt.alloc(), 2, 1);
+    let alloc = rt.alloc();
+    let mut log = WriteLog::new(alloc, 2, 1);
     let (held, other) = (first(&rt, 0).wid, first(&rt, 1).wid);
-    let before = (log.is_full(), log.find(held).is_some());
-    let are_added = (
-        add(rt.alloc(), &mut log, &first(&rt, 0))?,
-        add(rt.alloc(), &mut log, &first(&rt, 1))?,
-    );
-    let after = (
-        log.is_full(),
-        log.find(held).is_some(),
-        log.find(other).is_some(),
-    );
-    assert_eq!(rt; (before, are_added), ((false, false), (true, false)));
-    assert_eq!(rt; (after, log.receipts().len()), ((true, true, false), 1));
+    let was_empty = !log.is_full() && log.find(held).is_none();
+    let is_added = add(alloc, &mut log, &first(&rt, 0))?;
+    let is_other_added = add(alloc, &mut log, &first(&rt, 1))?;
+    let is_full = log.is_full() && log.receipts().len() == 1;
+    let are_found = log.find(held).is_some() && log.find(other).is_none();
+    assert!(rt; was_empty && is_added && !is_other_added && is_full && are_found);
     Ok(())
 }
 
@@ -192,27 +213,15 @@ fn what_was_applied_is_taken_back(rt: HostRuntime) -> Result<(), Fail> {
     let program = program.rest(rt.alloc())?;
     let mut db = Db::new(rt.alloc());
     db.prepare(&program)?;
-    let nothing = db.get(&a);
+    let had_nothing = db.get(&a).is_none();
     let (first, _) = db.apply(&program);
-    let put = db.get(&a);
+    let is_put = first == Outcome::Updated && db.get(&a) == Some(Value::Num(1));
     let (second, undo) = db.apply(&program);
-    let removed = db.get(&a);
+    let is_taken = second == Outcome::Merged(0) && db.get(&a).is_none();
     db.undo(undo);
-    let back = db.get(&a);
+    let is_back = db.get(&a) == Some(Value::Num(1));
     let (third, _) = db.apply(&program);
-    assert_eq!(rt;
-        (nothing, first, put, second, removed),
-        (
-            None,
-            Outcome::Updated,
-            Some(Value::Num(1)),
-            Outcome::Merged(0),
-            None
-        )
-    );
-    assert_eq!(rt;
-        (back, third, db.get(&a)),
-        (Some(Value::Num(1)), Outcome::Merged(0), None)
-    );
+    let is_taken_again = third == Outcome::Merged(0) && db.get(&a).is_none();
+    assert!(rt; had_nothing && is_put && is_taken && is_back && is_taken_again);
     Ok(())
 }
