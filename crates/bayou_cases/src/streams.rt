@@ -256,3 +256,56 @@ fn pieces(rt: HostRuntime) -> Result<(), Fail> {
     );
     Ok(())
 }
+
+/// A script that is refused: its bytes, behind which line feeds stand without an end, what is told, and how many bytes are read.
+static REFUSED: [(&str, u8, usize, &str, u64); 4] = [
+    ("[]\n", b'x', 0, "bayou: line 1: bad shape\n", 3),
+    (
+        "\n[\"log\",0]\n[]\n",
+        b'x',
+        0,
+        "bayou: line 2: out of place\n",
+        11,
+    ),
+    (
+        "[\"servers\",1]\n",
+        b' ',
+        65_536,
+        "bayou: line 2: not JSON\n",
+        65_551,
+    ),
+    (
+        "[\"servers\",1]\n",
+        b' ',
+        70_000,
+        "bayou: line 2: bad shape\n",
+        65_551,
+    ),
+];
+
+/// The input is read no further than to where its least line with a fault is sure to have one.
+#[test]
+fn refused_as_it_comes(rt: HostRuntime) -> Result<(), Fail> {
+    let alloc = rt.alloc();
+    for (front, byte, count, told, calls) in REFUSED.iter() {
+        let mut script = Vec::new(alloc);
+        script.extend_from_slice(front.as_bytes())?;
+        script.resize(front.len() + *count, *byte)?;
+        let mut reader = FakeReader {
+            bytes: script.as_slice(),
+            is_endless: true,
+            pace: 1,
+            fails_at: 0,
+            calls: 0,
+        };
+        let mut writer = writer_of(alloc, 1, 0)?;
+        let mut errors = writer_of(alloc, 1, 0)?;
+        let status = run(alloc, &mut reader, &mut writer, &mut errors);
+        let is_told = errors.bytes.as_slice() == told.as_bytes();
+        assert!(rt;
+            status == 2 && is_told && writer.bytes.is_empty() && reader.calls == *calls,
+            "{told}"
+        );
+    }
+    Ok(())
+}

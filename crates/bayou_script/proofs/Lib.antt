@@ -1,2 +1,3 @@
 mod Checked
+mod Cut
 pub mod Once

@@ -1,3 +1,4 @@
 pub mod Inner
 pub mod Plan
+pub mod Reading
 pub mod Script

@@ -3,6 +3,7 @@ pub mod Begun
 pub mod Ended
 pub mod Gathered
 pub mod Joined
+pub mod Read
 pub mod Runs
 pub mod Standing
 pub mod Taken

@@ -11,13 +11,12 @@ use Rattle.bayou_shell.specs.declared.fault.Fault.{Fault}
 use Rattle.bayou_shell.specs.declared.fault.Fault.TheVariants.{Line, Device, Input, Output}
 use Rattle.bayou_shell.specs.declared.fault.Fault.TheVariants as faults
 use Rattle.bayou_text.specs.declared.command.Command.{Command}
-use Rattle.bayou_script.specs.declared.fault.Refusal.{Refusal}
-use Rattle.bayou_script.specs.declared.fault.Refusal.TheVariants as refusals
-use Rattle.bayou_shell.specs.Fault.{exit_status, fault_of, status_of}
+use Rattle.bayou_shell.specs.Fault.{exit_status, status_of}
+use Rattle.bayou_shell.specs.Inner.Faults.{IsReadFault}
 use Rattle.bayou_shell.specs.Machine.{HasBegun, Machine}
 use Rattle.bayou_shell.specs.Printed.{answer_text}
 use Rattle.bayou_shell.specs.Run.{Step, Run, RunsAs, Prints, PrintsPart, answers_text}
-use Rattle.bayou_script.specs.Script.{Plan, IsRefused, RefusedFor, is_served, lines_of}
+use Rattle.bayou_script.specs.Script.{Plan, is_served}
 use Rattle.bayou_text.specs.Said.{command_said}
 use Rattle.bayou_shell.specs.Account.{Account}
 use Rattle.bayou_shell.specs.Inner.Taken.{Takes, TakesFront}
@@ -196,12 +195,14 @@ part_taken plan a b text missing none prints gathered =
     let (front, rest, split, took) = Takes-front a b text missing none gathered in
     (front, PrintsPart-front plan text front rest split prints, took)
 
--- a script that is refused is answered with nothing
-pub RunsAs-refused : (known contents : Option (List ℕ)) (text : List ℕ) (refusal : Refusal) → IfSome known (λ input. text ≡ input) → RefusedFor (lines_of text) refusal
-    → IfSome known (λ input. RunsAs input (Err (fault_of refusal)) contents contents)
-RunsAs-refused None contents text refusal is refused = tt
-RunsAs-refused (Some input) contents text (refusals.Line number why) is refused = (subst (λ bytes. IsRefused (lines_of bytes) number why) is refused, Keeps-refl contents)
-RunsAs-refused (Some input) contents text refusals.OutOfMemory is refused = inl (Keeps-refl contents)
+-- where the input isn't taken as a script, nothing is answered
+pub RunsAs-unread : (known contents : Option (List ℕ)) (fault : Fault) → IsReadFault known fault → IfSome known (λ input. RunsAs input (Err fault) contents contents)
+RunsAs-unread None contents fault is = tt
+RunsAs-unread (Some input) contents (Line number why) refused = (refused, Keeps-refl contents)
+RunsAs-unread (Some input) contents faults.Memory is = inl (Keeps-refl contents)
+RunsAs-unread (Some input) contents Device is = absurd is
+RunsAs-unread (Some input) contents Input is = Keeps-refl contents
+RunsAs-unread (Some input) contents Output is = absurd is
 
 -- want of memory before anything was read is an end of a run
 pub RunsAs-memory : (known contents : Option (List ℕ)) (status : ℕ) (read_fails write_fails : Bool) (reads writes : ℕ) → status ≡ status_of faults.Memory

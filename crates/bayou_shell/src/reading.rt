@@ -1,28 +1,30 @@
-ghost use Rattle.std.specs.Prelude.{◌≡◌, ◌≤◌, IfOk, IfErr, IfSome};
+ghost use Rattle.std.specs.Prelude.{◌≤◌, IfOk, IfErr, IfSome};
+ghost use Rattle.bayou_script.specs.Plan.{plan_of};
+ghost use Rattle.bayou_script.specs.Script.{IsScript, lines_of};
 ghost use Rattle.bayou_shell.specs.Inner.Faults.{IsReadFault};
 ghost use Rattle.bayou_shell.specs.Turns.{EndsReading};
 
 use crate::fault::Fault;
+use crate::limits::READ_BYTES;
 use crate::turns::Input;
+use bayou_script::{Script, ScriptReader};
 use std::alloc::Global;
 use std::io::{ErrorKind, Read};
 
-/// How many bytes one turn reads at the most.
-const PIECE_BYTES: usize = 8_192;
-
-/// All that the reader has left. It ends with `Input` only where a call of the reader failed or no turn is left.
-pub(crate) fn read_text<R: Read>(alloc: Global, input: &mut Input<R>) -> Result<Vec<u8>, Fault>
-    ensures whole { IfOk result (λ text. IfSome (R.remaining input.old.stream) (λ bytes. text.items ≡ bytes)) }
-    ensures fault { IfErr result IsReadFault }
+/// The script that the reader has left, of which no more is kept than it says. Nothing is read behind a piece with its least
+/// line with a fault. It ends with `Input` only where a call of the reader failed or no turn is left.
+pub(crate) fn read_script<R: Read>(alloc: Global, input: &mut Input<R>) -> Result<Script, Fault>
+    ensures script { IfOk result (λ script. IfSome (R.remaining input.old.stream) (λ text. IsScript (lines_of text) (plan_of script))) }
+    ensures fault { IfErr result (IsReadFault (R.remaining input.old.stream)) }
     ensures ended { IfErr result (EndsReading input.new.has_failed input.new.turns_left) }
     ensures turns { input.new.turns_left ≤ input.old.turns_left }
 {
-    let mut text = Vec::new(alloc);
-    let mut piece = [0; PIECE_BYTES];
+    let mut reader = ScriptReader::new(alloc);
+    let mut piece = [0; READ_BYTES];
     while let Some(answer) = input.turn(&mut piece) {
         match answer {
-            Ok(0) => return Ok(text),
-            Ok(count) => text.extend_from_slice(&piece[..count])?,
+            Ok(0) => return Ok(reader.finish(alloc)?),
+            Ok(count) => reader.feed(alloc, &piece[..count])?,
             Err(error) => {
                 if error.kind() != ErrorKind::Interrupted {
                     return Err(Fault::Input);

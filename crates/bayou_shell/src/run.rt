@@ -13,12 +13,12 @@ ghost use Rattle.bayou_shell.specs.Account.{Pays, account, cut_lines};
 ghost use Rattle.bayou_shell.specs.Turns.{EndsReading, EndsWriting};
 
 use crate::fault::Fault;
-use crate::reading::read_text;
+use crate::reading::read_script;
 use crate::store::Store;
 use crate::telling::write_answer;
 use crate::turns::{Input, Output};
 use crate::waiting::Waiting;
-use bayou_script::{Script, Servers, read_script};
+use bayou_script::{Script, Servers};
 use bayou_text::Command;
 use std::alloc::Global;
 use std::io::{Read, Write};
@@ -101,7 +101,7 @@ fn answer_all<W: Write>(
     }
 }
 
-/// Reads a script to its end, checks it, and writes the lines of its answers.
+/// Reads a script to its end, or to its least line with a fault, and writes the lines of its answers.
 pub fn run_script<R: Read, W: Write>(
     alloc: Global,
     input: &mut Input<R>,
@@ -113,9 +113,7 @@ pub fn run_script<R: Read, W: Write>(
     ensures turns { input.new.turns_left ≤ input.old.turns_left }
     ensures paid { Pays (account W.contents output.old) (account W.contents output.new) (cut_lines result) }
 {
-    let text = read_text(alloc, input)?;
-    let script = read_script(alloc, text.as_slice())?;
-    drop(text);
+    let script = read_script(alloc, input)?;
     let waiting = Waiting::new(alloc)?;
     let store = Store::new(alloc, script.servers)?;
     answer_all(alloc, script, store, output, waiting)

@@ -28,7 +28,9 @@ loop-command-preserved g c =
     c.in-Some.ensures.items c.loop-command.invariant.so_far in
     let (answer, step, written) = c.in_ok-answer_one.ensures.answered in
     record {
-      so_far = SoFar-more plan c.loop-command.store c.answer_one.new.store c.in-Some.command c.pop_front.new.self.items answer _ _ _ before step written;
+      so_far = SoFar-more plan c.loop-command.store c.answer_one.new.store c.in-Some.command c.pop_front.new.self.items answer
+          (stage bytes c.args.output.now c.args.waiting.now) (stage bytes c.loop-command.output c.loop-command.waiting) (stage bytes c.answer_one.new.output c.answer_one.new.waiting) before
+          step written;
       ready = omega (arith, c.loop-command.invariant.ready, c.in_ok-answer_one.ensures.ready);
     }
 
@@ -46,6 +48,8 @@ returns-in_err-answer_one-clause-err g c =
           rw (p.1, p.2) (fault.0, text, missing, part, gathered)
       | inr (answer, step, lost, some) ↦
           let (text, missing, part, gathered) =
-          SoFar-part plan c.loop-command.store c.answer_one.new.store c.in-Some.command c.pop_front.new.self.items answer _ _ _ lost before step some in
+          SoFar-part plan c.loop-command.store c.answer_one.new.store c.in-Some.command c.pop_front.new.self.items answer
+          (stage bytes c.args.output.now c.args.waiting.now) (stage bytes c.loop-command.output c.loop-command.waiting) (stage bytes c.answer_one.new.output c.answer_one.new.waiting) lost
+          before step some in
           rw (p.1, p.2) (fault.0, text, missing, part, gathered)
     ]

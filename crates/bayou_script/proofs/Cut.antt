@@ -1,0 +1,113 @@
+-- Lines that are cut off a text as it comes.
+use Rattle.std.proofs.Common.{◌≡◌, ◌+◌, ◌<◌, ◌≤◌, ◌==◌, ◌∙◌, ℕ, false, List, [], ◌∷◌, ◌++◌, length, ap, refl, sym, subst, arith, append_assoc, append-nil, length-append, get_or, take, drop, take-append-drop}
+use Rattle.std.proofs.lemmas.Bool.{ne_eqb}
+use Rattle.std.proofs.lemmas.List.{take_more}
+use Rattle.std.proofs.lemmas.List.Splits.{slice_split-cons_no}
+use Rattle.std.specs.List.{onto_first}
+use Rattle.bayou_base.specs.declared.limits.TheConstants.{MAX_LINE_BYTES}
+use Rattle.bayou_text.specs.declared.line.LineFault.TheVariants as faults
+use Rattle.bayou_text.specs.declared.line.Shape.TheVariants as shape
+use Rattle.bayou_text.specs.Lines.{too_long}
+use Rattle.bayou_text.specs.Said.{Said}
+use Rattle.bayou_script.specs.declared.fault.Refusal.{Refusal}
+use Rattle.bayou_script.specs.declared.fault.Refusal.TheVariants.{Line, OutOfMemory}
+use Rattle.bayou_script.specs.declared.fault.ScriptFault.TheVariants.{BadShape}
+use Rattle.bayou_script.specs.Inner.Draft.{FaultAt}
+use Rattle.bayou_script.specs.Reading.{RefusedSoFar, begun_by}
+use Rattle.bayou_script.specs.Script.{HasFault, InOrder, RefusedFor, at_line, in_itself, lines_of}
+
+-- whatever follows, the text has these lines, and one that has come so far
+abbrev pub Cuts : List ℕ → List (List ℕ) → List ℕ → Type 0
+Cuts bytes ended line = (more : List ℕ) → lines_of (bytes ++ more) ≡ ended ++ begun_by line (lines_of more)
+
+begun_nil : (bytes : List ℕ) (lines : List (List ℕ)) → begun_by bytes ([] ∷ lines) ≡ bytes ∷ lines
+begun_nil [] lines = refl
+begun_nil (byte ∷ bytes) lines = ap (onto_first byte) (begun_nil bytes lines)
+
+begun_push : (bytes : List ℕ) (byte : ℕ) (lines : List (List ℕ)) → begun_by (bytes ++ byte ∷ []) lines ≡ begun_by bytes (onto_first byte lines)
+begun_push [] byte lines = refl
+begun_push (first ∷ bytes) byte lines = ap (onto_first first) (begun_push bytes byte lines)
+
+begun_is : (byte : ℕ) (bytes : List ℕ) (lines : List (List ℕ))
+    → (end : List ℕ) × (others : List (List ℕ)) × (begun_by (byte ∷ bytes) lines ≡ ((byte ∷ bytes) ++ end) ∷ others)
+begun_is byte [] [] = ([], [], refl)
+begun_is byte [] (first ∷ others) = (first, others, refl)
+begun_is byte (next ∷ bytes) lines = let (end, others, is) = begun_is next bytes lines in (end, others, ap (onto_first byte) is)
+
+begun_long : (bytes : List ℕ) (lines : List (List ℕ)) → 0 < length bytes → (end : List ℕ) × (others : List (List ℕ)) × (begun_by bytes lines ≡ (bytes ++ end) ∷ others)
+begun_long [] lines some = absurd (omega arith)
+begun_long (byte ∷ bytes) lines some = begun_is byte bytes lines
+
+-- nothing has come
+pub Cuts-start : (line : List ℕ) → line ≡ [] → Cuts [] [] line
+Cuts-start line none = λ more. sym (ap (λ l. begun_by l (lines_of more)) none)
+
+-- a line feed ends the line
+ends_there : (bytes : List ℕ) (ended : List (List ℕ)) (line more : List ℕ) → Cuts bytes ended line
+    → lines_of ((bytes ++ 10 ∷ []) ++ more) ≡ ended ++ line ∷ lines_of more
+ends_there bytes ended line more cut =
+    ap lines_of (append_assoc bytes (10 ∷ []) more) ∙ cut (10 ∷ more) ∙ ap (λ (l : List (List ℕ)). ended ++ l) (begun_nil line (lines_of more))
+
+pub Cuts-end : (bytes : List ℕ) (ended : List (List ℕ)) (line : List ℕ) → Cuts bytes ended line → Cuts (bytes ++ 10 ∷ []) (ended ++ line ∷ []) []
+Cuts-end bytes ended line cut = λ more. ends_there bytes ended line more cut ∙ sym (append_assoc ended (line ∷ []) (lines_of more))
+
+-- another byte goes on with it
+pub Cuts-more : (bytes : List ℕ) (ended : List (List ℕ)) (line : List ℕ) (byte : ℕ) → (byte == 10) ≡ false → Cuts bytes ended line
+    → Cuts (bytes ++ byte ∷ []) ended (line ++ byte ∷ [])
+Cuts-more bytes ended line byte other cut = λ more.
+    ap lines_of (append_assoc bytes (byte ∷ []) more) ∙ cut (byte ∷ more)
+    ∙ ap (λ (l : List (List ℕ)). ended ++ begun_by line l) (slice_split-cons_no (λ b. b == 10) byte more other)
+    ∙ ap (λ (l : List (List ℕ)). ended ++ l) (sym (begun_push line byte (lines_of more)))
+
+-- at the end of the text, the line that has come is the last
+pub Cuts-all : (bytes : List ℕ) (ended : List (List ℕ)) (line : List ℕ) → Cuts bytes ended line → lines_of bytes ≡ ended ++ line ∷ []
+Cuts-all bytes ended line cut =
+    ap lines_of (sym (append-nil bytes)) ∙ cut [] ∙ ap (λ (l : List (List ℕ)). ended ++ l) (begun_nil line [])
+
+refused_line : (lines ended : List (List ℕ)) (bytes : List ℕ) (others : List (List ℕ)) (front : List Said) (refusal : Refusal) → lines ≡ ended ++ bytes ∷ others
+    → InOrder ended front → FaultAt (length ended + 1) front bytes refusal → RefusedFor lines refusal
+refused_line lines ended bytes others front (Line told fault) split in_order (number, has) =
+    at_line ended bytes others front split in_order number (subst (λ n. HasFault n front bytes fault) (sym number) has)
+refused_line lines ended bytes others front OutOfMemory split in_order fault = tt
+
+-- a line that has ended is at fault
+pub refused_ended : (bytes : List ℕ) (ended : List (List ℕ)) (line : List ℕ) (front : List Said) (refusal : Refusal) → Cuts bytes ended line → InOrder ended front
+    → FaultAt (length ended + 1) front line refusal → RefusedSoFar (bytes ++ 10 ∷ []) refusal
+refused_ended bytes ended line front refusal cut in_order fault = λ more.
+    refused_line (lines_of ((bytes ++ 10 ∷ []) ++ more)) ended line (lines_of more) front refusal (ends_there bytes ended line more cut) in_order fault
+
+-- so is the last
+pub refused_last : (bytes : List ℕ) (ended : List (List ℕ)) (line : List ℕ) (front : List Said) (refusal : Refusal) → Cuts bytes ended line → InOrder ended front
+    → FaultAt (length ended + 1) front line refusal → RefusedFor (lines_of bytes) refusal
+refused_last bytes ended line front refusal cut in_order fault =
+    refused_line (lines_of bytes) ended line [] front refusal (Cuts-all bytes ended line cut) in_order fault
+
+-- a line that is too long is at fault, however it goes on
+pub refused_long : (bytes : List ℕ) (ended : List (List ℕ)) (line : List ℕ) (byte number : ℕ) (front : List Said) → (byte == 10) ≡ false → Cuts bytes ended line
+    → InOrder ended front → number ≡ length ended + 1 → MAX_LINE_BYTES ≤ length line → RefusedSoFar (bytes ++ byte ∷ []) (Line number BadShape)
+refused_long bytes ended line byte number front other cut in_order is long = λ more.
+    let begun : List ℕ = line ++ byte ∷ [] in
+    let (end, others, so) = begun_long begun (lines_of more) (omega (arith, length-append line (byte ∷ []))) in
+    let past : MAX_LINE_BYTES < length (begun ++ end) = omega (arith, length-append begun end, length-append line (byte ∷ [])) in
+    at_line ended (begun ++ end) others front (Cuts-more bytes ended line byte other cut more ∙ ap (λ (l : List (List ℕ)). ended ++ l) so) in_order is
+    (in_itself (faults.BadShape shape.Line) (λ none. let zero_long = ap length none in absurd (omega arith)) (too_long past refl) refl)
+
+-- what is refused so far stays refused
+pub RefusedSoFar-more : (bytes rest : List ℕ) (refusal : Refusal) → RefusedSoFar bytes refusal → RefusedSoFar (bytes ++ rest) refusal
+RefusedSoFar-more bytes rest refusal refused = λ more.
+    subst (λ text. RefusedFor (lines_of text) refusal) (sym (append_assoc bytes rest more)) (refused (rest ++ more))
+
+pub is_other : (byte : ℕ) → ¬ (byte ≡ 10) → (byte == 10) ≡ false
+is_other byte other = ne_eqb byte 10 other
+
+-- one byte more of a piece
+pub one_more : (bytes piece : List ℕ) (i : ℕ) → i < length piece → (bytes ++ take i piece) ++ get_or piece i 0 ∷ [] ≡ bytes ++ take (i + 1) piece
+one_more bytes piece i within = append_assoc bytes (take i piece) (get_or piece i 0 ∷ []) ∙ ap (λ l. bytes ++ l) (sym (take_more piece i 0 within))
+
+-- what is refused within a piece is refused behind it
+pub refused_within : (bytes piece : List ℕ) (i : ℕ) (refusal : Refusal) → i < length piece → RefusedSoFar ((bytes ++ take i piece) ++ get_or piece i 0 ∷ []) refusal
+    → RefusedSoFar (bytes ++ piece) refusal
+refused_within bytes piece i refusal within refused =
+    let some : RefusedSoFar (bytes ++ take (i + 1) piece) refusal = subst (λ l. RefusedSoFar l refusal) (one_more bytes piece i within) refused in
+    subst (λ l. RefusedSoFar l refusal) (append_assoc bytes (take (i + 1) piece) (drop (i + 1) piece) ∙ ap (λ l. bytes ++ l) (take-append-drop (i + 1) piece))
+    (RefusedSoFar-more (bytes ++ take (i + 1) piece) (drop (i + 1) piece) refusal some)
