@@ -1,6 +1,8 @@
 //! Frames and Writes, byte for byte. Behind `=>` stands the value as it prints itself, or the fault, which a `!` begins.
 use crate::notation::{AS_PRINTED, bytes_of, expanded, parts, repeated};
-use bayou_wire::{Fault, decode_frame, decode_write, encode_frame, encode_resting_write, encode_write};
+use bayou_wire::{
+    Fault, decode_frame, decode_write, encode_frame, encode_resting_write, encode_write,
+};
 use std::alloc::{AllocError, Global};
 use std::process::Abort;
 use std::test::Fail;

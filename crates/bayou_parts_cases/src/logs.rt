@@ -117,13 +117,8 @@ fn every_order_of_receipt_makes_one_database(rt: HostRuntime) -> Result<(), Fail
     let a = key(&rt, "a");
     for number in 0..ORDERS {
         let mut log = WriteLog::new(alloc, 5, 5);
-        let is_so = takes(
-            &rt,
-            alloc,
-            &mut log,
-            order_of(number).as_slice(),
-            &a,
-        )? && lists_all(alloc, &log, 5)?
+        let is_so = takes(&rt, alloc, &mut log, order_of(number).as_slice(), &a)?
+            && lists_all(alloc, &log, 5)?
             && is_plain(alloc, &log, &a)?;
         let is_told = log.clock() == 1 && told(&log, &a) == (5, 1115);
         assert!(rt; is_so && is_told && log.is_full(), "{number}");

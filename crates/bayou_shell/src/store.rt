@@ -135,7 +135,13 @@ impl Store {
         self.replicas[usize::from(server.index)].reopen(alloc, server)
     }
 
-    fn write(&mut self, alloc: Global, who: SessionId, server: ServerId, program: RestingProgram) -> Answer
+    fn write(
+        &mut self,
+        alloc: Global,
+        who: SessionId,
+        server: ServerId,
+        program: RestingProgram,
+    ) -> Answer
         requires { server.index < self.old.count }
         ensures { Step self.old (write who.index server.index program) result self.new }
     {
