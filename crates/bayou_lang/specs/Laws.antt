@@ -1,5 +1,6 @@
 pub mod Equality
 pub mod Fitting
+pub mod Lacking
 pub mod Places
 pub mod SetOfWrites
 pub mod StampOrder

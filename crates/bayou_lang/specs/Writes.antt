@@ -1,5 +1,5 @@
 -- Lists and sets of Writes.
-use Rattle.std.specs.Prelude.{◌≡◌, ◌≢◌, ◌↔◌, ℕ, ◌+◌, ◌<◌, ◌≤◌, List, [], ◌∷◌, ◌++◌, All, AllPairs, Any, Contains, filter, max, nat_le, replicate, slice_index, slice_set, if◌then◌else◌}
+use Rattle.std.specs.Prelude.{◌≡◌, ◌≢◌, ◌↔◌, ℕ, ◌+◌, ◌<◌, ◌≤◌, List, [], ◌∷◌, ◌++◌, All, AllPairs, Any, Contains, filter, max, nat_le, replicate, slice_index, slice_set, nat_lt, if◌then◌else◌}
 use Rattle.bayou_base.specs.declared.limits.TheConstants.{SERVERS}
 use Rattle.bayou_base.specs.declared.stamp.Stamp.{Stamp}
 use Rattle.bayou_base.specs.declared.wid.Wid.{Wid}
@@ -59,6 +59,14 @@ greatest_clock (write ∷ writes) = max write.stamp.clock (greatest_clock writes
 -- those of the Writes that the counts cover
 abbrev pub covered_by : List ℕ → List Write → List Write
 covered_by counts writes = filter (λ write. nat_le write.wid.seq (slice_index counts write.wid.origin.index)) writes
+
+-- those of the Writes that the counts don't cover
+abbrev pub missed_by : List ℕ → List Write → List Write
+missed_by counts writes = filter (λ write. nat_lt (slice_index counts write.wid.origin.index) write.wid.seq) writes
+
+-- what a server with these counts lacks of the Writes, in stamp order (anti-entropy, Petersen et al. 1997)
+abbrev pub lacking_of : List ℕ → List Write → List Write
+lacking_of counts writes = missed_by counts (in_stamp_order writes)
 
 -- No Write is missing before it (the prefix property, Petersen et al. 1997): its origin is one of so many servers, it is the
 -- next of that server's Writes, and all that its server held is held.

@@ -3,6 +3,7 @@ pub mod InOrder
 pub mod Indexed
 pub mod Inserting
 pub mod ListingLaws
+pub mod Missed
 pub mod Picked
 pub mod Slots
 pub mod Undone

@@ -1,3 +1,4 @@
 pub mod Fields
 pub mod Index
+pub mod Lacking
 pub mod Undone

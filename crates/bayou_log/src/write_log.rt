@@ -1,11 +1,12 @@
-ghost use Rattle.std.specs.Prelude.{◌≡◌, ◌≢◌, ℕ, ◌<◌, ◌≤◌, ◌↔◌, [], ◌∷◌, ◌++◌, All, Contains, IsTrue, IfNone, IfOk, IfSome, OnOk, length, slice_index};
+ghost use Rattle.std.specs.Prelude.{◌≡◌, ◌≢◌, ℕ, ◌+◌, ◌<◌, ◌≤◌, ◌↔◌, [], ◌∷◌, ◌++◌, All, Contains, IsTrue, IfNone, IfOk, IfSome, OnOk, length, option_copied, slice_index, take};
 ghost use Rattle.bayou_base.specs.declared.limits.TheConstants.{SERVERS, MAX_WRITES};
 ghost use Rattle.bayou_lang.specs.declared.write.Write.{Write};
 ghost use Rattle.bayou_lang.specs.Places.{value_at};
-ghost use Rattle.bayou_lang.specs.Writes.{count_of, covered_by, greatest_clock, AreFitting, Fits, HasNoGap};
+ghost use Rattle.bayou_lang.specs.Writes.{count_of, covered_by, greatest_clock, lacking_of, AreFitting, Fits, HasNoGap};
 ghost use Rattle.bayou_base.specs.Vector.{Dominates};
 ghost use Rattle.bayou_log.specs.Fitting.{FitAnswer};
 ghost use Rattle.bayou_log.specs.Inner.Index.{IsLastClock};
+ghost use Rattle.bayou_log.specs.Inner.Lacking.{IsFirstMissed};
 ghost use Rattle.bayou_log.specs.Listing.{listing_of};
 ghost use Rattle.bayou_log.specs.Log.{IsReserved};
 ghost use Rattle.bayou_log.specs.Replay.{replay};
@@ -14,7 +15,7 @@ use crate::db::Db;
 use crate::fitting::{Misfit, is_next};
 use crate::index::Index;
 use crate::listing::{Listed, outcomes_in_turn};
-use crate::order::place_of;
+use crate::order::{earlier, place_of};
 use crate::undo::{UndoStack, apply_in_turn, take_back};
 use bayou_base::{Key, MAX_WRITES, SERVERS, Value, Vector, Wid};
 use bayou_lang::{RestingWrite, Write};
@@ -151,8 +152,17 @@ impl WriteLog {
         if !self.vector.covers(wid) {
             return None;
         }
-        let place = self.own.place(usize::from(wid.origin.index), wid.seq);
-        Some(&self.writes[place])
+        Some(self.own_write(usize::from(wid.origin.index), wid.seq))
+    }
+
+    /// The server's Write of this sequence number, which is held.
+    fn own_write(&self, server: usize, seq: u32) -> &RestingWrite
+        requires server { server < SERVERS }
+        requires held { (0 < seq) × (seq ≤ slice_index (count_of self.now.receipts) server) }
+        ensures held { Contains self.now.receipts result.now }
+        ensures named { (result.now.wid.origin.index ≡ server) × (result.now.wid.seq ≡ seq) }
+    {
+        &self.writes[self.own.place(server, seq)]
     }
 
     /// Whether the Write may be inserted, room aside. It takes no memory, and looks at one held Write of each
@@ -212,6 +222,60 @@ impl WriteLog {
         ensures { IfOk result (λ list. list.items ≡ listing_of self.now.receipts) }
     {
         outcomes_in_turn(alloc, &self.writes, &self.order)
+    }
+
+    /// The first `max` of the Writes held, in stamp order, that the vector doesn't count: what a server with these counts
+    /// lacks (anti-entropy, Petersen et al. 1997). For each Write that it gives it looks at one Write of each server,
+    /// however many are held. Where memory is refused nothing is given.
+    pub fn lacking(
+        &self,
+        alloc: Global,
+        counts: &Vector,
+        max: usize,
+    ) -> Result<Vec<RestingWrite>, AllocError>
+        ensures { IfOk result (λ list. list.items ≡ take max (lacking_of counts.now self.now.receipts)) }
+    {
+        let mut told = *counts;
+        let mut list = Vec::new(alloc);
+        for _ in 0..max {
+            let Some(write) = self.first_missed(&told) else {
+                return Ok(list);
+            };
+            told.raise(write.wid());
+            list.push(write.copy(alloc)?)?;
+        }
+        Ok(list)
+    }
+
+    /// The first in stamp order of the Writes held that the vector doesn't count, if there is one.
+    fn first_missed(&self, told: &Vector) -> Option<&RestingWrite>
+        ensures first { IsFirstMissed SERVERS told.now self.now.receipts (option_copied result) }
+        ensures one_each { length told.now ≡ SERVERS }
+        ensures fitting { AreFitting self.now.count self.now.receipts }
+    {
+        let counts = told.counts();
+        if told.dominates(&self.vector) {
+            return None;
+        }
+        let mut first = None;
+        for server in 0..SERVERS {
+            first = earlier(first, self.next_of(server, counts[server]));
+        }
+        first
+    }
+
+    /// The server's Write behind those of its Writes that are counted, if it is held.
+    fn next_of(&self, server: usize, counted: u32) -> Option<&RestingWrite>
+        requires { server < SERVERS }
+        ensures held { IfSome result (λ write. Contains self.now.receipts write.now) }
+        ensures named { IfSome result (λ write. (write.now.wid.origin.index ≡ server) × (write.now.wid.seq ≡ counted + 1)) }
+        ensures none { IfNone result (slice_index (count_of self.now.receipts) server ≤ counted) }
+        ensures fitting { AreFitting self.now.count self.now.receipts }
+    {
+        if self.vector.counts()[server] <= counted {
+            return None;
+        }
+        Some(self.own_write(server, counted + 1))
     }
 
     /// Takes room ahead, so that the Write can be inserted. Where memory is refused, the room that there was stays.

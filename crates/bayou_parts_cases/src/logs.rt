@@ -1,9 +1,9 @@
 //! Logs of Writes, and the databases that they make.
-use crate::fixtures::{key, plus, put, wid, write};
+use crate::fixtures::{key, plus, put, vector, wid, write};
 use crate::notation::bytes_of;
 use arrayvec::ArrayVec;
 use bayou_base::{Key, Value};
-use bayou_lang::{Outcome, Write};
+use bayou_lang::{Outcome, RestingWrite, Write};
 use bayou_log::plain::replayed;
 use bayou_log::{Db, Misfit, WriteLog};
 use bayou_wire::decode_write;
@@ -216,5 +216,50 @@ fn a_database_keeps_its_room(rt: HostRuntime) -> Result<(), Fail> {
     let (second, _) = db.apply(&program);
     let is_taken = second == Outcome::Merged(0) && db.get(&a).is_none();
     assert!(rt; had_nothing && is_put && is_taken);
+    Ok(())
+}
+
+/// Writes of three servers in an order of receipt: the origin, the seq, the clock and what the server held.
+const RECEIVED: [(u8, u32, u32, [u32; 2]); 6] = [
+    (0, 1, 1, [0, 0]),
+    (0, 2, 2, [1, 0]),
+    (1, 1, 1, [0, 0]),
+    (7, 1, 1, [0, 0]),
+    (1, 2, 2, [0, 1]),
+    (0, 3, 3, [2, 2]),
+];
+
+/// What a server with these counts of the first two servers lacks of them, that many at the most: the origins and the seqs.
+const LACKED: [([u32; 2], usize, &[(u8, u32)]); 7] = [
+    ([0, 0], 9, &[(0, 1), (1, 1), (7, 1), (0, 2), (1, 2), (0, 3)]),
+    ([0, 0], 4, &[(0, 1), (1, 1), (7, 1), (0, 2)]),
+    ([0, 0], 1, &[(0, 1)]),
+    ([0, 0], 0, &[]),
+    ([2, 0], 9, &[(1, 1), (7, 1), (1, 2), (0, 3)]),
+    ([2, 1], 2, &[(7, 1), (1, 2)]),
+    ([3, 2], 9, &[(7, 1)]),
+];
+
+/// Whether the Writes have these names.
+fn are_named(writes: &[RestingWrite], names: &[(u8, u32)]) -> bool {
+    let mut are_so = writes.len() == names.len();
+    for (write, (origin, seq)) in writes.iter().zip(names) {
+        are_so &= write.wid().origin.index == *origin && write.wid().seq == *seq;
+    }
+    are_so
+}
+
+#[test]
+fn what_is_lacking_comes_in_stamp_order(rt: HostRuntime) -> Result<(), Fail> {
+    let alloc = rt.alloc();
+    let mut log = WriteLog::new(alloc, 8, 6);
+    for (origin, seq, clock, deps) in RECEIVED {
+        let received = write(&rt, origin, seq, clock, deps, put(&rt, 1));
+        add(alloc, &mut log, &received)?;
+    }
+    for ([first, second], max, names) in LACKED {
+        let lacking = log.lacking(alloc, &vector(&rt, first, second), max)?;
+        assert!(rt; are_named(&lacking, names), "{first} {second} {max}");
+    }
     Ok(())
 }
