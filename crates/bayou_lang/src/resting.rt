@@ -147,6 +147,15 @@ impl Alt {
 }
 
 impl RestingAlt {
+    /// The alternative of these conditions and ops, whose lists it keeps. It takes no memory.
+    pub fn new(when: Vec<Cond>, ops: Vec<Op>) -> Self
+        requires conditions { length when.items ≤ MAX_CONDITIONS }
+        requires ops { length ops.items ≤ MAX_OPS }
+        ensures { (result.when.items ≡ when.items) × (result.ops.items ≡ ops.items) }
+    {
+        RestingAlt { when, ops }
+    }
+
     /// Its conditions.
     pub fn when(&self) -> &[Cond]
         ensures value { result.now ≡ self.now.when.items }
@@ -198,6 +207,20 @@ impl Program {
 }
 
 impl RestingProgram {
+    /// The program of this dependency check, update and merge procedure, whose lists it keeps. It takes no memory.
+    pub fn new(check: Vec<Cond>, update: Vec<Op>, merge: Vec<RestingAlt>) -> Self
+        requires conditions { length check.items ≤ MAX_CONDITIONS }
+        requires ops { length update.items ≤ MAX_OPS }
+        requires alternatives { length merge.items ≤ MAX_ALTERNATIVES }
+        ensures { (result.check.items ≡ check.items) × (result.update.items ≡ update.items) × (result.merge.items ≡ merge.items) }
+    {
+        RestingProgram {
+            check,
+            update,
+            merge,
+        }
+    }
+
     /// Its dependency check.
     pub fn check(&self) -> &[Cond]
         ensures value { result.now ≡ self.now.check.items }

@@ -6,9 +6,30 @@ use Rattle.bayou_text.specs.declared.line.Line.{Line}
 use Rattle.bayou_text.specs.declared.line.LineFault.{LineFault}
 use Rattle.bayou_text.specs.declared.line.LineFault.TheVariants as fault
 use Rattle.bayou_text.specs.Lines.{text_line, line_of, IsLegible, no_line, IsRefusalOf}
-use Rattle.bayou_text.specs.Reading.{Parsed, Gives, Fails}
+use Rattle.bayou_text.specs.Reading.{Parsed, ◌>>=◌, Gives, Fails}
 use Rattle.bayou_text.specs.Said.{Said, said}
 use Rattle.bayou_text.specs.Table.{Spells}
+
+-- what fails first is the fault of all
+pub first_fault : {A : Type 0} (e : LineFault) (read : Parsed A) → read ≡ Err e → Fails e read
+first_fault fault.OutOfMemory read is = tt
+first_fault fault.NotJson read is = is
+first_fault (fault.BadShape what) read is = is
+first_fault (fault.Key why) read is = is
+first_fault (fault.Program why) read is = is
+
+pub later_fault : {A B : Type 0} (e : LineFault) (read : Parsed A) (f : A → Parsed B) → Fails e read
+    → Fails e (read >>= f)
+later_fault fault.OutOfMemory read f given = tt
+later_fault fault.NotJson read f given = rw given refl
+later_fault (fault.BadShape what) read f given = rw given refl
+later_fault (fault.Key why) read f given = rw given refl
+later_fault (fault.Program why) read f given = rw given refl
+
+-- what takes no memory gives what it answers
+pub gives_itself : {A : Type 0} (r read : Parsed A) → r ≡ read → Gives (λ (x : A). x) r read
+gives_itself (Ok x) read is = sym is
+gives_itself (Err e) read is = first_fault e read (sym is)
 
 fault_given : (bytes : List ℕ) (e : LineFault) → IsLegible bytes → Fails e (text_line bytes) → IsRefusalOf bytes e
 fault_given bytes fault.OutOfMemory text given = inl (refl, text)

@@ -2,7 +2,8 @@
 use Rattle.std.proofs.Common.{◌≡◌, ℕ, ◌+◌, ◌<◌, List, [], ◌∷◌, ◌++◌, length, drop, map, get_or, Ok, Err, refl, ap, sym, ◌∙◌, append_assoc, append-nil, add-one, drop-cons}
 use Rattle.serde_json.specs.Data.{Data}
 use Rattle.bayou_text.specs.declared.line.LineFault.{LineFault}
-use Rattle.bayou_text.specs.Reading.{Parsed, ◌>>=◌, all_in}
+use Rattle.bayou_text.specs.declared.line.LineFault.TheVariants as fault
+use Rattle.bayou_text.specs.Reading.{Parsed, ◌>>=◌, Fails, all_in}
 
 -- those in front, and then those that are read
 abbrev pub after : {A : Type 0} → List A → Parsed (List A) → Parsed (List A)
@@ -41,6 +42,15 @@ module _ {A V : Type 0} (one_in : Data → Parsed A) (seen : V → Data) where
   read_fault values i v front fault below so_far found =
       let step : all_in one_in (map seen (drop i values)) ≡ Err fault = rw (drop-cons values i v) (rw found) in
       so_far ∙ ap (after front) step
+
+  pub read_fails : (values : List V) (i : ℕ) (v : V) (front : List A) (e : LineFault) → i < length values
+      → IsReadTo values i front → Fails e (one_in (seen (get_or values i v)))
+      → Fails e (all_in one_in (map seen values))
+  read_fails values i v front fault.OutOfMemory below so_far given = tt
+  read_fails values i v front fault.NotJson below so_far given = read_fault values i v front _ below so_far given
+  read_fails values i v front (fault.BadShape what) below so_far given = read_fault values i v front _ below so_far given
+  read_fails values i v front (fault.Key why) below so_far given = read_fault values i v front _ below so_far given
+  read_fails values i v front (fault.Program why) below so_far given = read_fault values i v front _ below so_far given
 
   pub read_all : (values : List V) (i : ℕ) (front : List A) → drop i values ≡ [] → IsReadTo values i front
       → all_in one_in (map seen values) ≡ Ok front

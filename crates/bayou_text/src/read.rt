@@ -127,7 +127,7 @@ fn writing_in(alloc: Global, parts: &[Value]) -> Result<Line, LineFault>
     Ok(Line::Command(Command::Write {
         session: session_in(session)?,
         server: server_in(server)?,
-        program: program_in(program)?.rest(alloc)?,
+        program: program_in(alloc, program)?,
     }))
 }
 

@@ -1,30 +1,32 @@
-ghost use Rattle.std.specs.Prelude.{◌≡◌, map};
+ghost use Rattle.std.specs.Prelude.{◌≡◌, ◌≤◌, map, length, IfOk};
 ghost use Rattle.std.specs.List.{list_all};
 ghost use Rattle.serde_json.specs.Data.{Data};
 ghost use Rattle.serde_json.specs.View.{view, members_view};
 ghost use Rattle.bayou_text.specs.Parts as parts;
 ghost use Rattle.bayou_text.specs.Programs as grammar;
-ghost use Rattle.bayou_text.specs.Reading.{Answers, Parsed, names};
+ghost use Rattle.bayou_text.specs.Reading.{Answers, Gives, Parsed, names};
+ghost use Rattle.bayou_base.specs.declared.limits.TheConstants.{MAX_ALTERNATIVES, MAX_CONDITIONS, MAX_OPS};
 
 use crate::line::{LineFault, Shape};
 use crate::read::part::{cond_in, op_in};
-use arrayvec::ArrayVec;
 use bayou_base::{MAX_ALTERNATIVES, MAX_CONDITIONS, MAX_OPS};
-use bayou_lang::{Alt, Cond, Op, Program, ProgramFault};
+use bayou_lang::{Cond, Op, ProgramFault, RestingAlt, RestingProgram};
 use serde_json::{Map, Value};
+use std::alloc::Global;
 
 /// What stands in the lists of a program.
-trait Part: Default + Drop {
+trait Part: Drop {
     ghost reads: { Data → Parsed Self };
 
-    fn part_in(json: &Value) -> Result<Self, LineFault>
-        ensures { result ≡ reads (view json.now) };
+    fn part_in(alloc: Global, json: &Value) -> Result<Self, LineFault>
+        ensures { Gives (λ part. part) result (reads (view json.now)) };
 }
 
 impl Part for Cond {
     ghost reads = { parts.cond_in };
 
-    fn part_in(json: &Value) -> Result<Self, LineFault> {
+    #[tactic(auto, using(crate::proofs::Faults::gives_itself))]
+    fn part_in(_alloc: Global, json: &Value) -> Result<Self, LineFault> {
         cond_in(json)
     }
 }
@@ -32,32 +34,35 @@ impl Part for Cond {
 impl Part for Op {
     ghost reads = { parts.op_in };
 
-    fn part_in(json: &Value) -> Result<Self, LineFault> {
+    #[tactic(auto, using(crate::proofs::Faults::gives_itself))]
+    fn part_in(_alloc: Global, json: &Value) -> Result<Self, LineFault> {
         op_in(json)
     }
 }
 
-impl Part for Alt {
+impl Part for RestingAlt {
     ghost reads = { grammar.alt_in };
 
-    fn part_in(json: &Value) -> Result<Self, LineFault> {
-        alt_in(json)
+    fn part_in(alloc: Global, json: &Value) -> Result<Self, LineFault> {
+        alt_in(alloc, json)
     }
 }
 
-/// The members of a list, or this fault where there are too many.
+/// The members of a list, in memory of their size, or this fault where there are too many.
 fn few_in<T: Part, const MOST: usize>(
+    alloc: Global,
     list: &[Value],
     many: ProgramFault,
-) -> Result<ArrayVec<T, MOST>, LineFault>
-    ensures { Answers (λ few. few.items) result (grammar.few_in MOST many T.reads (map view list.now)) }
+) -> Result<Vec<T>, LineFault>
+    ensures read { Gives (λ few. few.items) result (grammar.few_in MOST many T.reads (map view list.now)) }
+    ensures within { IfOk result (λ few. length few.items ≤ MOST) }
 {
     if list.len() > MOST {
         return Err(LineFault::Program(many));
     }
-    let mut few = ArrayVec::new();
+    let mut few = Vec::with_capacity(alloc, list.len())?;
     for json in list {
-        few.push(T::part_in(json)?);
+        few.push_reserved(T::part_in(alloc, json)?);
     }
     Ok(few)
 }
@@ -76,22 +81,28 @@ fn list_of<'v>(json: &'v Value, name: &str) -> Result<&'v [Value], LineFault>
     }
 }
 
-fn conds_in(json: &Value, name: &str) -> Result<ArrayVec<Cond, MAX_CONDITIONS>, LineFault>
-    ensures { Answers (λ conditions. conditions.items) result (grammar.conds_in name.now (view json.now)) }
+#[tactic(auto, using(crate::proofs::Faults::first_fault))]
+fn conds_in(alloc: Global, json: &Value, name: &str) -> Result<Vec<Cond>, LineFault>
+    ensures read { Gives (λ conditions. conditions.items) result (grammar.conds_in name.now (view json.now)) }
+    ensures within { IfOk result (λ conditions. length conditions.items ≤ MAX_CONDITIONS) }
 {
-    few_in(list_of(json, name)?, ProgramFault::TooManyConds)
+    few_in::<Cond, MAX_CONDITIONS>(alloc, list_of(json, name)?, ProgramFault::TooManyConds)
 }
 
-fn ops_in(json: &Value, name: &str) -> Result<ArrayVec<Op, MAX_OPS>, LineFault>
-    ensures { Answers (λ ops. ops.items) result (grammar.ops_in name.now (view json.now)) }
+#[tactic(auto, using(crate::proofs::Faults::first_fault))]
+fn ops_in(alloc: Global, json: &Value, name: &str) -> Result<Vec<Op>, LineFault>
+    ensures read { Gives (λ ops. ops.items) result (grammar.ops_in name.now (view json.now)) }
+    ensures within { IfOk result (λ ops. length ops.items ≤ MAX_OPS) }
 {
-    few_in(list_of(json, name)?, ProgramFault::TooManyOps)
+    few_in::<Op, MAX_OPS>(alloc, list_of(json, name)?, ProgramFault::TooManyOps)
 }
 
-fn alts_in(json: &Value, name: &str) -> Result<ArrayVec<Alt, MAX_ALTERNATIVES>, LineFault>
-    ensures { Answers (λ alternatives. alternatives.items) result (grammar.alts_in name.now (view json.now)) }
+#[tactic(auto, using(crate::proofs::Faults::first_fault))]
+fn alts_in(alloc: Global, json: &Value, name: &str) -> Result<Vec<RestingAlt>, LineFault>
+    ensures read { Gives (λ alternatives. alternatives.items) result (grammar.alts_in name.now (view json.now)) }
+    ensures within { IfOk result (λ alternatives. length alternatives.items ≤ MAX_ALTERNATIVES) }
 {
-    few_in(list_of(json, name)?, ProgramFault::TooManyAlts)
+    few_in::<RestingAlt, MAX_ALTERNATIVES>(alloc, list_of(json, name)?, ProgramFault::TooManyAlts)
 }
 
 fn is_alt_name(name: &str) -> bool
@@ -120,9 +131,18 @@ fn are_known(members: &Map<String, Value>) -> bool
     members.keys().all(|name| is_member_name(name.as_str()))
 }
 
+#[tactic(auto, using(crate::proofs::Faults::later_fault))]
+fn alt_lists_in(alloc: Global, json: &Value) -> Result<RestingAlt, LineFault>
+    ensures { Gives (λ alt. alt) result (grammar.alt_lists_in (view json.now)) }
+{
+    let when = conds_in(alloc, json, "when")?;
+    let ops = ops_in(alloc, json, "ops")?;
+    Ok(RestingAlt::new(when, ops))
+}
+
 #[tactic(auto, unfolding(crate::specs::Programs::alt_in))]
-fn alt_in(json: &Value) -> Result<Alt, LineFault>
-    ensures { result ≡ grammar.alt_in (view json.now) }
+fn alt_in(alloc: Global, json: &Value) -> Result<RestingAlt, LineFault>
+    ensures { Gives (λ alt. alt) result (grammar.alt_in (view json.now)) }
 {
     let Some(members) = json.as_object() else {
         return Err(LineFault::BadShape(Shape::Form));
@@ -130,15 +150,22 @@ fn alt_in(json: &Value) -> Result<Alt, LineFault>
     if !are_of_alt(members) {
         return Err(LineFault::BadShape(Shape::Form));
     }
-    Ok(Alt {
-        when: conds_in(json, "when")?,
-        ops: ops_in(json, "ops")?,
-    })
+    alt_lists_in(alloc, json)
+}
+
+#[tactic(auto, using(crate::proofs::Faults::later_fault))]
+fn lists_in(alloc: Global, json: &Value) -> Result<RestingProgram, LineFault>
+    ensures { Gives (λ program. program) result (grammar.lists_in (view json.now)) }
+{
+    let check = conds_in(alloc, json, "check")?;
+    let update = ops_in(alloc, json, "update")?;
+    let merge = alts_in(alloc, json, "merge")?;
+    Ok(RestingProgram::new(check, update, merge))
 }
 
 #[tactic(auto, unfolding(crate::specs::Programs::program_in))]
-pub(crate) fn program_in(json: &Value) -> Result<Program, LineFault>
-    ensures { result ≡ grammar.program_in (view json.now) }
+pub(crate) fn program_in(alloc: Global, json: &Value) -> Result<RestingProgram, LineFault>
+    ensures { Gives (λ program. program) result (grammar.program_in (view json.now)) }
 {
     let Some(members) = json.as_object() else {
         return Err(LineFault::BadShape(Shape::Form));
@@ -146,9 +173,5 @@ pub(crate) fn program_in(json: &Value) -> Result<Program, LineFault>
     if !are_known(members) {
         return Err(LineFault::BadShape(Shape::Form));
     }
-    Ok(Program {
-        check: conds_in(json, "check")?,
-        update: ops_in(json, "update")?,
-        merge: alts_in(json, "merge")?,
-    })
+    lists_in(alloc, json)
 }
