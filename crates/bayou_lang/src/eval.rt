@@ -3,6 +3,7 @@ ghost use Rattle.std.specs.List.{filter, flat_map};
 ghost use Rattle.std.specs.Option.{option_map};
 ghost use Rattle.arrayvec.specs.ArrayVec.{array_vec_len};
 ghost use Rattle.bayou_base.specs.declared.limits.TheConstants.{MAX_ALTERNATIVES, MAX_OPS};
+ghost use Rattle.bayou_lang.specs.declared.program.Alt.{Alt};
 ghost use Rattle.bayou_lang.specs.Places.{Places, changed, same_key, value_at};
 ghost use Rattle.bayou_lang.specs.Changes.{ChangeOnly, after_changes, most_changes, most_ops, op_key, program_writes};
 ghost use Rattle.bayou_lang.specs.Meaning as meaning;
@@ -158,25 +159,55 @@ fn ops_changes<L: Look>(ops: &[Op], look: &L) -> Option<Changes>
     Some(changes)
 }
 
+/// An alternative in either of its forms.
+trait Alternative {
+    ghost alternative: { Self → Alt };
+
+    /// Its conditions, and its ops.
+    fn parts(&self) -> (&[Cond], &[Op])
+        ensures when { result.0.now ≡ (alternative self.now).when.items }
+        ensures ops { result.1.now ≡ (alternative self.now).ops.items }
+        ensures within { length result.1.now ≤ MAX_OPS };
+}
+
+impl Alternative for Alt {
+    ghost alternative = { λ alternative. alternative };
+
+    fn parts(&self) -> (&[Cond], &[Op]) {
+        (self.when.as_slice(), self.ops.as_slice())
+    }
+}
+
+impl Alternative for RestingAlt {
+    ghost alternative = { λ alternative. alternative };
+
+    fn parts(&self) -> (&[Cond], &[Op]) {
+        (self.when(), self.ops())
+    }
+}
+
 /// What an alternative changes where it fits, else `None`.
-fn alternative_changes<L: Look>(alternative: &Alt, look: &L) -> Option<Changes>
-    ensures value { meaning.after_alternative alternative.now (L.places look.now)
+fn alternative_changes<A: Alternative, L: Look>(alternative: &A, look: &L) -> Option<Changes>
+    ensures value { meaning.after_alternative (A.alternative alternative.now) (L.places look.now)
         ≡ option_map (λ changes. after_changes changes.items (L.places look.now)) result }
-    ensures only { IfSome result (λ changes. ChangeOnly (map op_key alternative.now.ops.items) changes.items) }
+    ensures only { IfSome result (λ changes. ChangeOnly (map op_key (A.alternative alternative.now).ops.items) changes.items) }
+    ensures few { IfSome result (λ changes. array_vec_len changes ≤ length (A.alternative alternative.now).ops.items) }
 {
-    if all_hold(alternative.when.as_slice(), look) {
-        ops_changes(alternative.ops.as_slice(), look)
+    let (when, ops) = alternative.parts();
+    if all_hold(when, look) {
+        ops_changes(ops, look)
     } else {
         None
     }
 }
 
 /// The first alternative that fits, and what it changes.
-fn merge_changes<L: Look>(alternatives: &[Alt], look: &L) -> (Outcome, Changes)
+fn merge_changes<A: Alternative, L: Look>(alternatives: &[A], look: &L) -> (Outcome, Changes)
     requires { length alternatives.now ≤ MAX_ALTERNATIVES }
-    ensures value { meaning.merged 0 alternatives.now (L.places look.now)
+    ensures value { meaning.merged 0 (map A.alternative alternatives.now) (L.places look.now)
         ≡ (result.0, after_changes result.1.items (L.places look.now)) }
-    ensures only { ChangeOnly (flat_map (λ alt. map op_key alt.ops.items) alternatives.now) result.1.items }
+    ensures only { ChangeOnly (flat_map (λ alt. map op_key alt.ops.items) (map A.alternative alternatives.now)) result.1.items }
+    ensures few { array_vec_len result.1 ≤ most_ops (map A.alternative alternatives.now) }
 {
     let mut number = 0;
     for alternative in alternatives {
@@ -188,36 +219,18 @@ fn merge_changes<L: Look>(alternatives: &[Alt], look: &L) -> (Outcome, Changes)
     (Outcome::Nothing, Changes::new())
 }
 
-/// What a resting alternative changes where it fits, else `None`.
-fn resting_alternative_changes<L: Look>(alternative: &RestingAlt, look: &L) -> Option<Changes>
-    ensures value { meaning.after_alternative alternative.now (L.places look.now)
-        ≡ option_map (λ changes. after_changes changes.items (L.places look.now)) result }
-    ensures only { IfSome result (λ changes. ChangeOnly (map op_key alternative.now.ops.items) changes.items) }
-    ensures few { IfSome result (λ changes. array_vec_len changes ≤ length alternative.now.ops.items) }
-{
-    if all_hold(alternative.when(), look) {
-        ops_changes(alternative.ops(), look)
-    } else {
-        None
-    }
-}
-
-/// The first resting alternative that fits, and what it changes.
-fn resting_merge_changes<L: Look>(alternatives: &[RestingAlt], look: &L) -> (Outcome, Changes)
-    requires { length alternatives.now ≤ MAX_ALTERNATIVES }
-    ensures value { meaning.merged 0 alternatives.now (L.places look.now)
+/// What an update changes, where its ops all have a value.
+fn update_changes<L: Look>(ops: &[Op], look: &L) -> (Outcome, Changes)
+    requires { length ops.now ≤ MAX_OPS }
+    ensures value { meaning.updated ops.now (L.places look.now)
         ≡ (result.0, after_changes result.1.items (L.places look.now)) }
-    ensures only { ChangeOnly (flat_map (λ alt. map op_key alt.ops.items) alternatives.now) result.1.items }
-    ensures few { array_vec_len result.1 ≤ most_ops alternatives.now }
+    ensures only { ChangeOnly (map op_key ops.now) result.1.items }
+    ensures few { array_vec_len result.1 ≤ length ops.now }
 {
-    let mut number = 0;
-    for alternative in alternatives {
-        if let Some(changes) = resting_alternative_changes(alternative, look) {
-            return (Outcome::Merged(number), changes);
-        }
-        number += 1;
+    match ops_changes(ops, look) {
+        Some(changes) => (Outcome::Updated, changes),
+        None => (Outcome::Nothing, Changes::new()),
     }
-    (Outcome::Nothing, Changes::new())
 }
 
 impl RestingProgram {
@@ -228,12 +241,10 @@ impl RestingProgram {
         ensures only { ChangeOnly (program_writes self.now) result.1.items }
         ensures few { array_vec_len result.1 ≤ most_changes self.now }
     {
-        if !all_hold(self.check(), look) {
-            return resting_merge_changes(self.merge(), look);
-        }
-        match ops_changes(self.update(), look) {
-            Some(changes) => (Outcome::Updated, changes),
-            None => (Outcome::Nothing, Changes::new()),
+        if all_hold(self.check(), look) {
+            update_changes(self.update(), look)
+        } else {
+            merge_changes(self.merge(), look)
         }
     }
 }
@@ -245,12 +256,10 @@ impl Program {
             ≡ (result.0, after_changes result.1.items (L.places look.now)) }
         ensures only { ChangeOnly (program_writes self.now) result.1.items }
     {
-        if !all_hold(self.check.as_slice(), look) {
-            return merge_changes(self.merge.as_slice(), look);
-        }
-        match ops_changes(self.update.as_slice(), look) {
-            Some(changes) => (Outcome::Updated, changes),
-            None => (Outcome::Nothing, Changes::new()),
+        if all_hold(self.check.as_slice(), look) {
+            update_changes(self.update.as_slice(), look)
+        } else {
+            merge_changes(self.merge.as_slice(), look)
         }
     }
 }

@@ -1,5 +1,5 @@
 -- Scripts that are read piece by piece.
-use Rattle.std.specs.Prelude.{◌≡◌, ℕ, List, [], ◌∷◌, ◌++◌, length}
+use Rattle.std.specs.Prelude.{◌≡◌, ◌+◌, ℕ, List, [], ◌∷◌, ◌++◌, length}
 use Rattle.std.specs.List.{onto_first}
 use Rattle.bayou_text.specs.Said.{Said}
 use Rattle.bayou_script.specs.declared.fault.Refusal.{Refusal}
@@ -17,7 +17,7 @@ pub record HasRead (reader : ScriptReader) (bytes : List ℕ) : Type 0 where
   pub ended : List (List ℕ)
   pub front : List Said
   pub cut : (more : List ℕ) → lines_of (bytes ++ more) ≡ ended ++ begun_by reader.line.items (lines_of more)
-  pub number : reader.lines ≡ length ended
+  pub number : reader.number ≡ length ended + 1
   pub in_order : InOrder ended front
   pub draft : IsDraftOf reader.draft front
 

@@ -27,7 +27,7 @@ pub enum ScriptFault {
 pub enum Refusal {
     /// Its line of this number, counted from 1 on, has this fault.
     Line { number: u64, fault: ScriptFault },
-    /// An allocation was refused. It says nothing of the text.
+    /// An allocation was refused, or there are more lines than 64 bits can number. It says nothing of the text's faults.
     OutOfMemory,
 }
 

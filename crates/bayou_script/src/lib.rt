@@ -9,7 +9,8 @@
 //! What a line uses (which session it opens or speaks for, which servers it speaks to) is said once, by `use_of`, and
 //! everything that is asked of its place follows from it: a new command is an arm there and an arm of `used_by`.
 //!
-//! A caller owes that there are fewer than 2^64 lines. Not promised: that memory was short where want of memory is answered.
+//! Not promised: that memory was short where want of memory is answered. Lines are counted in 64 bits, and a line feed that ends
+//! the last that can be counted, the one of number 2^64 - 1, is answered so too.
 #![tactic(auto)]
 
 mod draft;

@@ -1,5 +1,5 @@
 //! Scripts that come in pieces.
-ghost use Rattle.std.specs.Prelude.{◌≡◌, ◌+◌, ◌<◌, ◌≤◌, ◌^◌, [], ◌∷◌, ◌++◌, ℕ, List, MatchResult, OnOk, length};
+ghost use Rattle.std.specs.Prelude.{◌≡◌, [], ◌∷◌, ◌++◌, ℕ, List, MatchResult};
 
 use crate::draft::Draft;
 use crate::fault::{Refusal, ScriptFault};
@@ -11,8 +11,8 @@ use std::alloc::Global;
 #[derive(Drop)]
 pub struct ScriptReader {
     draft: Draft,
-    /// How many lines have ended.
-    lines: u64,
+    /// The number of the line that hasn't ended, counted from 1 on.
+    number: u64,
     line: Vec<u8>,
 }
 
@@ -23,41 +23,38 @@ impl ScriptReader {
 
     /// Nothing was read.
     pub fn new(alloc: Global) -> Self
-        ensures read { HasRead result [] }
-        ensures lines { result.lines ≡ 0 }
+        ensures { HasRead result [] }
     {
         ScriptReader {
             draft: Draft::new(alloc),
-            lines: 0,
+            number: 1,
             line: Vec::new(alloc),
         }
     }
 
     /// Takes the line that has ended.
     fn end_line(&mut self, alloc: Global) -> Result<(), Refusal>
-        requires { self.old.lines + 1 < 2 ^ 64 }
-        ensures read { (bytes : List ℕ) → HasRead self.old bytes
+        ensures { (bytes : List ℕ) → HasRead self.old bytes
             → MatchResult result (λ _. HasRead self.new (bytes ++ 10 ∷ [])) (RefusedSoFar (bytes ++ 10 ∷ [])) }
-        ensures lines { OnOk result (self.new.lines ≡ self.old.lines + 1) }
     {
-        self.draft
-            .take(alloc, self.lines + 1, self.line.as_slice())?;
-        self.lines += 1;
+        self.draft.take(alloc, self.number, self.line.as_slice())?;
+        let Some(next) = self.number.checked_add(1) else {
+            return Err(Refusal::OutOfMemory);
+        };
+        self.number = next;
         self.line.clear();
         Ok(())
     }
 
     /// Takes a byte of the line that hasn't ended. A line that is too long needn't end to be refused.
     fn go_on(&mut self, byte: u8) -> Result<(), Refusal>
-        requires other { ¬ (byte ≡ 10) }
-        requires room { self.old.lines + 1 < 2 ^ 64 }
-        ensures read { (bytes : List ℕ) → HasRead self.old bytes
+        requires { ¬ (byte ≡ 10) }
+        ensures { (bytes : List ℕ) → HasRead self.old bytes
             → MatchResult result (λ _. HasRead self.new (bytes ++ byte ∷ [])) (RefusedSoFar (bytes ++ byte ∷ [])) }
-        ensures lines { OnOk result (self.new.lines ≡ self.old.lines) }
     {
         if self.line.len() >= MAX_LINE_BYTES {
             return Err(Refusal::Line {
-                number: self.lines + 1,
+                number: self.number,
                 fault: ScriptFault::BadShape,
             });
         }
@@ -67,10 +64,8 @@ impl ScriptReader {
 
     /// Takes the next byte.
     fn take(&mut self, alloc: Global, byte: u8) -> Result<(), Refusal>
-        requires { self.old.lines + 1 < 2 ^ 64 }
-        ensures read { (bytes : List ℕ) → HasRead self.old bytes
+        ensures { (bytes : List ℕ) → HasRead self.old bytes
             → MatchResult result (λ _. HasRead self.new (bytes ++ byte ∷ [])) (RefusedSoFar (bytes ++ byte ∷ [])) }
-        ensures lines { OnOk result (self.new.lines ≤ self.old.lines + 1) }
     {
         if byte == b'\n' {
             return self.end_line(alloc);
@@ -81,10 +76,8 @@ impl ScriptReader {
     /// Reads on. The least line with a fault is told as soon as its fault is sure, whatever stands behind it; then the reader
     /// is of no more use.
     pub fn feed(&mut self, alloc: Global, piece: &[u8]) -> Result<(), Refusal>
-        requires { self.old.lines + length piece.now < 2 ^ 64 }
-        ensures read { (bytes : List ℕ) → HasRead self.old bytes
+        ensures { (bytes : List ℕ) → HasRead self.old bytes
             → MatchResult result (λ _. HasRead self.new (bytes ++ piece.now)) (RefusedSoFar (bytes ++ piece.now)) }
-        ensures lines { OnOk result (self.new.lines ≤ self.old.lines + length piece.now) }
     {
         for byte in piece {
             self.take(alloc, *byte)?;
@@ -94,13 +87,12 @@ impl ScriptReader {
 
     /// The script that was read. What stands behind the last line feed is its last line.
     pub fn finish(self, alloc: Global) -> Result<Script, Refusal>
-        requires room { self.lines + 1 < 2 ^ 64 }
-        requires read { (bytes : List ℕ) × HasRead self bytes }
+        requires { (bytes : List ℕ) × HasRead self bytes }
         ensures { (bytes : List ℕ) → HasRead self bytes
             → MatchResult result (λ script. IsScript (lines_of bytes) (plan_of script)) (RefusedFor (lines_of bytes)) }
     {
         let mut draft = self.draft;
-        draft.take(alloc, self.lines + 1, self.line.as_slice())?;
+        draft.take(alloc, self.number, self.line.as_slice())?;
         draft.finish()
     }
 }

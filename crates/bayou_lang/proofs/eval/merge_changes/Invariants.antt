@@ -1,4 +1,4 @@
-use Rattle.std.proofs.Common.{◌≡◌, drop}
+use Rattle.std.proofs.Common.{◌≡◌, drop, map}
 use Rattle.bayou_lang.specs.Meaning.{merged}
 use Rattle.bayou_lang.proofs.eval.merge_changes.Given as goal
 
@@ -6,5 +6,6 @@ use Rattle.bayou_lang.proofs.eval.merge_changes.Given as goal
 abbrev pub invariant-loop-alternative : goal.invariant-loop-alternative
 invariant-loop-alternative g l =
     let places = g.L.Look.places l.look in
+    let form = g.A.Alternative.alternative in
     (l.number ≡ l.alternative-index) ×
-    (merged l.number (drop l.alternative-index l.alternatives) places ≡ merged 0 l.alternatives places)
+    (merged l.number (map form (drop l.alternative-index l.alternatives)) places ≡ merged 0 (map form l.alternatives) places)

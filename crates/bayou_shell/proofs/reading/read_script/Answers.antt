@@ -1,4 +1,4 @@
-use Rattle.std.proofs.Common.{rules, tests, ◌≡◌, ◌<◌, ◌++◌, [], length, take, subst, arith, length-take, append-nil}
+use Rattle.std.proofs.Common.{rules, tests, ◌≡◌, ◌<◌, ◌++◌, [], length, take, subst, arith, append-nil}
 use Rattle.std.proofs.KnownBytes.{Consumes-trans}
 use Rattle.std.proofs.lemmas.Result.{err_from_is_err_and}
 use Rattle.std.specs.Io.KnownBytes.{Consumes, ReadConsumes}
@@ -33,10 +33,9 @@ loop-answer-preserved-in_ok-feed-in-Ok g c =
       read = (
         bytes ++ take c.in-Ok.count piece,
         Consumes-trans (rest c.args.input.now.stream) (rest c.loop-answer.input.stream) (rest c.turn.new.self.stream) bytes (take c.in-Ok.count piece) came more,
-        c.in_ok-feed-in-Ok.ensures.read bytes read,
+        c.in_ok-feed-in-Ok.ensures bytes read,
       );
       fewer = omega (arith, c.loop-answer.invariant.fewer, c.in-Some.ensures.spent);
-      lines = omega (arith, c.loop-answer.invariant.lines, c.in-Some.ensures.spent, c.in_ok-feed-in-Ok.ensures.lines, length-take c.in-Ok.count piece, c.turn.auto.piece);
     }
 
 pub returns-in_err-feed-in-Ok-clause-fault : goal.returns-in_err-feed-in-Ok-clause-fault
@@ -49,4 +48,4 @@ returns-in_err-feed-in-Ok-clause-fault g c =
     rw (p.1, p.2)
     (refused_front (rest c.args.input.now.stream) (rest c.turn.new.self.stream) (bytes ++ take c.in-Ok.count piece) c.in_err-feed-in-Ok.field-0.0
     (Consumes-trans (rest c.args.input.now.stream) (rest c.loop-answer.input.stream) (rest c.turn.new.self.stream) bytes (take c.in-Ok.count piece) came more)
-    (c.in_err-feed-in-Ok.ensures.read bytes read))
+    (c.in_err-feed-in-Ok.ensures bytes read))

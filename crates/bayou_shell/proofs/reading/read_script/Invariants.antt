@@ -1,15 +1,13 @@
--- what came so far was read, each turn took one from those left, and no more lines ended than bytes came
-use Rattle.std.proofs.Common.{◌+◌, ◌*◌, ◌≤◌, List, ℕ}
+-- what came so far was read, and each turn took one from those left
+use Rattle.std.proofs.Common.{◌≤◌, List, ℕ}
 use Rattle.std.specs.Io.KnownBytes.{Consumes}
 use Rattle.bayou_script.specs.Reading.{HasRead}
-use Rattle.bayou_shell.specs.declared.limits.TheConstants.{READ_BYTES}
 use Rattle.bayou_shell.proofs.reading.read_script.Given as goal
 
 abbrev pub invariant-loop-answer : goal.invariant-loop-answer
 invariant-loop-answer g l = record {
   read : (bytes : List ℕ) × Consumes (g.R.Read.remaining l.initial.input.stream) (g.R.Read.remaining l.input.stream) bytes × HasRead l.reader bytes;
   fewer : l.input.turns_left ≤ l.initial.input.turns_left;
-  lines : l.reader.lines + l.input.turns_left * READ_BYTES ≤ l.initial.input.turns_left * READ_BYTES;
 }
 
 abbrev pub decreases-loop-answer : goal.decreases-loop-answer

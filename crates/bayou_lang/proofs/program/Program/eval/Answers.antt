@@ -1,13 +1,17 @@
-use Rattle.bayou_lang.proofs.ChangeLists.{ChangeOnly-merge, ChangeOnly-none, ChangeOnly-update}
+use Rattle.std.proofs.Common.{◌∙◌, map, subst}
+use Rattle.std.proofs.lemmas.List.{map-id}
+use Rattle.std.specs.List.{flat_map}
+use Rattle.bayou_lang.specs.Changes.{op_key, ChangeOnly}
+use Rattle.bayou_lang.proofs.ChangeLists.{ChangeOnly-merge, ChangeOnly-update}
 use Rattle.bayou_lang.proofs.program.Program.eval.Goals as goal
 
-pub returns-then-not-all_hold-clause-only : goal.returns-then-not-all_hold-clause-only
-returns-then-not-all_hold-clause-only g c =
-    ChangeOnly-merge c.args.self.now _ (rw c.as_slice-then-not-all_hold.ensures.value at c.merge_changes.ensures.only)
+pub returns-then-all_hold-clause-only : goal.returns-then-all_hold-clause-only
+returns-then-all_hold-clause-only g c =
+    ChangeOnly-update c.args.self.now _ (rw c.as_slice-then-all_hold.ensures.value at c.update_changes.ensures.only)
 
-pub returns-in-Some-clause-only : goal.returns-in-Some-clause-only
-returns-in-Some-clause-only g c =
-    ChangeOnly-update c.args.self.now _ (rw c.as_slice-2.ensures.value at c.in-Some.ensures.only)
-
-pub returns-in-None-clause-only : goal.returns-in-None-clause-only
-returns-in-None-clause-only g c = rw c.new.ensures (ChangeOnly-none _)
+pub returns-else-all_hold-clause-only : goal.returns-else-all_hold-clause-only
+returns-else-all_hold-clause-only g c =
+    let list = c.as_slice-else-all_hold in
+    ChangeOnly-merge c.args.self.now _
+    (subst (λ alternatives. ChangeOnly (flat_map (λ alt. map op_key alt.ops.items) alternatives) c.merge_changes.result.1.items)
+    (map-id list.result.now ∙ list.ensures.value) c.merge_changes.ensures.only)

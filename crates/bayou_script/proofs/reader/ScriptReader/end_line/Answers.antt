@@ -1,4 +1,4 @@
-use Rattle.std.proofs.Common.{◌≡◌, ◌+◌, ◌∙◌, [], ◌∷◌, ◌++◌, length, ap, sym, subst}
+use Rattle.std.proofs.Common.{rules, ◌≡◌, ◌+◌, ◌∙◌, [], ◌∷◌, ◌++◌, length, ap, sym, subst}
 use Rattle.std.proofs.lemmas.List.{length_push}
 use Rattle.std.proofs.lemmas.Result.{err_from_is_err_and}
 use Rattle.bayou_script.specs.Inner.Draft.{FaultAt}
@@ -6,29 +6,28 @@ use Rattle.bayou_script.specs.Script.{InOrder}
 use Rattle.bayou_script.proofs.Cut.{Cuts, Cuts-end, refused_ended}
 use Rattle.bayou_script.proofs.reader.ScriptReader.end_line.Goals as goal
 
-pub returns-in_err-take-clause-read : goal.returns-in_err-take-clause-read
-returns-in_err-take-clause-read c bytes read =
+pub returns-in_err-take : goal.returns-in_err-take
+returns-in_err-take c bytes read =
     let p = err_from_is_err_and c.from_residual.result c.from_residual.ensures.1 in
     let line = c.args.self.now.line.items in
     let same : c.as_slice.result.now ≡ line = c.as_slice.ensures.value in
-    let number : c.args.self.now.lines + 1 ≡ length read.ended + 1 = ap (λ n. n + 1) read.number in
-    let fault = c.in_err-take.ensures read.ended read.front number read.in_order read.draft in
+    let fault = c.in_err-take.ensures read.ended read.front read.number read.in_order read.draft in
     let has : FaultAt (length read.ended + 1) read.front line c.in_err-take.field-0.0 =
     subst (λ l. FaultAt (length read.ended + 1) read.front l c.in_err-take.field-0.0) same
-    (subst (λ n. FaultAt n read.front c.as_slice.result.now c.in_err-take.field-0.0) number fault) in
+    (subst (λ n. FaultAt n read.front c.as_slice.result.now c.in_err-take.field-0.0) read.number fault) in
     rw (p.1, p.2) (refused_ended bytes read.ended line read.front c.in_err-take.field-0.0 read.cut read.in_order has)
 
-pub returns-clause-read : goal.returns-clause-read
-returns-clause-read c bytes read =
+pub returns : goal.returns
+returns c bytes read =
     let line = c.args.self.now.line.items in
     let same : c.as_slice.result.now ≡ line = c.as_slice.ensures.value in
-    let number : c.args.self.now.lines + 1 ≡ length read.ended + 1 = ap (λ n. n + 1) read.number in
-    let (after, in_order, draft) = c.in_ok-take.ensures read.ended read.front number read.in_order read.draft in
+    let (after, in_order, draft) = c.in_ok-take.ensures read.ended read.front read.number read.in_order read.draft in
+    let next : c.in-Some.next ≡ c.args.self.now.number + 1 = search rules in
     record {
       ended = read.ended ++ line ∷ [];
       front = after;
       cut = subst (Cuts (bytes ++ 10 ∷ []) (read.ended ++ line ∷ [])) (sym c.clear.ensures.items) (Cuts-end bytes read.ended line read.cut);
-      number = number ∙ sym (length_push read.ended line);
+      number = next ∙ ap (λ n. n + 1) (read.number ∙ sym (length_push read.ended line));
       in_order = subst (λ l. InOrder (read.ended ++ l ∷ []) after) same in_order;
       draft = draft;
     }

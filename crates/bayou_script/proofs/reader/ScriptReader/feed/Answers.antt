@@ -1,18 +1,16 @@
-use Rattle.std.proofs.Common.{subst, arith}
+use Rattle.std.proofs.Common.{subst}
 use Rattle.std.proofs.lemmas.Result.{err_from_is_err_and}
 use Rattle.bayou_script.specs.Reading.{HasRead}
 use Rattle.bayou_script.proofs.Cut.{one_more, refused_within}
 use Rattle.bayou_script.proofs.reader.ScriptReader.feed.Goals as goal
 
-pub returns-in_err-take-clause-read : goal.returns-in_err-take-clause-read
-returns-in_err-take-clause-read c bytes read =
+pub returns-in_err-take : goal.returns-in_err-take
+returns-in_err-take c bytes read =
     let p = err_from_is_err_and c.from_residual.result c.from_residual.ensures.1 in
     rw (p.1, p.2)
-    (refused_within bytes c.args.piece.now c.loop-byte.byte-index c.in_err-take.field-0.0 c.loop-byte-test.true (c.in_err-take.ensures.read _ (c.loop-byte.invariant.read bytes read)))
+    (refused_within bytes c.args.piece.now c.loop-byte.byte-index c.in_err-take.field-0.0 c.loop-byte-test.true (c.in_err-take.ensures _ (c.loop-byte.invariant bytes read)))
 
 pub loop-byte-preserved : goal.loop-byte-preserved
-loop-byte-preserved c = record {
-  read = λ bytes read. subst (HasRead c.take.new.self) (one_more bytes c.args.piece.now c.loop-byte.byte-index c.loop-byte-test.true)
-      (c.in_ok-take.ensures.read _ (c.loop-byte.invariant.read bytes read));
-  lines = omega (arith, c.loop-byte.invariant.lines, c.in_ok-take.ensures.lines);
-}
+loop-byte-preserved c bytes read =
+    subst (HasRead c.take.new.self) (one_more bytes c.args.piece.now c.loop-byte.byte-index c.loop-byte-test.true)
+    (c.in_ok-take.ensures _ (c.loop-byte.invariant bytes read))

@@ -1,22 +1,21 @@
-use Rattle.std.proofs.Common.{◌≤◌, ◌+◌, ◌∷◌, ◌++◌, [], length, ap, sym, subst, arith}
+use Rattle.std.proofs.Common.{◌≤◌, ◌∷◌, ◌++◌, [], length, sym, subst, arith}
 use Rattle.bayou_base.specs.declared.limits.TheConstants.{MAX_LINE_BYTES}
 use Rattle.bayou_script.proofs.Cut.{Cuts, Cuts-more, is_other, refused_long}
 use Rattle.bayou_script.proofs.reader.ScriptReader.go_on.Goals as goal
 
-pub returns-then-len-ge-MAX_LINE_BYTES-clause-read :
-    goal.returns-then-len-ge-MAX_LINE_BYTES-clause-read
-returns-then-len-ge-MAX_LINE_BYTES-clause-read c bytes read =
+pub returns-then-len-ge-MAX_LINE_BYTES : goal.returns-then-len-ge-MAX_LINE_BYTES
+returns-then-len-ge-MAX_LINE_BYTES c bytes read =
     let line = c.args.self.now.line.items in
     let long : MAX_LINE_BYTES ≤ length line = omega arith in
-    refused_long bytes read.ended line c.args.byte (c.args.self.now.lines + 1) read.front (is_other c.args.byte c.requires.other) read.cut read.in_order
-    (ap (λ n. n + 1) read.number) long
+    refused_long bytes read.ended line c.args.byte c.args.self.now.number read.front (is_other c.args.byte c.requires) read.cut read.in_order
+    read.number long
 
-pub returns-clause-read : goal.returns-clause-read
-returns-clause-read c bytes read = record {
+pub returns : goal.returns
+returns c bytes read = record {
   ended = read.ended;
   front = read.front;
   cut = subst (Cuts (bytes ++ c.args.byte ∷ []) read.ended) (sym c.in_ok-push.ensures.items)
-      (Cuts-more bytes read.ended c.args.self.now.line.items c.args.byte (is_other c.args.byte c.requires.other) read.cut);
+      (Cuts-more bytes read.ended c.args.self.now.line.items c.args.byte (is_other c.args.byte c.requires) read.cut);
   number = read.number;
   in_order = read.in_order;
   draft = read.draft;

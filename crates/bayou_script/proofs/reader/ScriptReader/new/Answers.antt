@@ -3,8 +3,8 @@ use Rattle.bayou_script.specs.Script.{nothing}
 use Rattle.bayou_script.proofs.Cut.{Cuts-start}
 use Rattle.bayou_script.proofs.reader.ScriptReader.new.Goals as goal
 
-pub returns-clause-read : goal.returns-clause-read
-returns-clause-read c = record {
+pub returns : goal.returns
+returns c = record {
   ended = [];
   front = [];
   cut = Cuts-start c.new-2.result.items c.new-2.ensures.items;
