@@ -1,9 +1,8 @@
--- How a server's Write is added: the entry behind those of the Writes held, and then the Write.
-use Rattle.std.proofs.Common.{◌≡◌, ℕ, ◌<◌, ◌≤◌, List, [], ◌∷◌, ◌++◌, Option, None, Some, Result, Ok, Err, true, false, length, refl, sym, ◌∙◌, ap, subst}
+-- How a Write is added: the entry behind those of the Writes held, and then the Write.
+use Rattle.std.proofs.Common.{◌≡◌, ℕ, ◌≤◌, List, [], ◌∷◌, ◌++◌, Option, None, Some, Result, Ok, Err, true, false, refl, sym, ◌∙◌, ap, subst}
 use Rattle.std.specs.Prelude.{IsErrOf, OnOk, is_err, is_some}
 use Rattle.std.proofs.lemmas.List.{map-append}
 use Rattle.bayou_base.specs.declared.limits.TheConstants.{MAX_WRITES}
-use Rattle.bayou_base.specs.declared.answer.Accepted.{Accepted}
 use Rattle.bayou_device.specs.Device.{Rose}
 use Rattle.bayou_journal.specs.declared.fault.AppendFault.{AppendFault}
 use Rattle.bayou_journal.specs.declared.fault.AppendFault.TheVariants as append
@@ -12,19 +11,16 @@ use Rattle.bayou_journal.specs.Laws.Chain.{chain_end-push, journal-push}
 use Rattle.bayou_journal.specs.Journal.{JournalState}
 use Rattle.bayou_journal.specs.declared.format.TheConstants.{VERSION}
 use Rattle.bayou_journal.specs.Opening.{FailsToAdd}
-use Rattle.bayou_lang.specs.declared.program.Program.{Program}
 use Rattle.bayou_lang.specs.declared.write.Write.{Write}
-use Rattle.bayou_lang.specs.Writes.{IsNextWrite}
 use Rattle.bayou_log.specs.Log.{Log, IsReserved}
-use Rattle.bayou_lang.specs.Ranges.{IsWrite}
 use Rattle.bayou_wire.specs.Spelling.{write_bytes}
 use Rattle.bayou_server.specs.Inner.Fields.{BelongTogether, Stands, core_of}
-use Rattle.bayou_server.specs.declared.fault.WriteFault.{WriteFault}
-use Rattle.bayou_server.specs.Inner.Making.{Settles}
-use Rattle.bayou_server.specs.Server.{Core, IsSoundServer, ServerState}
-use Rattle.bayou_server.specs.Stored.{HasAdded, IsEntryOf, IsStored, StoresWrite, bodies_of}
-use Rattle.bayou_server.specs.Writes.{Makes, Writes}
-use Rattle.bayou_server.proofs.Steps.{next_may_be_in_doubt, sound_next}
+use Rattle.bayou_server.specs.declared.storing.Stored.{Stored}
+use Rattle.bayou_server.specs.declared.storing.Stored.TheVariants.{Held, InDoubt}
+use Rattle.bayou_server.specs.Inner.Storing.{Settles, StoresEntry}
+use Rattle.bayou_server.specs.Server.{Core, IsSoundServer, MayBeInDoubt, ServerState}
+use Rattle.bayou_server.specs.Stored.{HasAdded, IsEntryOf, IsStored, bodies_of}
+use Rattle.bayou_server.proofs.Steps.{sound_next}
 use Rattle.bayou_device.specs.declared.device.Device.{Ghosts}
 
 -- an append that fails is the device's fault, unless the journal was down
@@ -61,11 +57,11 @@ entry_is journal log id doubt made bytes together up spelled = record {
 }
 
 -- the fields still belong together once the entry and the Write were added
-pub after_adding : {D : Type 0} (journal new : JournalState D) (log after : Log) (id : ℕ) (doubt : Option Write) (asked : Program) (made : Write) (bytes : List ℕ)
-    → BelongTogether journal log id doubt → is_some doubt ≡ false → IsNextWrite log.receipts id asked made → length log.receipts < log.limit → IsWrite made → bytes ≡ write_bytes made
+pub after_adding : {D : Type 0} (journal new : JournalState D) (log after : Log) (id : ℕ) (doubt : Option Write) (made : Write) (bytes : List ℕ)
+    → BelongTogether journal log id doubt → is_some doubt ≡ false → MayBeInDoubt id log.count log.limit log.receipts made → bytes ≡ write_bytes made
     → new ≡ record journal { device = new.device; last = link journal.last bytes }
     → after ≡ record log { receipts = log.receipts ++ made ∷ []; room = after.room } → BelongTogether new after id doubt
-after_adding {D} journal new log after id doubt asked made bytes together up next room is spelled new_is after_is =
+after_adding {D} journal new log after id doubt made bytes together up may spelled new_is after_is =
     let before = stands_up journal log id doubt together up in
     let owner : new.server ≡ id = ap (λ (j : JournalState D). j.server) new_is ∙ together.owner in
     let receipts : after.receipts ≡ log.receipts ++ made ∷ [] = ap (λ (l : Log). l.receipts) after_is in
@@ -80,7 +76,7 @@ after_adding {D} journal new log after id doubt asked made bytes together up nex
     record {
       owner = owner;
       limit = subst (λ (l : Log). l.limit ≤ MAX_WRITES) (sym after_is) together.limit;
-      sound = subst (λ (l : Log). IsSoundServer (core_of l id doubt)) (sym after_is) (sound_next (core_of log id doubt) asked made together.sound (none_of doubt up) next room is);
+      sound = subst (λ (l : Log). IsSoundServer (core_of l id doubt)) (sym after_is) (sound_next (core_of log id doubt) made together.sound (none_of doubt up) may);
       stands = subst (λ (d : Option Write). Stands new after d) (sym (none_of doubt up))
           (ap (λ (j : JournalState D). j.is_down) new_is ∙ before.0, last);
     }
@@ -96,13 +92,11 @@ pub record Appends {D : Type 0} (d : Ghosts D) (journal new : JournalState D) (b
   pub rose : IsErrOf result append.Device → Rose (d.failures journal.device) (d.failures new.device)
   pub left : d.is_modelled → IsErrOf result append.Device → FailsToAdd d.may_leave (entry journal.last bytes) (d.content journal.device) (d.content new.device)
 
--- the server that is up adds its next Write, for which the log was given room
-pub record Adds {D : Type 0} (journal : JournalState D) (log reserved : Log) (id : ℕ) (doubt : Option Write) (asked : Program) (made : Write) (bytes : List ℕ) : Type 0 where
+-- the server that is up adds a Write that it may hold next, for which the log was given room
+pub record Adds {D : Type 0} (journal : JournalState D) (log reserved : Log) (id : ℕ) (doubt : Option Write) (made : Write) (bytes : List ℕ) : Type 0 where
   pub together : BelongTogether journal log id doubt
   pub up : doubt ≡ None
-  pub room : length log.receipts < log.limit
-  pub next : IsNextWrite log.receipts id asked made
-  pub is : IsWrite made
+  pub may : MayBeInDoubt id log.count log.limit log.receipts made
   pub spelled : bytes ≡ write_bytes made
   pub same : reserved ≡ record log { room = reserved.room }
   pub has_room : IsReserved reserved.room made
@@ -122,95 +116,70 @@ doubted_core : (log reserved new : Log) (id : ℕ) (doubt left : Option Write) (
 doubted_core log reserved new id doubt left made same is in_doubt =
     ap (λ (l : Log). core_of l id left) (is ∙ same) ∙ ap (λ (d : Option Write). core_of log id d) in_doubt
 
-pub settled_writes : (log reserved new : Log) (id : ℕ) (doubt left : Option Write) (need : List ℕ) (asked : Program) (made : Write) (added : Result (Unit {0}) AppendFault) (result : Result Accepted WriteFault)
-    → reserved ≡ record log { room = reserved.room } → Makes (core_of log id doubt) need asked made → Settles reserved doubt made added result new left
-    → Writes (core_of log id doubt) need asked result (core_of new id left)
-settled_writes log reserved new id doubt left need asked made (Ok done) (Ok accepted) same makes settles = record {
-  made = made;
-  makes = makes;
-  wid = settles.wid;
-  stamp = settles.stamp;
-  deps = settles.deps;
-  is = held_core log reserved new id doubt left made same settles.is settles.same;
-}
-settled_writes log reserved new id doubt left need asked made (Err reason) (Err fault) same makes settles =
-    subst (λ (f : WriteFault). Writes (core_of log id doubt) need asked (Err f) (core_of new id left)) (sym settles.told)
-    (record { made = made; makes = makes; is = doubted_core log reserved new id doubt left made same settles.same settles.is })
-settled_writes log reserved new id doubt left need asked made (Ok done) (Err fault) same makes settles = absurd settles
-settled_writes log reserved new id doubt left need asked made (Err reason) (Ok accepted) same makes settles = absurd settles
-
 -- an append that failed is the device's fault
 fault_of : {D : Type 0} (d : Ghosts D) (journal new : JournalState D) (log : Log) (id : ℕ) (doubt : Option Write) (bytes : List ℕ) (reason : AppendFault)
     → BelongTogether journal log id doubt → doubt ≡ None → Appends d journal new bytes (Err reason) → IsErrOf {T = Unit {0}} (Err reason) append.Device
 fault_of d journal new log id doubt bytes reason together up appends =
     device_fault (Err reason) refl (λ down. absurd (let was = appends.down down in let is = (stands_up journal log id doubt together (ap is_some up)).0 in cc))
 
-pub settled_stores : {D : Type 0} (d : Ghosts D) (journal new : JournalState D) (log reserved after : Log) (id : ℕ) (doubt left : Option Write) (asked : Program) (made : Write) (bytes : List ℕ)
-    (added : Result (Unit {0}) AppendFault) (result : Result Accepted WriteFault)
-    → Adds journal log reserved id doubt asked made bytes → Appends d journal new bytes added → Settles reserved doubt made added result after left
-    → StoresWrite d (record { core = core_of log id doubt; device = journal.device }) result (record { core = core_of after id left; device = new.device })
-settled_stores d journal new log reserved after id doubt left asked made bytes (Ok done) (Ok accepted) adds appends settles = record {
+pub settled_stores : {D : Type 0} (d : Ghosts D) (journal new : JournalState D) (log reserved after : Log) (id : ℕ) (doubt left : Option Write) (made : Write) (bytes : List ℕ)
+    (added : Result (Unit {0}) AppendFault) (result : Stored)
+    → Adds journal log reserved id doubt made bytes → Appends d journal new bytes added → Settles reserved doubt made added result after left
+    → StoresEntry d (record { core = core_of log id doubt; device = journal.device }) result (record { core = core_of after id left; device = new.device })
+settled_stores d journal new log reserved after id doubt left made bytes (Ok done) Held adds appends settles = record {
   made = made;
-  held = ap (λ (c : Core). c.held) (held_core log reserved after id doubt left made adds.same settles.is settles.same);
+  held = ap (λ (c : Core). c.held) (held_core log reserved after id doubt left made adds.same settles.0 settles.1);
   added = entry journal.last bytes;
   entry_of = entry_is journal log id doubt made bytes adds.together (ap is_some adds.up) adds.spelled;
   behind = appends.added;
   synced = appends.synced;
   counts = appends.counts;
 }
-settled_stores {D} d journal new log reserved after id doubt left asked made bytes (Err reason) (Err told) adds appends settles =
+settled_stores d journal new log reserved after id doubt left made bytes (Err reason) InDoubt adds appends settles =
     let fault = fault_of d journal new log id doubt bytes reason adds.together adds.up appends in
-    subst (λ (f : WriteFault). StoresWrite d (record { core = core_of log id doubt; device = journal.device }) (Err f) (record { core = core_of after id left; device = new.device })) (sym settles.told)
-    (record {
+    record {
       made = made;
-      doubt = settles.is;
+      doubt = settles.1;
       added = entry journal.last bytes;
       entry_of = entry_is journal log id doubt made bytes adds.together (ap is_some adds.up) adds.spelled;
       left = λ modelled. appends.left modelled fault;
       rose = appends.rose fault;
-    })
-settled_stores d journal new log reserved after id doubt left asked made bytes (Ok done) (Err fault) adds appends settles = absurd settles
-settled_stores d journal new log reserved after id doubt left asked made bytes (Err reason) (Ok accepted) adds appends settles = absurd settles
+    }
+settled_stores d journal new log reserved after id doubt left made bytes (Ok done) InDoubt adds appends settles = absurd settles
+settled_stores d journal new log reserved after id doubt left made bytes (Err reason) Held adds appends settles = absurd settles
 
 -- the fields still belong together once the Write is in doubt
-after_failing : {D : Type 0} (journal new : JournalState D) (log reserved after : Log) (id : ℕ) (doubt left : Option Write) (asked : Program) (made : Write) (bytes : List ℕ)
-    → Adds journal log reserved id doubt asked made bytes → new ≡ record journal { device = new.device; is_down = true } → after ≡ reserved → left ≡ Some made
+after_failing : {D : Type 0} (journal new : JournalState D) (log reserved after : Log) (id : ℕ) (doubt left : Option Write) (made : Write) (bytes : List ℕ)
+    → Adds journal log reserved id doubt made bytes → new ≡ record journal { device = new.device; is_down = true } → after ≡ reserved → left ≡ Some made
     → BelongTogether new after id left
-after_failing {D} journal new log reserved after id doubt left asked made bytes adds new_is after_is left_is =
+after_failing {D} journal new log reserved after id doubt left made bytes adds new_is after_is left_is =
     let together = adds.together in
-    let owner : new.server ≡ id = ap (λ (j : JournalState D). j.server) new_is ∙ together.owner in
     let log_is : after ≡ record log { room = reserved.room } = after_is ∙ adds.same in
-    let next : IsNextWrite log.receipts id made.program made =
-    subst (λ (p : Program). IsNextWrite log.receipts id p made) (sym adds.next.program) adds.next in
     record {
-      owner = owner;
+      owner = ap (λ (j : JournalState D). j.server) new_is ∙ together.owner;
       limit = subst (λ (l : Log). l.limit ≤ MAX_WRITES) (sym log_is) together.limit;
       sound = subst (λ (l : Log). IsSoundServer (core_of l id left)) (sym log_is) (subst (λ (d : Option Write). IsSoundServer (core_of log id d)) (sym left_is) (record {
         known = together.sound.known;
         holds = together.sound.holds;
         spelled = together.sound.spelled;
-        doubted = next_may_be_in_doubt (core_of log id doubt) asked made together.sound adds.next adds.room adds.is;
+        doubted = adds.may;
       }));
-      stands = subst (λ (d : Option Write). Stands new after d) (sym left_is) (
-        subst (λ (l : Log). IsNextWrite l.receipts new.server made.program made) (sym log_is) (subst (λ (s : ℕ). IsNextWrite log.receipts s made.program made) (sym owner) next),
-        subst (λ (l : Log). IsReserved l.room made) (sym after_is) adds.has_room,
-        subst (λ (l : Log). length l.receipts < l.limit) (sym log_is) adds.room,
-      );
+      stands = subst (λ (d : Option Write). Stands new after d) (sym left_is) (subst (λ (l : Log). IsReserved l.room made) (sym after_is) adds.has_room);
     }
 
-pub settled_together : {D : Type 0} (d : Ghosts D) (journal new : JournalState D) (log reserved after : Log) (id : ℕ) (doubt left : Option Write) (asked : Program) (made : Write) (bytes : List ℕ)
-    (added : Result (Unit {0}) AppendFault) (result : Result Accepted WriteFault)
-    → Adds journal log reserved id doubt asked made bytes → Appends d journal new bytes added → Settles reserved doubt made added result after left
+pub settled_together : {D : Type 0} (d : Ghosts D) (journal new : JournalState D) (log reserved after : Log) (id : ℕ) (doubt left : Option Write) (made : Write) (bytes : List ℕ)
+    (added : Result (Unit {0}) AppendFault) (result : Stored)
+    → Adds journal log reserved id doubt made bytes → Appends d journal new bytes added → Settles reserved doubt made added result after left
     → BelongTogether new after id left
-settled_together d journal new log reserved after id doubt left asked made bytes (Ok done) (Ok accepted) adds appends settles =
-    subst (λ (o : Option Write). BelongTogether new after id o) (sym settles.same)
-    (after_adding journal new log after id doubt asked made bytes adds.together (ap is_some adds.up) adds.next adds.room adds.is adds.spelled appends.ends
-    (settles.is ∙ ap (λ (l : Log). record l { receipts = l.receipts ++ made ∷ []; room = after.room }) adds.same))
-settled_together d journal new log reserved after id doubt left asked made bytes (Err reason) (Err fault) adds appends settles =
-    after_failing journal new log reserved after id doubt left asked made bytes adds
-    (appends.fault (fault_of d journal new log id doubt bytes reason adds.together adds.up appends)) settles.same settles.is
-settled_together d journal new log reserved after id doubt left asked made bytes (Ok done) (Err fault) adds appends settles = absurd settles
-settled_together d journal new log reserved after id doubt left asked made bytes (Err reason) (Ok accepted) adds appends settles = absurd settles
+settled_together d journal new log reserved after id doubt left made bytes (Ok done) Held adds appends settles =
+    subst (λ (o : Option Write). BelongTogether new after id o) (sym settles.1)
+    (after_adding journal new log after id doubt made bytes adds.together (ap is_some adds.up) adds.may adds.spelled appends.ends
+    (settles.0 ∙ ap (λ (l : Log). record l { receipts = l.receipts ++ made ∷ []; room = after.room }) adds.same))
+settled_together d journal new log reserved after id doubt left made bytes (Err reason) InDoubt adds appends settles =
+    after_failing journal new log reserved after id doubt left made bytes adds
+    (appends.fault (fault_of d journal new log id doubt bytes reason adds.together adds.up appends)) settles.0 settles.1
+settled_together d journal new log reserved after id doubt left made bytes (Ok done) InDoubt adds appends settles = absurd settles
+settled_together d journal new log reserved after id doubt left made bytes (Err reason) Held adds appends settles = absurd settles
 
 -- a device that had the journal of the Writes held has that of those and the new one
 pub stored_after : {D : Type 0} (d : Ghosts D) (old new : ServerState D) → d.is_modelled → new.core.id ≡ old.core.id → HasAdded d old new → IsStored d old → IsStored d new
@@ -225,8 +194,3 @@ stored_after {D} d old new modelled same has stored =
           ∙ sym (journal-push VERSION old.core.id one.bodies one.body)
           ∙ ap (λ (s : ℕ). journal VERSION s (one.bodies ++ one.body ∷ [])) (sym same),
     )
-
-pub stored_by : {D : Type 0} (d : Ghosts D) (old new : ServerState D) (result : Result Accepted WriteFault) → d.is_modelled → new.core.id ≡ old.core.id → StoresWrite d old result new
-    → OnOk result (IsStored d old → IsStored d new)
-stored_by d old new (Ok accepted) modelled same stores = stored_after d old new modelled same stores
-stored_by d old new (Err fault) modelled same stores = tt

@@ -1,6 +1,6 @@
 -- What a reopening leaves, by what the journal found.
 use Rattle.std.specs.Prelude.{IfSome, IsSome}
-use Rattle.std.proofs.Common.{◌≡◌, ℕ, ◌<◌, ◌≤◌, List, [], ◌∷◌, ◌++◌, Option, None, Some, Err, false, length, inl, inr, refl, sym, ◌∙◌, ap, subst}
+use Rattle.std.proofs.Common.{◌≡◌, ℕ, ◌≤◌, List, [], ◌∷◌, ◌++◌, Option, None, Some, Err, false, inl, inr, refl, sym, ◌∙◌, ap, subst}
 use Rattle.bayou_base.specs.declared.limits.TheConstants.{MAX_WRITES}
 use Rattle.bayou_journal.specs.declared.fault.OpenFault.{OpenFault}
 use Rattle.bayou_journal.specs.declared.fault.OpenFault.TheVariants as opening
@@ -10,7 +10,6 @@ use Rattle.bayou_journal.specs.Opened.{Found}
 use Rattle.bayou_journal.specs.Opening.{HasOpened, HasRefused}
 use Rattle.bayou_journal.specs.declared.format.TheConstants.{VERSION}
 use Rattle.bayou_lang.specs.declared.write.Write.{Write}
-use Rattle.bayou_lang.specs.Writes.{IsNextWrite}
 use Rattle.bayou_log.specs.Log.{Log, IsReserved}
 use Rattle.bayou_server.specs.declared.fault.ReopenFault.{ReopenFault}
 use Rattle.bayou_server.specs.declared.fault.ReopenFault.TheVariants.{NotDown, Journal, Lost, BadRecord, OutOfMemory}
@@ -22,7 +21,6 @@ use Rattle.bayou_server.specs.Server.{Core, IsDown, IsSoundServer, MayBeInDoubt,
 use Rattle.bayou_server.specs.Stored.{OpensWith, ReopensJournal, bodies_of}
 use Rattle.bayou_server.proofs.Steps.{sound_next}
 use Rattle.bayou_device.specs.declared.device.Device.{Ghosts}
-use Rattle.bayou_lang.specs.Ranges.{IsWrite}
 
 -- the journal's refusal
 pub stays_refused : (core : Core) (fault : OpenFault) → IsDown core → Reopens core (Err (reopen_fault fault)) core
@@ -71,12 +69,15 @@ others_refused d old new doubt bodies Lost down opened have = (bodies, opened, h
 others_refused d old new doubt bodies (BadRecord at) down opened have = (doubt, down, (bodies, opened, have.1))
 others_refused d old new doubt bodies OutOfMemory down opened have = inr (bodies, opened)
 
--- the Write in doubt is the server's next
-pub stands_down : {D : Type 0} (journal : JournalState D) (log : Log) (id : ℕ) (doubt : Option Write) (write : Write) → BelongTogether journal log id doubt → doubt ≡ Some write
-    → IsNextWrite log.receipts id write.program write × IsReserved log.room write × (length log.receipts < log.limit)
-stands_down journal log id doubt write together is =
-    let stands : Stands journal log (Some write) = subst (λ (d : Option Write). Stands journal log d) is together.stands in
-    (subst (λ (s : ℕ). IsNextWrite log.receipts s write.program write) together.owner stands.0, stands.1, stands.2)
+-- the Write in doubt may be held next
+pub doubted_may : {D : Type 0} (journal : JournalState D) (log : Log) (id : ℕ) (doubt : Option Write) (write : Write) → BelongTogether journal log id doubt → doubt ≡ Some write
+    → MayBeInDoubt id log.count log.limit log.receipts write
+doubted_may journal log id doubt write together is = subst (λ (d : Option Write). IfSome d (MayBeInDoubt id log.count log.limit log.receipts)) is together.sound.doubted
+
+-- and the log has room for it
+pub doubted_is_reserved : {D : Type 0} (journal : JournalState D) (log : Log) (id : ℕ) (doubt : Option Write) (write : Write) → BelongTogether journal log id doubt → doubt ≡ Some write
+    → IsReserved log.room write
+doubted_is_reserved journal log id doubt write together is = subst (λ (d : Option Write). Stands journal log d) is together.stands
 
 -- the fields still belong together once the Write in doubt was adopted
 pub after_adopting : {D : Type 0} (journal new : JournalState D) (log after : Log) (id : ℕ) (doubt left : Option Write) (write : Write) (bodies : List (List ℕ))
@@ -85,8 +86,7 @@ pub after_adopting : {D : Type 0} (journal new : JournalState D) (log after : Lo
     → new.last ≡ chain_end VERSION journal.server bodies → bodies ≡ bodies_of (log.receipts ++ write ∷ [])
     → after ≡ record log { receipts = log.receipts ++ write ∷ []; room = after.room } → BelongTogether new after id left
 after_adopting {D} journal new log after id doubt left write bodies together is none new_is last bodies_are after_is =
-    let down = stands_down journal log id doubt write together is in
-    let may : MayBeInDoubt id log.count log.limit log.receipts write = subst (λ (d : Option Write). IfSome d (MayBeInDoubt id log.count log.limit log.receipts)) is together.sound.doubted in
+    let may = doubted_may journal log id doubt write together is in
     let up : IsSoundServer (core_of log id None) = record { known = together.sound.known; holds = together.sound.holds; spelled = together.sound.spelled; doubted = tt } in
     let owner : new.server ≡ journal.server = ap (λ (j : JournalState D). j.server) new_is in
     let receipts : after.receipts ≡ log.receipts ++ write ∷ [] = ap (λ (l : Log). l.receipts) after_is in
@@ -94,7 +94,7 @@ after_adopting {D} journal new log after id doubt left write bodies together is 
       owner = owner ∙ together.owner;
       limit = subst (λ (l : Log). l.limit ≤ MAX_WRITES) (sym after_is) together.limit;
       sound = subst (λ (l : Log). IsSoundServer (core_of l id left)) (sym after_is)
-          (subst (λ (d : Option Write). IsSoundServer (record (core_of log id d) { held = log.receipts ++ write ∷ [] })) (sym none) (sound_next (core_of log id None) write.program write up refl down.0 down.2 may.spelled));
+          (subst (λ (d : Option Write). IsSoundServer (record (core_of log id d) { held = log.receipts ++ write ∷ [] })) (sym none) (sound_next (core_of log id None) write up refl may));
       stands = subst (λ (d : Option Write). Stands new after d) (sym none) (
         ap (λ (j : JournalState D). j.is_down) new_is,
         last

@@ -1,52 +1,67 @@
 -- What the steps of a server keep.
-use Rattle.std.proofs.Common.{◌≡◌, ℕ, ◌+◌, ◌<◌, List, [], ◌∷◌, ◌++◌, Option, None, Some, Result, Ok, Err, length, refl, sym, ◌∙◌, ap, subst, arith, length-append}
-use Rattle.std.specs.Prelude.{IfSome, MatchResult, slice_index}
+use Rattle.std.proofs.Common.{◌≡◌, ◌≢◌, ℕ, ◌+◌, ◌<◌, ◌==◌, Bool, true, false, List, [], ◌∷◌, ◌++◌, Option, None, Some, Result, Ok, Err, length, refl, sym, ◌∙◌, ap, subst, arith, length-append}
+use Rattle.std.specs.Prelude.{IfSome, MatchResult, slice_index, if◌then◌else◌}
+use Rattle.std.proofs.lemmas.Bool.Decides.{Decides-eqb}
 use Rattle.std.proofs.lemmas.List.Elements.{All-push}
 use Rattle.bayou_base.specs.declared.answer.Accepted.{Accepted}
 use Rattle.bayou_base.specs.declared.wid.Wid.{Wid}
 use Rattle.bayou_lang.specs.declared.program.Program.{Program}
 use Rattle.bayou_lang.specs.declared.write.Write.{Write}
 use Rattle.bayou_lang.specs.Writes.{IsNextWrite, count_of, counted}
-use Rattle.bayou_lang.specs.Laws.Fitting.{IsSound-push, next_fits, count_of-push, counted-own}
+use Rattle.bayou_lang.specs.Laws.Fitting.{IsSound-push, next_fits, count_of-push, counted-other, counted-own}
 use Rattle.bayou_lang.specs.Ranges.{IsWrite}
+use Rattle.bayou_server.specs.declared.answer.Took.{Took}
+use Rattle.bayou_server.specs.declared.answer.Took.TheVariants.{New, Had}
+use Rattle.bayou_server.specs.declared.fault.TakeFault.{TakeFault}
+use Rattle.bayou_server.specs.declared.fault.TakeFault.TheVariants as taking
 use Rattle.bayou_server.specs.declared.fault.WriteFault.{WriteFault}
 use Rattle.bayou_server.specs.declared.fault.WriteFault.TheVariants.{Down, Behind, LogFull, OutOfMemory, Journal}
 use Rattle.bayou_server.specs.Reopens.{Recovers, own_adopted}
+use Rattle.bayou_server.specs.Inner.Storing.{MayBeStored}
 use Rattle.bayou_server.specs.Server.{Core, IsSoundServer, IsUp, MayBeInDoubt, own_count}
+use Rattle.bayou_server.specs.Takes.{Takes}
 use Rattle.bayou_server.specs.Writes.{Writes}
 
--- a server that holds its next Write too is sound
-pub sound_next : (core : Core) (asked : Program) (made : Write) → IsSoundServer core → IsUp core → IsNextWrite core.held core.id asked made → length core.held < core.limit → IsWrite made
+-- a server that holds the Write that it may hold next too is sound
+pub sound_next : (core : Core) (made : Write) → IsSoundServer core → IsUp core → MayBeInDoubt core.id core.count core.limit core.held made
     → IsSoundServer (record core { held = core.held ++ made ∷ [] })
-sound_next core asked made sound up next room is = record {
+sound_next core made sound up may = record {
   known = sound.known;
   holds = record {
-    sound = IsSound-push core.id core.count core.held made sound.holds.sound (next_fits core.count core.held core.id asked made sound.holds.sound.fitting sound.known next) (λ is_own. next.deps);
-    within = omega (arith, room, length-append core.held (made ∷ []));
+    sound = IsSound-push core.id core.count core.held made sound.holds.sound may.fits (λ is_own. (may.own is_own).deps);
+    within = omega (arith, may.room, length-append core.held (made ∷ []));
   };
-  spelled = All-push IsWrite core.held made sound.spelled is;
+  spelled = All-push IsWrite core.held made sound.spelled may.spelled;
   doubted = subst (λ (d : Option Write). IfSome d (MayBeInDoubt core.id core.count core.limit (core.held ++ made ∷ []))) (sym up) tt;
 }
 
 -- the next Write is made of its own program
-pub next_as_itself : (held : List Write) (server : ℕ) (asked : Program) (made : Write) → IsNextWrite held server asked made → IsNextWrite held server made.program made
+next_as_itself : (held : List Write) (server : ℕ) (asked : Program) (made : Write) → IsNextWrite held server asked made → IsNextWrite held server made.program made
 next_as_itself held server asked made next = record { origin = next.origin; seq = next.seq; clock = next.clock; deps = next.deps; program = refl }
 
--- a server's next Write may be in doubt
-pub next_may_be_in_doubt : (core : Core) (asked : Program) (made : Write) → IsSoundServer core → IsNextWrite core.held core.id asked made → length core.held < core.limit → IsWrite made
-    → MayBeInDoubt core.id core.count core.limit core.held made
-next_may_be_in_doubt core asked made sound next room is = record {
-  spelled = is;
+-- a server's next Write may be stored
+pub next_may_be_stored : (core : Core) (asked : Program) (made : Write) → IsSoundServer core → IsUp core → length core.held < core.limit → IsNextWrite core.held core.id asked made
+    → MayBeStored core made
+next_may_be_stored core asked made sound up room next = record {
+  up = up;
   room = room;
   fits = next_fits core.count core.held core.id asked made sound.holds.sound.fitting sound.known next;
   own = λ is_own. next_as_itself core.held core.id asked made next;
 }
+
+-- what may be stored may be in doubt
+pub stored_may_be_in_doubt : (core : Core) (made : Write) → MayBeStored core made → IsWrite made → MayBeInDoubt core.id core.count core.limit core.held made
+stored_may_be_in_doubt core made may is = record { spelled = is; room = may.room; fits = may.fits; own = may.own }
 
 -- one own Write more
 one_more : (held : List Write) (id : ℕ) (made : Write) → made.wid.origin.index ≡ id → slice_index (count_of (held ++ made ∷ [])) id ≡ slice_index (count_of held) id + 1
 one_more held id made own =
     ap (λ (counts : List ℕ). slice_index counts id) (count_of-push held made)
     ∙ subst (λ (s : ℕ). slice_index (counted (count_of held) made.wid) s ≡ slice_index (count_of held) s + 1) own (counted-own held made)
+
+-- none more
+none_more : (held : List Write) (id : ℕ) (made : Write) → made.wid.origin.index ≢ id → slice_index (count_of (held ++ made ∷ [])) id ≡ slice_index (count_of held) id
+none_more held id made another = ap (λ (counts : List ℕ). slice_index counts id) (count_of-push held made) ∙ counted-other (count_of held) made.wid id another
 
 pub own_of_write : (old : Core) (need : List ℕ) (program : Program) (result : Result Accepted WriteFault) (new : Core) → Writes old need program result new
     → MatchResult result (λ _. own_count new ≡ own_count old + 1) (λ _. own_count new ≡ own_count old)
@@ -57,7 +72,29 @@ own_of_write old need program (Err LogFull) new writes = ap own_count writes.2
 own_of_write old need program (Err OutOfMemory) new writes = ap own_count writes.2
 own_of_write old need program (Err Journal) new writes = ap own_count writes.is
 
-pub own_of_recovery : (old : Core) (adopted : Option Wid) (new : Core) → ((doubt : Write) → old.doubt ≡ Some doubt → doubt.wid.origin.index ≡ old.id) → Recovers old adopted new
-    → own_count new ≡ own_count old + own_adopted adopted
-own_of_recovery old None new own recovers = ap own_count recovers.1 ∙ omega arith
-own_of_recovery old (Some wid) new own recovers = ap own_count recovers.3 ∙ one_more old.held old.id recovers.0 (own recovers.0 recovers.1)
+-- one Write more, of whatever server
+grows_by : (held : List Write) (id : ℕ) (made : Write) (is_own : Bool) → (made.wid.origin.index == id) ≡ is_own
+    → slice_index (count_of (held ++ made ∷ [])) id ≡ slice_index (count_of held) id + (if is_own then 1 else 0)
+grows_by held id made true is = one_more held id made ((Decides-eqb made.wid.origin.index id).0 is)
+grows_by held id made false is =
+    none_more held id made (λ own. absurd (let yes = (Decides-eqb made.wid.origin.index id).1 own in cc)) ∙ omega arith
+
+pub own_of_recovery : (old : Core) (adopted : Option Wid) (new : Core) → Recovers old adopted new → own_count new ≡ own_count old + own_adopted old.id adopted
+own_of_recovery old None new recovers = ap own_count recovers.1 ∙ omega arith
+own_of_recovery old (Some wid) new recovers =
+    ap own_count recovers.3
+    ∙ grows_by old.held old.id recovers.0 _ refl
+    ∙ ap (λ (w : Wid). own_count old + own_adopted old.id (Some w)) (sym recovers.2)
+
+-- what a server takes is none of its own
+pub own_of_taking : (old : Core) (given : Write) (result : Result Took TakeFault) (new : Core) → Takes old given result new → own_count new ≡ own_count old
+own_of_taking old given (Ok New) new takes = ap own_count takes.2 ∙ none_more old.held old.id given takes.0.fit.foreign.foreign
+own_of_taking old given (Ok Had) new takes = ap own_count takes.1
+own_of_taking old given (Err taking.Conflict) new takes = ap own_count takes.1
+own_of_taking old given (Err taking.Down) new takes = ap own_count takes.2
+own_of_taking old given (Err taking.OwnLost) new takes = ap own_count takes.3
+own_of_taking old given (Err taking.Gap) new takes = ap own_count takes.2
+own_of_taking old given (Err taking.BadStamp) new takes = ap own_count takes.3
+own_of_taking old given (Err taking.LogFull) new takes = ap own_count takes.2
+own_of_taking old given (Err taking.OutOfMemory) new takes = ap own_count takes.1
+own_of_taking old given (Err taking.Journal) new takes = ap own_count takes.2

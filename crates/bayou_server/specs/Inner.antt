@@ -1,3 +1,5 @@
 pub mod Fields
 pub mod Making
 pub mod Replaying
+pub mod Storing
+pub mod Taking

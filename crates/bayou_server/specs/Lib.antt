@@ -6,4 +6,5 @@ pub mod Reopens
 pub mod Server
 pub mod Starts
 pub mod Stored
+pub mod Takes
 pub mod Writes

@@ -1,5 +1,5 @@
 -- How a server that is down is brought up again, and what it then holds: this project's own.
-use Rattle.std.specs.Prelude.{◌≡◌, ℕ, [], ◌∷◌, ◌++◌, Option, None, Some, Result, Ok, Err, length}
+use Rattle.std.specs.Prelude.{◌≡◌, ◌==◌, ℕ, [], ◌∷◌, ◌++◌, Option, None, Some, Result, Ok, Err, length, if◌then◌else◌}
 use Rattle.bayou_base.specs.declared.wid.Wid.{Wid}
 use Rattle.bayou_lang.specs.declared.write.Write.{Write}
 use Rattle.bayou_server.specs.declared.answer.Reopened.{Reopened}
@@ -8,7 +8,7 @@ use Rattle.bayou_server.specs.declared.fault.ReopenFault.TheVariants.{NotDown, J
 use Rattle.bayou_server.specs.Server.{Core, IsDown, IsUp}
 
 -- The server is up again, with an honest list: the Writes that were held, and the Write in doubt is forgotten; or those and the
--- Write in doubt, which is adopted.
+-- Write in doubt, which is adopted, be it the server's own or another's.
 abbrev pub Recovers : (old : Core) → Option Wid → (new : Core) → Type 0
 Recovers old None new = IsDown old × (new ≡ record old { doubt = None })
 Recovers old (Some wid) new = (doubt : Write) × (old.doubt ≡ Some doubt) × (wid ≡ doubt.wid)
@@ -23,7 +23,8 @@ Reopens old (Err Lost) new = IsDown old × (new ≡ old)
 Reopens old (Err (BadRecord at)) new = IsDown old × (at ≡ length old.held) × (new ≡ old)
 Reopens old (Err OutOfMemory) new = IsDown old × (new ≡ old)
 
--- how the number of the server's own Writes grows by what is adopted
-abbrev pub own_adopted : Option Wid → ℕ
-own_adopted None = 0
-own_adopted (Some wid) = 1
+-- how the number of the server's own Writes grows by what is adopted: by one where that is its own, and not where it is another
+-- server's
+abbrev pub own_adopted : (server : ℕ) → Option Wid → ℕ
+own_adopted server None = 0
+own_adopted server (Some wid) = if wid.origin.index == server then 1 else 0

@@ -6,7 +6,7 @@ use Rattle.bayou_lang.specs.Ranges.{IsWrite}
 
 -- What the steps of the store read and change of a server: which one it is, and among how many; how many Writes it may hold;
 -- the Writes held, in order of receipt; and, where it is down, the Write in doubt: the one that it was adding as a device call
--- failed.
+-- failed, its own or another server's.
 pub record Core : Type 0 where
   pub id : ℕ
   pub count : ℕ

@@ -11,8 +11,12 @@ use Rattle.bayou_journal.specs.declared.fault.OpenFault.TheVariants as opening
 use Rattle.bayou_lang.specs.declared.write.Write.{Write}
 use Rattle.bayou_wire.specs.Spelling.{write_bytes}
 use Rattle.bayou_server.specs.declared.answer.Reopened.{Reopened}
+use Rattle.bayou_server.specs.declared.answer.Took.{Took}
+use Rattle.bayou_server.specs.declared.answer.Took.TheVariants.{New, Had}
 use Rattle.bayou_server.specs.declared.fault.ReopenFault.{ReopenFault}
 use Rattle.bayou_server.specs.declared.fault.ReopenFault.TheVariants as reopening
+use Rattle.bayou_server.specs.declared.fault.TakeFault.{TakeFault}
+use Rattle.bayou_server.specs.declared.fault.TakeFault.TheVariants as taking
 use Rattle.bayou_server.specs.declared.fault.WriteFault.{WriteFault}
 use Rattle.bayou_server.specs.declared.fault.WriteFault.TheVariants.{Down, Behind, LogFull, OutOfMemory, Journal}
 use Rattle.bayou_server.specs.Faults.{open_fault}
@@ -67,6 +71,19 @@ StoresWrite d old (Err (Behind vector)) new = new.device ≡ old.device
 StoresWrite d old (Err LogFull) new = new.device ≡ old.device
 StoresWrite d old (Err OutOfMemory) new = new.device ≡ old.device
 StoresWrite d old (Err Journal) new = HasFailed d old new
+
+-- how the device stands after a Write that another server accepted was answered
+abbrev pub StoresTaken : {D : Type 0} → Ghosts D → (old : ServerState D) → Result Took TakeFault → (new : ServerState D) → Type 0
+StoresTaken d old (Ok New) new = HasAdded d old new
+StoresTaken d old (Ok Had) new = new.device ≡ old.device
+StoresTaken d old (Err taking.Conflict) new = new.device ≡ old.device
+StoresTaken d old (Err taking.Down) new = new.device ≡ old.device
+StoresTaken d old (Err taking.OwnLost) new = new.device ≡ old.device
+StoresTaken d old (Err taking.Gap) new = new.device ≡ old.device
+StoresTaken d old (Err taking.BadStamp) new = new.device ≡ old.device
+StoresTaken d old (Err taking.LogFull) new = new.device ≡ old.device
+StoresTaken d old (Err taking.OutOfMemory) new = new.device ≡ old.device
+StoresTaken d old (Err taking.Journal) new = HasFailed d old new
 
 -- ---- an opening
 

@@ -2,10 +2,19 @@ use bayou_base::Wid;
 use bayou_lang::RestingWrite;
 use bayou_log::WriteLog;
 
+/// What a server that was given a Write did with it.
+#[derive(Clone, Copy, Debug, PartialEq, Eq)]
+pub enum Took {
+    /// It holds the Write now, behind the others.
+    New,
+    /// It held the Write already.
+    Had,
+}
+
 /// A server that is up again.
 #[derive(Clone, Copy, Debug, PartialEq, Eq)]
 pub struct Reopened {
-    /// The Write that was in doubt, where its journal had it.
+    /// The Write that was in doubt, where its journal had it: the server's own, or one that it was given.
     pub adopted: Option<Wid>,
 }
 

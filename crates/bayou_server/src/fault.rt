@@ -54,6 +54,27 @@ pub enum WriteFault {
     Journal,
 }
 
+/// Why a Write that another server accepted isn't taken.
+#[derive(Clone, Copy, Debug, PartialEq, Eq)]
+pub enum TakeFault {
+    /// Another Write of its name is held.
+    Conflict,
+    /// A Write is in doubt.
+    Down,
+    /// The server made it itself, and doesn't hold it.
+    OwnLost,
+    /// A Write before it is missing, or its origin is none of the servers.
+    Gap,
+    /// None is missing, but its server didn't hold all of its own before it, or its clock isn't one more than the
+    /// greatest that its server held.
+    BadStamp,
+    /// The server holds as many Writes as it may.
+    LogFull,
+    OutOfMemory,
+    /// A device call failed. The Write is in doubt, and the server is down.
+    Journal,
+}
+
 /// Why a server that was to be opened again isn't up again.
 #[derive(Clone, Copy, Debug, PartialEq, Eq)]
 pub enum ReopenFault {
@@ -102,6 +123,17 @@ impl From<AllocError> for WriteFault {
 
     fn from(_: AllocError) -> Self {
         WriteFault::OutOfMemory
+    }
+}
+
+impl From<AllocError> for TakeFault {
+    ghost use Rattle.std.specs.Prelude.{◌≡◌};
+    ghost use Rattle.bayou_server.specs.declared.fault.TakeFault.TheVariants.{OutOfMemory};
+
+    ghost from_gives = { λ _ fault. fault ≡ OutOfMemory };
+
+    fn from(_: AllocError) -> Self {
+        TakeFault::OutOfMemory
     }
 }
 

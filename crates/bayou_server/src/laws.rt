@@ -9,12 +9,13 @@ ghost use Rattle.bayou_lang.specs.Ranges.{IsWrite};
 ghost use Rattle.bayou_wire.specs.Spelling.{write_bytes};
 ghost use Rattle.bayou_server.specs.declared.answer.Reopened.{Reopened};
 ghost use Rattle.bayou_server.specs.declared.fault.ReopenFault.{ReopenFault};
+ghost use Rattle.bayou_server.specs.declared.fault.TakeFault.TheVariants as taking;
 ghost use Rattle.bayou_server.specs.declared.fault.WriteFault.TheVariants.{Journal};
 ghost use Rattle.bayou_server.specs.Honest.{AreHonest, IsHonestAnswer, IsHonestDevice, IsTorn};
 ghost use Rattle.bayou_server.specs.Reopens.{Recovers, Reopens};
 ghost use Rattle.bayou_server.specs.Server.{IsSoundServer, ServerState};
 ghost use Rattle.bayou_server.specs.Starts.{Starts, StartsOn, StopsAtEntry};
-ghost use Rattle.bayou_server.specs.Stored.{BeginsWithHeld, HasOther, IsStored, OpensWith, OpensWithWrites, ReopensJournal, Stores, StoresWrite};
+ghost use Rattle.bayou_server.specs.Stored.{BeginsWithHeld, HasOther, IsStored, OpensWith, OpensWithWrites, ReopensJournal, Stores, StoresTaken, StoresWrite};
 
 use bayou_device::Device;
 use bayou_journal::laws::{
@@ -81,9 +82,12 @@ pub fn a_write_is_a_body()
     a_write_is_spelled_by_a_body();
 }
 
-/// Over an honest device that had the journal of the Writes held, a Write that is refused for the journal leaves it torn.
+/// Over an honest device that had the journal of the Writes held, a Write that is refused for the journal leaves it torn, be it
+/// the server's own or another's.
 pub fn a_write_in_doubt_leaves_a_torn_journal<D: Device>()
-    ensures { (old new : ServerState D) → IsHonestDevice D.Device → IsStored D.Device old → StoresWrite D.Device old (Err Journal) new
+    ensures written { (old new : ServerState D) → IsHonestDevice D.Device → IsStored D.Device old → StoresWrite D.Device old (Err Journal) new
+        → (doubt : Write) × (new.core.doubt ≡ Some doubt) × IsTorn old.core.id old.core.held doubt (D.content new.device) }
+    ensures taken { (old new : ServerState D) → IsHonestDevice D.Device → IsStored D.Device old → StoresTaken D.Device old (Err taking.Journal) new
         → (doubt : Write) × (new.core.doubt ≡ Some doubt) × IsTorn old.core.id old.core.held doubt (D.content new.device) }
 {
     a_fault_leaves_a_torn_journal();

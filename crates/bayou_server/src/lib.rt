@@ -3,23 +3,29 @@
 //! Callers see a [`Server`] as its core and its device. The core is which server it is and among how many, how many Writes
 //! it may hold, the Writes that it holds, in order of receipt, and the Write in doubt, if any: while there is one the
 //! server is down, and else up. The Writes held are sound: each fits those before it, and the server's own say all that was
-//! held; and each has a spelling. The Write in doubt may be held next as it is. `specs/` has two relations for each call
-//! that changes something or may be refused. `Starts`, `Reads`, `Writes` and `Reopens` say of each answer when it comes and
-//! what core it leaves: they are the steps of the store, and no device stands in them. `StartsOn`, `FailsToStart`,
-//! `StoresWrite` and `ReopensJournal` say how the device stands then.
+//! held; and each has a spelling. The Write in doubt, the server's own or one that it was given, may be held next as it is.
+//! `specs/` has two relations for each call that changes something or may be refused. `Starts`, `Reads`, `Writes`, `Takes`
+//! and `Reopens` say of each answer when it comes and what core it leaves: they are the steps of the store, and no device
+//! stands in them. `StartsOn`, `FailsToStart`, `StoresWrite`, `StoresTaken` and `ReopensJournal` say how the device stands
+//! then.
+//!
+//! A server makes Writes of programs, and takes Writes that others accepted exactly where they fit, so that it holds none
+//! before one on which it rests; a taken Write leaves the count of the server's own as it was. Of each other the answer
+//! says why not, and nothing is left of it.
 //!
 //! A Write is stored and synced before it is held, so that none is acknowledged that its journal hasn't got. Where a
 //! device call fails meanwhile, it isn't known whether the journal has it: the Write is in doubt, and the server refuses
 //! further ones, but serves reads, until a reopening finds it in the journal, and adopts it, or doesn't, and forgets it. A
 //! reopening never takes away what was acknowledged: where the journal hasn't got all of it, the server stays down, and
 //! goes on serving what it holds. Over a device that the clauses model, each start and reopening that succeeds leaves there
-//! the journal of the Writes held and nothing else, and an accepted Write keeps that. `laws` says that the bytes decide.
+//! the journal of the Writes held and nothing else, and an accepted or taken Write keeps that. `laws` says that the bytes
+//! decide.
 //!
 //! A caller starts a server whose identifier is below the number of servers, and doesn't run two on one device. Through
 //! [`Server::device`] a caller may do to the device what it likes: a server that is up adds its entries behind whatever is
 //! there, and the next opening tells what came of it. Want of memory is an answer only where a growth was refused. Reads,
-//! and adopting, take none. The crate doesn't promise what a real file holds, how long a call takes, or that the journal
-//! of another server with the same identifier is told from its own.
+//! adopting, and what is said of a given Write that isn't added, take none. The crate doesn't promise what a real file
+//! holds, how long a call takes, or that the journal of another server with the same identifier is told from its own.
 #![tactic(auto)]
 
 pub mod answer;
@@ -29,7 +35,9 @@ mod making;
 mod reopen;
 pub mod server;
 mod start;
+mod storing;
+mod taking;
 
-pub use answer::{Reopened, Stopped};
-pub use fault::{Behind, JournalFault, NotStarted, ReopenFault, StartFault, WriteFault};
+pub use answer::{Reopened, Stopped, Took};
+pub use fault::{Behind, JournalFault, NotStarted, ReopenFault, StartFault, TakeFault, WriteFault};
 pub use server::Server;

@@ -1,12 +1,9 @@
-//! How a server makes a Write: whether it may, and what comes of the Write once its entry was to be added.
-ghost use Rattle.std.specs.Prelude.{◌≡◌, ◌<◌, length};
-ghost use Rattle.bayou_lang.specs.Writes.{Fits};
-ghost use Rattle.bayou_log.specs.Log.{IsReserved};
-ghost use Rattle.bayou_server.specs.Inner.Making.{IsRefusal, Settles};
+//! How a server makes a Write: whether it may, and what it tells of the Write.
+ghost use Rattle.std.specs.Prelude.{◌≡◌};
+ghost use Rattle.bayou_server.specs.Inner.Making.{IsRefusal};
 
 use crate::fault::WriteFault;
 use bayou_base::{Accepted, Vector};
-use bayou_journal::AppendFault;
 use bayou_lang::RestingWrite;
 use bayou_log::WriteLog;
 
@@ -28,7 +25,7 @@ pub fn refusal(log: &WriteLog, doubt: &Option<RestingWrite>, need: &Vector) -> O
 }
 
 // What the Write was given.
-fn accepted(write: &RestingWrite) -> Accepted
+pub fn accepted(write: &RestingWrite) -> Accepted
     ensures wid { result.wid ≡ write.now.wid }
     ensures stamp { result.stamp ≡ write.now.stamp }
     ensures deps { result.deps ≡ write.now.deps }
@@ -37,30 +34,5 @@ fn accepted(write: &RestingWrite) -> Accepted
         wid: write.wid(),
         stamp: write.stamp(),
         deps: *write.deps(),
-    }
-}
-
-// Holds the Write, where its entry was added, and else puts it in doubt.
-pub fn settle(
-    log: &mut WriteLog,
-    doubt: &mut Option<RestingWrite>,
-    write: RestingWrite,
-    added: Result<(), AppendFault>,
-) -> Result<Accepted, WriteFault>
-    requires fits { Fits log.old.count log.old.receipts write }
-    requires reserved { IsReserved log.old.room write }
-    requires below_limit { length log.old.receipts < log.old.limit }
-    ensures { Settles log.old doubt.old write added result log.new doubt.new }
-{
-    match added {
-        Ok(()) => {
-            let accepted = accepted(&write);
-            log.insert(write);
-            Ok(accepted)
-        }
-        Err(_) => {
-            *doubt = Some(write);
-            Err(WriteFault::Journal)
-        }
     }
 }

@@ -2,21 +2,25 @@ ghost use Rattle.std.specs.Prelude.{◌≡◌, ◌≢◌, ◌+◌, ◌<◌, ◌�
 ghost use Rattle.std.specs.Borrow.{Lends, sem};
 ghost use Rattle.bayou_base.specs.declared.limits.TheConstants.{SERVERS, MAX_WRITES};
 ghost use Rattle.bayou_journal.specs.Opening.{KeepsChains};
-ghost use Rattle.bayou_lang.specs.Writes.{IsNextWrite, count_of};
+ghost use Rattle.bayou_lang.specs.Writes.{count_of};
 ghost use Rattle.bayou_log.specs.Listing.{listing_of};
 ghost use Rattle.bayou_server.specs.contracts.server.Server.{the_row};
+ghost use Rattle.bayou_server.specs.Inner.Storing.{Keeps, MayBeStored, StoresEntry};
 ghost use Rattle.bayou_server.specs.Reads.{Reads};
 ghost use Rattle.bayou_server.specs.Reopens.{Reopens, own_adopted};
 ghost use Rattle.bayou_server.specs.Server.{IsSoundServer, own_count, with_device};
 ghost use Rattle.bayou_server.specs.Starts.{FailsToStart, Starts, StartsOn};
-ghost use Rattle.bayou_server.specs.Stored.{IsStored, OpensInCalls, ReopensJournal, StoresWrite};
+ghost use Rattle.bayou_server.specs.Stored.{IsStored, OpensInCalls, ReopensJournal, StoresTaken, StoresWrite};
+ghost use Rattle.bayou_server.specs.Takes.{Takes};
 ghost use Rattle.bayou_server.specs.Writes.{Writes};
 
-use crate::answer::{Reopened, Stopped};
-use crate::fault::{Behind, NotStarted, ReopenFault, StartFault, WriteFault};
-use crate::making::{refusal, settle};
+use crate::answer::{Reopened, Stopped, Took};
+use crate::fault::{Behind, NotStarted, ReopenFault, StartFault, TakeFault, WriteFault};
+use crate::making::{accepted, refusal};
 use crate::reopen::has_doubt;
 use crate::start::log_of;
+use crate::storing::{Stored, settle};
+use crate::taking::decided;
 use bayou_base::{Accepted, Key, Seen, ServerId, Vector, Wid};
 use bayou_device::Device;
 use bayou_journal::Journal;
@@ -133,10 +137,47 @@ impl<D: Device> Server<D> {
             return Err(fault);
         }
         let write = self.log.next_write(self.id, program);
+        let accepted = accepted(&write);
+        match self.store(alloc, write)? {
+            Stored::Held => Ok(accepted),
+            Stored::InDoubt => Err(WriteFault::Journal),
+        }
+    }
+
+    /// Takes a Write that another server accepted (anti-entropy, Petersen et al. 1997): stores its entry, and then holds it.
+    /// One that is held already is answered also while the server is down, and neither that nor a refusal before
+    /// `OutOfMemory` takes memory or calls the device. Device calls: those of the journal's append alone.
+    pub fn take(&mut self, alloc: Global, write: RestingWrite) -> Result<Took, TakeFault>
+        ensures takes { Takes self.old.core write result self.new.core }
+        ensures own { own_count self.new.core ≡ own_count self.old.core }
+        ensures sound { IsSoundServer self.old.core × IsSoundServer self.new.core }
+        ensures stores { StoresTaken D.Device self.old result self.new }
+        ensures stored { D.is_modelled → OnOk result (IsStored D.Device self.old → IsStored D.Device self.new) }
+        ensures safe { D.is_modelled → KeepsChains (D.kept self.old.device) (D.kept self.new.device) }
+        ensures calls { D.leads_to 2 self.old.device self.new.device }
+    {
+        if let Some(answer) = decided(&self.log, self.id, &self.doubt, &write.unfold()) {
+            return answer;
+        }
+        match self.store(alloc, write)? {
+            Stored::Held => Ok(Took::New),
+            Stored::InDoubt => Err(TakeFault::Journal),
+        }
+    }
+
+    // Stores the entry of the Write, which may be held next, and then holds it, or puts it in doubt.
+    fn store(&mut self, alloc: Global, write: RestingWrite) -> Result<Stored, AllocError>
+        requires { MayBeStored self.old.core write }
+        ensures keeps { MatchResult result (λ stored. Keeps self.old.core write stored self.new.core) (λ _. self.new.core ≡ self.old.core) }
+        ensures sound { IsSoundServer self.old.core × IsSoundServer self.new.core }
+        ensures stores { MatchResult result (λ stored. StoresEntry D.Device self.old stored self.new) (λ _. self.new.device ≡ self.old.device) }
+        ensures safe { D.is_modelled → KeepsChains (D.kept self.old.device) (D.kept self.new.device) }
+        ensures calls { D.leads_to 2 self.old.device self.new.device }
+    {
         self.log.reserve(&write)?;
         let body = encode_resting_write(alloc, &write)?;
         let added = self.journal.append(&body);
-        settle(&mut self.log, &mut self.doubt, write, added)
+        Ok(settle(&mut self.log, &mut self.doubt, write, added))
     }
 
     /// Brings the server up again: it opens its journal again, and compares what it finds there with the Writes held. Device
@@ -144,7 +185,7 @@ impl<D: Device> Server<D> {
     /// To adopt the Write in doubt takes no memory.
     pub fn reopen(&mut self, alloc: Global) -> Result<Reopened, ReopenFault>
         ensures reopens { Reopens self.old.core result self.new.core }
-        ensures own { MatchResult result (λ reopened. own_count self.new.core ≡ own_count self.old.core + own_adopted reopened.adopted) (λ _. own_count self.new.core ≡ own_count self.old.core) }
+        ensures own { MatchResult result (λ reopened. own_count self.new.core ≡ own_count self.old.core + own_adopted self.old.core.id reopened.adopted) (λ _. own_count self.new.core ≡ own_count self.old.core) }
         ensures sound { IsSoundServer self.old.core × IsSoundServer self.new.core }
         ensures opens { ReopensJournal D.Device self.old result self.new }
         ensures stored { D.is_modelled → OnOk result (IsStored D.Device self.new) }

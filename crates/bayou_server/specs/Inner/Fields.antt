@@ -1,11 +1,10 @@
 -- How the fields of a server belong together, which its callers don't see.
-use Rattle.std.specs.Prelude.{◌≡◌, ◌<◌, ◌≤◌, ℕ, Option, None, Some, false, length}
+use Rattle.std.specs.Prelude.{◌≡◌, ◌≤◌, ℕ, Option, None, Some, false}
 use Rattle.bayou_base.specs.declared.limits.TheConstants.{MAX_WRITES}
 use Rattle.bayou_journal.specs.Chain.{chain_end}
 use Rattle.bayou_journal.specs.declared.format.TheConstants.{VERSION}
 use Rattle.bayou_journal.specs.Journal.{JournalState}
 use Rattle.bayou_lang.specs.declared.write.Write.{Write}
-use Rattle.bayou_lang.specs.Writes.{IsNextWrite}
 use Rattle.bayou_log.specs.Log.{Log, IsReserved}
 use Rattle.bayou_server.specs.Server.{Core, IsSoundServer}
 use Rattle.bayou_server.specs.Stored.{bodies_of}
@@ -14,11 +13,10 @@ abbrev pub core_of : Log → (id : ℕ) → Option Write → Core
 core_of log id doubt = record { id = id; count = log.count; limit = log.limit; held = log.receipts; doubt = doubt }
 
 -- While it is up, the journal's next entry stands behind those of the Writes held. While it is down nothing is known of the
--- journal; the Write in doubt is the server's next, and the log has room for it.
+-- journal, and the log has room for the Write in doubt, be it the server's own or another's.
 abbrev pub Stands : {D : Type 0} → JournalState D → Log → Option Write → Type 0
 Stands journal log None = (journal.is_down ≡ false) × (journal.last ≡ chain_end VERSION journal.server (bodies_of log.receipts))
-Stands journal log (Some write) =
-    IsNextWrite log.receipts journal.server write.program write × IsReserved log.room write × (length log.receipts < log.limit)
+Stands journal log (Some write) = IsReserved log.room write
 
 -- the journal is the server's, its log is what it may hold, and they stand as the Write in doubt says
 pub record BelongTogether {D : Type 0} (journal : JournalState D) (log : Log) (id : ℕ) (doubt : Option Write) : Type 0 where

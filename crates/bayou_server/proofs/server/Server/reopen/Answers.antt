@@ -4,14 +4,13 @@ use Rattle.std.proofs.lemmas.Result.{err_from_is_err_and}
 use Rattle.bayou_journal.specs.Opening.{HasRefused}
 use Rattle.bayou_journal.specs.declared.format.TheConstants.{VERSION}
 use Rattle.bayou_lang.specs.declared.write.Write.{Write}
-use Rattle.bayou_lang.specs.Laws.Fitting.{next_fits}
 use Rattle.bayou_server.specs.Inner.Fields.{core_of}
 use Rattle.bayou_server.specs.Inner.Replaying.{AreHeldAnd, AreOthers}
 use Rattle.bayou_server.specs.Faults.{reopen_fault}
 use Rattle.bayou_server.specs.Reopens.{Reopens}
 use Rattle.bayou_server.specs.Server.{ServerState}
 use Rattle.bayou_server.specs.Stored.{ReopensJournal, bodies_of}
-use Rattle.bayou_server.proofs.Recovering.{after_adopting, journal_refuses, opens_with, others_refused, same_doubt, stands_down, stays_other, stays_refused}
+use Rattle.bayou_server.proofs.Recovering.{after_adopting, doubted_is_reserved, doubted_may, journal_refuses, opens_with, others_refused, same_doubt, stays_other, stays_refused}
 use Rattle.bayou_server.proofs.Steps.{own_of_recovery}
 use Rattle.bayou_server.proofs.server.Server.reopen.Goals as goal
 
@@ -78,9 +77,17 @@ returns-then-not-adopts-clause-safe g c = rw (← c.self.view_is) c.reopen.ensur
 pub insert-requires-clause-fits : goal.insert-requires-clause-fits
 insert-requires-clause-fits g c =
     let inside = c.self.inside in
-    let write = c.in-Some-take.write in
-    next_fits inside.log.count inside.log.receipts inside.id.index write.program write c.self.invariant.sound.holds.sound.fitting c.self.invariant.sound.known
-    (stands_down inside.journal inside.log inside.id.index inside.doubt write c.self.invariant (sym c.take.ensures.value ∙ c.in-Some-take.is)).0
+    (doubted_may inside.journal inside.log inside.id.index inside.doubt c.in-Some-take.write c.self.invariant (sym c.take.ensures.value ∙ c.in-Some-take.is)).fits
+
+pub insert-requires-clause-reserved : goal.insert-requires-clause-reserved
+insert-requires-clause-reserved g c =
+    let inside = c.self.inside in
+    doubted_is_reserved inside.journal inside.log inside.id.index inside.doubt c.in-Some-take.write c.self.invariant (sym c.take.ensures.value ∙ c.in-Some-take.is)
+
+pub insert-requires-clause-below_limit : goal.insert-requires-clause-below_limit
+insert-requires-clause-below_limit g c =
+    let inside = c.self.inside in
+    (doubted_may inside.journal inside.log inside.id.index inside.doubt c.in-Some-take.write c.self.invariant (sym c.take.ensures.value ∙ c.in-Some-take.is)).room
 
 pub invariant_of-self-2 : goal.invariant_of-self-2
 invariant_of-self-2 g c =
@@ -101,11 +108,7 @@ returns-clause-reopens g c =
     (write, sym c.take.ensures.value ∙ c.in-Some-take.is, c.wid-wid.ensures, rw c.take.ensures.after refl)
 
 pub returns-clause-own : goal.returns-clause-own
-returns-clause-own g c =
-    let inside = c.self.inside in
-    own_of_recovery c.args.self.now.core (Some c.wid-wid.result) _
-    (rw (← c.self.view_is) (λ doubt is. (stands_down inside.journal inside.log inside.id.index inside.doubt doubt c.self.invariant is).0.origin))
-    (returns-clause-reopens g c)
+returns-clause-own g c = own_of_recovery c.args.self.now.core (Some c.wid-wid.result) _ (returns-clause-reopens g c)
 
 pub returns-clause-sound : goal.returns-clause-sound
 returns-clause-sound g c = (rw (← c.self.view_is) c.self.invariant.sound, (invariant_of-self-2 g c).sound)

@@ -1,91 +1,57 @@
-use Rattle.std.proofs.Common.{ap, ◌∙◌}
-use Rattle.bayou_lang.specs.Laws.Fitting.{next_fits}
-use Rattle.bayou_server.specs.Server.{ServerState}
-use Rattle.bayou_server.proofs.Adding.{settled_stores, settled_together, settled_writes, stored_by}
-use Rattle.bayou_server.proofs.Steps.{own_of_write}
+use Rattle.std.proofs.Common.{ap, subst, Ok}
+use Rattle.bayou_server.specs.declared.storing.Stored.{Stored}
+use Rattle.bayou_server.specs.declared.storing.Stored.TheVariants.{Held, InDoubt}
+use Rattle.bayou_server.specs.Inner.Fields.{core_of}
+use Rattle.bayou_server.specs.Inner.Storing.{Keeps, StoresEntry}
+use Rattle.bayou_server.specs.Server.{Core}
+use Rattle.bayou_server.proofs.Adding.{stored_after}
+use Rattle.bayou_server.proofs.Steps.{next_may_be_stored, own_of_write}
 use Rattle.bayou_server.proofs.server.Server.write.Goals as goal
 
-pub settle-requires-clause-fits : goal.settle-requires-clause-fits
-settle-requires-clause-fits g c =
-    let inside = c.self.inside in
-    rw c.reserve.ensures.same
-    (next_fits inside.log.count inside.log.receipts inside.id.index c.args.program c.next_write-write.result c.self.invariant.sound.holds.sound.fitting c.self.invariant.sound.known c.next_write-write.ensures)
-
-pub invariant_of-self-2 : goal.invariant_of-self-2
-invariant_of-self-2 g c =
-    let inside = c.self.inside in
-    settled_together g.D.Device inside.journal c.append-added.new.self inside.log c.reserve.new.self c.settle.new.log inside.id.index inside.doubt c.settle.new.doubt
-    c.args.program c.next_write-write.result c.deref.result.now c.append-added.result c.settle.result
-    (record {
-      together = c.self.invariant;
-      up = c.in_default.ensures.0.0;
-      room = c.in_default.ensures.1;
-      next = c.next_write-write.ensures;
-      is = c.in_ok-body.ensures.spelling.is;
-      spelled = c.deref.ensures.value ∙ c.in_ok-body.ensures.spelling.spelled;
-      same = c.reserve.ensures.same;
-      has_room = c.in_ok-reserve.ensures.ok;
-    })
-    (record {
-      down = c.append-added.ensures.down.0;
-      added = c.append-added.ensures.added;
-      synced = c.append-added.ensures.synced;
-      ends = c.append-added.ensures.ends;
-      counts = c.append-added.ensures.counts;
-      fault = c.append-added.ensures.fault;
-      rose = c.append-added.ensures.rose;
-      left = c.append-added.ensures.left;
-    })
-    c.settle.ensures
-
-pub returns-clause-writes : goal.returns-clause-writes
-returns-clause-writes g c =
+pub store-requires : goal.store-requires
+store-requires g c =
     let inside = c.self.inside in
     rw (← c.self.view_is)
-    (settled_writes inside.log c.reserve.new.self c.settle.new.log inside.id.index inside.doubt c.settle.new.doubt c.args.need.now c.args.program c.next_write-write.result c.append-added.result c.settle.result
-    c.reserve.ensures.same
-    (record {
-      ready = record { up = c.in_default.ensures.0.0; covered = c.in_default.ensures.0.1 };
-      room = c.in_default.ensures.1;
-      next = c.next_write-write.ensures;
-      spelled = c.in_ok-body.ensures.spelling.is;
-    })
-    c.settle.ensures)
+    (next_may_be_stored (core_of inside.log inside.id.index inside.doubt) c.args.program c.next_write-write.result c.self.invariant.sound c.in_default.ensures.0.0 c.in_default.ensures.1 c.next_write-write.ensures)
 
-pub returns-clause-own : goal.returns-clause-own
-returns-clause-own g c = own_of_write c.args.self.now.core c.args.need.now c.args.program c.settle.result _ (returns-clause-writes g c)
+pub returns-in-Held-clause-writes : goal.returns-in-Held-clause-writes
+returns-in-Held-clause-writes g c =
+    let kept : Keeps c.args.self.now.core c.next_write-write.result Held c.store.new.self.core =
+    subst (λ (s : Stored). Keeps c.args.self.now.core c.next_write-write.result s c.store.new.self.core) c.in-Held.is c.in_ok-store.ensures.keeps in
+    record {
+      made = c.next_write-write.result;
+      makes = rw (← c.self.view_is) (record {
+        ready = record { up = c.in_default.ensures.0.0; covered = c.in_default.ensures.0.1 };
+        room = c.in_default.ensures.1;
+        next = c.next_write-write.ensures;
+        spelled = kept.0;
+      });
+      wid = c.accepted-accepted.ensures.wid;
+      stamp = c.accepted-accepted.ensures.stamp;
+      deps = c.accepted-accepted.ensures.deps;
+      is = kept.1;
+    }
 
-pub returns-clause-sound : goal.returns-clause-sound
-returns-clause-sound g c = (rw (← c.self.view_is) c.self.invariant.sound, (invariant_of-self-2 g c).sound)
+pub returns-in-Held-clause-own : goal.returns-in-Held-clause-own
+returns-in-Held-clause-own g c =
+    own_of_write c.args.self.now.core c.args.need.now c.args.program (Ok c.accepted-accepted.result) c.store.new.self.core (returns-in-Held-clause-writes g c)
 
-pub returns-clause-stores : goal.returns-clause-stores
-returns-clause-stores g c =
-    let inside = c.self.inside in
-    rw (← c.self.view_is)
-    (settled_stores g.D.Device inside.journal c.append-added.new.self inside.log c.reserve.new.self c.settle.new.log inside.id.index inside.doubt c.settle.new.doubt
-    c.args.program c.next_write-write.result c.deref.result.now c.append-added.result c.settle.result
-    (record {
-      together = c.self.invariant;
-      up = c.in_default.ensures.0.0;
-      room = c.in_default.ensures.1;
-      next = c.next_write-write.ensures;
-      is = c.in_ok-body.ensures.spelling.is;
-      spelled = c.deref.ensures.value ∙ c.in_ok-body.ensures.spelling.spelled;
-      same = c.reserve.ensures.same;
-      has_room = c.in_ok-reserve.ensures.ok;
-    })
-    (record {
-      down = c.append-added.ensures.down.0;
-      added = c.append-added.ensures.added;
-      synced = c.append-added.ensures.synced;
-      ends = c.append-added.ensures.ends;
-      counts = c.append-added.ensures.counts;
-      fault = c.append-added.ensures.fault;
-      rose = c.append-added.ensures.rose;
-      left = c.append-added.ensures.left;
-    })
-    c.settle.ensures)
+pub returns-in-Held-clause-stored : goal.returns-in-Held-clause-stored
+returns-in-Held-clause-stored g c = λ modelled.
+    stored_after g.D.Device c.args.self.now c.store.new.self modelled (ap (λ (core : Core). core.id) (returns-in-Held-clause-writes g c).is)
+    (subst (λ (s : Stored). StoresEntry g.D.Device c.args.self.now s c.store.new.self) c.in-Held.is c.in_ok-store.ensures.stores)
 
-pub returns-clause-stored : goal.returns-clause-stored
-returns-clause-stored g c = λ modelled.
-    stored_by g.D.Device c.args.self.now _ c.settle.result modelled (ap (λ (s : ServerState g.row.D.Denot). s.core.id) c.self.view_is) (returns-clause-stores g c)
+pub returns-in-InDoubt-clause-writes : goal.returns-in-InDoubt-clause-writes
+returns-in-InDoubt-clause-writes g c =
+    let kept : Keeps c.args.self.now.core c.next_write-write.result InDoubt c.store.new.self.core =
+    subst (λ (s : Stored). Keeps c.args.self.now.core c.next_write-write.result s c.store.new.self.core) c.in-InDoubt.is c.in_ok-store.ensures.keeps in
+    record {
+      made = c.next_write-write.result;
+      makes = rw (← c.self.view_is) (record {
+        ready = record { up = c.in_default.ensures.0.0; covered = c.in_default.ensures.0.1 };
+        room = c.in_default.ensures.1;
+        next = c.next_write-write.ensures;
+        spelled = kept.0;
+      });
+      is = kept.1;
+    }

@@ -1,0 +1,36 @@
+-- How a server stores one Write more, which its callers don't see.
+use Rattle.std.specs.Prelude.{◌≡◌, ◌<◌, [], ◌∷◌, ◌++◌, Option, Some, Result, Ok, Err, length}
+use Rattle.bayou_device.specs.declared.device.Device.{Ghosts}
+use Rattle.bayou_journal.specs.declared.fault.AppendFault.{AppendFault}
+use Rattle.bayou_lang.specs.declared.write.Write.{Write}
+use Rattle.bayou_lang.specs.Writes.{Fits, IsNextWrite}
+use Rattle.bayou_lang.specs.Ranges.{IsWrite}
+use Rattle.bayou_log.specs.Log.{Log}
+use Rattle.bayou_server.specs.declared.storing.Stored.{Stored}
+use Rattle.bayou_server.specs.declared.storing.Stored.TheVariants.{Held, InDoubt}
+use Rattle.bayou_server.specs.Server.{Core, IsUp, ServerState}
+use Rattle.bayou_server.specs.Stored.{HasAdded, HasFailed}
+
+-- the server is up, and may hold the Write next: there is room for it, it fits what is held, and the server's own is its next
+pub record MayBeStored (core : Core) (write : Write) : Type 0 where
+  pub up : IsUp core
+  pub room : length core.held < core.limit
+  pub fits : Fits core.count core.held write
+  pub own : write.wid.origin.index ≡ core.id → IsNextWrite core.held core.id write.program write
+
+-- what comes of a Write that has a spelling, and what the server then holds
+abbrev pub Keeps : (old : Core) → Write → Stored → (new : Core) → Type 0
+Keeps old write Held new = IsWrite write × (new ≡ record old { held = old.held ++ write ∷ [] })
+Keeps old write InDoubt new = IsWrite write × (new ≡ record old { doubt = Some write })
+
+-- and how the device stands then
+abbrev pub StoresEntry : {D : Type 0} → Ghosts D → (old : ServerState D) → Stored → (new : ServerState D) → Type 0
+StoresEntry d old Held new = HasAdded d old new
+StoresEntry d old InDoubt new = HasFailed d old new
+
+-- what comes of a Write in the log once its entry was to be added: it is held behind the others, or is in doubt
+abbrev pub Settles : Log → Option Write → Write → Result (Unit {0}) AppendFault → Stored → (new : Log) → (left : Option Write) → Type 0
+Settles log doubt write (Ok done) Held new left = (new ≡ record log { receipts = log.receipts ++ write ∷ []; room = new.room }) × (left ≡ doubt)
+Settles log doubt write (Err reason) InDoubt new left = (new ≡ log) × (left ≡ Some write)
+Settles log doubt write (Ok done) InDoubt new left = ⊥
+Settles log doubt write (Err reason) Held new left = ⊥
