@@ -56,3 +56,9 @@ pub const MAX_TURNS: u32 = 1_000_000;
 
 /// How many places a session has: the operations that it may try.
 pub const MAX_PLACES: u32 = u32::MAX;
+
+/// How many bytes one turn reads at the most.
+pub const READ_BYTES: usize = 8_192;
+
+/// How many bytes of lines are written at once at the most, but for a line that is longer.
+pub const PIECE_BYTES: usize = 65_536;

@@ -2,7 +2,7 @@
 use bayou_base::limits::*;
 
 /// The name of a limit, the limit, and its number.
-static LIMITS: [(&str, u64, u64); 19] = [
+static LIMITS: [(&str, u64, u64); 21] = [
     ("servers", SERVERS as u64, 8),
     ("sessions", SESSIONS as u64, 32),
     ("Writes of a log", MAX_WRITES as u64, 65_536),
@@ -26,6 +26,8 @@ static LIMITS: [(&str, u64, u64); 19] = [
     ("bytes that are lost", MAX_LOST_BYTES as u64, 1_000_000_000),
     ("turns", MAX_TURNS as u64, 1_000_000),
     ("places", MAX_PLACES as u64, 4_294_967_295),
+    ("bytes that are read at once", READ_BYTES as u64, 8_192),
+    ("bytes that are written at once", PIECE_BYTES as u64, 65_536),
 ];
 
 #[test]

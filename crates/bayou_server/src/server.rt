@@ -1,8 +1,8 @@
-ghost use Rattle.std.specs.Prelude.{◌≡◌, ◌≢◌, ◌+◌, ◌<◌, ◌≤◌, ◌↔◌, ℕ, All, Contains, IfErr, IfOk, IsSome, IsTrue, MatchOption, MatchResult, OnOk, length};
+ghost use Rattle.std.specs.Prelude.{◌≡◌, ◌≢◌, ◌+◌, ◌<◌, ◌≤◌, ◌↔◌, ℕ, All, Contains, IfErr, IfOk, IsSome, IsTrue, MatchOption, MatchResult, OnOk, length, take};
 ghost use Rattle.std.specs.Borrow.{Lends, sem};
 ghost use Rattle.bayou_base.specs.declared.limits.TheConstants.{SERVERS, MAX_WRITES};
 ghost use Rattle.bayou_journal.specs.Opening.{KeepsChains};
-ghost use Rattle.bayou_lang.specs.Writes.{count_of};
+ghost use Rattle.bayou_lang.specs.Writes.{count_of, lacking_of};
 ghost use Rattle.bayou_log.specs.Listing.{listing_of};
 ghost use Rattle.bayou_server.specs.contracts.server.Server.{the_row};
 ghost use Rattle.bayou_server.specs.Inner.Storing.{Keeps, MayBeStored, StoresEntry};
@@ -266,6 +266,19 @@ impl<D: Device> Server<D> {
         ensures { IfOk result (λ list. list.items ≡ listing_of self.now.core.held) }
     {
         self.log.listing(alloc)
+    }
+
+    /// Copies of the first `max` of the Writes held, in stamp order, that the vector doesn't count: what a server with these
+    /// counts lacks (anti-entropy, Petersen et al. 1997). It costs what it gives, however much is held.
+    pub fn lacking(
+        &self,
+        alloc: Global,
+        counts: &Vector,
+        max: usize,
+    ) -> Result<Vec<RestingWrite>, AllocError>
+        ensures { IfOk result (λ writes. writes.items ≡ take max (lacking_of counts.now self.now.core.held)) }
+    {
+        self.log.lacking(alloc, counts, max)
     }
 
     /// Copies of the Writes held, in order of receipt.

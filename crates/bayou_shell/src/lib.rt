@@ -17,7 +17,6 @@
 
 mod answer;
 pub mod fault;
-mod limits;
 mod printed;
 pub mod program;
 mod reading;

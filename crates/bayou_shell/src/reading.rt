@@ -5,8 +5,8 @@ ghost use Rattle.bayou_shell.specs.Inner.Faults.{IsReadFault};
 ghost use Rattle.bayou_shell.specs.Turns.{EndsReading};
 
 use crate::fault::Fault;
-use crate::limits::READ_BYTES;
 use crate::turns::Input;
+use bayou_base::limits::READ_BYTES;
 use bayou_script::{Script, ScriptReader};
 use std::alloc::Global;
 use std::io::{ErrorKind, Read};

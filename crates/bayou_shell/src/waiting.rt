@@ -4,9 +4,9 @@ ghost use Rattle.std.specs.Io.{IsEmptyOrEndsWith};
 ghost use Rattle.bayou_shell.specs.Inner.Taken.{Takes, TakesFront};
 
 use crate::fault::Fault;
-use crate::limits::PIECE_BYTES;
 use crate::turns::Output;
 use crate::writing::write_text;
+use bayou_base::limits::PIECE_BYTES;
 use std::alloc::{AllocError, Global};
 use std::io::Write;
 
