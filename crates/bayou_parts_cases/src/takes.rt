@@ -1,0 +1,294 @@
+//! Servers that are given Writes that others accepted: what each answers and leaves, which of two refusals comes, each device call
+//! failing in turn, every order of receipt, and want of memory.
+use crate::fixtures::{key, plus, put, vector, write};
+use bayou_base::{MAX_WRITES, ServerId, Value, Vector};
+use bayou_device::{MemoryDevice, OpenGate};
+use bayou_lang::{Outcome, Write};
+use bayou_server::{ReopenFault, Server, StartFault, TakeFault, Took, WriteFault};
+use std::alloc::Global;
+use std::process::Abort;
+use std::test::Fail;
+
+type Memory = MemoryDevice<OpenGate>;
+
+type Served = Server<Memory>;
+
+/// The second of two servers on the device.
+fn start(rt: &impl Abort, alloc: Global, limit: u32, device: Memory) -> Result<Served, StartFault> {
+    let id = ServerId::new(1).expect(rt, "no server");
+    match Server::start(alloc, id, 2, limit.min(MAX_WRITES), device) {
+        Ok((server, _)) => Ok(server),
+        Err(refused) => Err(refused.fault),
+    }
+}
+
+/// A Write that puts a number at `a`: its origin, its seq, its clock, its past and the number.
+type Given = (u8, u32, u32, [u32; 2], i64);
+
+/// What is done to a server, and what it answers.
+#[derive(Clone, Copy)]
+enum Step {
+    /// The device fails at this call from now, with so much of a piece added.
+    Fuse(u32, usize),
+    /// It is given the Write.
+    Take(Given, Result<Took, TakeFault>),
+    /// It puts the number itself: the Write's seq.
+    Put(i64, Result<u32, WriteFault>),
+    /// It reopens: origin and seq of the Write that is adopted, if any.
+    Reopen(Result<Option<(u8, u32)>, ReopenFault>),
+    /// What `a` has, and how many Writes of each server are held.
+    Has(Option<i64>, [u32; 2]),
+}
+
+use Step::{Fuse, Has, Put, Reopen, Take};
+
+fn given(rt: &impl Abort, parts: Given) -> Write {
+    let (origin, seq, clock, deps, number) = parts;
+    write(rt, origin, seq, clock, deps, put(rt, number))
+}
+
+/// Whether the server, which is given the Write, answers so, and is down exactly where it was or a device call failed.
+fn takes(
+    alloc: Global,
+    server: &mut Served,
+    write: &Write,
+    answer: Result<Took, TakeFault>,
+) -> Result<bool, Fail> {
+    let is_down = server.is_down() || answer == Err(TakeFault::Journal);
+    let told = server.take(alloc, write.rest(alloc)?);
+    Ok(told == answer && server.is_down() == is_down)
+}
+
+/// Puts the number at `a`: the Write's seq.
+fn puts(
+    rt: &impl Abort,
+    alloc: Global,
+    server: &mut Served,
+    number: i64,
+) -> Result<u32, WriteFault> {
+    let program = put(rt, number).rest(alloc)?;
+    let accepted = server.write(alloc, &Vector::zero(), program)?;
+    Ok(accepted.wid.seq)
+}
+
+/// Reopens the server: origin and seq of the Write that is adopted, if any.
+fn reopens(alloc: Global, server: &mut Served) -> Result<Option<(u8, u32)>, ReopenFault> {
+    match server.reopen(alloc)?.adopted {
+        Some(wid) => Ok(Some((wid.origin.index, wid.seq))),
+        None => Ok(None),
+    }
+}
+
+/// Whether `a` has that, and so many Writes of each server are held.
+fn has(rt: &impl Abort, server: &Served, value: Option<i64>, held: [u32; 2]) -> bool {
+    let [first, second] = held;
+    let vector = vector(rt, first, second);
+    match server.read(&Vector::zero(), &key(rt, "a")) {
+        Ok(seen) => seen.value == value.map(Value::Num) && seen.vector == vector,
+        Err(_) => false,
+    }
+}
+
+/// Does the step. Whether the server answers so.
+fn goes(rt: &impl Abort, alloc: Global, server: &mut Served, step: Step) -> Result<bool, Fail> {
+    match step {
+        Fuse(call, kept) => server.device().fuse(call.max(1), kept),
+        Take(parts, answer) => return takes(alloc, server, &given(rt, parts), answer),
+        Put(number, answer) => return Ok(puts(rt, alloc, server, number) == answer),
+        Reopen(answer) => return Ok(reopens(alloc, server) == answer),
+        Has(value, held) => return Ok(has(rt, server, value, held)),
+    }
+    Ok(true)
+}
+
+/// The steps go so, one after another, at a server that may hold so many Writes. It gives the device back.
+fn all_go(
+    rt: &impl Abort,
+    alloc: Global,
+    limit: u32,
+    device: Memory,
+    steps: &[Step],
+) -> Result<Memory, Fail> {
+    let mut server = start(rt, alloc, limit, device)?;
+    for (at, step) in steps.iter().enumerate() {
+        assert!(rt; goes(rt, alloc, &mut server, *step)?, "step {at}");
+    }
+    Ok(server.stop().device)
+}
+
+/// A Write is taken, and each that doesn't go with it is refused; the fourth is of no server.
+const MISFITS: [Step; 9] = [
+    Take((0, 1, 1, [0, 0], 1), Ok(Took::New)),
+    Take((0, 2, 2, [0, 0], 2), Err(TakeFault::BadStamp)),
+    Take((0, 2, 3, [1, 0], 2), Err(TakeFault::BadStamp)),
+    Take((0, 3, 3, [2, 0], 3), Err(TakeFault::Gap)),
+    Take((2, 1, 1, [0, 0], 1), Err(TakeFault::Gap)),
+    Take((1, 1, 1, [0, 0], 1), Err(TakeFault::OwnLost)),
+    Take((0, 1, 1, [0, 0], 2), Err(TakeFault::Conflict)),
+    Take((0, 1, 1, [0, 0], 1), Ok(Took::Had)),
+    Has(Some(1), [1, 0]),
+];
+
+/// Wherever two answers might be given, the first of them is: equal or another one held, and the server is down; it is down, and the
+/// Write its own; its own, and with a gap; with a gap, and no good stamp; no good stamp, and the server full; full, and the device
+/// would fail.
+const TWO_STAND: [Step; 14] = [
+    Take((0, 1, 1, [0, 0], 1), Ok(Took::New)),
+    Fuse(1, 0),
+    Take((0, 2, 2, [1, 0], 2), Err(TakeFault::Journal)),
+    Take((0, 1, 1, [0, 0], 1), Ok(Took::Had)),
+    Take((0, 1, 1, [0, 0], 2), Err(TakeFault::Conflict)),
+    Take((1, 1, 1, [0, 0], 1), Err(TakeFault::Down)),
+    Reopen(Ok(None)),
+    Take((1, 2, 1, [0, 0], 1), Err(TakeFault::OwnLost)),
+    Take((0, 3, 9, [2, 0], 3), Err(TakeFault::Gap)),
+    Put(7, Ok(1)),
+    Take((0, 2, 3, [1, 0], 2), Err(TakeFault::BadStamp)),
+    Fuse(1, 0),
+    Take((0, 2, 2, [1, 0], 2), Err(TakeFault::LogFull)),
+    Has(Some(7), [1, 1]),
+];
+
+#[test]
+fn a_write_is_taken_or_refused(rt: HostRuntime) -> Result<(), Fail> {
+    let alloc = rt.alloc();
+    let runs: [&[Step]; 2] = [&MISFITS, &TWO_STAND];
+    for steps in runs {
+        all_go(&rt, alloc, 2, MemoryDevice::new(alloc, OpenGate), steps)?;
+    }
+    Ok(())
+}
+
+/// The device call under a taken Write that fails, how much of its entry of 91 bytes is added, the Write that a reopening adopts, if
+/// any, and what `a` has then, and how many of the first server's Writes are held.
+const FAILING: [(u32, usize, Option<(u8, u32)>, i64, u32); 6] = [
+    (1, 0, None, 1, 1),
+    (1, 50, None, 1, 1),
+    (1, 91, Some((0, 2)), 2, 2),
+    (1, 200, Some((0, 2)), 2, 2),
+    (2, 0, Some((0, 2)), 2, 2),
+    (2, 91, Some((0, 2)), 2, 2),
+];
+
+/// The Write in doubt is another server's; adopted or forgotten, the next one that this server makes is its first.
+#[test]
+fn each_device_call_of_a_take_may_fail(rt: HostRuntime) -> Result<(), Fail> {
+    let alloc = rt.alloc();
+    for (call, kept, adopted, value, held) in FAILING {
+        let steps = [
+            Take((0, 1, 1, [0, 0], 1), Ok(Took::New)),
+            Fuse(call, kept),
+            Take((0, 2, 2, [1, 0], 2), Err(TakeFault::Journal)),
+            Take((0, 2, 2, [1, 0], 2), Err(TakeFault::Down)),
+            Has(Some(1), [1, 0]),
+            Reopen(Ok(adopted)),
+            Has(Some(value), [held, 0]),
+        ];
+        let device = all_go(&rt, alloc, 100, MemoryDevice::new(alloc, OpenGate), &steps)?;
+        let again = [Has(Some(value), [held, 0]), Put(9, Ok(1))];
+        all_go(&rt, alloc, 100, device, &again)?;
+    }
+    Ok(())
+}
+
+/// The first Write of one of the servers 1, 2 and 3, which held none. In stamp order `a` becomes 5, then 10 and 100 more.
+fn first(rt: &impl Abort, origin: u8) -> Write {
+    let program = match origin {
+        1 => put(rt, 5),
+        2 => plus(rt, 10),
+        _ => plus(rt, 100),
+    };
+    write(rt, origin, 1, 1, [0, 0], program)
+}
+
+/// The first of four servers, once it took the first Writes of the others in this order.
+fn taken(rt: &impl Abort, alloc: Global, order: [u8; 3]) -> Result<Served, Fail> {
+    let id = ServerId::new(0).expect(rt, "no server");
+    let device = MemoryDevice::new(alloc, OpenGate);
+    let mut server = match Server::start(alloc, id, 4, 100, device) {
+        Ok((server, _)) => server,
+        Err(refused) => return Err(refused.fault.into()),
+    };
+    for origin in order {
+        server.take(alloc, first(rt, origin).rest(alloc)?)?;
+    }
+    Ok(server)
+}
+
+/// Whether the server lists one Write of each of the others, by their servers, each of which was applied.
+fn lists_all(alloc: Global, server: &Served) -> Result<bool, Fail> {
+    let listing = server.listing(alloc)?;
+    let mut last = 0_u8;
+    for listed in &listing {
+        if listed.wid.origin.index == last.saturating_add(1) && listed.outcome == Outcome::Updated {
+            last = last.saturating_add(1);
+        }
+    }
+    Ok(last == 3 && listing.len() == 3)
+}
+
+const ORDERS: [[u8; 3]; 6] = [
+    [1, 2, 3],
+    [1, 3, 2],
+    [2, 1, 3],
+    [2, 3, 1],
+    [3, 1, 2],
+    [3, 2, 1],
+];
+
+#[test]
+fn every_order_of_takes_gives_one_listing(rt: HostRuntime) -> Result<(), Fail> {
+    let alloc = rt.alloc();
+    for order in ORDERS {
+        let server = taken(&rt, alloc, order)?;
+        let seen = server.read(&Vector::zero(), &key(&rt, "a"));
+        let is_115 = seen.is_ok_and(|seen| seen.value == Some(Value::Num(115)));
+        assert!(rt; lists_all(alloc, &server)? && is_115, "{order:?}");
+    }
+    Ok(())
+}
+
+/// Gives the Write, again where that was refused; a Write in doubt is settled first. Whether a refused Write wasn't held.
+fn take_at_last(alloc: Global, server: &mut Served, write: &Write) -> Result<bool, Fail> {
+    let held = server.receipts().len();
+    if write
+        .rest(alloc)
+        .is_ok_and(|write| server.take(alloc, write).is_ok())
+    {
+        return Ok(true);
+    }
+    let is_held = server.receipts().len() > held;
+    if server.is_down() && server.reopen(alloc).is_err() {
+        server.reopen(alloc)?;
+    }
+    server.take(alloc, write.rest(alloc)?)?;
+    Ok(!is_held)
+}
+
+/// Starts a server on the device, again where that was refused.
+fn start_at_last(rt: &impl Abort, alloc: Global, device: Memory) -> Result<Served, StartFault> {
+    let id = ServerId::new(1).expect(rt, "no server");
+    match Server::start(alloc, id, 2, 100, device) {
+        Ok((server, _)) => Ok(server),
+        Err(refused) => start(rt, alloc, 100, refused.device),
+    }
+}
+
+/// The Writes of the first server, which put 1, 2 and 3 at `a`.
+const THREE: [Given; 3] = [
+    (0, 1, 1, [0, 0], 1),
+    (0, 2, 2, [1, 0], 2),
+    (0, 3, 3, [2, 0], 3),
+];
+
+/// For runs in which any one allocation is refused: a Write that was refused for it wasn't held, and can be given again.
+#[test]
+fn one_want_of_memory_costs_no_taken_write(rt: HostRuntime) -> Result<(), Fail> {
+    let alloc = rt.alloc();
+    let mut server = start_at_last(&rt, alloc, MemoryDevice::new(alloc, OpenGate))?;
+    for parts in THREE {
+        let is_kept = take_at_last(alloc, &mut server, &given(&rt, parts))?;
+        assert!(rt; is_kept && server.vector() == vector(&rt, parts.1, 0));
+    }
+    Ok(())
+}
