@@ -5,4 +5,5 @@ pub mod Entries
 pub mod Following
 pub mod Honesty
 pub mod Recovering
+pub mod SameWrite
 pub mod Steps
