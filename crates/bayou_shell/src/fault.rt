@@ -42,7 +42,7 @@ impl Fault {
     }
 
     /// The line that tells it. It takes no memory, so that want of memory can be told.
-    pub fn to_line(self) -> ArrayString<MAX_FAULT_BYTES> {
+    pub(crate) fn to_line(self) -> ArrayString<MAX_FAULT_BYTES> {
         let mut line = ArrayString::new();
         // The longest has fewer bytes than there is room for.
         let _ = writeln!(line, "bayou: {self}");
