@@ -1,7 +1,6 @@
 -- The first Write that a server lacks, found among the next ones of the servers.
-use Rattle.std.proofs.Common.{◌≡◌, ℕ, ◌+◌, ◌<◌, ◌≤◌, true, false, cond, nat_lt, List, ◌++◌, Option, Some, None, length, take, get_or, slice_index, All, Contains, ap, sym, ◌∙◌, refl, subst, arith}
+use Rattle.std.proofs.Common.{◌≡◌, ℕ, ◌+◌, ◌<◌, ◌≤◌, true, false, cond, nat_lt, List, Option, Some, None, length, get_or, slice_index, All, Contains, ap, sym, ◌∙◌, refl, subst, arith}
 use Rattle.std.proofs.lemmas.Bool.Decides.{nat_tests}
-use Rattle.std.proofs.lemmas.List.{take_all, take-append-le}
 use Rattle.bayou_base.specs.declared.stamp.Stamp.{Stamp}
 use Rattle.bayou_base.specs.declared.limits.TheConstants.{SERVERS}
 use Rattle.bayou_base.specs.Order.{is_before}
@@ -130,8 +129,3 @@ first_of_fewer writes fewer servers counts (Some found) less first = record {
   next = first.next;
   first = λ k d within below missed. first.first k d within (omega (arith, below, less)) missed;
 }
-
--- the front of a list that was taken whole
-pub taken : (max : ℕ) (list rest whole : List Write) → list ++ rest ≡ whole → length list ≡ max → list ≡ take max whole
-taken max list rest whole same full =
-    sym (take_all max list (omega (arith, full))) ∙ sym (take-append-le max list rest (omega (arith, full))) ∙ ap (take max) same

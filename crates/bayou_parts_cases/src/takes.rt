@@ -248,6 +248,29 @@ fn every_order_of_takes_gives_one_listing(rt: HostRuntime) -> Result<(), Fail> {
     Ok(())
 }
 
+/// Whether it gives the first two of its three Writes, in stamp order, to a server that has none, and none to one that has all.
+fn gives_what_is_lacking(alloc: Global, server: &Served) -> Result<bool, Fail> {
+    let lacking = server.lacking(alloc, &Vector::zero(), 2)?;
+    let mut last = 0_u8;
+    for write in &lacking {
+        if write.wid().origin.index == last.saturating_add(1) {
+            last = last.saturating_add(1);
+        }
+    }
+    let none = server.lacking(alloc, &server.vector(), 9)?;
+    Ok(last == 2 && lacking.len() == 2 && none.is_empty())
+}
+
+#[test]
+fn a_server_gives_what_another_lacks(rt: HostRuntime) -> Result<(), Fail> {
+    let alloc = rt.alloc();
+    for order in ORDERS {
+        let server = taken(&rt, alloc, order)?;
+        assert!(rt; gives_what_is_lacking(alloc, &server)?, "{order:?}");
+    }
+    Ok(())
+}
+
 /// Gives the Write, again where that was refused; a Write in doubt is settled first. Whether a refused Write wasn't held.
 fn take_at_last(alloc: Global, server: &mut Served, write: &Write) -> Result<bool, Fail> {
     let held = server.receipts().len();
