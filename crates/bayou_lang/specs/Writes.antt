@@ -4,7 +4,7 @@ use Rattle.bayou_base.specs.declared.limits.TheConstants.{SERVERS}
 use Rattle.bayou_base.specs.declared.stamp.Stamp.{Stamp}
 use Rattle.bayou_base.specs.declared.wid.Wid.{Wid}
 use Rattle.bayou_base.specs.Order.{is_before}
-use Rattle.bayou_base.specs.Vector.{Dominates}
+use Rattle.bayou_base.specs.Vector.{Dominates, raised}
 use Rattle.bayou_lang.specs.declared.program.Program.{Program}
 use Rattle.bayou_lang.specs.declared.write.Write.{Write}
 
@@ -67,6 +67,11 @@ missed_by counts writes = filter (λ write. nat_lt (slice_index counts write.wid
 -- what a server with these counts lacks of the Writes, in stamp order (anti-entropy, Petersen et al. 1997)
 abbrev pub lacking_of : List ℕ → List Write → List Write
 lacking_of counts writes = missed_by counts (in_stamp_order writes)
+
+-- the counts, raised to each of the Writes
+abbrev pub raised_by : List ℕ → List Write → List ℕ
+raised_by counts [] = counts
+raised_by counts (write ∷ writes) = raised_by (raised counts write.wid) writes
 
 -- No Write is missing before it (the prefix property, Petersen et al. 1997): its origin is one of so many servers, it is the
 -- next of that server's Writes, and all that its server held is held.

@@ -56,6 +56,11 @@ IsPartial [] = Unit {0}
 IsPartial (high ∷ []) = Unit {0}
 IsPartial (high ∷ low ∷ more) = (256 * high + low ≤ MAX_FRAME_BYTES) × (length more < 256 * high + low)
 
+-- the fault that stands in a frame's place, if any
+abbrev pub IsFaultAt : List ℕ → Option Fault → Type 0
+IsFaultAt bytes (Some fault) = IsFaulty bytes fault
+IsFaultAt bytes None = (fault : Fault) → ¬ (IsFaulty bytes fault)
+
 -- what decoding a frame answers
 abbrev pub FrameAnswer : List ℕ → Result Frame Fault → Type 0
 FrameAnswer bytes (Ok frame) = SpellsFrame bytes frame
@@ -66,6 +71,14 @@ FrameAnswer bytes (Err Trailing) =
     IsFaulty bytes Trailing ⊎ ((frame : Frame) × (rest : List ℕ) × IsFrame frame × (rest ≢ []) × (bytes ≡ frame_bytes frame ++ rest))
 
 -- ---- streams
+
+-- A frame's one spelling, behind a word of its own: what is said in it stays short, however much a frame says.
+unfoldable pub spelling : Frame → List ℕ
+spelling frame = frame_bytes frame
+
+-- frames in their one spelling, one after another
+abbrev pub spellings : List Frame → List ℕ
+spellings frames = flat_map spelling frames
 
 -- frames, and what stands behind them
 abbrev pub stream_of : List Frame → List ℕ → List ℕ

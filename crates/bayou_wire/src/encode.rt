@@ -2,7 +2,8 @@
 ghost use Rattle.std.specs.Prelude.{◌≡◌, ◌+◌, ◌<◌, ◌≤◌, IfOk, length};
 ghost use Rattle.bayou_base.specs.declared.limits.TheConstants.{MAX_FRAME_BYTES, MAX_WRITE_BYTES};
 ghost use Rattle.bayou_wire.specs.declared.layout.TheConstants.{LENGTH_BYTES};
-ghost use Rattle.bayou_wire.specs.Spelling.{SpellsFrame, SpellsWrite, kind_of};
+ghost use Rattle.bayou_wire.specs.Spelling.{SpellsFrame, SpellsWrite, kind_of, packed};
+ghost use Rattle.bayou_wire.specs.declared.frame.Frame.TheVariants.{Item};
 
 use crate::frame::Frame;
 use crate::layout::*;
@@ -48,17 +49,41 @@ fn kind_byte(frame: &Frame) -> u8
     }
 }
 
+// A kind and a payload behind their length.
+fn packed_bytes(alloc: Global, kind: u8, payload: &[u8]) -> Result<Vec<u8>, AllocError>
+    requires { length payload.now < MAX_FRAME_BYTES }
+    ensures { IfOk result (λ bytes. bytes.items ≡ packed kind payload.now) }
+{
+    let len = (payload.len() + 1) as u16;
+    let mut bytes = Vec::new(alloc);
+    bytes.extend_from_slice(&len.to_be_bytes())?;
+    bytes.push(kind)?;
+    bytes.extend_from_slice(payload)?;
+    Ok(bytes)
+}
+
 fn framed(alloc: Global, frame: &Frame) -> Result<Vec<u8>, AllocError>
     ensures { IfOk result (λ bytes. SpellsFrame bytes.items frame.now) }
 {
     let mut payload = Vec::new(alloc);
     put_payload(&mut payload, frame)?;
-    let len = (payload.len() + 1) as u16;
-    let mut bytes = Vec::new(alloc);
-    bytes.extend_from_slice(&len.to_be_bytes())?;
-    bytes.push(kind_byte(frame))?;
-    bytes.extend_from_slice(&payload)?;
-    Ok(bytes)
+    packed_bytes(alloc, kind_byte(frame), &payload)
+}
+
+fn framed_item(alloc: Global, write: &RestingWrite) -> Result<Vec<u8>, AllocError>
+    ensures { IfOk result (λ bytes. SpellsFrame bytes.items (Item write.now)) }
+{
+    let mut payload = Vec::new(alloc);
+    put_resting_write(&mut payload, write)?;
+    packed_bytes(alloc, KIND_ITEM, &payload)
+}
+
+/// The one spelling of the [`Frame::Item`] of a Write at rest, as [`encode_frame`] gives it.
+pub fn encode_item(alloc: Global, write: &RestingWrite) -> Result<Vec<u8>, AllocError>
+    ensures spelling { IfOk result (λ bytes. SpellsFrame bytes.items (Item write.now)) }
+    ensures size { IfOk result (λ bytes. length bytes.items ≤ LENGTH_BYTES + MAX_FRAME_BYTES) }
+{
+    framed_item(alloc, write)
 }
 
 /// The one spelling of the frame, its length first. Want of memory is the only refusal, and leaves nothing behind.

@@ -7,7 +7,7 @@ ghost use Rattle.bayou_wire.specs.declared.fault.Fault.{Fault};
 ghost use Rattle.bayou_wire.specs.declared.stream.FeedFault.{FeedFault};
 ghost use Rattle.bayou_lang.specs.Ranges.{IsWrite};
 ghost use Rattle.bayou_wire.specs.Spelling.{IsFrame, WriteAnswer, frame_bytes, write_bytes};
-ghost use Rattle.bayou_wire.specs.Stream.{Feeds, FrameAnswer, IsLeft, Splits, bytes_fed, frames_given};
+ghost use Rattle.bayou_wire.specs.Stream.{Feeds, FrameAnswer, IsFaulty, IsLeft, IsPartial, Splits, bytes_fed, frames_given};
 
 /// No Write's spelling begins another's, so each spelling is of one Write.
 pub fn no_write_begins_another()
@@ -45,4 +45,9 @@ pub fn one_reading()
 pub fn feeds_read_the_stream()
     ensures { (pieces : List (List ℕ)) (answers : List (Result (List Frame) FeedFault)) (new : Option (List ℕ)) → Feeds (Some []) pieces answers new
         → (rest : List ℕ) × Splits (bytes_fed pieces answers) (frames_given answers) rest × IsLeft new rest }
+{}
+
+/// Less than a whole frame has no fault.
+pub fn partial_bytes_have_no_fault()
+    ensures { (bytes : List ℕ) (fault : Fault) → IsPartial bytes → ¬ (IsFaulty bytes fault) }
 {}

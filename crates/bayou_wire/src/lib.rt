@@ -26,7 +26,7 @@ pub mod stream;
 mod take;
 
 pub use decode::{decode_frame, decode_write};
-pub use encode::{encode_frame, encode_resting_write, encode_write};
+pub use encode::{encode_frame, encode_item, encode_resting_write, encode_write};
 pub use fault::Fault;
 pub use frame::{Frame, Refusal};
 pub use stream::{FeedFault, Frames};

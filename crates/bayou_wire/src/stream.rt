@@ -1,8 +1,8 @@
-ghost use Rattle.std.specs.Prelude.{◌≡◌, ◌+◌, ◌≤◌, ◌↔◌, [], None, Some, IsTrue, IfSome, length};
+ghost use Rattle.std.specs.Prelude.{◌≡◌, ◌+◌, ◌≤◌, ◌↔◌, [], None, Some, IsTrue, IfSome, MatchOption, length};
 ghost use Rattle.bayou_base.specs.declared.limits.TheConstants.{MAX_FRAME_BYTES};
 ghost use Rattle.bayou_wire.specs.declared.layout.TheConstants.{LENGTH_BYTES};
-ghost use Rattle.bayou_wire.specs.Inner.Reading.{FedOpen, IsFaultAt, IsFirst, IsTaken, Keeps};
-ghost use Rattle.bayou_wire.specs.Stream.{Fed, listed};
+ghost use Rattle.bayou_wire.specs.Inner.Reading.{FedOpen, IsFirst, IsTaken, Keeps};
+ghost use Rattle.bayou_wire.specs.Stream.{Fed, IsFaultAt, listed};
 
 use crate::fault::Fault;
 use crate::frame::Frame;
@@ -131,6 +131,17 @@ impl Frames {
         let result = feed_open(self.alloc, &mut self.held, piece);
         self.failed = matches!(result, Err(FeedFault::Fault(_)));
         result
+    }
+
+    /// The fault that stands in a frame's place in what is held back, if any. The next call of [`Frames::feed`] tells it. Where
+    /// one was told before there is none.
+    pub fn fault(&self) -> Option<Fault>
+        ensures { MatchOption self.now (result ≡ None) (λ held. IsFaultAt held result) }
+    {
+        if self.failed {
+            return None;
+        }
+        held_fault(self.held.as_slice())
     }
 
     /// Whether no frame is begun, and no fault stands in a frame's place.

@@ -257,11 +257,6 @@ pub record IsTaken (bytes : List ℕ) (frames : List Frame) (left : ℕ) (fault 
   pub size : length rest ≡ left
   pub is : IsRestOf rest fault
 
--- the fault at the front of bytes, if any
-abbrev pub IsFaultAt : List ℕ → Option Fault → Type 0
-IsFaultAt bytes (Some fault) = IsFaulty bytes fault
-IsFaultAt bytes None = (fault : Fault) → ¬ (IsFaulty bytes fault)
-
 -- the fault behind the frames, where there are none
 abbrev pub IsFirst : List Frame → Option Fault → Option Fault → Type 0
 IsFirst frames behind (Some fault) = (frames ≡ []) × (behind ≡ Some fault)

@@ -1,0 +1,5 @@
+pub mod Offers
+pub mod Pulls
+pub mod Spelled
+pub mod Stopping
+pub mod Taking

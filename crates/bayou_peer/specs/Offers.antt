@@ -1,0 +1,1 @@
+-- What comes of an Offer that is read (anti-entropy, Petersen et al. 1997).

@@ -1,0 +1,79 @@
+-- What a pull makes of the bytes that it reads (anti-entropy, Petersen et al. 1997).
+use Rattle.std.specs.Prelude.{◌≡◌, ◌≢◌, ◌⊎◌, ℕ, ◌+◌, List, [], ◌∷◌, ◌++◌, Option, Some, Result, Ok, Err, IfSome, length}
+use Rattle.std.specs.List.{AllByRecursion}
+use Rattle.bayou_lang.specs.declared.write.Write.{Write}
+use Rattle.bayou_lang.specs.Ranges.{IsWrite}
+use Rattle.bayou_peer.specs.declared.fault.Fault.TheVariants as faults
+use Rattle.bayou_peer.specs.declared.fault.PullFault.{PullFault}
+use Rattle.bayou_peer.specs.declared.fault.PullFault.TheVariants.{Stream, Refused}
+use Rattle.bayou_peer.specs.declared.pulling.Pulled.{Pulled}
+use Rattle.bayou_peer.specs.Spelled.{items_of}
+use Rattle.bayou_peer.specs.Taking.{TakesEach, hads, new_ones, news}
+use Rattle.bayou_server.specs.declared.answer.Took.{Took}
+use Rattle.bayou_server.specs.declared.fault.TakeFault.{TakeFault}
+use Rattle.bayou_wire.specs.declared.fault.Fault.{Fault}
+use Rattle.bayou_wire.specs.declared.frame.Frame.{Frame}
+use Rattle.bayou_wire.specs.declared.frame.Frame.TheVariants.{Item, End, Read, Write as WriteFrame, Reopen, Dump, Offer, Seen, Accepted, Refused as RefusedFrame, Reopened}
+use Rattle.bayou_wire.specs.Spelling.{IsFrame}
+use Rattle.bayou_wire.specs.Stream.{IsFaulty, IsPartial, spelling, spellings}
+
+-- how something holds its Writes, and how it takes one
+pub record Ways (S : Type 0) : Type 1 where
+  pub list : S → Option (List Write)
+  pub takes : S → Write → Result Took TakeFault → S → Type 0
+
+-- What was read so far begins with the Items of these Writes, each of which was taken, and then there is a rest. What is held are the
+-- Writes held before, and behind them the Items that were new, in their order.
+pub record Received {S : Type 0} (ways : Ways S) (start now : S) (read rest : List ℕ) (taken had : ℕ) : Type 0 where
+  pub writes : List Write
+  pub tooks : List Took
+  pub whole : read ≡ spellings (items_of writes) ++ rest
+  pub each : AllByRecursion IsWrite writes
+  pub took : TakesEach ways.takes start writes tooks now
+  pub holds : IfSome (ways.list start) (λ held. ways.list now ≡ Some (held ++ new_ones writes tooks))
+  pub new : taken ≡ news tooks
+  pub held : had ≡ hads tooks
+  pub number : taken + had ≡ length writes
+
+-- a frame that has no place behind so many Items: no Item, and no End of their number
+abbrev pub HasNoPlace : ℕ → Frame → Type 0
+HasNoPlace number (Item write) = ⊥
+HasNoPlace number (End count) = count ≢ number
+HasNoPlace number (Read need key) = Unit {0}
+HasNoPlace number (WriteFrame need program) = Unit {0}
+HasNoPlace number Reopen = Unit {0}
+HasNoPlace number Dump = Unit {0}
+HasNoPlace number (Offer vector) = Unit {0}
+HasNoPlace number (Seen seen) = Unit {0}
+HasNoPlace number (Accepted accepted) = Unit {0}
+HasNoPlace number (RefusedFrame refusal) = Unit {0}
+HasNoPlace number (Reopened adopted) = Unit {0}
+
+-- the bytes begin with what may not follow so many Items: a fault in a frame's place, or a frame that has no place there
+abbrev pub IsBad : ℕ → List ℕ → Type 0
+IsBad number bytes =
+    ((fault : Fault) × IsFaulty bytes fault)
+    ⊎ ((frame : Frame) × (behind : List ℕ) × IsFrame frame × (bytes ≡ spelling frame ++ behind) × HasNoPlace number frame)
+
+-- each whole Item that was read was taken, and less than a frame is behind them
+abbrev pub Stands : {S : Type 0} → Ways S → S → S → List ℕ → Type 0
+Stands ways start now read = (rest : List ℕ) × (taken had : ℕ) × IsPartial rest × Received ways start now read rest taken had
+
+-- How a pull ends that reads these bytes, and where this says whether the input has ended.
+abbrev pub PullEnds : {S : Type 0} → Ways S → (start now : S) → (read : List ℕ) → (is_end : Type 0) → Result Pulled PullFault → Type 0
+-- what was read behind the End is dropped
+PullEnds ways start now read is_end (Ok pulled) =
+    (behind : List ℕ) × Received ways start now read (spelling (End (pulled.taken + pulled.had)) ++ behind) pulled.taken pulled.had
+PullEnds {S} ways start now read is_end (Err (Refused fault)) =
+    (mid : S) × (write : Write) × (behind : List ℕ) × (taken had : ℕ) × IsWrite write
+    × Received ways start mid read (spelling (Item write) ++ behind) taken had
+    × ways.takes mid write (Err fault) now × IfSome (ways.list mid) (λ held. ways.list now ≡ Some held)
+PullEnds ways start now read is_end (Err (Stream faults.Cut)) = is_end × Stands ways start now read
+PullEnds ways start now read is_end (Err (Stream faults.Read)) = Stands ways start now read
+PullEnds ways start now read is_end (Err (Stream faults.TooManyTurns)) = Stands ways start now read
+PullEnds ways start now read is_end (Err (Stream faults.BadFrame)) =
+    (rest : List ℕ) × (taken had : ℕ) × IsBad (taken + had) rest × Received ways start now read rest taken had
+PullEnds ways start now read is_end (Err (Stream faults.OutOfMemory)) =
+    (rest : List ℕ) × (taken had : ℕ) × Received ways start now read rest taken had
+-- the Offer wasn't sent
+PullEnds ways start now read is_end (Err (Stream faults.Write)) = (read ≡ []) × (now ≡ start)

@@ -1,0 +1,1 @@
+//! Frames on a channel.

@@ -1,0 +1,16 @@
+//! Readers and writers that are called a counted number of times.
+//!
+//! A turn is one call of a reader's `read` or of a writer's `write`, and nothing but a turn calls a stream. Callers see a
+//! [`Channel`] as its reader, its writer, the turns that are left to the two together, and whether a call of either failed.
+//! Only making one gives turns: an engine that is lent a channel spends what is left, at most
+//! [`MAX_TURNS`](bayou_base::MAX_TURNS), and can't give itself more. A call that was interrupted is made again, and is a turn
+//! like any other. A side that an engine doesn't have is `()`.
+//!
+//! Callers owe nothing. What a reader has left and a writer holds is said of those that tell their bytes, as those over
+//! memory do; of others only the turns are promised, and that a failure is told only where a call failed. It isn't promised
+//! that a stream gives or takes anything.
+#![tactic(auto)]
+
+pub mod channel;
+
+pub use channel::{Channel, StreamFault};
