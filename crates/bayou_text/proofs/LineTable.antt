@@ -9,13 +9,13 @@ use Rattle.bayou_text.specs.declared.line.Shape.TheVariants as shape
 use Rattle.bayou_text.proofs.ProgramTable.{program_found, program_read}
 use Rattle.bayou_text.proofs.Readers.{bound, there, word_or, worded_of, listed_items, number_found, number_read, key_found, key_read, asks_found, asks_read}
 use Rattle.bayou_text.specs.Asks.{asks_in}
-use Rattle.bayou_text.specs.Lines.{servers_in, opening_in, writing_in, reading_in, alone_in, fusing_in, losing_in, trial_of, command_of, line_in, text_line}
-use Rattle.bayou_text.specs.Numbers.{count_in, limit_in, session_in, server_in, calls_in, kept_in, lost_in}
+use Rattle.bayou_text.specs.Lines.{servers_in, opening_in, writing_in, reading_in, alone_in, fusing_in, losing_in, trial_of, pulling_in, resending_in, exchange_of, command_of, line_in, text_line}
+use Rattle.bayou_text.specs.Numbers.{count_in, limit_in, session_in, server_in, calls_in, kept_in, lost_in, cut_in}
 use Rattle.bayou_text.specs.Programs.{program_in}
 use Rattle.bayou_text.specs.Reading.{◌>>=◌, worded}
-use Rattle.bayou_text.specs.Said.{Said, servers, session, write, read, log, fuse, lose, reopen, restart}
+use Rattle.bayou_text.specs.Said.{Said, servers, session, write, read, log, fuse, lose, reopen, restart, pull, resend}
 use Rattle.bayou_text.specs.Spelling.{form}
-use Rattle.bayou_text.specs.Table.{NumberIs, AtServer, ServerIs, ProgramIs, KeyIs, LineIs, Spells}
+use Rattle.bayou_text.specs.Table.{BetweenIs, NumberIs, AtServer, ServerIs, ProgramIs, KeyIs, LineIs, Spells}
 use Rattle.bayou_text.specs.Values.{key_in}
 
 servers_found : (d : Data) (parts : List Data) (s : Said) → d ≡ form (codes "servers") parts
@@ -214,6 +214,69 @@ trial_found d word parts s is e = elim (word_or d word (codes "fuse") parts (fus
   ]
 ]
 
+-- a command that takes two servers alone
+between : (word : List ℕ) (d t f : Data) (to source : ℕ) → d ≡ form word (t ∷ f ∷ []) → server_in t ≡ Ok to → server_in f ≡ Ok source
+    → BetweenIs word d to source
+between word d t f to source is first second =
+    let one = server_found t to first in
+    let other = server_found f source second in
+    record { to_data = t; source_data = f; form_is = is; to_is = one.0; to_in_range = one.1; source_is = other.0; source_in_range = other.1 }
+
+pulling_found : (d : Data) (parts : List Data) (s : Said) → d ≡ form (codes "pull") parts
+    → pulling_in parts ≡ Ok s → LineIs d s
+unfolding pulling_in
+pulling_found d [] s is e = absurd (cc)
+pulling_found d (t ∷ []) s is e = absurd (cc)
+pulling_found d (t ∷ f ∷ []) s is e =
+    let to = bound (server_in t) (λ o. server_in f >>= λ from. Ok (pull o from None)) s e in
+    let source = bound (server_in f) (λ from. Ok (pull to.0 from None)) s to.2 in
+    let same : pull to.0 source.0 None ≡ s = cc in
+    subst (λ (l : Said). LineIs d l) same (between (codes "pull") d t f to.0 source.0 is to.1 source.1)
+pulling_found d (t ∷ f ∷ k ∷ []) s is e =
+    let to = bound (server_in t) (λ o. server_in f >>= λ from. cut_in k >>= λ n. Ok (pull o from (Some n))) s e in
+    let source = bound (server_in f) (λ from. cut_in k >>= λ n. Ok (pull to.0 from (Some n))) s to.2 in
+    let items = bound (cut_in k) (λ n. Ok (pull to.0 source.0 (Some n))) s source.2 in
+    let one = server_found t to.0 to.1 in
+    let other = server_found f source.0 source.1 in
+    let counted = number_found 0 MAX_WRITES k items.0 items.1 in
+    let same : pull to.0 source.0 (Some items.0) ≡ s = cc in
+    subst (λ (l : Said). LineIs d l) same (record {
+      to_data = t;
+      source_data = f;
+      items_data = k;
+      form_is = is;
+      to_is = one.0;
+      to_in_range = one.1;
+      source_is = other.0;
+      source_in_range = other.1;
+      items_are = counted.0;
+      items_in_range = counted.1.1;
+    })
+pulling_found d (t ∷ f ∷ k ∷ other ∷ more) s is e = absurd (cc)
+
+resending_found : (d : Data) (parts : List Data) (s : Said) → d ≡ form (codes "resend") parts
+    → resending_in parts ≡ Ok s → LineIs d s
+unfolding resending_in
+resending_found d [] s is e = absurd (cc)
+resending_found d (t ∷ []) s is e = absurd (cc)
+resending_found d (t ∷ f ∷ []) s is e =
+    let to = bound (server_in t) (λ o. server_in f >>= λ from. Ok (resend o from)) s e in
+    let source = bound (server_in f) (λ from. Ok (resend to.0 from)) s to.2 in
+    let same : resend to.0 source.0 ≡ s = cc in
+    subst (λ (l : Said). LineIs d l) same (between (codes "resend") d t f to.0 source.0 is to.1 source.1)
+resending_found d (t ∷ f ∷ other ∷ more) s is e = absurd (cc)
+
+exchange_found : (d : Data) (word : List ℕ) (parts : List Data) (s : Said) → d ≡ form word parts
+    → exchange_of word parts ≡ Ok s → LineIs d s
+unfolding exchange_of
+exchange_found d word parts s is e = elim (word_or d word (codes "pull") parts (pulling_in parts) _ s is e) [
+  | inl h ↦ pulling_found d parts s h.0 h.1
+  | inr h ↦ elim (word_or d word (codes "resend") parts (resending_in parts) (trial_of word parts) s is h) [
+    | inl i ↦ resending_found d parts s i.0 i.1
+    | inr i ↦ trial_found d word parts s is i
+  ]
+]
+
 command_found : (d : Data) (word : List ℕ) (parts : List Data) (s : Said) → d ≡ form word parts
     → command_of word parts ≡ Ok s → LineIs d s
 command_found d word parts s is e = elim
@@ -227,9 +290,9 @@ command_found d word parts s is e = elim
             | inl k ↦ reading_found d parts s k.0 k.1
             | inr k ↦ elim
                 (word_or d word (codes "log") parts (alone_in parts >>= λ at. Ok (log at))
-                (trial_of word parts) s is k) [
+                (exchange_of word parts) s is k) [
                   | inl l ↦ server_line (codes "log") d parts log s (λ n h. h) l.0 l.1
-                  | inr l ↦ trial_found d word parts s is l
+                  | inr l ↦ exchange_found d word parts s is l
                 ]
           ]
         ]
@@ -256,7 +319,7 @@ unfolding alone_in
 alone_read place n what is low = rw (server_read place n is low)
 
 pub line_read : (d : Data) (s : Said) → LineIs d s → line_in d ≡ Ok s
-unfolding servers_in opening_in writing_in reading_in fusing_in losing_in trial_of
+unfolding servers_in opening_in writing_in reading_in fusing_in losing_in trial_of pulling_in resending_in exchange_of
 line_read d (servers count None) is =
     rw is.form_is (formed _ (is.count_data ∷ []) _
     (rw (number_read 1 SERVERS is.count_data count is.count_is is.count_in_range.0 is.count_in_range.1)))
@@ -309,6 +372,25 @@ line_read d (reopen place) is =
 line_read d (restart place) is =
     rw is.form_is (formed _ (is.place_data ∷ []) _
     (alone_read is.place_data place restart is.place_is is.place_in_range))
+line_read d (pull to source None) is =
+    rw is.form_is (formed _ (is.to_data ∷ is.source_data ∷ []) _
+    (rw (
+      server_read is.to_data to is.to_is is.to_in_range,
+      server_read is.source_data source is.source_is is.source_in_range,
+    )))
+line_read d (pull to source (Some items)) is =
+    rw is.form_is (formed _ (is.to_data ∷ is.source_data ∷ is.items_data ∷ []) _
+    (rw (
+      server_read is.to_data to is.to_is is.to_in_range,
+      server_read is.source_data source is.source_is is.source_in_range,
+      number_read 0 MAX_WRITES is.items_data items is.items_are (omega arith) is.items_in_range,
+    )))
+line_read d (resend to source) is =
+    rw is.form_is (formed _ (is.to_data ∷ is.source_data ∷ []) _
+    (rw (
+      server_read is.to_data to is.to_is is.to_in_range,
+      server_read is.source_data source is.source_is is.source_in_range,
+    )))
 
 -- ---- bytes
 

@@ -9,10 +9,10 @@ use Rattle.bayou_text.specs.declared.line.LineFault.{LineFault}
 use Rattle.bayou_text.specs.declared.line.LineFault.TheVariants.{BadShape, NotJson, OutOfMemory}
 use Rattle.bayou_text.specs.declared.line.Shape.TheVariants.{Arity, Command, Line}
 use Rattle.bayou_text.specs.Asks.{asks_in}
-use Rattle.bayou_text.specs.Numbers.{count_in, limit_in, session_in, server_in, calls_in, kept_in, lost_in}
+use Rattle.bayou_text.specs.Numbers.{count_in, limit_in, session_in, server_in, calls_in, kept_in, lost_in, cut_in}
 use Rattle.bayou_text.specs.Programs.{program_in}
 use Rattle.bayou_text.specs.Reading.{Parsed, ◌>>=◌, worded}
-use Rattle.bayou_text.specs.Said.{Said, servers, session, write, read, log, fuse, lose, reopen, restart}
+use Rattle.bayou_text.specs.Said.{Said, servers, session, write, read, log, fuse, lose, reopen, restart, pull, resend}
 use Rattle.bayou_text.specs.Values.{key_in}
 
 -- ["servers", count] and ["servers", count, limit], behind the word
@@ -81,6 +81,34 @@ trial_of word parts =
     else (if bytes_eq word (codes "restart") then (alone_in parts >>= λ at. Ok (restart at))
     else Err (BadShape Command))))
 
+-- ["pull", to, from] and ["pull", to, from, items], behind the word
+unfoldable pub pulling_in : List Data → Parsed Said
+pulling_in (to ∷ source ∷ []) = do
+  at ← server_in to
+  other ← server_in source
+  Ok (pull at other None)
+pulling_in (to ∷ source ∷ items ∷ []) = do
+  at ← server_in to
+  other ← server_in source
+  n ← cut_in items
+  Ok (pull at other (Some n))
+pulling_in _ = Err (BadShape Arity)
+
+-- ["resend", to, from]
+unfoldable pub resending_in : List Data → Parsed Said
+resending_in (to ∷ source ∷ []) = do
+  at ← server_in to
+  other ← server_in source
+  Ok (resend at other)
+resending_in _ = Err (BadShape Arity)
+
+-- what two servers do
+unfoldable pub exchange_of : List ℕ → List Data → Parsed Said
+exchange_of word parts =
+    if bytes_eq word (codes "pull") then pulling_in parts
+    else (if bytes_eq word (codes "resend") then resending_in parts
+    else trial_of word parts)
+
 abbrev pub command_of : List ℕ → List Data → Parsed Said
 command_of word parts =
     if bytes_eq word (codes "servers") then servers_in parts
@@ -88,7 +116,7 @@ command_of word parts =
     else (if bytes_eq word (codes "write") then writing_in parts
     else (if bytes_eq word (codes "read") then reading_in parts
     else (if bytes_eq word (codes "log") then (alone_in parts >>= λ at. Ok (log at))
-    else trial_of word parts))))
+    else exchange_of word parts))))
 
 unfoldable pub line_in : Data → Parsed Said
 line_in d = ok_or (worded d) (BadShape Line) >>= λ parts. command_of parts.0 parts.1

@@ -43,6 +43,10 @@ kept_in = number_in 0 MAX_FUSE_KEPT
 abbrev pub lost_in : Data → Parsed ℕ
 lost_in = number_in 0 MAX_LOST_BYTES
 
+-- after how many Writes a stream is cut
+abbrev pub cut_in : Data → Parsed ℕ
+cut_in = number_in 0 MAX_WRITES
+
 -- an integer of i64
 abbrev pub integer_in : Data → Parsed ℤ
 integer_in d = ok_or (option_and_then as_i64 (as_number d)) (BadShape Number)

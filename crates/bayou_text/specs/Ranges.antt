@@ -1,7 +1,7 @@
 -- Which lines are read.
 use Rattle.std.specs.Prelude.{ℕ, ◌≤◌, IfSome, ⊤}
 use Rattle.bayou_base.specs.declared.limits.TheConstants.{MAX_WRITES, SERVERS, MAX_FUSE_CALLS, MAX_FUSE_KEPT, MAX_LOST_BYTES}
-use Rattle.bayou_text.specs.Said.{Said, servers, session, write, read, log, fuse, lose, reopen, restart}
+use Rattle.bayou_text.specs.Said.{Said, servers, session, write, read, log, fuse, lose, reopen, restart, pull, resend}
 
 abbrev pub IsCount : ℕ → Type 0
 IsCount count = (1 ≤ count) × (count ≤ SERVERS)
@@ -14,7 +14,7 @@ abbrev pub IsFuse : ℕ → ℕ → Type 0
 IsFuse calls kept = ((1 ≤ calls) × (calls ≤ MAX_FUSE_CALLS)) × (kept ≤ MAX_FUSE_KEPT)
 
 -- the lines that are read: the type of a line leaves wider only how many servers and Writes there may be, and the
--- numbers of a fuse and of a loss
+-- numbers of a fuse, of a loss and of a cut
 abbrev pub IsReadable : Said → Type 0
 IsReadable (servers count limit) = IsCount count × IfSome limit IsLimit
 IsReadable (session who asks) = ⊤
@@ -25,3 +25,5 @@ IsReadable (fuse place calls kept) = IsFuse calls kept
 IsReadable (lose place count) = count ≤ MAX_LOST_BYTES
 IsReadable (reopen place) = ⊤
 IsReadable (restart place) = ⊤
+IsReadable (pull to source cut) = IfSome cut (λ items. items ≤ MAX_WRITES)
+IsReadable (resend to source) = ⊤

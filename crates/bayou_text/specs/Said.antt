@@ -18,6 +18,8 @@ pub data Said : Type 0 where
   lose : ℕ → ℕ → Said
   reopen : ℕ → Said
   restart : ℕ → Said
+  pull : ℕ → ℕ → Option ℕ → Said
+  resend : ℕ → ℕ → Said
 
 -- what a command says
 abbrev pub command_said : Command → Said
@@ -29,6 +31,8 @@ command_said (command.Fuse place failure) = fuse place.index failure.calls failu
 command_said (command.Lose place count) = lose place.index count
 command_said (command.Reopen place) = reopen place.index
 command_said (command.Restart place) = restart place.index
+command_said (command.Pull to source cut) = pull to.index source.index cut
+command_said (command.Resend to source) = resend to.index source.index
 
 abbrev pub said : Line → Said
 said (line.Servers count limit) = servers count limit

@@ -14,7 +14,7 @@ use Rattle.bayou_lang.specs.declared.program.Cond.{Cond}
 use Rattle.bayou_lang.specs.declared.program.Cond.TheVariants.{Equals, Absent, AtLeast}
 use Rattle.bayou_lang.specs.declared.program.Alt.{Alt}
 use Rattle.bayou_lang.specs.declared.program.Program.{Program}
-use Rattle.bayou_text.specs.Said.{Said, servers, session, write, read, log, fuse, lose, reopen, restart}
+use Rattle.bayou_text.specs.Said.{Said, servers, session, write, read, log, fuse, lose, reopen, restart, pull, resend}
 
 -- an array that begins with a word
 abbrev pub form : List ℕ → List Data → Data
@@ -83,3 +83,6 @@ line_json (fuse place calls kept) = form (codes "fuse")
 line_json (lose place count) = form (codes "lose") (count_json place ∷ count_json count ∷ [])
 line_json (reopen place) = form (codes "reopen") (count_json place ∷ [])
 line_json (restart place) = form (codes "restart") (count_json place ∷ [])
+line_json (pull to source None) = form (codes "pull") (count_json to ∷ count_json source ∷ [])
+line_json (pull to source (Some items)) = form (codes "pull") (count_json to ∷ count_json source ∷ count_json items ∷ [])
+line_json (resend to source) = form (codes "resend") (count_json to ∷ count_json source ∷ [])

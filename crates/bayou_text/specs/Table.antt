@@ -8,7 +8,7 @@ use Rattle.serde_json.specs.Read.{read as json_of}
 use Rattle.serde_json.specs.View.{items_of}
 use Rattle.bayou_base.specs.Text.{IsShort}
 use Rattle.bayou_base.specs.declared.asks.Asks.{Asks}
-use Rattle.bayou_base.specs.declared.limits.TheConstants.{SERVERS, SESSIONS, MAX_CONDITIONS, MAX_OPS, MAX_ALTERNATIVES, MAX_LINE_BYTES, MAX_LOST_BYTES}
+use Rattle.bayou_base.specs.declared.limits.TheConstants.{SERVERS, SESSIONS, MAX_CONDITIONS, MAX_OPS, MAX_ALTERNATIVES, MAX_LINE_BYTES, MAX_LOST_BYTES, MAX_WRITES}
 use Rattle.bayou_base.specs.declared.value.Value.{Value}
 use Rattle.bayou_base.specs.declared.value.Value.TheVariants.{Num as Integer, Text}
 use Rattle.bayou_lang.specs.declared.program.Term.{Term}
@@ -22,7 +22,7 @@ use Rattle.bayou_lang.specs.declared.program.Program.{Program}
 use Rattle.bayou_lang.specs.Ranges.{IsKey}
 use Rattle.bayou_text.specs.Ranges.{IsCount, IsLimit, IsFuse}
 use Rattle.bayou_text.specs.Reading.{names}
-use Rattle.bayou_text.specs.Said.{Said, servers, session, write, read, log, fuse, lose, reopen, restart}
+use Rattle.bayou_text.specs.Said.{Said, servers, session, write, read, log, fuse, lose, reopen, restart, pull, resend}
 use Rattle.bayou_text.specs.Spelling.{form}
 
 -- an integer, and no other number: 1.0 isn't one
@@ -191,6 +191,29 @@ pub record LossIs (d : Data) (place count : ℕ) : Type 0 where
   pub count_is : NumberIs count_data count
   pub count_in_range : count ≤ MAX_LOST_BYTES
 
+-- [word, to, from]: what `pull` and `resend` have alike
+pub record BetweenIs (word : List ℕ) (d : Data) (to source : ℕ) : Type 0 where
+  pub to_data : Data
+  pub source_data : Data
+  pub form_is : d ≡ form word (to_data ∷ source_data ∷ [])
+  pub to_is : NumberIs to_data to
+  pub to_in_range : to < SERVERS
+  pub source_is : NumberIs source_data source
+  pub source_in_range : source < SERVERS
+
+-- ["pull", to, from, items]
+pub record CutIs (d : Data) (to source items : ℕ) : Type 0 where
+  pub to_data : Data
+  pub source_data : Data
+  pub items_data : Data
+  pub form_is : d ≡ form (codes "pull") (to_data ∷ source_data ∷ items_data ∷ [])
+  pub to_is : NumberIs to_data to
+  pub to_in_range : to < SERVERS
+  pub source_is : NumberIs source_data source
+  pub source_in_range : source < SERVERS
+  pub items_are : NumberIs items_data items
+  pub items_in_range : items ≤ MAX_WRITES
+
 abbrev pub LineIs : Data → Said → Type 0
 LineIs d (servers count None) = ServersIs d count
 LineIs d (servers count (Some limit)) = LimitedIs d count limit
@@ -202,6 +225,9 @@ LineIs d (fuse place calls kept) = FuseIs d place calls kept
 LineIs d (lose place count) = LossIs d place count
 LineIs d (reopen place) = ServerIs (codes "reopen") d place
 LineIs d (restart place) = ServerIs (codes "restart") d place
+LineIs d (pull to source None) = BetweenIs (codes "pull") d to source
+LineIs d (pull to source (Some items)) = CutIs d to source items
+LineIs d (resend to source) = BetweenIs (codes "resend") d to source
 
 -- bytes that say this: at most so many, UTF-8, and the JSON of a line
 pub record Spells (bytes : List ℕ) (s : Said) : Type 0 where

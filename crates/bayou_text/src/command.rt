@@ -56,4 +56,16 @@ pub enum Command {
     Restart {
         server: ServerId,
     },
+    /// The server `to` takes what it lacks of the Writes that the server `from` holds.
+    Pull {
+        to: ServerId,
+        from: ServerId,
+        /// After how many Writes the stream is cut, if it is.
+        cut: Option<u32>,
+    },
+    /// The server `to` is sent all the Writes that the server `from` holds.
+    Resend {
+        to: ServerId,
+        from: ServerId,
+    },
 }

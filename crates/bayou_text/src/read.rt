@@ -9,9 +9,9 @@ ghost use Rattle.bayou_text.specs.Table.{Spells};
 use crate::command::Command;
 use crate::line::{Line, LineFault, Shape};
 use crate::read::asks::asks_in;
+use crate::read::exchange::exchange_in;
 use crate::read::number::{count_in, limit_in, server_in, session_in};
 use crate::read::program::program_in;
-use crate::read::trial::trial_in;
 use crate::read::value::{key_in, worded};
 use bayou_base::{MAX_LINE_BYTES, ServerId};
 use serde_json::Value;
@@ -19,6 +19,7 @@ use std::alloc::Global;
 use std::str;
 
 mod asks;
+mod exchange;
 mod number;
 mod part;
 mod program;
@@ -84,7 +85,7 @@ fn line_in(alloc: Global, json: &Value) -> Result<Line, LineFault>
             server: alone_in(parts)?,
         }));
     }
-    trial_in(word, parts)
+    exchange_in(word, parts)
 }
 
 #[tactic(auto, unfolding(crate::specs::Lines::servers_in))]

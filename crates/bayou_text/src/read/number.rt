@@ -80,6 +80,13 @@ pub(crate) fn lost_in(json: &Value) -> Result<usize, LineFault>
     Ok(number_in(json, 0, MAX_LOST_BYTES as u64)? as usize)
 }
 
+/// After how many Writes a stream is cut.
+pub(crate) fn cut_in(json: &Value) -> Result<u32, LineFault>
+    ensures { result ≡ grammar.cut_in (view json.now) }
+{
+    Ok(number_in(json, 0, MAX_WRITES as u64)? as u32)
+}
+
 /// An integer of `i64`.
 pub(crate) fn integer_in(json: &Value) -> Result<i64, LineFault>
     ensures { result ≡ grammar.integer_in (view json.now) }
