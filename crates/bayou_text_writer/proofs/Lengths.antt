@@ -270,3 +270,25 @@ line_size (line.Command (command.Lose place count)) fits =
     )
 line_size (line.Command (command.Reopen place)) kept = server_size (codes "reopen") place (lit≤ tt)
 line_size (line.Command (command.Restart place)) kept = server_size (codes "restart") place (lit≤ tt)
+line_size (line.Command (command.Pull to source None)) kept =
+    omega (
+      arith,
+      form_two (codes "pull") (count_json to.index) (count_json source.index),
+      count_size to.index (omega (arith, to.in_range)),
+      count_size source.index (omega (arith, source.in_range)),
+    )
+line_size (line.Command (command.Pull to source (Some items))) kept =
+    omega (
+      arith,
+      form_three (codes "pull") (count_json to.index) (count_json source.index) (count_json items),
+      count_size to.index (omega (arith, to.in_range)),
+      count_size source.index (omega (arith, source.in_range)),
+      count_size items kept,
+    )
+line_size (line.Command (command.Resend to source)) kept =
+    omega (
+      arith,
+      form_two (codes "resend") (count_json to.index) (count_json source.index),
+      count_size to.index (omega (arith, to.in_range)),
+      count_size source.index (omega (arith, source.in_range)),
+    )

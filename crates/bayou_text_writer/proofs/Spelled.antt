@@ -172,3 +172,10 @@ line_plain (lose place lost) = formed 6 _ (count_json place ∷ count_json lost 
 )
 line_plain (reopen place) = server_plain (codes "reopen") place
 line_plain (restart place) = server_plain (codes "restart") place
+line_plain (pull to source None) = formed 6 _ (count_json to ∷ count_json source ∷ []) (count 6 to, (count 6 source, tt))
+line_plain (pull to source (Some items)) =
+    formed 6 _ (count_json to ∷ count_json source ∷ count_json items ∷ []) (
+      count 6 to,
+      (count 6 source, (count 6 items, tt)),
+    )
+line_plain (resend to source) = formed 6 _ (count_json to ∷ count_json source ∷ []) (count 6 to, (count 6 source, tt))

@@ -53,6 +53,19 @@ fn server_json(alloc: Global, word: &str, server: ServerId) -> Result<Value, All
     numbers_json(alloc, word, &[u64::from(server.index)])
 }
 
+/// The spelling of a command that takes two servers alone.
+fn between_json(
+    alloc: Global,
+    word: &str,
+    to: ServerId,
+    from: ServerId,
+) -> Result<Value, AllocError>
+    ensures { IfOk result (λ json. view json
+        ≡ spelling.form word.now (spelling.count_json to.index ∷ spelling.count_json from.index ∷ [])) }
+{
+    numbers_json(alloc, word, &[u64::from(to.index), u64::from(from.index)])
+}
+
 /// The spelling of a command of a session at a server.
 fn at_server_json(
     alloc: Global,
@@ -120,5 +133,28 @@ fn line_json(alloc: Global, line: &Line) -> Result<Value, AllocError>
         }
         Line::Command(Command::Reopen { server }) => server_json(alloc, "reopen", *server),
         Line::Command(Command::Restart { server }) => server_json(alloc, "restart", *server),
+        Line::Command(
+            Command::Pull {
+                to,
+                from,
+                cut: None,
+            },
+        ) => between_json(alloc, "pull", *to, *from),
+        Line::Command(
+            Command::Pull {
+                to,
+                from,
+                cut: Some(items),
+            },
+        ) => numbers_json(
+            alloc,
+            "pull",
+            &[
+                u64::from(to.index),
+                u64::from(from.index),
+                u64::from(*items),
+            ],
+        ),
+        Line::Command(Command::Resend { to, from }) => between_json(alloc, "resend", *to, *from),
     }
 }

@@ -16,6 +16,8 @@ IsCommand (command.Fuse place failure) = (failure.calls < 2 ^ 32) × (failure.ke
 IsCommand (command.Lose place count) = count < 2 ^ 64
 IsCommand (command.Reopen place) = ⊤
 IsCommand (command.Restart place) = ⊤
+IsCommand (command.Pull to source cut) = IfSome cut (λ items. items < 2 ^ 32)
+IsCommand (command.Resend to source) = ⊤
 
 -- and each line
 abbrev pub IsLine : Line → Type 0
