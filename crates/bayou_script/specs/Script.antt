@@ -1,5 +1,5 @@
 -- Scripts: what their lines say, each in its place.
-use Rattle.std.specs.Prelude.{◌≡◌, ◌≢◌, if◌then◌else◌, ℕ, ◌+◌, ◌<◌, ◌==◌, Bool, false, not, ◌&&◌, List, [], ◌∷◌, ◌++◌, Option, None, Some, IsTrue, length, nat_lt, unwrap_or}
+use Rattle.std.specs.Prelude.{◌≡◌, ◌≢◌, if◌then◌else◌, ℕ, ◌+◌, ◌<◌, ◌==◌, Bool, true, false, not, ◌&&◌, List, [], ◌∷◌, ◌++◌, Option, None, Some, IsTrue, length, nat_lt, unwrap_or}
 use Rattle.std.specs.List.{list_all, list_any, slice_split}
 use Rattle.std.specs.Option.{is_some}
 use Rattle.bayou_base.specs.declared.limits.TheConstants.{DEFAULT_LIMIT, MAX_LINES}
@@ -27,6 +27,9 @@ at_server place = record { starts = None; opens = []; sessions = []; servers = p
 abbrev pub of_session : ℕ → ℕ → Use
 of_session who place = record { starts = None; opens = []; sessions = who ∷ []; servers = place ∷ [] }
 
+abbrev pub of_servers : ℕ → ℕ → Use
+of_servers to source = record { starts = None; opens = []; sessions = []; servers = to ∷ source ∷ [] }
+
 abbrev pub use_of : Said → Use
 use_of (servers count limit) = record { starts = Some count; opens = []; sessions = []; servers = [] }
 use_of (session who asks) = record { starts = None; opens = who ∷ []; sessions = []; servers = [] }
@@ -37,10 +40,21 @@ use_of (fuse place calls kept) = at_server place
 use_of (lose place count) = at_server place
 use_of (reopen place) = at_server place
 use_of (restart place) = at_server place
+use_of (pull to source cut) = of_servers to source
+use_of (resend to source) = of_servers to source
 
--- whether what a line says is said to servers that there are
+-- whether no two of these are one
+abbrev pub are_distinct : List ℕ → Bool
+are_distinct [] = true
+are_distinct (place ∷ places) = list_all (λ other. not (other == place)) places && are_distinct places
+
+-- whether these are servers that there are, none of them twice
+unfoldable pub are_servers : ℕ → List ℕ → Bool
+are_servers count places = list_all (λ place. nat_lt place count) places && are_distinct places
+
+-- whether what a line says is said to servers that there are, none of them twice
 abbrev pub is_served : ℕ → Said → Bool
-is_served count said = list_all (λ place. nat_lt place count) (use_of said).servers
+is_served count said = are_servers count (use_of said).servers
 
 -- what a script says: how many servers it starts, how many Writes each may hold, and what its other lines say
 pub record Plan : Type 0 where
@@ -61,10 +75,10 @@ started [] = 0
 started (first ∷ others) = unwrap_or (use_of first).starts 0
 
 -- whether a line that starts no servers may stand behind this: something was said before, a session is opened once, and before it
--- is used, and servers are used that were started
+-- is used, and servers are used that were started, none of them twice
 abbrev pub is_behind : List Said → Use → Bool
 is_behind front used = nat_lt 0 (length front) && (list_all (λ who. not (is_open who front)) used.opens
-    && (list_all (λ who. is_open who front) used.sessions && list_all (λ place. nat_lt place (started front)) used.servers))
+    && (list_all (λ who. is_open who front) used.sessions && are_servers (started front) used.servers))
 
 -- Whether a line may say this behind what was said before: `servers` comes first, and once.
 abbrev pub has_place : List Said → Said → Bool

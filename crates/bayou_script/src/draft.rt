@@ -1,12 +1,28 @@
 ghost use Rattle.std.specs.Prelude.{◌≡◌, ◌+◌, [], ◌∷◌, ◌++◌, ℕ, List, Some, IfErr, OnOk, IsTrue, MatchResult, length};
+ghost use Rattle.bayou_script.specs.Inner.Using.{places_of};
+ghost use Rattle.bayou_script.specs.Script.{are_servers};
 
 use crate::fault::{Refusal, ScriptFault};
 use crate::script::{Script, Servers};
-use crate::uses::{Uses, used_by};
+use crate::uses::{Places, Uses, used_by};
 use bayou_base::{DEFAULT_LIMIT, MAX_LINES, SESSIONS, SessionId};
 use bayou_text::{Command, Line, read_line};
 use std::alloc::Global;
 use std::collections::VecDeque;
+
+/// Whether these are servers that there are, none of them twice.
+#[tactic(auto, unfolding(crate::specs::Script::are_servers))]
+fn are_servers(count: u8, places: Places) -> bool
+    ensures { result ≡ are_servers count (places_of places) }
+{
+    match places {
+        Places::Nowhere => true,
+        Places::At(server) => server.index < count,
+        Places::Between(to, from) => {
+            to.index < count && from.index < count && from.index != to.index
+        }
+    }
+}
 
 /// The front of a script, while its lines are checked.
 #[derive(Drop)]
@@ -57,11 +73,7 @@ impl Draft {
             Some(session) => self.is_open(session),
             None => true,
         };
-        let speaks_to_one_that_is_started = match uses.server {
-            Some(server) => server.index < servers.count,
-            None => true,
-        };
-        opens_once && speaks_for_one_that_is_open && speaks_to_one_that_is_started
+        opens_once && speaks_for_one_that_is_open && are_servers(servers.count, uses.servers)
     }
 
     /// Whether the line may stand behind this front.

@@ -1,11 +1,21 @@
 //! What a command uses.
-ghost use Rattle.std.specs.Prelude.{◌≡◌, None, Some};
+ghost use Rattle.std.specs.Prelude.{◌≡◌, None};
 ghost use Rattle.bayou_text.specs.Said.{command_said};
+ghost use Rattle.bayou_script.specs.declared.uses.Places.TheVariants.{At, Between};
 ghost use Rattle.bayou_script.specs.Inner.Using.{AreUses};
 ghost use Rattle.bayou_script.specs.Script.{use_of};
 
 use bayou_base::{ServerId, SessionId};
 use bayou_text::Command;
+
+/// The servers that a command speaks to.
+#[derive(Clone, Copy)]
+pub(crate) enum Places {
+    Nowhere,
+    At(ServerId),
+    /// The second sends Writes to the first.
+    Between(ServerId, ServerId),
+}
 
 /// What a command uses.
 #[derive(Clone, Copy)]
@@ -14,18 +24,28 @@ pub(crate) struct Uses {
     pub opens: Option<SessionId>,
     /// The session that it speaks for, which is open.
     pub session: Option<SessionId>,
-    /// The server that it speaks to.
-    pub server: Option<ServerId>,
+    pub servers: Places,
 }
 
 /// Of a command that speaks to one server, for a session or for none.
 fn at_server(session: Option<SessionId>, server: ServerId) -> Uses
-    ensures { result ≡ record { opens = None; session = session; server = Some server } }
+    ensures { result ≡ record { opens = None; session = session; servers = At server } }
 {
     Uses {
         opens: None,
         session,
-        server: Some(server),
+        servers: Places::At(server),
+    }
+}
+
+/// Of a command that has a server send Writes to another.
+fn between(to: ServerId, from: ServerId) -> Uses
+    ensures { result ≡ record { opens = None; session = None; servers = Between to from } }
+{
+    Uses {
+        opens: None,
+        session: None,
+        servers: Places::Between(to, from),
     }
 }
 
@@ -37,7 +57,7 @@ pub(crate) fn used_by(command: &Command) -> Uses
         Command::Session { session, .. } => Uses {
             opens: Some(*session),
             session: None,
-            server: None,
+            servers: Places::Nowhere,
         },
         Command::Write {
             session,
@@ -54,5 +74,6 @@ pub(crate) fn used_by(command: &Command) -> Uses
         | Command::Lose { server, .. }
         | Command::Reopen { server }
         | Command::Restart { server } => at_server(None, *server),
+        Command::Pull { to, from, .. } | Command::Resend { to, from } => between(*to, *from),
     }
 }
