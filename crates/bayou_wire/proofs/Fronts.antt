@@ -1,5 +1,5 @@
 -- What stands in a frame's place is one thing: a whole frame, less than one, or one fault.
-use Rattle.std.proofs.Common.{◌≡◌, ◌≢◌, ℕ, ◌+◌, ◌-◌, ◌*◌, ◌^◌, ◌<◌, ◌≤◌, false, ltb, List, [], ◌∷◌, ◌++◌, length, get_or, take, drop, None, Some, Result, Ok, Err, refl, sym, ap, subst, ◌∙◌, arith, inl, inr}
+use Rattle.std.proofs.Common.{◌≡◌, ◌≢◌, ℕ, ◌+◌, ◌-◌, ◌*◌, ◌^◌, ◌<◌, ◌≤◌, false, ltb, List, [], ◌∷◌, ◌++◌, length, get_or, take, drop, None, Some, Result, Ok, Err, refl, sym, ap, subst, ◌∙◌, arith, inl, inr, append_assoc}
 use Rattle.std.specs.Prelude.{◌⊎◌}
 use Rattle.std.specs.Int.{w16, from_be_bytes, to_be_bytes}
 use Rattle.std.proofs.lemmas.Bool.{le-ltb}
@@ -339,3 +339,27 @@ frame_answer-faulty bytes TooLong f = f
 frame_answer-faulty bytes BadKind f = f
 frame_answer-faulty bytes BadBody f = inr f
 frame_answer-faulty bytes Trailing f = inl f
+
+-- ---- what comes behind
+
+packs_more : (bytes : List ℕ) (kind : ℕ) (payload behind more : List ℕ) → Packs bytes kind payload behind → Packs (bytes ++ more) kind payload (behind ++ more)
+packs_more bytes kind payload behind more p =
+    record { short = p.short; begins = ap (λ s. s ++ more) p.begins ∙ append_assoc (packed kind payload) behind more }
+
+packed_fault_more : (bytes more : List ℕ) (fault : Fault) → HasPackedFault bytes fault → HasPackedFault (bytes ++ more) fault
+packed_fault_more bytes more fault h = (h.0, h.1, h.2 ++ more, packs_more bytes h.0 h.1 h.2 more h.3, h.4)
+
+length_more : (bytes more : List ℕ) (len : ℕ) → HasLength bytes len → HasLength (bytes ++ more) len
+length_more bytes more len h = (h.0, (h.1.0 ++ more, ap (λ s. s ++ more) h.1.1 ∙ append_assoc (to_be_bytes w16 len) h.1.0 more))
+
+pub faulty_more : (bytes more : List ℕ) (fault : Fault) → IsFaulty bytes fault → IsFaulty (bytes ++ more) fault
+faulty_more bytes more TooLong f = (f.0, f.1, length_more bytes more f.0 f.2)
+faulty_more bytes more BadKind f = packed_fault_more bytes more BadKind f
+faulty_more bytes more BadBody (inl zero_length) = inl (length_more bytes more 0 zero_length)
+faulty_more bytes more BadBody (inr f) = inr (packed_fault_more bytes more BadBody f)
+faulty_more bytes more Trailing f = packed_fault_more bytes more Trailing f
+
+pub frame_length : (frame : Frame) (behind : List ℕ) (len : ℕ) → IsFrame frame → HasLength (frame_bytes frame ++ behind) len → length (frame_bytes frame) ≡ 2 + len
+frame_length frame behind len is h =
+    let same = packed_length (frame_bytes frame ++ behind) len (kind_of frame) (payload_bytes frame) behind h (frame_packs frame behind is) in
+    omega (arith, same, length-append (to_be_bytes w16 (length (payload_bytes frame) + 1)) (kind_of frame ∷ payload_bytes frame))

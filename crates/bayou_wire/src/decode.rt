@@ -1,14 +1,16 @@
 //! Decoders of whole inputs, and of what stands at the front of a stream.
-ghost use Rattle.std.specs.Prelude.{◌≡◌, Result};
+ghost use Rattle.std.specs.Prelude.{◌≡◌, ℕ, ◌+◌, ◌<◌, MatchOption, Result, length};
 ghost use Rattle.bayou_lang.specs.declared.write.Write.{Write as Written};
 ghost use Rattle.bayou_wire.specs.declared.fault.Fault.{Fault};
 ghost use Rattle.bayou_wire.specs.declared.frame.Frame.{Frame};
+ghost use Rattle.bayou_wire.specs.declared.layout.TheConstants.{LENGTH_BYTES};
 ghost use Rattle.bayou_wire.specs.Spelling.{WriteAnswer};
-ghost use Rattle.bayou_wire.specs.Stream.{FrameAnswer};
+ghost use Rattle.bayou_wire.specs.Stream.{FrameAnswer, HasLength};
 
 use crate::fault::Fault;
 use crate::frame::Frame;
 use crate::front::{Front, front_of};
+use crate::layout::LENGTH_BYTES;
 use crate::take::write_of;
 use bayou_lang::Write;
 
@@ -24,6 +26,16 @@ pub fn decode_write(bytes: &[u8]) -> Result<Write, Fault>
         Some((write, [])) => Ok(write),
         Some((_, [_, ..])) => Err(Fault::Trailing),
     }
+}
+
+/// How many bytes the frame in front has, by its length; `None` where the length isn't there. It doesn't look at the frame.
+pub fn frame_len(bytes: &[u8]) -> Option<usize>
+    ensures { MatchOption result (length bytes.now < LENGTH_BYTES) (λ size. (len : ℕ) × HasLength bytes.now len × (size ≡ LENGTH_BYTES + len)) }
+{
+    let [high, low, ..] = bytes else {
+        return None;
+    };
+    Some(LENGTH_BYTES + usize::from(u16::from_be_bytes([*high, *low])))
 }
 
 /// The frame that the bytes spell, all of them. Nothing is kept, whatever the answer is.

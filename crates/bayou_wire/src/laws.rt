@@ -1,13 +1,14 @@
 //! What the grammar comes to: each law is the contract of a function that does nothing.
-ghost use Rattle.std.specs.Prelude.{◌≡◌, ℕ, ◌<◌, ◌≤◌, List, [], Option, Some, Result, ◌++◌, length};
+ghost use Rattle.std.specs.Prelude.{◌≡◌, ℕ, ◌+◌, ◌<◌, ◌≤◌, List, [], Option, Some, Result, ◌++◌, length};
 ghost use Rattle.bayou_base.specs.declared.limits.TheConstants.{MAX_BODY_BYTES};
 ghost use Rattle.bayou_lang.specs.declared.write.Write.{Write};
 ghost use Rattle.bayou_wire.specs.declared.frame.Frame.{Frame};
 ghost use Rattle.bayou_wire.specs.declared.fault.Fault.{Fault};
+ghost use Rattle.bayou_wire.specs.declared.layout.TheConstants.{LENGTH_BYTES};
 ghost use Rattle.bayou_wire.specs.declared.stream.FeedFault.{FeedFault};
 ghost use Rattle.bayou_lang.specs.Ranges.{IsWrite};
 ghost use Rattle.bayou_wire.specs.Spelling.{IsFrame, WriteAnswer, frame_bytes, write_bytes};
-ghost use Rattle.bayou_wire.specs.Stream.{Feeds, FrameAnswer, IsFaulty, IsLeft, IsPartial, Splits, bytes_fed, frames_given};
+ghost use Rattle.bayou_wire.specs.Stream.{Feeds, FrameAnswer, HasLength, IsFaulty, IsLeft, IsPartial, Splits, bytes_fed, frames_given};
 
 /// No Write's spelling begins another's, so each spelling is of one Write.
 pub fn no_write_begins_another()
@@ -50,4 +51,21 @@ pub fn feeds_read_the_stream()
 /// Less than a whole frame has no fault.
 pub fn partial_bytes_have_no_fault()
     ensures { (bytes : List ℕ) (fault : Fault) → IsPartial bytes → ¬ (IsFaulty bytes fault) }
+{}
+
+/// Where a whole frame stands, there is no less than one, and no fault.
+pub fn a_whole_frame_has_no_fault()
+    ensures partial { (frame : Frame) (behind : List ℕ) → IsFrame frame → ¬ (IsPartial (frame_bytes frame ++ behind)) }
+    ensures faulty { (frame : Frame) (behind : List ℕ) (fault : Fault) → IsFrame frame → ¬ (IsFaulty (frame_bytes frame ++ behind) fault) }
+{}
+
+/// What comes behind bytes that have a fault doesn't change it.
+pub fn a_fault_stays()
+    ensures { (bytes more : List ℕ) (fault : Fault) → IsFaulty bytes fault → IsFaulty (bytes ++ more) fault }
+{}
+
+/// The length in front of a frame counts what is behind the length.
+pub fn a_frame_has_its_length()
+    ensures { (frame : Frame) (behind : List ℕ) (len : ℕ) → IsFrame frame → HasLength (frame_bytes frame ++ behind) len
+        → length (frame_bytes frame) ≡ LENGTH_BYTES + len }
 {}

@@ -25,7 +25,7 @@ mod put;
 pub mod stream;
 mod take;
 
-pub use decode::{decode_frame, decode_write};
+pub use decode::{decode_frame, decode_write, frame_len};
 pub use encode::{encode_frame, encode_item, encode_resting_write, encode_write};
 pub use fault::Fault;
 pub use frame::{Frame, Refusal};
