@@ -1,3 +1,4 @@
+pub mod Framing
 pub mod Offers
 pub mod Pulls
 pub mod Spelled
