@@ -1,5 +1,7 @@
+pub mod Framing
 pub mod Offers
 pub mod Pulls
 pub mod Spelled
+pub mod Steps
 pub mod Stopping
 pub mod Taking
