@@ -62,3 +62,6 @@ pub const READ_BYTES: usize = 8_192;
 
 /// How many bytes of lines are written at once at the most, but for a line that is longer.
 pub const PIECE_BYTES: usize = 65_536;
+
+/// How many Writes that another server lacks are copied and sent at once at the most.
+pub const ITEMS_AT_ONCE: usize = 16;

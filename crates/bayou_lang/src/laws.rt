@@ -1,5 +1,5 @@
 //! What the definitions come to, in the subject's own words: each law is the contract of a function that does nothing.
-ghost use Rattle.std.specs.Prelude.{◌≡◌, ℕ, ◌<◌, ◌==◌, ℤ, ◌+ℤ◌, ◌≤ℤ◌, ◌↔◌, All, AllPairs, List, Option, None, Some, true, false, FitsSigned, filter, length, slice_get, slice_index, if◌then◌else◌};
+ghost use Rattle.std.specs.Prelude.{◌≡◌, ℕ, ◌<◌, ◌==◌, ℤ, ◌+ℤ◌, ◌≤ℤ◌, ◌↔◌, All, AllPairs, List, Option, None, Some, true, false, FitsSigned, drop, filter, length, slice_get, slice_index, take, if◌then◌else◌};
 ghost use Rattle.std.specs.Int.{w64};
 ghost use Rattle.bayou_base.specs.declared.limits.TheConstants.{SERVERS};
 ghost use Rattle.bayou_base.specs.declared.value.Value.{Value};
@@ -14,7 +14,7 @@ ghost use Rattle.bayou_lang.specs.declared.write.Write.{Write};
 ghost use Rattle.bayou_lang.specs.Equality.{same_program, same_write};
 ghost use Rattle.bayou_lang.specs.Meaning.{after_alternative, after_ops, all_hold, holds, mean, term_value};
 ghost use Rattle.bayou_lang.specs.Places.{Places, changed, empty, same_key, value_at};
-ghost use Rattle.bayou_lang.specs.Writes.{count_of, in_stamp_order, AreFitting, Fits, HaveDistinctStamps, HaveDistinctWids, HaveSameWrites, IsNextWrite, IsPrefixClosed};
+ghost use Rattle.bayou_lang.specs.Writes.{count_of, in_stamp_order, lacking_of, raised_by, AreFitting, Fits, HaveDistinctStamps, HaveDistinctWids, HaveSameWrites, IsNextWrite, IsPrefixClosed};
 
 /// Two databases that have the same at each key are one.
 pub fn databases_are_what_they_have()
@@ -119,4 +119,10 @@ pub fn own_clocks_rise()
 pub fn equality_decides()
     ensures programs { (a b : Program) → (same_program a b ≡ true) ↔ (a ≡ b) }
     ensures writes { (a b : Write) → (same_write a b ≡ true) ↔ (a ≡ b) }
+{}
+
+/// Once the first so many of the Writes that are lacking are counted, the others are lacking.
+pub fn what_is_lacking_goes_on()
+    ensures { (count most : ℕ) (counts : List ℕ) (writes : List Write) → AreFitting count writes → length counts ≡ SERVERS
+        → lacking_of (raised_by counts (take most (lacking_of counts writes))) writes ≡ drop most (lacking_of counts writes) }
 {}

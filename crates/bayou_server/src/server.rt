@@ -276,7 +276,8 @@ impl<D: Device> Server<D> {
         counts: &Vector,
         max: usize,
     ) -> Result<Vec<RestingWrite>, AllocError>
-        ensures { IfOk result (λ writes. writes.items ≡ take max (lacking_of counts.now self.now.core.held)) }
+        ensures value { IfOk result (λ writes. writes.items ≡ take max (lacking_of counts.now self.now.core.held)) }
+        ensures sound { IsSoundServer self.now.core }
     {
         self.log.lacking(alloc, counts, max)
     }
