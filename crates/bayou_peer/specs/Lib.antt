@@ -1,4 +1,5 @@
 pub mod Framing
+pub mod Meeting
 pub mod Offers
 pub mod Pulls
 pub mod Spelled

@@ -13,10 +13,12 @@ pub mod answering;
 pub mod fault;
 mod framing;
 mod lent;
+pub mod meeting;
 pub mod pulling;
 pub mod replica;
 
 pub use answering::{answer_offer_on, serve_offer_on};
 pub use fault::{Fault, PullFault};
+pub use meeting::cut_after;
 pub use pulling::{Pulled, pull_from_on, pull_on};
 pub use replica::Replica;

@@ -1,0 +1,5 @@
+use Rattle.bayou_peer.proofs.Sent.{meets}
+use Rattle.bayou_peer.proofs.meeting.a_pull_takes_what_is_sent.Goals as goal
+
+pub returns : goal.returns
+returns g c = meets (record { list = g.P.Replica.list; takes = g.P.Replica.takes })
