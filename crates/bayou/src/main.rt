@@ -1,7 +1,8 @@
 //! The program `bayou`: its real words and streams, and nothing else.
 #![tactic(auto)]
 
-use bayou_shell::{Input, Output, refuse_words, run_main};
+use bayou_shell::{refuse_words, run_main};
+use bayou_streams::{Channel, Output};
 use std::process::ExitCode;
 use std::{env, io};
 
@@ -15,7 +16,7 @@ fn main(rt: HostRuntime) -> ExitCode {
         Ok(words) => run_main(
             rt.alloc(),
             words.as_slice(),
-            &mut Input::new(rt.stdin()),
+            &mut Channel::new(rt.stdin(), ()),
             &mut Output::new(rt.stdout()),
             &mut errors,
         ),

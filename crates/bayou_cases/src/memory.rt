@@ -1,4 +1,5 @@
-use bayou_shell::{Input, Output, run_main};
+use bayou_shell::run_main;
+use bayou_streams::{Channel, Output};
 use std::alloc::{AllocError, Global};
 
 /// What a call of the program gave.
@@ -23,7 +24,7 @@ pub fn call(alloc: Global, words: &[&str], input: &[u8]) -> Result<Given, AllocE
     let status = run_main(
         alloc,
         words,
-        &mut Input::new(&mut reader),
+        &mut Channel::new(&mut reader, ()),
         &mut Output::new(&mut output),
         &mut Output::new(&mut errors),
     );

@@ -1,7 +1,8 @@
 //! The program over readers and writers that are slow, fail, or never end.
 use crate::fakes::{FakeReader, FakeWriter, Pieces};
 use crate::memory::roomy;
-use bayou_shell::{Input, Output, run_main};
+use bayou_shell::run_main;
+use bayou_streams::{Channel, Output};
 use std::alloc::{AllocError, Global};
 use std::test::Fail;
 
@@ -43,7 +44,7 @@ fn run(
     run_main(
         alloc,
         &["bayou", "run"],
-        &mut Input::new(reader),
+        &mut Channel::new(reader, ()),
         &mut Output::new(writer),
         &mut Output::new(errors),
     )
@@ -245,7 +246,7 @@ fn pieces(rt: HostRuntime) -> Result<(), Fail> {
     let status = run_main(
         alloc,
         &["bayou", "run"],
-        &mut Input::new(&mut reader),
+        &mut Channel::new(&mut reader, ()),
         &mut Output::new(&mut writer),
         &mut Output::new(&mut errors),
     );

@@ -3,8 +3,7 @@ use Rattle.std.proofs.Common.{◌≡◌, ℕ, List, Result, Ok, Err, IfErr, OnOk
 use Rattle.bayou_shell.specs.declared.fault.Fault.{Fault}
 use Rattle.bayou_shell.specs.declared.fault.Fault.TheVariants.{Output}
 use Rattle.bayou_shell.specs.Program.{WritesText}
-use Rattle.bayou_shell.specs.Inner.Taken.{Takes, TakesFront}
-use Rattle.bayou_shell.specs.Account.{Account}
+use Rattle.bayou_streams.specs.Account.{Account, Takes, TakesFront}
 
 pub writes_text : (text : List ℕ) (ended : Result (Unit {0}) Fault) (old new : Account) → OnOk ended (Takes old new text) → IfErr ended (λ fault. fault ≡ Output)
     → TakesFront old new text → WritesText text ended old.contents new.contents

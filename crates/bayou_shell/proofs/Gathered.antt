@@ -1,10 +1,9 @@
 -- Lines that wait, one text behind another.
 use Rattle.std.proofs.Common.{◌≡◌, ℕ, List, [], ◌++◌, ◌∙◌, refl, ap, sym, subst, append_assoc}
 use Rattle.std.proofs.lemmas.List.{append-nil}
-use Rattle.bayou_shell.specs.Account.{Account}
-use Rattle.bayou_shell.specs.Inner.Taken.{Takes, TakesFront}
+use Rattle.bayou_streams.specs.Account.{Account, Takes, TakesFront}
 use Rattle.bayou_shell.specs.Inner.Waiting.{Gathers, Stage}
-use Rattle.bayou_shell.proofs.Taken.{Takes-nil, Takes-trans}
+use Rattle.bayou_streams.proofs.Taken.{Takes-nil, Takes-trans}
 
 pub Gathers-nil : (a : Stage) → Gathers a a [] []
 Gathers-nil a = record { taken = []; split = refl; took = Takes-nil a.output }

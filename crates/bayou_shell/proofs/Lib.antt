@@ -6,4 +6,3 @@ pub mod Joined
 pub mod Read
 pub mod Runs
 pub mod Standing
-pub mod Taken

@@ -18,8 +18,7 @@ use Rattle.bayou_shell.specs.Printed.{answer_text}
 use Rattle.bayou_shell.specs.Run.{Step, Run, RunsAs, Prints, PrintsPart, answers_text}
 use Rattle.bayou_script.specs.Script.{Plan, is_served}
 use Rattle.bayou_text.specs.Said.{command_said}
-use Rattle.bayou_shell.specs.Account.{Account}
-use Rattle.bayou_shell.specs.Inner.Taken.{Takes, TakesFront}
+use Rattle.bayou_streams.specs.Account.{Account, Takes, TakesFront}
 use Rattle.bayou_shell.specs.Inner.Waiting.{Gathers, Stage}
 use Rattle.bayou_shell.specs.Turns.{EndsReading, EndsWriting}
 use Rattle.bayou_shell.proofs.Gathered.{Gathers-trans, Takes-all, Takes-front, Takes-rest}

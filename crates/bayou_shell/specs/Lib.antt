@@ -1,4 +1,3 @@
-pub mod Account
 pub mod Fault
 pub mod Inner
 pub mod Machine
@@ -7,4 +6,3 @@ pub mod Program
 pub mod Replica
 pub mod Run
 pub mod Turns
-pub mod Written

@@ -5,7 +5,7 @@ use Rattle.bayou_command.specs.Words.{AreMistaken, AskForText}
 use Rattle.bayou_shell.specs.declared.fault.Fault.{Fault}
 use Rattle.bayou_shell.specs.declared.fault.Fault.TheVariants.{Line, Memory, Device, Input, Output}
 use Rattle.bayou_shell.specs.Fault.{exit_status, status_of}
-use Rattle.bayou_shell.specs.Written.{AppendsFront}
+use Rattle.bayou_streams.specs.Written.{AppendsFront}
 
 -- the exit status of a command line that is refused
 abbrev pub refused_status : ℕ

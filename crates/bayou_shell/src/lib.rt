@@ -6,7 +6,7 @@
 //! memory, and its sessions, with every answer that a command may get. Where the input is refused, nothing is printed, and the
 //! least line with a fault is told; where a fault comes later, a front of those lines is printed.
 //!
-//! Streams come as an [`Input`] and an [`Output`], which alone call them: an input is read in at most
+//! Streams come as `bayou_streams`' `Channel` and `Output`, which alone call them: an input is read in at most
 //! [`MAX_TURNS`](bayou_base::MAX_TURNS) turns, and each printed line is written in at most as many, however lines are gathered
 //! into pieces. That the input or the output is at fault is told only where a call of it failed, or no turn was left.
 //!
@@ -24,11 +24,9 @@ mod replica;
 pub mod run;
 mod store;
 mod telling;
-pub mod turns;
 mod waiting;
 mod writing;
 
 pub use fault::Fault;
 pub use program::{refuse_words, run_main};
 pub use run::run_script;
-pub use turns::{Input, Output};

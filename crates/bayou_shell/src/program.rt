@@ -6,14 +6,14 @@ ghost use Rattle.bayou_shell.specs.declared.fault.Fault.TheVariants.{Memory};
 ghost use Rattle.bayou_shell.specs.Fault.{exit_status, status_of};
 ghost use Rattle.bayou_shell.specs.Program.{TellsOf, refused_status};
 ghost use Rattle.bayou_shell.specs.Run.{RunsAs};
-ghost use Rattle.bayou_shell.specs.Account.{Pays, account};
+ghost use Rattle.bayou_streams.specs.Account.{Pays, account};
 ghost use Rattle.bayou_shell.specs.Turns.{EndsReading, EndsWriting};
 
 use crate::fault::Fault;
 use crate::run::run_script;
-use crate::turns::{Input, Output};
 use crate::writing::write_text;
 use bayou_command::{Stop, Task, read_words};
+use bayou_streams::{Channel, Output};
 use std::alloc::Global;
 use std::convert::AsStr;
 use std::io;
@@ -60,18 +60,18 @@ pub fn refuse_words<E: Write>(errors: &mut Output<E>, error: &io::Error) -> u8
 pub fn run_main<'a, S: AsStr, R: Read, W: Write, E: Write>(
     alloc: Global,
     words: &'a [S],
-    input: &mut Input<R>,
+    input: &mut Channel<R, ()>,
     output: &mut Output<W>,
     errors: &mut Output<E>,
 ) -> u8
-    ensures run { NamesRun (map S.text words.entry.now) → IfSome (R.remaining input.old.stream) (λ text. (ended : Result (Unit {0}) Fault)
-        × RunsAs text ended (W.contents output.old.stream) (W.contents output.new.stream) × (result ≡ exit_status ended)
-        × IfErr ended (EndsReading input.new.has_failed input.new.turns_left) × IfErr ended (EndsWriting output.new.has_failed output.new.turns_left)) }
+    ensures run { NamesRun (map S.text words.entry.now) → IfSome (R.remaining input.old.reader) (λ text. (ended : Result (Unit {0}) Fault)
+        × RunsAs text ended (W.contents output.old.channel.writer) (W.contents output.new.channel.writer) × (result ≡ exit_status ended)
+        × IfErr ended (EndsReading input.new.read_failed input.new.turns_left) × IfErr ended (EndsWriting output.new.channel.write_failed output.new.channel.turns_left)) }
     // Words that name no run: nothing is read.
     ensures unread { ¬ (NamesRun (map S.text words.entry.now)) → input.new ≡ input.old }
-    ensures others { ¬ (NamesRun (map S.text words.entry.now)) → TellsOf (map S.text words.entry.now) result (W.contents output.old.stream) (W.contents output.new.stream) }
+    ensures others { ¬ (NamesRun (map S.text words.entry.now)) → TellsOf (map S.text words.entry.now) result (W.contents output.old.channel.writer) (W.contents output.new.channel.writer) }
     // A text that was asked for is not lost in silence.
-    ensures clean { ¬ (NamesRun (map S.text words.entry.now)) → result ≡ 0 → output.new.has_failed ≡ true → output.old.has_failed ≡ true }
+    ensures clean { ¬ (NamesRun (map S.text words.entry.now)) → result ≡ 0 → output.new.channel.write_failed ≡ true → output.old.channel.write_failed ≡ true }
     ensures turns { input.new.turns_left ≤ input.old.turns_left }
     ensures paid { Pays (account W.contents output.old) (account W.contents output.new) 1 }
     ensures paid_whole { NamesRun (map S.text words.entry.now) → result ≡ 0 → Pays (account W.contents output.old) (account W.contents output.new) 0 }

@@ -5,32 +5,30 @@ ghost use Rattle.bayou_shell.specs.Inner.Faults.{IsReadFault};
 ghost use Rattle.bayou_shell.specs.Turns.{EndsReading};
 
 use crate::fault::Fault;
-use crate::turns::Input;
 use bayou_base::limits::READ_BYTES;
 use bayou_script::{Script, ScriptReader};
+use bayou_streams::Channel;
 use std::alloc::Global;
-use std::io::{ErrorKind, Read};
+use std::io::Read;
 
 /// The script that the reader has left, of which no more is kept than it says. Nothing is read behind a piece with its least
 /// line with a fault. It ends with `Input` only where a call of the reader failed or no turn is left.
-pub(crate) fn read_script<R: Read>(alloc: Global, input: &mut Input<R>) -> Result<Script, Fault>
-    ensures script { IfOk result (λ script. IfSome (R.remaining input.old.stream) (λ text. IsScript (lines_of text) (plan_of script))) }
-    ensures fault { IfErr result (IsReadFault (R.remaining input.old.stream)) }
-    ensures ended { IfErr result (EndsReading input.new.has_failed input.new.turns_left) }
+pub(crate) fn read_script<R: Read>(
+    alloc: Global,
+    input: &mut Channel<R, ()>,
+) -> Result<Script, Fault>
+    ensures script { IfOk result (λ script. IfSome (R.remaining input.old.reader) (λ text. IsScript (lines_of text) (plan_of script))) }
+    ensures fault { IfErr result (IsReadFault (R.remaining input.old.reader)) }
+    ensures ended { IfErr result (EndsReading input.new.read_failed input.new.turns_left) }
     ensures turns { input.new.turns_left ≤ input.old.turns_left }
 {
     let mut reader = ScriptReader::new(alloc);
     let mut piece = [0; READ_BYTES];
-    while let Some(answer) = input.turn(&mut piece) {
-        match answer {
-            Ok(0) => return Ok(reader.finish(alloc)?),
-            Ok(count) => reader.feed(alloc, &piece[..count])?,
-            Err(error) => {
-                if error.kind() != ErrorKind::Interrupted {
-                    return Err(Fault::Input);
-                }
-            }
+    while let Ok(count) = input.read_some(&mut piece) {
+        if count == 0 {
+            return Ok(reader.finish(alloc)?);
         }
+        reader.feed(alloc, &piece[..count])?;
     }
     Err(Fault::Input)
 }

@@ -7,18 +7,17 @@ ghost use Rattle.bayou_shell.specs.Machine.{HasBegun};
 ghost use Rattle.bayou_shell.specs.Printed.{answer_text};
 ghost use Rattle.bayou_shell.specs.Run.{Prints, PrintsPart, RunsAs, Step};
 ghost use Rattle.bayou_shell.specs.Inner.Faults.{IsRunFault};
-ghost use Rattle.bayou_shell.specs.Inner.Taken.{Takes};
+ghost use Rattle.bayou_streams.specs.Account.{Pays, Takes, account};
 ghost use Rattle.bayou_shell.specs.Inner.Waiting.{Gathers, stage};
-ghost use Rattle.bayou_shell.specs.Account.{Pays, account, cut_lines};
-ghost use Rattle.bayou_shell.specs.Turns.{EndsReading, EndsWriting};
+ghost use Rattle.bayou_shell.specs.Turns.{EndsReading, EndsWriting, cut_lines};
 
 use crate::fault::Fault;
 use crate::reading::read_script;
 use crate::store::Store;
 use crate::telling::write_answer;
-use crate::turns::{Input, Output};
 use crate::waiting::Waiting;
 use bayou_script::{Script, Servers};
+use bayou_streams::{Channel, Output};
 use bayou_text::Command;
 use std::alloc::Global;
 use std::io::{Read, Write};
@@ -39,8 +38,8 @@ fn answer_one<W: Write>(
         (λ fault. IsRunFault fault × ((stage W.contents output.new waiting.new ≡ stage W.contents output.old waiting.old)
         ⊎ (answer : Answer) × Step store.old (command_said command) answer store.new
         × (missing : List ℕ) × Gathers (stage W.contents output.old waiting.old) (stage W.contents output.new waiting.new) (answer_text servers.count answer) missing)) }
-    ensures ended { IfErr result (EndsWriting output.new.has_failed output.new.turns_left) }
-    ensures ready { OnOk result (output.old.turns_left ≤ output.new.turns_left) }
+    ensures ended { IfErr result (EndsWriting output.new.channel.write_failed output.new.channel.turns_left) }
+    ensures ready { OnOk result (output.old.channel.turns_left ≤ output.new.channel.turns_left) }
 {
     let answer = store.answer(alloc, command)?;
     write_answer(alloc, servers.count, &answer, output, waiting)
@@ -59,8 +58,8 @@ fn answer_each<W: Write>(
     ensures ok { OnOk result ((text : List ℕ) × Prints (plan_of script) text × Gathers (stage W.contents output.old waiting.old) (stage W.contents output.new waiting.new) text []) }
     ensures err { IfErr result (λ fault. IsRunFault fault × (text : List ℕ) × (missing : List ℕ) × PrintsPart (plan_of script) text
         × Gathers (stage W.contents output.old waiting.old) (stage W.contents output.new waiting.new) text missing) }
-    ensures ended { IfErr result (EndsWriting output.new.has_failed output.new.turns_left) }
-    ensures ready { OnOk result (output.old.turns_left ≤ output.new.turns_left) }
+    ensures ended { IfErr result (EndsWriting output.new.channel.write_failed output.new.channel.turns_left) }
+    ensures ready { OnOk result (output.old.channel.turns_left ≤ output.new.channel.turns_left) }
 {
     let Script {
         servers,
@@ -86,8 +85,8 @@ fn answer_all<W: Write>(
     ensures ok { OnOk result ((text : List ℕ) × Prints (plan_of script) text × Takes (account W.contents output.old) (account W.contents output.new) text) }
     ensures err { IfErr result (λ fault. IsRunFault fault
         × (text : List ℕ) × PrintsPart (plan_of script) text × Takes (account W.contents output.old) (account W.contents output.new) text) }
-    ensures ended { IfErr result (EndsWriting output.new.has_failed output.new.turns_left) }
-    ensures ready { OnOk result (output.old.turns_left ≤ output.new.turns_left) }
+    ensures ended { IfErr result (EndsWriting output.new.channel.write_failed output.new.channel.turns_left) }
+    ensures ready { OnOk result (output.old.channel.turns_left ≤ output.new.channel.turns_left) }
 {
     let mut waiting = waiting;
     match answer_each(alloc, script, store, output, &mut waiting) {
@@ -104,12 +103,12 @@ fn answer_all<W: Write>(
 /// Reads a script to its end, or to its least line with a fault, and writes the lines of its answers.
 pub fn run_script<R: Read, W: Write>(
     alloc: Global,
-    input: &mut Input<R>,
+    input: &mut Channel<R, ()>,
     output: &mut Output<W>,
 ) -> Result<(), Fault>
-    ensures runs { IfSome (R.remaining input.old.stream) (λ text. RunsAs text result (W.contents output.old.stream) (W.contents output.new.stream)) }
-    ensures read { IfErr result (EndsReading input.new.has_failed input.new.turns_left) }
-    ensures written { IfErr result (EndsWriting output.new.has_failed output.new.turns_left) }
+    ensures runs { IfSome (R.remaining input.old.reader) (λ text. RunsAs text result (W.contents output.old.channel.writer) (W.contents output.new.channel.writer)) }
+    ensures read { IfErr result (EndsReading input.new.read_failed input.new.turns_left) }
+    ensures written { IfErr result (EndsWriting output.new.channel.write_failed output.new.channel.turns_left) }
     ensures turns { input.new.turns_left ≤ input.old.turns_left }
     ensures paid { Pays (account W.contents output.old) (account W.contents output.new) (cut_lines result) }
 {

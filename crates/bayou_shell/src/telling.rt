@@ -9,10 +9,10 @@ ghost use Rattle.bayou_shell.specs.Turns.{EndsWriting};
 use crate::answer::Answer;
 use crate::fault::Fault;
 use crate::printed::{listed_line, printed};
-use crate::turns::Output;
 use crate::waiting::Waiting;
 use bayou_base::ServerId;
 use bayou_log::Listed;
+use bayou_streams::Output;
 use std::alloc::Global;
 use std::io::Write;
 
@@ -26,9 +26,9 @@ fn write_listing<W: Write>(
 ) -> Result<(), Fault>
     ensures whole { OnOk result (Gathers (stage W.contents output.old waiting.old) (stage W.contents output.new waiting.new) (flat_map (listed_text server.index) listing.now) []) }
     ensures fault { IfErr result IsRunFault }
-    ensures ended { IfErr result (EndsWriting output.new.has_failed output.new.turns_left) }
+    ensures ended { IfErr result (EndsWriting output.new.channel.write_failed output.new.channel.turns_left) }
     ensures part { (missing : List ℕ) × Gathers (stage W.contents output.old waiting.old) (stage W.contents output.new waiting.new) (flat_map (listed_text server.index) listing.now) missing }
-    ensures ready { OnOk result (output.old.turns_left ≤ output.new.turns_left) }
+    ensures ready { OnOk result (output.old.channel.turns_left ≤ output.new.channel.turns_left) }
 {
     for listed in listing {
         let line = listed_line(alloc, server, listed)?;
@@ -48,9 +48,9 @@ fn write_last<W: Write>(
     requires { servers ≤ SERVERS }
     ensures whole { OnOk result (Gathers (stage W.contents output.old waiting.old) (stage W.contents output.new waiting.new) (last_text servers answer.now) []) }
     ensures fault { IfErr result IsRunFault }
-    ensures ended { IfErr result (EndsWriting output.new.has_failed output.new.turns_left) }
+    ensures ended { IfErr result (EndsWriting output.new.channel.write_failed output.new.channel.turns_left) }
     ensures part { (missing : List ℕ) × Gathers (stage W.contents output.old waiting.old) (stage W.contents output.new waiting.new) (last_text servers answer.now) missing }
-    ensures ready { OnOk result (output.old.turns_left ≤ output.new.turns_left) }
+    ensures ready { OnOk result (output.old.channel.turns_left ≤ output.new.channel.turns_left) }
 {
     let last = printed(alloc, servers, answer)?;
     waiting.print(output, last.as_bytes())
@@ -67,9 +67,9 @@ pub(crate) fn write_answer<W: Write>(
     requires { servers ≤ SERVERS }
     ensures whole { OnOk result (Gathers (stage W.contents output.old waiting.old) (stage W.contents output.new waiting.new) (answer_text servers answer.now) []) }
     ensures fault { IfErr result IsRunFault }
-    ensures ended { IfErr result (EndsWriting output.new.has_failed output.new.turns_left) }
+    ensures ended { IfErr result (EndsWriting output.new.channel.write_failed output.new.channel.turns_left) }
     ensures part { (missing : List ℕ) × Gathers (stage W.contents output.old waiting.old) (stage W.contents output.new waiting.new) (answer_text servers answer.now) missing }
-    ensures ready { OnOk result (output.old.turns_left ≤ output.new.turns_left) }
+    ensures ready { OnOk result (output.old.channel.turns_left ≤ output.new.channel.turns_left) }
 {
     match answer {
         Answer::Logged {

@@ -1,12 +1,12 @@
 //! Lines wait for one another, and are written in pieces.
 ghost use Rattle.std.specs.Prelude.{◌≡◌, ◌≤◌, [], List, ℕ, IfErr, IfOk, OnOk};
 ghost use Rattle.std.specs.Io.{IsEmptyOrEndsWith};
-ghost use Rattle.bayou_shell.specs.Inner.Taken.{Takes, TakesFront};
+ghost use Rattle.bayou_streams.specs.Account.{Takes, TakesFront};
 
 use crate::fault::Fault;
-use crate::turns::Output;
 use crate::writing::write_text;
 use bayou_base::limits::PIECE_BYTES;
+use bayou_streams::Output;
 use std::alloc::{AllocError, Global};
 use std::io::Write;
 
@@ -18,7 +18,7 @@ pub(crate) struct Waiting {
 }
 
 impl Waiting {
-    ghost use Rattle.bayou_shell.specs.Account.{account};
+    ghost use Rattle.bayou_streams.specs.Account.{account};
     ghost use Rattle.bayou_shell.specs.Inner.Waiting.{Gathers, stage};
     ghost use Rattle.bayou_shell.specs.Inner.Faults.{IsRunFault};
     ghost use Rattle.bayou_shell.specs.Turns.{EndsWriting};
@@ -37,8 +37,8 @@ impl Waiting {
         ensures part { TakesFront (account W.contents output.old) (account W.contents output.new) self.old.lines.items }
         ensures none { self.new.lines.items ≡ [] }
         ensures fault { IfErr result IsRunFault }
-        ensures ended { IfErr result (EndsWriting output.new.has_failed output.new.turns_left) }
-        ensures ready { OnOk result (output.old.turns_left ≤ output.new.turns_left) }
+        ensures ended { IfErr result (EndsWriting output.new.channel.write_failed output.new.channel.turns_left) }
+        ensures ready { OnOk result (output.old.channel.turns_left ≤ output.new.channel.turns_left) }
     {
         let written = write_text(output, self.lines.as_slice());
         self.lines.clear();
@@ -50,8 +50,8 @@ impl Waiting {
         ensures whole { OnOk result (Gathers (stage W.contents output.old self.old) (stage W.contents output.new self.new) [] []) }
         ensures part { (missing : List ℕ) × Gathers (stage W.contents output.old self.old) (stage W.contents output.new self.new) [] missing }
         ensures fault { IfErr result IsRunFault }
-        ensures ended { IfErr result (EndsWriting output.new.has_failed output.new.turns_left) }
-        ensures ready { OnOk result (output.old.turns_left ≤ output.new.turns_left) }
+        ensures ended { IfErr result (EndsWriting output.new.channel.write_failed output.new.channel.turns_left) }
+        ensures ready { OnOk result (output.old.channel.turns_left ≤ output.new.channel.turns_left) }
     {
         if more > PIECE_BYTES.saturating_sub(self.lines.len()) {
             return self.write(output);
@@ -69,8 +69,8 @@ impl Waiting {
         ensures whole { OnOk result (Gathers (stage W.contents output.old self.old) (stage W.contents output.new self.new) line.now []) }
         ensures part { (missing : List ℕ) × Gathers (stage W.contents output.old self.old) (stage W.contents output.new self.new) line.now missing }
         ensures fault { IfErr result IsRunFault }
-        ensures ended { IfErr result (EndsWriting output.new.has_failed output.new.turns_left) }
-        ensures ready { OnOk result (output.old.turns_left ≤ output.new.turns_left) }
+        ensures ended { IfErr result (EndsWriting output.new.channel.write_failed output.new.channel.turns_left) }
+        ensures ready { OnOk result (output.old.channel.turns_left ≤ output.new.channel.turns_left) }
     {
         self.make_room(output, line.len())?;
         self.lines.extend_from_slice(line)?;

@@ -1,2 +1,4 @@
+pub mod Account
+pub mod Lines
 pub mod Turns
 pub mod Written

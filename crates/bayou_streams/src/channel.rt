@@ -47,6 +47,14 @@ impl<R, W> Channel<R, W> {
             write_failed: false,
         }
     }
+
+    // All turns are left again: for an [`Output`](crate::Output) alone, whose lines bring them.
+    pub(crate) fn begin(&mut self)
+        ensures left { self.new.turns_left ≡ MAX_TURNS }
+        ensures others { (self.new.reader ≡ self.old.reader) × (self.new.writer ≡ self.old.writer) × (self.new.read_failed ≡ self.old.read_failed) × (self.new.write_failed ≡ self.old.write_failed) }
+    {
+        self.turns_left = MAX_TURNS;
+    }
 }
 
 impl<R: Read, W> Channel<R, W> {
@@ -101,7 +109,7 @@ impl<R: Read, W> Channel<R, W> {
 
 impl<R, W: Write> Channel<R, W> {
     // One turn of the writer, where one is left. A writer that takes nothing has failed.
-    fn write_turn(&mut self, text: &[u8]) -> Option<io::Result<usize>>
+    pub(crate) fn write_turn(&mut self, text: &[u8]) -> Option<io::Result<usize>>
         ensures bytes { IfSome result (λ answer. WriteAppends (W.contents self.old.writer) (W.contents self.new.writer) answer text.now) }
         ensures bound { IfSome result (λ answer. WritesAtMost answer text.now) }
         ensures spent { IfSome result (λ answer. self.new.turns_left + 1 ≡ self.old.turns_left) }

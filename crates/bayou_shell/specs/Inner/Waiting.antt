@@ -1,9 +1,8 @@
 -- Lines that wait to be written.
 use Rattle.std.specs.Prelude.{◌≡◌, ℕ, List, ◌++◌, Option}
-use Rattle.bayou_shell.specs.declared.turns.Output.{Output}
+use Rattle.bayou_streams.specs.declared.output.Output.{Output}
 use Rattle.bayou_shell.specs.declared.waiting.Waiting.{Waiting}
-use Rattle.bayou_shell.specs.Account.{Account, account}
-use Rattle.bayou_shell.specs.Inner.Taken.{Takes}
+use Rattle.bayou_streams.specs.Account.{Account, Takes, account}
 
 -- an output, and what waits to be written to it
 pub record Stage : Type 0 where

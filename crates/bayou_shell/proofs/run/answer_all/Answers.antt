@@ -1,19 +1,18 @@
 use Rattle.std.proofs.Common.{List, [], ℕ}
 use Rattle.std.proofs.lemmas.Result.{IfErr-weaker}
 use Rattle.bayou_script.specs.Plan.{plan_of}
-use Rattle.bayou_shell.specs.Account.{account}
+use Rattle.bayou_streams.specs.Account.{Takes, account}
 use Rattle.bayou_shell.specs.Inner.Faults.{IsRunFault}
-use Rattle.bayou_shell.specs.Inner.Taken.{Takes}
 use Rattle.bayou_shell.specs.Inner.Waiting.{stage}
 use Rattle.bayou_shell.specs.Run.{PrintsPart}
 use Rattle.bayou_shell.proofs.Runs.{PrintsPart-whole, all_written, part_taken, part_written}
-use Rattle.bayou_shell.proofs.Taken.{on_ok}
+use Rattle.std.proofs.lemmas.Result.{on_ok_weaker}
 use Rattle.bayou_shell.proofs.run.answer_all.Goals as goal
 
 pub returns-in-Ok-clause-ok : goal.returns-in-Ok-clause-ok
 returns-in-Ok-clause-ok g c =
     let now = stage g.W.Write.contents in
-    on_ok c.write.result
+    on_ok_weaker c.write.result
     (λ took. all_written (plan_of c.args.script) (now c.args.output.now c.args.waiting) (now c.answer_each.new.output c.answer_each.new.waiting) (account g.W.Write.contents c.write.new.output)
     c.requires.none c.in-Ok.ensures.ok took) c.write.ensures.whole
 

@@ -9,7 +9,7 @@ abbrev pub invariant-loop-command : goal.invariant-loop-command
 invariant-loop-command g l = record {
   so_far : SoFar (plan_of l.fn.script) l.store l.commands.items (stage g.W.Write.contents l.initial.output l.initial.waiting)
       (stage g.W.Write.contents l.output l.waiting);
-  ready : l.initial.output.turns_left ≤ l.output.turns_left;
+  ready : l.initial.output.channel.turns_left ≤ l.output.channel.turns_left;
 }
 
 abbrev pub decreases-loop-command : goal.decreases-loop-command

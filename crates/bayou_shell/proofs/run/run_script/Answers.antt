@@ -6,4 +6,4 @@ pub returns-in_err-script-clause-runs : goal.returns-in_err-script-clause-runs
 returns-in_err-script-clause-runs g c =
     let p = err_from_is_err_and c.from_residual.result c.from_residual.ensures.1 in
     rw (p.1, p.2)
-    (RunsAs-unread (g.R.Read.remaining c.args.input.now.stream) (g.W.Write.contents c.args.output.now.stream) c.in_err-script.field-0.0 c.in_err-script.ensures.fault)
+    (RunsAs-unread (g.R.Read.remaining c.args.input.now.reader) (g.W.Write.contents c.args.output.now.channel.writer) c.in_err-script.field-0.0 c.in_err-script.ensures.fault)

@@ -3,7 +3,7 @@ use Rattle.std.specs.Prelude.{flat_map}
 use Rattle.bayou_shell.specs.Inner.Waiting.{Gathers, stage}
 use Rattle.bayou_shell.specs.Printed.{answer_text, last_text, listed_text, log_text}
 use Rattle.bayou_shell.proofs.Gathered.{Gathers-less, Gathers-trans}
-use Rattle.bayou_shell.proofs.Taken.{on_ok}
+use Rattle.std.proofs.lemmas.Result.{on_ok_weaker}
 use Rattle.bayou_shell.proofs.telling.write_answer.Goals as goal
 
 pub returns-in_ok-write_listing-in-Logged-clause-whole :
@@ -15,7 +15,7 @@ returns-in_ok-write_listing-in-Logged-clause-whole g c =
     let split : answer_text c.args.servers c.args.answer.now ≡ lines ++ last =
     ap (λ answer. log_text answer ++ last) c.in-Logged.is
     ∙ ap (λ items. flat_map (listed_text c.in-Logged.server.index) items ++ last) (sym c.as_slice.ensures.value) in
-    on_ok c.write_last.result
+    on_ok_weaker c.write_last.result
     (λ some. subst (λ text. Gathers (now c.args.output.now c.args.waiting.now) (now c.write_last.new.output c.write_last.new.waiting) text []) (sym split)
     (Gathers-trans _ _ _ _ _ [] c.in_ok-write_listing-in-Logged.ensures.whole some))
     c.write_last.ensures.whole

@@ -9,4 +9,4 @@ abbrev pub invariant-loop-listed : goal.invariant-loop-listed
 invariant-loop-listed g l =
     (front : List ℕ) × (flat_map (listed_text l.server.index) l.listing ≡ front ++ flat_map (listed_text l.server.index) (drop l.listed-index l.listing))
     × Gathers (stage g.W.Write.contents l.initial.output l.initial.waiting) (stage g.W.Write.contents l.output l.waiting) front []
-    × (l.initial.output.turns_left ≤ l.output.turns_left)
+    × (l.initial.output.channel.turns_left ≤ l.output.channel.turns_left)

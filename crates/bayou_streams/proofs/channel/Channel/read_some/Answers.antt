@@ -1,22 +1,15 @@
-use Rattle.std.proofs.Common.{rules, tests, ◌≡◌, ◌≢◌, ◌⊎◌, inl, inr, true, Bool, Result, ℕ, ◌∙◌, subst, arith}
+use Rattle.std.proofs.Common.{rules, tests, ◌≢◌, ◌∙◌, subst, arith}
 use Rattle.std.proofs.KnownBytes.{Keeps-trans}
 use Rattle.std.specs.Io.KnownBytes.{ReadConsumes}
 use Rattle.std.specs.declared.io.ErrorKind.{ErrorKind}
 use Rattle.std.specs.IoError.{error_kind}
 use Rattle.bayou_streams.specs.Turns.{FailsToRead}
+use Rattle.bayou_streams.proofs.Turned.{only_before}
 use Rattle.bayou_streams.proofs.channel.Channel.read_some.Goals as goal
-
--- a call that gave something didn't fail
-only_before : {E : Type 0} (IsFailure : E → Type 0) (answer : Result ℕ E) (before after : Bool) → (FailsToRead IsFailure answer → ⊥)
-    → (after ≡ true → (before ≡ true) ⊎ FailsToRead IsFailure answer) → after ≡ true → before ≡ true
-only_before IsFailure answer before after none honest failed = elim (honest failed) [
-  | inl was ↦ was
-  | inr fails ↦ absurd (none fails)
-]
 
 pub returns-in-Ok-clause-clean : goal.returns-in-Ok-clause-clean
 returns-in-Ok-clause-clean g c failed =
-    c.loop-answer.invariant.clean (only_before _ c.in-Some.answer _ _ (λ fails. subst (FailsToRead _) c.in-Ok.is fails) c.in-Some.ensures.honest failed)
+    c.loop-answer.invariant.clean (only_before _ _ _ (λ fails. subst (FailsToRead _) c.in-Ok.is fails) c.in-Some.ensures.honest failed)
 
 pub loop-answer-preserved : goal.loop-answer-preserved
 loop-answer-preserved g c =
@@ -29,6 +22,6 @@ loop-answer-preserved g c =
     record {
       kept = Keeps-trans _ _ _ c.loop-answer.invariant.kept kept;
       fewer = omega (arith, c.loop-answer.invariant.fewer, turn.spent);
-      clean = λ failed. c.loop-answer.invariant.clean (only_before _ c.in-Some.answer _ _ calm turn.honest failed);
+      clean = λ failed. c.loop-answer.invariant.clean (only_before _ _ _ calm turn.honest failed);
       other = (turn.other.0 ∙ c.loop-answer.invariant.other.0, turn.other.1 ∙ c.loop-answer.invariant.other.1);
     }

@@ -2,16 +2,15 @@
 use Rattle.std.proofs.Common.{◌≡◌, ◌≤◌, ◌+◌, ◌*◌, ℕ, List, [], true, ◌++◌, length}
 use Rattle.std.specs.Io.{IsEmptyOrEndsWith}
 use Rattle.bayou_base.specs.declared.limits.TheConstants.{MAX_TURNS}
-use Rattle.bayou_shell.specs.Inner.Taken.{Takes}
-use Rattle.bayou_shell.specs.Account.{account}
-use Rattle.bayou_shell.proofs.writing.write_text.Given as goal
+use Rattle.bayou_streams.specs.Account.{Takes, account}
+use Rattle.bayou_streams.proofs.output.Output.write_lines.Given as goal
 
 abbrev pub invariant-loop-rest : goal.invariant-loop-rest
 invariant-loop-rest g l =
     (front : List ℕ) × (l.initial.rest ≡ front ++ l.rest)
-    × Takes (account g.W.Write.contents l.initial.output) (account g.W.Write.contents l.output) front
-    × (l.output.has_failed ≡ true → l.initial.output.has_failed ≡ true)
-    × (l.rest ≡ [] → IsEmptyOrEndsWith l.initial.rest 10 → l.initial.output.turns_left ≤ l.output.turns_left)
+    × Takes (account g.W.Write.contents l.initial.self) (account g.W.Write.contents l.self) front
+    × (l.self.channel.write_failed ≡ true → l.initial.self.channel.write_failed ≡ true)
+    × (l.rest ≡ [] → IsEmptyOrEndsWith l.initial.rest 10 → l.initial.self.channel.turns_left ≤ l.self.channel.turns_left)
 
 abbrev pub decreases-loop-rest : goal.decreases-loop-rest
-decreases-loop-rest g l = length l.rest * (MAX_TURNS + 1) + l.output.turns_left
+decreases-loop-rest g l = length l.rest * (MAX_TURNS + 1) + l.self.channel.turns_left

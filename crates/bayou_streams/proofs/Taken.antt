@@ -1,14 +1,13 @@
 -- What an output took, one text behind another.
-use Rattle.std.proofs.Common.{◌≡◌, ℕ, zero, suc, ◌+◌, ◌-◌, ◌*◌, ◌^◌, ◌<◌, ◌≤◌, min, List, [], ◌∷◌, ◌++◌, ◌∙◌, Option, None, Some, Result, Ok, Err, OnOk, refl, ap, sym, subst, length, get_or, take, drop, cond, ◌==◌, length-append, take-append-drop, arith, zero-add, add-zero}
+use Rattle.std.proofs.Common.{◌≡◌, ℕ, zero, suc, ◌+◌, ◌-◌, ◌*◌, ◌^◌, ◌<◌, ◌≤◌, min, List, [], ◌∷◌, ◌++◌, ◌∙◌, Option, None, Some, Result, Ok, Err, refl, ap, sym, subst, length, get_or, take, drop, cond, ◌==◌, length-append, take-append-drop, arith, zero-add, add-zero}
 use Rattle.std.proofs.KnownBytes.{Appends-nil, Appends-trans}
 use Rattle.std.proofs.lemmas.List.{append-nil, drop_more, get_or-append-add}
 use Rattle.std.proofs.lemmas.List.Sums.{sum_by-append, sum_by-cons}
 use Rattle.std.specs.Io.{IsEmptyOrEndsWith}
 use Rattle.std.specs.Io.KnownBytes.{Appends, Keeps, WriteAppends}
 use Rattle.bayou_base.specs.declared.limits.TheConstants.{MAX_TURNS}
-use Rattle.bayou_shell.specs.Inner.Taken.{Takes}
-use Rattle.bayou_shell.specs.Account.{Account, Pays}
-use Rattle.bayou_shell.specs.Turns.{counted, line_feeds, taken_of, turns_behind}
+use Rattle.bayou_streams.specs.Account.{Account, Pays, Takes}
+use Rattle.bayou_streams.specs.Lines.{counted, line_feeds, taken_of, turns_behind}
 
 counted_is : (count more : ℕ) → 0 < more → counted count more ≡ min (count + more) (2 ^ 64 - 1)
 counted_is count zero some = absurd (omega arith)
@@ -102,7 +101,3 @@ turns_again all front rest count left now split some none ends is =
     let whole : take count rest ≡ rest = sym (append-nil (take count rest)) ∙ ap (λ l. take count rest ++ l) (sym none) ∙ take-append-drop count rest in
     let last : IsEmptyOrEndsWith rest 10 = last_of front rest some (subst (λ l. IsEmptyOrEndsWith l 10) split ends) in
     is ∙ ap (λ l. turns_behind (line_feeds l) left) whole ∙ all_again (line_feeds rest) left (has_feed rest some last)
-
-pub on_ok : {T E P Q : Type 0} (result : Result T E) → (P → Q) → OnOk result P → OnOk result Q
-on_ok (Ok value) then holds = then holds
-on_ok (Err error) then holds = holds
