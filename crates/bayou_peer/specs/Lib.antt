@@ -1,3 +1,4 @@
+pub mod Lent
 pub mod Offers
 pub mod Pulls
 pub mod Spelled
