@@ -1,16 +1,24 @@
-ghost use Rattle.std.specs.Prelude.{◌≡◌, ◌≤◌, ℕ, List, IfErr, IfSome, OnOk};
+ghost use Rattle.std.specs.Prelude.{◌≡◌, ◌≢◌, ◌+◌, ◌<◌, ◌≤◌, ◌^◌, ◌++◌, true, ℕ, List, IfErr, IfOk, IfSome, OnOk, length};
+ghost use Rattle.std.specs.List.{AllByRecursion};
 ghost use Rattle.std.specs.Io.KnownBytes.{Appends, Consumes, IsAtEnd};
+ghost use Rattle.bayou_lang.specs.Ranges.{IsWrite};
 ghost use Rattle.bayou_lang.specs.Writes.{count_of};
-ghost use Rattle.bayou_peer.specs.Pulls.{PullEnds};
+ghost use Rattle.bayou_peer.specs.declared.fault.Fault.TheVariants.{BadFrame};
+ghost use Rattle.bayou_peer.specs.declared.fault.PullFault.TheVariants.{Stream};
+ghost use Rattle.bayou_peer.specs.Pulls.{PullEnds, Received};
+ghost use Rattle.bayou_peer.specs.Steps.{Goes, IsTakeFault};
 ghost use Rattle.bayou_peer.specs.Stopping.{StopsPull};
 ghost use Rattle.bayou_streams.specs.Written.{AppendsFront};
-ghost use Rattle.bayou_wire.specs.declared.frame.Frame.TheVariants.{Offer};
-ghost use Rattle.bayou_wire.specs.Stream.{spelling};
+ghost use Rattle.bayou_wire.specs.declared.frame.Frame.TheVariants.{Item, Offer};
+ghost use Rattle.bayou_wire.specs.Spelling.{IsFrame};
+ghost use Rattle.bayou_wire.specs.Stream.{spelling, spellings};
 
-use crate::fault::PullFault;
+use crate::fault::{Fault, PullFault};
 use crate::replica::Replica;
 use bayou_base::Vector;
+use bayou_server::Took;
 use bayou_streams::Channel;
+use bayou_wire::Frame;
 use std::alloc::Global;
 use std::io::{Read, Write};
 
@@ -21,6 +29,90 @@ pub struct Pulled {
     pub taken: u32,
     /// How many came that were held already.
     pub had: u32,
+}
+
+// Takes the Write of an Item, and counts it. No End comes by it.
+fn take_item<P: Replica>(
+    alloc: Global,
+    replica: &mut P,
+    write: &bayou_lang::Write,
+    pulled: &mut Pulled,
+) -> Result<bool, PullFault>
+    requires few { pulled.old.taken + pulled.old.had + 1 < 2 ^ 32 }
+    ensures goes { (start : P) (read behind : List ℕ) → IsWrite write.now
+        → Received (record { list = P.list; takes = P.takes }) start replica.old read (spelling (Item write.now) ++ behind) pulled.old.taken pulled.old.had
+        → Goes (record { list = P.list; takes = P.takes }) start replica.new read behind pulled.new result }
+    ensures fault { IfErr result IsTakeFault }
+    ensures counted { pulled.new.taken + pulled.new.had ≤ pulled.old.taken + pulled.old.had + 1 }
+{
+    let Ok(resting) = write.rest(alloc) else {
+        return Err(PullFault::Stream(Fault::OutOfMemory));
+    };
+    match replica.take(alloc, resting) {
+        Ok(Took::New) => {
+            pulled.taken += 1;
+            Ok(false)
+        }
+        Ok(Took::Had) => {
+            pulled.had += 1;
+            Ok(false)
+        }
+        Err(fault) => Err(PullFault::Refused(fault)),
+    }
+}
+
+// The End ends the pull where it tells the number of the Items.
+fn take_end(count: u32, pulled: &Pulled) -> Result<bool, PullFault>
+    requires few { pulled.now.taken + pulled.now.had < 2 ^ 32 }
+    ensures at { IfOk result (λ ended. (ended ≡ true) × (count ≡ pulled.now.taken + pulled.now.had)) }
+    ensures bad { IfErr result (λ fault. (fault ≡ Stream BadFrame) × (count ≢ pulled.now.taken + pulled.now.had)) }
+{
+    if count != pulled.taken + pulled.had {
+        return Err(PullFault::Stream(Fault::BadFrame));
+    }
+    Ok(true)
+}
+
+// Takes a frame: an Item is taken, and an End of their number ends the pull. No other frame has a place there.
+fn take_frame<P: Replica>(
+    alloc: Global,
+    replica: &mut P,
+    frame: &Frame,
+    pulled: &mut Pulled,
+) -> Result<bool, PullFault>
+    requires few { pulled.old.taken + pulled.old.had + 1 < 2 ^ 32 }
+    ensures goes { (start : P) (read behind : List ℕ) → IsFrame frame.now
+        → Received (record { list = P.list; takes = P.takes }) start replica.old read (spelling frame.now ++ behind) pulled.old.taken pulled.old.had
+        → Goes (record { list = P.list; takes = P.takes }) start replica.new read behind pulled.new result }
+    ensures fault { IfErr result IsTakeFault }
+    ensures counted { pulled.new.taken + pulled.new.had ≤ pulled.old.taken + pulled.old.had + 1 }
+{
+    match frame {
+        Frame::Item(write) => take_item(alloc, replica, write, pulled),
+        Frame::End(count) => take_end(*count, pulled),
+        _ => Err(PullFault::Stream(Fault::BadFrame)),
+    }
+}
+
+// Takes the frames that came, up to what ends the pull.
+fn take_came<P: Replica>(
+    alloc: Global,
+    replica: &mut P,
+    frames: &[Frame],
+    pulled: &mut Pulled,
+) -> Result<bool, PullFault>
+    requires few { pulled.old.taken + pulled.old.had + length frames.now < 2 ^ 32 }
+    ensures goes { (start : P) (read behind : List ℕ) → AllByRecursion IsFrame frames.now
+        → Received (record { list = P.list; takes = P.takes }) start replica.old read (spellings frames.now ++ behind) pulled.old.taken pulled.old.had
+        → Goes (record { list = P.list; takes = P.takes }) start replica.new read behind pulled.new result }
+    ensures fault { IfErr result IsTakeFault }
+{
+    for frame in frames {
+        if take_frame(alloc, replica, frame, pulled)? {
+            return Ok(true);
+        }
+    }
+    Ok(false)
 }
 
 /// Sends the vector as an Offer, and takes the Writes that come, each as it comes, up to the End.

@@ -1,0 +1,123 @@
+-- What a pull has received so far, and how it grows by an Item.
+use Rattle.std.proofs.Common.{rules, arith, inl, inr, ◌≡◌, ◌≢◌, Bool, true, false, ℕ, ◌+◌, ◌*◌, ◌≤◌, List, [], ◌∷◌, ◌++◌, Option, None, Some, Result, Ok, Err, IfSome, IfOk, IfErr, refl, sym, ap, subst, ◌∙◌, append_assoc, length, suc}
+use Rattle.std.specs.List.{AllByRecursion}
+use Rattle.std.proofs.lemmas.List.{append-nil, length-append}
+use Rattle.bayou_lang.specs.declared.write.Write.{Write}
+use Rattle.bayou_lang.specs.Ranges.{IsWrite}
+use Rattle.bayou_peer.specs.declared.fault.Fault.TheVariants.{BadFrame}
+use Rattle.bayou_peer.specs.declared.fault.PullFault.{PullFault}
+use Rattle.bayou_peer.specs.declared.fault.PullFault.TheVariants.{Stream, Refused}
+use Rattle.bayou_peer.specs.declared.pulling.Pulled.{Pulled}
+use Rattle.bayou_peer.specs.Pulls.{HasNoPlace, PullEnds, Received, Ways}
+use Rattle.bayou_peer.specs.Spelled.{items_of}
+use Rattle.bayou_peer.specs.Steps.{Goes}
+use Rattle.bayou_peer.specs.Taking.{Lists, TakesEach, hads, new_ones, news}
+use Rattle.bayou_server.specs.declared.answer.Took.{Took}
+use Rattle.bayou_server.specs.declared.answer.Took.TheVariants.{New, Had}
+use Rattle.bayou_server.specs.declared.fault.TakeFault.{TakeFault}
+use Rattle.bayou_wire.specs.declared.frame.Frame.{Frame}
+use Rattle.bayou_wire.specs.declared.frame.Frame.TheVariants.{End, Item}
+use Rattle.bayou_wire.specs.Spelling.{IsFrame}
+use Rattle.bayou_wire.specs.Stream.{spelling, spellings}
+
+-- ---- one more at the end
+
+news_push : (tooks : List Took) (took : Took) → news (tooks ++ took ∷ []) ≡ news tooks + news (took ∷ [])
+news_push [] took = omega arith
+news_push (New ∷ tooks) took = omega (arith, news_push tooks took)
+news_push (Had ∷ tooks) took = news_push tooks took
+
+hads_push : (tooks : List Took) (took : Took) → hads (tooks ++ took ∷ []) ≡ hads tooks + hads (took ∷ [])
+hads_push [] took = omega arith
+hads_push (New ∷ tooks) took = hads_push tooks took
+hads_push (Had ∷ tooks) took = omega (arith, hads_push tooks took)
+
+one_took : (took : Took) → news (took ∷ []) + hads (took ∷ []) ≡ 1
+one_took New = refl
+one_took Had = refl
+
+all_push : (writes : List Write) (write : Write) → AllByRecursion IsWrite writes → IsWrite write → AllByRecursion IsWrite (writes ++ write ∷ [])
+all_push [] write all is = (is, tt)
+all_push (w ∷ writes) write all is = (all.0, all_push writes write all.1 is)
+
+items_push : (writes : List Write) (write : Write) (behind : List ℕ) → spellings (items_of writes) ++ (spelling (Item write) ++ behind) ≡ spellings (items_of (writes ++ write ∷ [])) ++ behind
+items_push [] write behind = ap (λ s. s ++ behind) (sym (append-nil (spelling (Item write))))
+items_push (w ∷ writes) write behind =
+    append_assoc (spelling (Item w)) (spellings (items_of writes)) (spelling (Item write) ++ behind)
+    ∙ ap (λ s. spelling (Item w) ++ s) (items_push writes write behind)
+    ∙ sym (append_assoc (spelling (Item w)) (spellings (items_of (writes ++ write ∷ []))) behind)
+
+module _ {S : Type 0} (takes : S → Write → Result Took TakeFault → S → Type 0) where
+  takes_push : (start mid new : S) (writes : List Write) (tooks : List Took) (write : Write) (took : Took) → TakesEach takes start writes tooks mid → takes mid write (Ok took) new
+      → TakesEach takes start (writes ++ write ∷ []) (tooks ++ took ∷ []) new
+  takes_push start mid new [] [] write took same last = (new, subst (λ (s : S). takes s write (Ok took) new) same last, refl)
+  takes_push start mid new [] (t ∷ tooks) write took none last = absurd none
+  takes_push start mid new (w ∷ writes) [] write took none last = absurd none
+  takes_push start mid new (w ∷ writes) (t ∷ tooks) write took each last = (each.0, each.1, takes_push each.0 mid new writes tooks write took each.2 last)
+
+  ones_push : (start mid : S) (writes : List Write) (tooks : List Took) (write : Write) (took : Took) → TakesEach takes start writes tooks mid
+      → new_ones (writes ++ write ∷ []) (tooks ++ took ∷ []) ≡ new_ones writes tooks ++ new_ones (write ∷ []) (took ∷ [])
+  ones_push start mid [] [] write took same = refl
+  ones_push start mid [] (t ∷ tooks) write took none = absurd none
+  ones_push start mid (w ∷ writes) [] write took none = absurd none
+  ones_push start mid (w ∷ writes) (New ∷ tooks) write took each = ap (λ ws. w ∷ ws) (ones_push each.0 mid writes tooks write took each.2)
+  ones_push start mid (w ∷ writes) (Had ∷ tooks) write took each = ones_push each.0 mid writes tooks write took each.2
+
+lists_known : (held : List Write) (write : Write) (took : Took) (new : Option (List Write)) → Lists (Some held) write (Ok took) new → new ≡ Some (held ++ new_ones (write ∷ []) (took ∷ []))
+lists_known held write took None l = absurd l
+lists_known held write New (Some after) l = ap Some l.1
+lists_known held write Had (Some after) l = ap Some (l.1 ∙ sym (append-nil held))
+
+lists_push : (start mid new : Option (List Write)) (ones : List Write) (write : Write) (took : Took) → IfSome start (λ held. mid ≡ Some (held ++ ones)) → Lists mid write (Ok took) new
+    → IfSome start (λ held. new ≡ Some (held ++ (ones ++ new_ones (write ∷ []) (took ∷ []))))
+lists_push None mid new ones write took h l = tt
+lists_push (Some held) mid new ones write took h l =
+    let known = lists_known (held ++ ones) write took new (subst (λ (o : Option (List Write)). Lists o write (Ok took) new) h l) in
+    known ∙ ap Some (append_assoc held ones (new_ones (write ∷ []) (took ∷ [])))
+
+lists_same : (mid new : Option (List Write)) (write : Write) (fault : TakeFault) → Lists mid write (Err fault) new → IfSome mid (λ held. new ≡ Some held)
+lists_same None new write fault l = tt
+lists_same (Some held) None write fault l = absurd l
+lists_same (Some held) (Some after) write fault l = ap Some l
+
+-- ---- an Item
+
+-- The Item that stands next was taken.
+pub received_took : {S : Type 0} (ways : Ways S) (start mid new : S) (read behind : List ℕ) (write given : Write) (took : Took) (taken had t h : ℕ) → given ≡ write → IsWrite write
+    → ways.takes mid given (Ok took) new → Lists (ways.list mid) given (Ok took) (ways.list new) → t ≡ taken + news (took ∷ []) → h ≡ had + hads (took ∷ [])
+    → Received ways start mid read (spelling (Item write) ++ behind) taken had → Received ways start new read behind t h
+received_took {S} ways start mid new read behind write given took taken had t h same is takes lists more_taken more_had r =
+    let last = subst (λ (w : Write). ways.takes mid w (Ok took) new) same takes in
+    let listed = subst (λ (w : Write). Lists (ways.list mid) w (Ok took) (ways.list new)) same lists in
+    record {
+      writes = r.writes ++ write ∷ [];
+      tooks = r.tooks ++ took ∷ [];
+      whole = r.whole ∙ items_push r.writes write behind;
+      each = all_push r.writes write r.each is;
+      took = takes_push ways.takes start mid new r.writes r.tooks write took r.took last;
+      holds = rw (ones_push ways.takes start mid r.writes r.tooks write took r.took)
+          (lists_push (ways.list start) (ways.list mid) (ways.list new) (new_ones r.writes r.tooks) write took r.holds listed);
+      new = more_taken ∙ ap (λ n. n + news (took ∷ [])) r.new ∙ sym (news_push r.tooks took);
+      held = more_had ∙ ap (λ n. n + hads (took ∷ [])) r.held ∙ sym (hads_push r.tooks took);
+      number = omega (arith, more_taken, more_had, r.number, one_took took, length-append r.writes (write ∷ []));
+    }
+
+-- The Item that stands next was refused.
+pub received_refused : {S : Type 0} (ways : Ways S) (start mid new : S) (read behind : List ℕ) (write given : Write) (fault : TakeFault) (taken had : ℕ) → given ≡ write → IsWrite write
+    → ways.takes mid given (Err fault) new → Lists (ways.list mid) given (Err fault) (ways.list new)
+    → Received ways start mid read (spelling (Item write) ++ behind) taken had → PullEnds ways start new read ⊥ (Err (Refused fault))
+received_refused {S} ways start mid new read behind write given fault taken had same is takes lists r =
+    (mid, write, behind, taken, had, is, r, subst (λ (w : Write). ways.takes mid w (Err fault) new) same takes, lists_same (ways.list mid) (ways.list new) given fault lists)
+
+-- ---- an End
+
+-- An End stands next: it ends the pull where it tells the number of the Items, and else it has no place there.
+pub received_end : {S : Type 0} (ways : Ways S) (start now : S) (read behind : List ℕ) (frame : Frame) (count : ℕ) (pulled : Pulled) (result : Result Bool PullFault) → frame ≡ End count → IsFrame frame
+    → IfOk result (λ ended. (ended ≡ true) × (count ≡ pulled.taken + pulled.had)) → IfErr result (λ fault. (fault ≡ Stream BadFrame) × (count ≢ pulled.taken + pulled.had))
+    → Received ways start now read (spelling frame ++ behind) pulled.taken pulled.had → Goes ways start now read behind pulled result
+received_end {S} ways start now read behind frame count pulled (Ok ended) same is at bad r =
+    rw at.0 (behind, subst (λ (n : ℕ). Received ways start now read (spelling (End n) ++ behind) pulled.taken pulled.had) at.1
+        (subst (λ (f : Frame). Received ways start now read (spelling f ++ behind) pulled.taken pulled.had) same r))
+received_end {S} ways start now read behind frame count pulled (Err fault) same is at bad r =
+    let place : HasNoPlace (pulled.taken + pulled.had) frame = rw same bad.1 in
+    rw bad.0 (spelling frame ++ behind, pulled.taken, pulled.had, inr (frame, behind, is, refl, place), r)

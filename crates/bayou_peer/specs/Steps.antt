@@ -1,0 +1,37 @@
+-- What the steps of a pull come to. Between the functions of the pull: no public clause cites it.
+use Rattle.std.specs.Prelude.{◌≡◌, ℕ, Bool, true, false, List, Option, Some, Result, Ok, Err}
+use Rattle.bayou_peer.specs.declared.fault.Fault.TheVariants as faults
+use Rattle.bayou_peer.specs.declared.fault.PullFault.{PullFault}
+use Rattle.bayou_peer.specs.declared.fault.PullFault.TheVariants.{Stream, Refused}
+use Rattle.bayou_peer.specs.declared.pulling.Pulled.{Pulled}
+use Rattle.bayou_peer.specs.Pulls.{PullEnds, Received, Ways}
+use Rattle.bayou_wire.specs.Stream.{IsPartial}
+
+-- what may end a pull at what came
+abbrev pub IsTakeFault : PullFault → Type 0
+IsTakeFault (Stream faults.Read) = ⊥
+IsTakeFault (Stream faults.Write) = ⊥
+IsTakeFault (Stream faults.Cut) = ⊥
+IsTakeFault (Stream faults.BadFrame) = Unit {0}
+IsTakeFault (Stream faults.TooManyTurns) = ⊥
+IsTakeFault (Stream faults.OutOfMemory) = Unit {0}
+IsTakeFault (Refused refusal) = Unit {0}
+
+-- After a step of a pull that has read these bytes: the pull goes on with this rest, or it came to its End, or it ends in a fault.
+abbrev pub Goes : {S : Type 0} → Ways S → (start now : S) → (read rest : List ℕ) → Pulled → Result Bool PullFault → Type 0
+Goes ways start now read rest pulled (Ok false) = Received ways start now read rest pulled.taken pulled.had
+Goes ways start now read rest pulled (Ok true) = PullEnds ways start now read ⊥ (Ok pulled)
+Goes ways start now read rest pulled (Err fault) = PullEnds ways start now read ⊥ (Err fault)
+
+-- between two pieces: what is held back is less than a frame, and each whole Item before it was taken
+pub record Standing {S : Type 0} (ways : Ways S) (start now : S) (read : List ℕ) (frames : Option (List ℕ)) (pulled : Pulled) : Type 0 where
+  pub held : List ℕ
+  pub partial : IsPartial held
+  pub waits : frames ≡ Some held
+  pub received : Received ways start now read held pulled.taken pulled.had
+
+-- after a piece
+abbrev pub GoesOn : {S : Type 0} → Ways S → (start now : S) → (read : List ℕ) → Option (List ℕ) → Pulled → Result Bool PullFault → Type 0
+GoesOn ways start now read frames pulled (Ok false) = Standing ways start now read frames pulled
+GoesOn ways start now read frames pulled (Ok true) = PullEnds ways start now read ⊥ (Ok pulled)
+GoesOn ways start now read frames pulled (Err fault) = PullEnds ways start now read ⊥ (Err fault)
