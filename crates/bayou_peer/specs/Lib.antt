@@ -1,4 +1,5 @@
 pub mod Framing
+pub mod Lent
 pub mod Meeting
 pub mod Offers
 pub mod Pulls

@@ -1,0 +1,36 @@
+//! A server that is lent to an engine.
+ghost use Rattle.bayou_peer.specs.Lent.{TakesAt};
+
+use crate::replica::Replica;
+use bayou_base::Vector;
+use bayou_device::Device;
+use bayou_lang::RestingWrite;
+use bayou_server::{Server, TakeFault, Took};
+use std::alloc::{AllocError, Global};
+
+impl<D: Device> Replica for Server<D> {
+    ghost use Rattle.std.specs.Prelude.{Some};
+
+    ghost list = { λ server. Some server.core.held };
+
+    ghost takes = { TakesAt D.Device };
+
+    fn offer(&mut self) -> Vector {
+        self.vector()
+    }
+
+    fn lacking(
+        &mut self,
+        alloc: Global,
+        counts: &Vector,
+        most: usize,
+    ) -> Result<Vec<RestingWrite>, AllocError> {
+        // The vector has a count for each server.
+        let _each = counts.counts();
+        Server::lacking(self, alloc, counts, most)
+    }
+
+    fn take(&mut self, alloc: Global, write: RestingWrite) -> Result<Took, TakeFault> {
+        Server::take(self, alloc, write)
+    }
+}
