@@ -1,5 +1,5 @@
 -- What a pull has received so far, and how it grows by an Item.
-use Rattle.std.proofs.Common.{rules, arith, inl, inr, ◌≡◌, ◌≢◌, Bool, true, false, ℕ, ◌+◌, ◌*◌, ◌≤◌, List, [], ◌∷◌, ◌++◌, Option, None, Some, Result, Ok, Err, IfSome, IfOk, IfErr, refl, sym, ap, subst, ◌∙◌, append_assoc, length, suc}
+use Rattle.std.proofs.Common.{arith, inr, ◌≡◌, ◌≢◌, Bool, true, ℕ, ◌+◌, List, [], ◌∷◌, ◌++◌, Option, None, Some, Result, Ok, Err, IfSome, IfOk, IfErr, refl, sym, ap, subst, ◌∙◌, append_assoc}
 use Rattle.std.specs.List.{AllByRecursion}
 use Rattle.std.proofs.lemmas.List.{append-nil, length-append}
 use Rattle.bayou_lang.specs.declared.write.Write.{Write}
@@ -121,3 +121,7 @@ received_end {S} ways start now read behind frame count pulled (Ok ended) same i
 received_end {S} ways start now read behind frame count pulled (Err fault) same is at bad r =
     let place : HasNoPlace (pulled.taken + pulled.had) frame = rw same bad.1 in
     rw bad.0 (spelling frame ++ behind, pulled.taken, pulled.had, inr (frame, behind, is, refl, place), r)
+
+-- the rest in another way
+pub received_rest : {S : Type 0} (ways : Ways S) (start now : S) (read rest left : List ℕ) (taken had : ℕ) → rest ≡ left → Received ways start now read rest taken had → Received ways start now read left taken had
+received_rest {S} ways start now read rest left taken had same r = subst (λ (s : List ℕ). Received ways start now read s taken had) same r
