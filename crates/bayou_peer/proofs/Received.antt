@@ -1,7 +1,7 @@
 -- What a pull has received so far, and how it grows by an Item.
-use Rattle.std.proofs.Common.{rules, arith, inl, inr, ◌≡◌, ◌≢◌, Bool, true, false, ℕ, ◌+◌, ◌*◌, ◌≤◌, List, [], ◌∷◌, ◌++◌, Option, None, Some, Result, Ok, Err, IfSome, IfOk, IfErr, refl, sym, ap, subst, ◌∙◌, append_assoc, length, suc}
+use Rattle.std.proofs.Common.{arith, inr, ◌≡◌, ◌≢◌, Bool, true, ℕ, ◌+◌, ◌*◌, ◌≤◌, length, List, [], ◌∷◌, ◌++◌, Option, None, Some, Result, Ok, Err, IfSome, IfOk, IfErr, refl, sym, ap, subst, ◌∙◌, append_assoc}
 use Rattle.std.specs.List.{AllByRecursion}
-use Rattle.std.proofs.lemmas.List.{append-nil, length-append}
+use Rattle.std.proofs.lemmas.List.{append-nil, length-append, length-map}
 use Rattle.bayou_lang.specs.declared.write.Write.{Write}
 use Rattle.bayou_lang.specs.Ranges.{IsWrite}
 use Rattle.bayou_peer.specs.declared.fault.Fault.TheVariants.{BadFrame}
@@ -124,3 +124,43 @@ received_end {S} ways start now read behind frame count pulled (Ok ended) same i
 received_end {S} ways start now read behind frame count pulled (Err fault) same is at bad r =
     let place : HasNoPlace (pulled.taken + pulled.had) frame = rw same bad.1 in
     rw bad.0 (spelling frame ++ behind, pulled.taken, pulled.had, inr (frame, behind, is, refl, place), r)
+
+-- the rest in another way
+pub received_rest : {S : Type 0} (ways : Ways S) (start now : S) (read rest left : List ℕ) (taken had : ℕ) → rest ≡ left → Received ways start now read rest taken had → Received ways start now read left taken had
+received_rest {S} ways start now read rest left taken had same r = subst (λ (s : List ℕ). Received ways start now read s taken had) same r
+
+-- a piece more was read, and it stands behind what stood there
+pub received_more : {S : Type 0} (ways : Ways S) (start now : S) (read held piece : List ℕ) (taken had : ℕ) → Received ways start now read held taken had
+    → Received ways start now (read ++ piece) (held ++ piece) taken had
+received_more {S} ways start now read held piece taken had r = record {
+  writes = r.writes;
+  tooks = r.tooks;
+  whole = ap (λ s. s ++ piece) r.whole ∙ append_assoc (spellings (items_of r.writes)) held piece;
+  each = r.each;
+  took = r.took;
+  holds = r.holds;
+  new = r.new;
+  held = r.held;
+  number = r.number;
+}
+
+-- ---- how many
+
+frame_size : (frame : Frame) → 3 ≤ length (spelling frame)
+unfolding spelling
+frame_size frame = omega arith
+
+frames_size : (frames : List Frame) → 3 * length frames ≤ length (spellings frames)
+frames_size [] = omega arith
+frames_size (frame ∷ frames) = omega (arith, frame_size frame, frames_size frames, length-append (spelling frame) (spellings frames))
+
+-- so many bytes have no more frames than a third
+pub few_frames : (held piece rest : List ℕ) (frames : List Frame) (taken had limit : ℕ) → held ++ piece ≡ spellings frames ++ rest → 3 * (taken + had) + (length held + length piece) ≤ limit
+    → 3 * (taken + had + length frames) ≤ limit
+few_frames held piece rest frames taken had limit whole few =
+    omega (arith, few, frames_size frames, ap length whole, length-append held piece, length-append (spellings frames) rest)
+
+-- what was received has no more bytes than were read
+pub few_received : {S : Type 0} (ways : Ways S) (start now : S) (read held : List ℕ) (taken had : ℕ) → Received ways start now read held taken had → 3 * (taken + had) + length held ≤ length read
+few_received {S} ways start now read held taken had r =
+    omega (arith, frames_size (items_of r.writes), ap length r.whole, r.number, length-map r.writes Item, length-append (spellings (items_of r.writes)) held)

@@ -1,24 +1,26 @@
-ghost use Rattle.std.specs.Prelude.{◌≡◌, ◌≢◌, ◌+◌, ◌<◌, ◌≤◌, ◌^◌, ◌++◌, true, ℕ, List, IfErr, IfOk, IfSome, OnOk, length};
+ghost use Rattle.std.specs.Prelude.{◌≡◌, ◌≢◌, ◌+◌, ◌*◌, ◌<◌, ◌≤◌, ◌^◌, ◌++◌, true, ℕ, List, Some, IfErr, IfOk, IfSome, OnOk, length};
 ghost use Rattle.std.specs.List.{AllByRecursion};
 ghost use Rattle.std.specs.Io.KnownBytes.{Appends, Consumes, IsAtEnd};
+ghost use Rattle.bayou_base.specs.declared.limits.TheConstants.{MAX_TURNS, READ_BYTES};
 ghost use Rattle.bayou_lang.specs.Ranges.{IsWrite};
 ghost use Rattle.bayou_lang.specs.Writes.{count_of};
 ghost use Rattle.bayou_peer.specs.declared.fault.Fault.TheVariants.{BadFrame};
 ghost use Rattle.bayou_peer.specs.declared.fault.PullFault.TheVariants.{Stream};
 ghost use Rattle.bayou_peer.specs.Pulls.{PullEnds, Received};
-ghost use Rattle.bayou_peer.specs.Steps.{Goes, IsTakeFault};
+ghost use Rattle.bayou_peer.specs.Steps.{Goes, GoesOn, IsTakeFault};
 ghost use Rattle.bayou_peer.specs.Stopping.{StopsPull};
 ghost use Rattle.bayou_streams.specs.Written.{AppendsFront};
 ghost use Rattle.bayou_wire.specs.declared.frame.Frame.TheVariants.{Item, Offer};
 ghost use Rattle.bayou_wire.specs.Spelling.{IsFrame};
-ghost use Rattle.bayou_wire.specs.Stream.{spelling, spellings};
+ghost use Rattle.bayou_wire.specs.Stream.{IsPartial, spelling, spellings};
 
 use crate::fault::{Fault, PullFault};
+use crate::framing::feed_piece;
 use crate::replica::Replica;
 use bayou_base::Vector;
 use bayou_server::Took;
 use bayou_streams::Channel;
-use bayou_wire::Frame;
+use bayou_wire::{Frame, Frames};
 use std::alloc::Global;
 use std::io::{Read, Write};
 
@@ -111,6 +113,31 @@ fn take_came<P: Replica>(
         if take_frame(alloc, replica, frame, pulled)? {
             return Ok(true);
         }
+    }
+    Ok(false)
+}
+
+// Takes a piece of what comes.
+fn take_piece<P: Replica>(
+    alloc: Global,
+    replica: &mut P,
+    frames: &mut Frames,
+    piece: &[u8],
+    pulled: &mut Pulled,
+) -> Result<bool, PullFault>
+    requires few { (held : List ℕ) × IsPartial held × (frames.old ≡ Some held)
+        × (3 * (pulled.old.taken + pulled.old.had) + (length held + length piece.now) ≤ READ_BYTES * MAX_TURNS) }
+    ensures goes { (start : P) (read held : List ℕ) → IsPartial held → frames.old ≡ Some held
+        → Received (record { list = P.list; takes = P.takes }) start replica.old read held pulled.old.taken pulled.old.had
+        → GoesOn (record { list = P.list; takes = P.takes }) start replica.new (read ++ piece.now) frames.new pulled.new result }
+    ensures fault { IfErr result IsTakeFault }
+{
+    let came = feed_piece(alloc, frames, piece)?;
+    if take_came(alloc, replica, &came.frames, pulled)? {
+        return Ok(true);
+    }
+    if came.is_bad {
+        return Err(PullFault::Stream(Fault::BadFrame));
     }
     Ok(false)
 }
