@@ -1,6 +1,5 @@
 //! What a pull makes of what another server sends it.
-ghost use Rattle.std.specs.Prelude.{◌≡◌, ◌<◌, ◌^◌, ◌++◌, ℕ, List, [], Option, Result, Some, length};
-ghost use Rattle.std.specs.List.{AllByRecursion};
+ghost use Rattle.std.specs.Prelude.{◌≡◌, ◌<◌, ◌^◌, ◌++◌, ℕ, List, [], Option, Result, Some, All, length};
 ghost use Rattle.bayou_lang.specs.declared.write.Write.{Write};
 ghost use Rattle.bayou_lang.specs.Ranges.{IsWrite};
 ghost use Rattle.bayou_peer.specs.Meeting.{Meets, cut_answer};
@@ -14,7 +13,7 @@ use bayou_wire::frame_len;
 
 /// The front of an answer with so many Items, without an End. It is all of the answer where fewer come.
 pub fn cut_after(answer: &[u8], items: u32) -> &[u8]
-    ensures { (sent : List Write) → AllByRecursion IsWrite sent → length sent < 2 ^ 32 → answer.now ≡ answer_bytes sent → result.now ≡ cut_answer (Some items) sent }
+    ensures { (sent : List Write) → All IsWrite sent → length sent < 2 ^ 32 → answer.now ≡ answer_bytes sent → result.now ≡ cut_answer (Some items) sent }
 {
     let mut rest = answer;
     for _ in 0..items {
@@ -29,7 +28,7 @@ pub fn cut_after(answer: &[u8], items: u32) -> &[u8]
 /// How a pull ends, and what it leaves, whose input is what another server answers, cut or not.
 pub fn a_pull_takes_what_is_sent<P: Replica>()
     ensures { (sent : List Write) (cut : Option ℕ) (start now : P) (read after : List ℕ) (result : Result Pulled PullFault)
-        → AllByRecursion IsWrite sent → length sent < 2 ^ 32 → cut_answer cut sent ≡ read ++ after
+        → All IsWrite sent → length sent < 2 ^ 32 → cut_answer cut sent ≡ read ++ after
         → PullEnds (record { list = P.list; takes = P.takes }) start now read (after ≡ []) result
         → Meets (record { list = P.list; takes = P.takes }) sent cut start result now }
 {}

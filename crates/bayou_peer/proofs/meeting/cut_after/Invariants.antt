@@ -1,6 +1,5 @@
 -- so many frames were passed
-use Rattle.std.proofs.Common.{◌≡◌, ◌≤◌, ◌<◌, ◌^◌, List, length}
-use Rattle.std.specs.List.{AllByRecursion}
+use Rattle.std.proofs.Common.{◌≡◌, ◌≤◌, ◌<◌, ◌^◌, List, All, length}
 use Rattle.bayou_lang.specs.declared.write.Write.{Write}
 use Rattle.bayou_lang.specs.Ranges.{IsWrite}
 use Rattle.bayou_peer.specs.Spelled.{answer_bytes}
@@ -9,6 +8,6 @@ use Rattle.bayou_peer.proofs.meeting.cut_after.Given as goal
 
 abbrev pub invariant-loop : goal.invariant-loop
 invariant-loop l = record {
-  passed : (sent : List Write) → AllByRecursion IsWrite sent → length sent < 2 ^ 32 → l.answer ≡ answer_bytes sent → Passed l.counter sent l.rest;
+  passed : (sent : List Write) → All IsWrite sent → length sent < 2 ^ 32 → l.answer ≡ answer_bytes sent → Passed l.counter sent l.rest;
   within : length l.rest ≤ length l.answer;
 }
