@@ -1,15 +1,17 @@
 -- Each text that is printed is empty, or ends with a line feed.
-use Rattle.std.proofs.Common.{◌≡◌, ℕ, ◌-◌, List, [], ◌∷◌, ◌++◌, ◌∙◌, refl, ap, sym, subst, length, get_or, append_assoc, codes, decimal, arith}
+use Rattle.std.proofs.Common.{◌≡◌, ℕ, Ok, Err, ◌-◌, List, [], ◌∷◌, ◌++◌, ◌∙◌, refl, ap, sym, subst, length, get_or, append_assoc, codes, decimal, arith}
 use Rattle.std.proofs.lemmas.List.{length_push, get_or_push}
 use Rattle.std.specs.Io.{IsEmptyOrEndsWith}
 use Rattle.bayou_lang.specs.declared.eval.Outcome.{Outcome}
 use Rattle.bayou_lang.specs.declared.eval.Outcome.TheVariants.{Updated, Merged, Nothing}
 use Rattle.bayou_log.specs.declared.listing.Listed.{Listed}
 use Rattle.bayou_shell.specs.declared.answer.Answer.{Answer}
-use Rattle.bayou_shell.specs.declared.answer.Answer.TheVariants.{Done, Wrote, Read, Refused, NotServed, Lost, Logged, Stopped, Recovered}
+use Rattle.bayou_shell.specs.declared.answer.Answer.TheVariants.{Done, Wrote, Read, Refused, NotServed, Lost, Logged, Stopped, Recovered, Exchanged}
+use Rattle.bayou_shell.specs.declared.answer.Exchange.{Exchange}
+use Rattle.bayou_shell.specs.declared.answer.Exchange.TheVariants.{NotRunning as NothingRuns, Ended}
 use Rattle.bayou_shell.specs.declared.answer.Recovery.{Recovery}
 use Rattle.bayou_shell.specs.declared.answer.Recovery.TheVariants.{Reopened, NotReopened, NotRunning, Restarted, NotRestarted}
-use Rattle.bayou_shell.specs.Printed.{adopted_text, counts_text, last_text, listed_text, outcome_text, recovery_text, refusal_text, reopening_text, starting_text, value_text}
+use Rattle.bayou_shell.specs.Printed.{adopted_text, counts_text, exchange_text, last_text, listed_text, outcome_text, pulling_text, recovery_text, refusal_text, reopening_text, starting_text, value_text}
 
 -- it ends with a line feed
 record Ends (text : List ℕ) : Type 0 where
@@ -37,6 +39,11 @@ recovery_ends (Restarted server holds dropped) =
     behind (codes "restarted ") _ (behind (decimal server.index) _ (behind (codes " holds ") _ (behind (decimal holds) _ (behind (codes " dropped ") _ (behind (decimal dropped) _ feed)))))
 recovery_ends (NotRestarted refusal) = behind (codes "restart refused ") _ (behind (starting_text refusal) _ feed)
 
+exchange_ends : (exchange : Exchange) → Ends (exchange_text exchange)
+exchange_ends NothingRuns = record { front = codes "pull fault lost"; split = refl }
+exchange_ends (Ended (Ok pulled)) = behind (codes "pulled ") _ (behind (decimal pulled.taken) _ (behind (codes " had ") _ (behind (decimal pulled.had) _ feed)))
+exchange_ends (Ended (Err fault)) = behind (codes "pull fault ") _ (behind (pulling_text fault) _ feed)
+
 outcome_ends : (outcome : Outcome) → Ends (outcome_text outcome)
 outcome_ends Updated = record { front = codes " updated"; split = refl }
 outcome_ends (Merged index) = behind (codes " merged ") _ (behind (decimal index) _ feed)
@@ -61,3 +68,4 @@ last_ends servers (Lost session) = ends_is _ (behind (decimal session.index) _ (
 last_ends servers (Logged server listing vector) = ends_is _ (behind (codes "log ") _ (behind (decimal server.index) _ (behind (codes " at ") _ (behind (counts_text servers vector) _ feed))))
 last_ends servers (Stopped server) = ends_is _ (behind (codes "stopped ") _ (behind (decimal server.index) _ feed))
 last_ends servers (Recovered recovery) = ends_is _ (recovery_ends recovery)
+last_ends servers (Exchanged exchange) = ends_is _ (exchange_ends exchange)

@@ -1,3 +1,4 @@
+pub mod Exchange
 pub mod Fault
 pub mod Inner
 pub mod Machine

@@ -1,5 +1,5 @@
 -- What is printed for an answer: this project's own lines.
-use Rattle.std.specs.Prelude.{ℕ, List, [], ◌∷◌, ◌++◌, Option, None, Some, zero, suc, map, flat_map, slice_index, codes, decimal}
+use Rattle.std.specs.Prelude.{ℕ, List, [], ◌∷◌, ◌++◌, Option, None, Some, Ok, Err, zero, suc, map, flat_map, slice_index, codes, decimal}
 use Rattle.std.specs.Fmt.{signed_decimal}
 use Rattle.std.specs.List.{join_with_byte}
 use Rattle.serde_json.specs.Data.{string}
@@ -17,7 +17,14 @@ use Rattle.bayou_server.specs.declared.fault.StartFault.TheVariants as starting
 use Rattle.bayou_server.specs.declared.fault.WriteFault.{WriteFault}
 use Rattle.bayou_server.specs.declared.fault.WriteFault.TheVariants as writing
 use Rattle.bayou_shell.specs.declared.answer.Answer.{Answer}
-use Rattle.bayou_shell.specs.declared.answer.Answer.TheVariants.{Done, Wrote, Read, Refused, NotServed, Lost, Logged, Stopped, Recovered}
+use Rattle.bayou_shell.specs.declared.answer.Answer.TheVariants.{Done, Wrote, Read, Refused, NotServed, Lost, Logged, Stopped, Recovered, Exchanged}
+use Rattle.bayou_peer.specs.declared.fault.Fault.TheVariants as streams
+use Rattle.bayou_peer.specs.declared.fault.PullFault.{PullFault}
+use Rattle.bayou_peer.specs.declared.fault.PullFault.TheVariants as pulling
+use Rattle.bayou_server.specs.declared.fault.TakeFault.{TakeFault}
+use Rattle.bayou_server.specs.declared.fault.TakeFault.TheVariants as taking
+use Rattle.bayou_shell.specs.declared.answer.Exchange.{Exchange}
+use Rattle.bayou_shell.specs.declared.answer.Exchange.TheVariants.{NotRunning as NothingRuns, Ended}
 use Rattle.bayou_shell.specs.declared.answer.Recovery.{Recovery}
 use Rattle.bayou_shell.specs.declared.answer.Recovery.TheVariants.{Reopened, NotReopened, NotRunning, Restarted, NotRestarted}
 
@@ -92,6 +99,7 @@ log_text (NotServed session vector) = []
 log_text (Lost session) = []
 log_text (Stopped server) = []
 log_text (Recovered recovery) = []
+log_text (Exchanged exchange) = []
 
 -- the line of a server that was to be reopened or restarted
 abbrev pub recovery_text : Recovery → List ℕ
@@ -102,6 +110,33 @@ recovery_text NotRunning = codes "reopen refused stopped\n"
 recovery_text (Restarted server holds dropped) =
     codes "restarted " ++ (decimal server.index ++ (codes " holds " ++ (decimal holds ++ (codes " dropped " ++ (decimal dropped ++ codes "\n")))))
 recovery_text (NotRestarted refusal) = codes "restart refused " ++ (starting_text refusal ++ codes "\n")
+
+-- why a Write that came wasn't taken
+abbrev pub taking_text : TakeFault → List ℕ
+taking_text taking.Conflict = codes "conflict"
+taking_text taking.Down = codes "down"
+taking_text taking.OwnLost = codes "ownlost"
+taking_text taking.Gap = codes "gap"
+taking_text taking.BadStamp = codes "stamp"
+taking_text taking.LogFull = codes "full"
+taking_text taking.OutOfMemory = codes "memory"
+taking_text taking.Journal = codes "journal"
+
+-- why a pull ended before its End
+abbrev pub pulling_text : PullFault → List ℕ
+pulling_text (pulling.Refused refusal) = taking_text refusal
+pulling_text (pulling.Stream streams.Read) = codes "read"
+pulling_text (pulling.Stream streams.Write) = codes "write"
+pulling_text (pulling.Stream streams.Cut) = codes "cut"
+pulling_text (pulling.Stream streams.BadFrame) = codes "frame"
+pulling_text (pulling.Stream streams.TooManyTurns) = codes "turns"
+pulling_text (pulling.Stream streams.OutOfMemory) = codes "memory"
+
+-- the line of a server that was to take Writes from another
+abbrev pub exchange_text : Exchange → List ℕ
+exchange_text NothingRuns = codes "pull fault lost\n"
+exchange_text (Ended (Ok pulled)) = codes "pulled " ++ (decimal pulled.taken ++ (codes " had " ++ (decimal pulled.had ++ codes "\n")))
+exchange_text (Ended (Err fault)) = codes "pull fault " ++ (pulling_text fault ++ codes "\n")
 
 -- the last line that is printed for an answer, or nothing where there is nothing to tell
 abbrev pub last_text : ℕ → Answer → List ℕ
@@ -121,6 +156,7 @@ last_text servers (Logged server listing vector) =
     codes "log " ++ (decimal server.index ++ (codes " at " ++ (counts_text servers vector ++ codes "\n")))
 last_text servers (Stopped server) = codes "stopped " ++ (decimal server.index ++ codes "\n")
 last_text servers (Recovered recovery) = recovery_text recovery
+last_text servers (Exchanged exchange) = exchange_text exchange
 
 -- what is printed for an answer: a log's lines, one for each Write, go before its last
 abbrev pub answer_text : ℕ → Answer → List ℕ

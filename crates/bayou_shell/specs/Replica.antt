@@ -24,7 +24,7 @@ use Rattle.bayou_server.specs.Stored.{OpensInCalls, ReopensJournal, StoresWrite}
 use Rattle.bayou_server.specs.Writes.{Writes}
 use Rattle.bayou_session.specs.Needs.{Told, after_read, after_write, one_place_more, read_need, write_need}
 use Rattle.bayou_shell.specs.declared.answer.Answer.{Answer}
-use Rattle.bayou_shell.specs.declared.answer.Answer.TheVariants.{Done, Wrote, Read, Refused, NotServed, Lost, Logged, Recovered}
+use Rattle.bayou_shell.specs.declared.answer.Answer.TheVariants.{Done, Wrote, Read, Refused, NotServed, Lost, Logged, Recovered, Exchanged}
 use Rattle.bayou_shell.specs.declared.answer.Answer.TheVariants as answers
 use Rattle.bayou_shell.specs.declared.answer.Recovery.{Recovery}
 use Rattle.bayou_shell.specs.declared.answer.Recovery.TheVariants.{Reopened, NotReopened, NotRunning, Restarted, NotRestarted}
@@ -160,6 +160,7 @@ IsListed id replica (Refused who refusal) = ⊥
 IsListed id replica (NotServed who vector) = ⊥
 IsListed id replica (Lost who) = ⊥
 IsListed id replica (Recovered recovery) = ⊥
+IsListed id replica (Exchanged exchange) = ⊥
 
 -- its device is to fail
 abbrev pub IsFused : ℕ → ℕ → Replica → Replica → Type 0

@@ -1,11 +1,11 @@
 -- What a script may be answered: a run of a machine over its servers and its sessions.
-use Rattle.std.specs.Prelude.{◌≡◌, ℕ, ◌⊎◌, List, [], ◌∷◌, ◌++◌, Option, Result, Ok, Err, take, flat_map}
+use Rattle.std.specs.Prelude.{◌≡◌, ℕ, ◌⊎◌, List, [], ◌∷◌, ◌++◌, Option, None, Result, Ok, Err, take, flat_map}
 use Rattle.std.specs.Io.KnownBytes.{Appends, Keeps}
 use Rattle.bayou_base.specs.declared.asks.Asks.{Asks}
 use Rattle.bayou_base.specs.declared.server.ServerId.{ServerId}
 use Rattle.bayou_base.specs.declared.session.SessionId.{SessionId}
 use Rattle.bayou_session.specs.Needs.{Told, new_session}
-use Rattle.bayou_text.specs.Said.{Said, servers, session, write, read, log, fuse, lose, reopen, restart}
+use Rattle.bayou_text.specs.Said.{Said, servers, session, write, read, log, fuse, lose, reopen, restart, pull, resend}
 use Rattle.bayou_shell.specs.declared.answer.Answer.{Answer}
 use Rattle.bayou_shell.specs.declared.answer.Answer.TheVariants.{Done, Recovered}
 use Rattle.bayou_shell.specs.declared.answer.Recovery.{Recovery}
@@ -13,6 +13,7 @@ use Rattle.bayou_shell.specs.declared.fault.Fault.{Fault}
 use Rattle.bayou_shell.specs.declared.fault.Fault.TheVariants.{Line, Device, Input, Output}
 use Rattle.bayou_shell.specs.declared.fault.Fault.TheVariants as fault
 use Rattle.bayou_shell.specs.declared.replica.Replica.{Replica}
+use Rattle.bayou_shell.specs.Exchange.{Exchanges, own_counts, zero_counts}
 use Rattle.bayou_shell.specs.Machine.{FailsToBegin, HasBegun, Machine, StandsAt, session_of, with_server, with_session}
 use Rattle.bayou_shell.specs.Printed.{answer_text}
 use Rattle.bayou_shell.specs.Replica.{IsFused, IsListed, IsRead, IsReopened, IsRestarted, IsShortened, IsWritten}
@@ -80,6 +81,8 @@ Step old (fuse place calls kept) answer new = (answer ≡ Done) × Changes (λ n
 Step old (lose place count) answer new = (answer ≡ Done) × Changes (λ name before after. IsShortened count before after) old place new
 Step old (reopen place) answer new = Recovers IsReopened old place answer new
 Step old (restart place) answer new = Recovers (IsRestarted old.count old.limit) old place answer new
+Step old (pull to source cut) answer new = Exchanges own_counts cut old to source answer new
+Step old (resend to source) answer new = Exchanges zero_counts None old to source answer new
 
 -- it asks for a log
 abbrev pub IsLog : Said → Type 0
@@ -92,6 +95,8 @@ IsLog (fuse server calls kept) = ⊥
 IsLog (lose server count) = ⊥
 IsLog (reopen server) = ⊥
 IsLog (restart server) = ⊥
+IsLog (pull to source cut) = ⊥
+IsLog (resend to source) = ⊥
 
 -- what is said one after another may get these answers
 abbrev pub Run : Machine → List Said → List Answer → Machine → Type 0

@@ -1,5 +1,6 @@
 use bayou_base::{Accepted, Key, Seen, ServerId, SessionId, Vector, Wid};
 use bayou_log::Listed;
+use bayou_peer::{PullFault, Pulled};
 use bayou_server::{ReopenFault, StartFault, WriteFault};
 
 /// What a command is answered.
@@ -44,6 +45,17 @@ pub enum Answer {
     },
     /// What became of a server that was to be reopened or restarted.
     Recovered(Recovery),
+    /// What became of a server that was to take Writes from another.
+    Exchanged(Exchange),
+}
+
+/// What became of a server that was to take Writes from another.
+#[derive(Clone, Copy, Debug, PartialEq, Eq)]
+pub enum Exchange {
+    /// One of the two is stopped.
+    NotRunning,
+    /// It took what came, up to the End or to what ended it before.
+    Ended(Result<Pulled, PullFault>),
 }
 
 /// What became of a server that was to be reopened or restarted.

@@ -16,6 +16,7 @@
 #![tactic(auto)]
 
 mod answer;
+mod exchange;
 pub mod fault;
 mod printed;
 pub mod program;

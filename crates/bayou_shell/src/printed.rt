@@ -3,13 +3,14 @@ ghost use Rattle.serde_json.specs.Data.{string};
 ghost use Rattle.serde_json.specs.Written.{compact_text};
 ghost use Rattle.bayou_base.specs.declared.limits.TheConstants.{SERVERS};
 ghost use Rattle.bayou_shell.specs.declared.answer.Answer.TheVariants.{NotServed, Read, Wrote};
-ghost use Rattle.bayou_shell.specs.Printed.{adopted_text, counts_text, last_text, listed_text, recovery_text, refusal_text, reopening_text, starting_text, value_text};
+ghost use Rattle.bayou_shell.specs.Printed.{adopted_text, counts_text, exchange_text, last_text, listed_text, pulling_text, recovery_text, refusal_text, reopening_text, starting_text, taking_text, value_text};
 
-use crate::answer::{Answer, Recovery};
+use crate::answer::{Answer, Exchange, Recovery};
 use bayou_base::{Accepted, Key, Seen, ServerId, SessionId, Value, Vector, Wid};
 use bayou_lang::Outcome;
 use bayou_log::Listed;
-use bayou_server::{ReopenFault, StartFault, WriteFault};
+use bayou_peer::{Fault as Stream, PullFault, Pulled};
+use bayou_server::{ReopenFault, StartFault, TakeFault, WriteFault};
 use serde_json::Value as Json;
 use std::alloc::{AllocError, Global};
 use std::fmt;
@@ -222,6 +223,53 @@ fn recovery_line(alloc: Global, recovery: &Recovery) -> Result<String, AllocErro
     }
 }
 
+/// Why a Write that came wasn't taken.
+fn taking_word(refusal: &TakeFault) -> &'static str
+    ensures { result.now ≡ taking_text refusal.now }
+{
+    match refusal {
+        TakeFault::Conflict => "conflict",
+        TakeFault::Down => "down",
+        TakeFault::OwnLost => "ownlost",
+        TakeFault::Gap => "gap",
+        TakeFault::BadStamp => "stamp",
+        TakeFault::LogFull => "full",
+        TakeFault::OutOfMemory => "memory",
+        TakeFault::Journal => "journal",
+    }
+}
+
+/// Why a pull ended before its End.
+fn pulling_word(fault: &PullFault) -> &'static str
+    ensures { result.now ≡ pulling_text fault.now }
+{
+    match fault {
+        PullFault::Refused(refusal) => taking_word(refusal),
+        PullFault::Stream(Stream::Read) => "read",
+        PullFault::Stream(Stream::Write) => "write",
+        PullFault::Stream(Stream::Cut) => "cut",
+        PullFault::Stream(Stream::BadFrame) => "frame",
+        PullFault::Stream(Stream::TooManyTurns) => "turns",
+        PullFault::Stream(Stream::OutOfMemory) => "memory",
+    }
+}
+
+/// The line of a server that was to take Writes from another.
+fn exchange_line(alloc: Global, exchange: &Exchange) -> Result<String, AllocError>
+    ensures { IfOk result (λ text. string_bytes text ≡ exchange_text exchange.now) }
+{
+    match exchange {
+        Exchange::NotRunning => String::from_str(alloc, "pull fault lost\n"),
+        Exchange::Ended(Ok(Pulled { taken, had })) => format!(in alloc;
+            "pulled {taken} had {had}\n"
+        ),
+        Exchange::Ended(Err(fault)) => {
+            let why = pulling_word(fault);
+            format!(in alloc; "pull fault {why}\n")
+        }
+    }
+}
+
 /// The last line that is printed for an answer where there are so many servers, or nothing.
 pub fn printed(alloc: Global, servers: u8, answer: &Answer) -> Result<String, AllocError>
     requires { servers ≤ SERVERS }
@@ -251,5 +299,6 @@ pub fn printed(alloc: Global, servers: u8, answer: &Answer) -> Result<String, Al
             format!(in alloc; "stopped {server}\n")
         }
         Answer::Recovered(recovery) => recovery_line(alloc, recovery),
+        Answer::Exchanged(exchange) => exchange_line(alloc, exchange),
     }
 }

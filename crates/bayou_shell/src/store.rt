@@ -1,12 +1,13 @@
-ghost use Rattle.std.specs.Prelude.{◌≡◌, ◌<◌, IfOk, IfErr, IsTrue, MatchResult};
-ghost use Rattle.bayou_shell.specs.declared.answer.Answer.TheVariants.{Done, Recovered};
-ghost use Rattle.bayou_text.specs.Said.{fuse, log, lose, read, reopen, restart, session, write};
+ghost use Rattle.std.specs.Prelude.{◌≡◌, ◌<◌, ℕ, IfOk, IfErr, IsTrue, List, MatchResult};
+ghost use Rattle.bayou_shell.specs.declared.answer.Answer.TheVariants.{Done, Exchanged, Recovered};
+ghost use Rattle.bayou_text.specs.Said.{fuse, log, lose, pull, read, reopen, resend, restart, session, write};
 
-use crate::answer::{Answer, Recovery};
+use crate::answer::{Answer, Exchange, Recovery};
 use crate::fault::Fault;
 use crate::replica::Replica;
-use bayou_base::{Asks, Key, SESSIONS, ServerId, SessionId};
+use bayou_base::{Asks, Key, SESSIONS, ServerId, SessionId, Vector};
 use bayou_lang::RestingProgram;
+use bayou_peer::cut_after;
 use bayou_script::Servers;
 use bayou_session::Session;
 use bayou_text::{Command, PlannedFailure};
@@ -34,7 +35,9 @@ impl Model for Store {
 }
 
 impl Store {
-    ghost use Rattle.bayou_shell.specs.Machine.{FailsToBegin, HasBegun, session_of};
+    ghost use Rattle.bayou_shell.specs.Exchange.{Exchanges};
+    ghost use Rattle.bayou_shell.specs.declared.replica.Replica.{Replica as Replicated};
+    ghost use Rattle.bayou_shell.specs.Machine.{FailsToBegin, HasBegun, StandsAt, session_of};
     ghost use Rattle.bayou_shell.specs.Run.{IsLog, Step};
     ghost use Rattle.bayou_script.specs.Script.{is_served};
     ghost use Rattle.bayou_text.specs.Said.{command_said};
@@ -98,6 +101,10 @@ impl Store {
             }
             Command::Reopen { server } => Ok(Answer::Recovered(self.reopen(alloc, server))),
             Command::Restart { server } => Ok(Answer::Recovered(self.restart(alloc, server))),
+            Command::Pull { to, from, cut } => {
+                Ok(Answer::Exchanged(self.pull(alloc, to, from, cut)))
+            }
+            Command::Resend { to, from } => Ok(Answer::Exchanged(self.resend(alloc, to, from))),
         }
     }
 
@@ -160,6 +167,51 @@ impl Store {
         let answer = self.replicas[usize::from(server.index)].read(who, &mut session, key);
         self.sessions[usize::from(who.index)] = Some(session);
         answer
+    }
+
+    /// The first server is sent what these counts don't cover of what the other holds, and takes what comes.
+    fn exchange(
+        &mut self,
+        alloc: Global,
+        to: ServerId,
+        from: ServerId,
+        counts: &Vector,
+        cut: Option<u32>,
+    ) -> Exchange
+        requires to { to.index < self.old.count }
+        requires from { from.index < self.old.count }
+        ensures { (counts_of : Replicated → List ℕ) → ((before : Replicated) → StandsAt self.old to.index before → counts_of before ≡ counts.now)
+            → Exchanges counts_of cut self.old to.index from.index (Exchanged result) self.new }
+    {
+        if let Replica::Stopped(_) = &self.replicas[usize::from(to.index)] {
+            return Exchange::NotRunning;
+        }
+        let answer = match self.replicas[usize::from(from.index)].answer(alloc, counts) {
+            Ok(answer) => answer,
+            Err(exchange) => return exchange,
+        };
+        let input = match cut {
+            Some(items) => cut_after(&answer, items),
+            None => &answer,
+        };
+        self.replicas[usize::from(to.index)].take_from(alloc, counts, input)
+    }
+
+    fn pull(&mut self, alloc: Global, to: ServerId, from: ServerId, cut: Option<u32>) -> Exchange
+        requires to { to.index < self.old.count }
+        requires from { from.index < self.old.count }
+        ensures { Step self.old (pull to.index from.index cut) (Exchanged result) self.new }
+    {
+        let counts = self.replicas[usize::from(to.index)].counts();
+        self.exchange(alloc, to, from, &counts, cut)
+    }
+
+    fn resend(&mut self, alloc: Global, to: ServerId, from: ServerId) -> Exchange
+        requires to { to.index < self.old.count }
+        requires from { from.index < self.old.count }
+        ensures { Step self.old (resend to.index from.index) (Exchanged result) self.new }
+    {
+        self.exchange(alloc, to, from, &Vector::zero(), None)
     }
 
     fn restart(&mut self, alloc: Global, server: ServerId) -> Recovery

@@ -87,6 +87,7 @@ pub(crate) fn write_answer<W: Write>(
         | Answer::NotServed { .. }
         | Answer::Lost { .. }
         | Answer::Stopped { .. }
-        | Answer::Recovered(_) => write_last(alloc, servers, answer, output, waiting),
+        | Answer::Recovered(_)
+        | Answer::Exchanged(_) => write_last(alloc, servers, answer, output, waiting),
     }
 }

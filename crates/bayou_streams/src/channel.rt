@@ -48,6 +48,13 @@ impl<R, W> Channel<R, W> {
         }
     }
 
+    /// The two again.
+    pub fn into_parts(self) -> (R, W)
+        ensures { (result.0 ≡ self.reader) × (result.1 ≡ self.writer) }
+    {
+        (self.reader, self.writer)
+    }
+
     // All turns are left again: for an [`Output`](crate::Output) alone, whose lines bring them.
     pub(crate) fn begin(&mut self)
         ensures left { self.new.turns_left ≡ MAX_TURNS }
