@@ -16,6 +16,7 @@ use Rattle.bayou_peer.specs.declared.fault.PullFault.TheVariants.{Stream, Refuse
 use Rattle.bayou_peer.specs.declared.pulling.Pulled.{Pulled}
 use Rattle.bayou_peer.specs.Pulls.{HasNoPlace, PullEnds, Received, Stands, Ways}
 use Rattle.bayou_peer.specs.Spelled.{items_of}
+use Rattle.bayou_peer.specs.Stopping.{IsSendFault}
 use Rattle.bayou_peer.specs.Steps.{Goes, Standing}
 use Rattle.bayou_peer.specs.Taking.{Lists, TakesEach, hads, new_ones, news}
 use Rattle.bayou_server.specs.declared.answer.Took.{Took}
@@ -174,23 +175,26 @@ holds_start : (known : Option (List Write)) → IfSome known (λ held. known ≡
 holds_start None = tt
 holds_start (Some held) = ap Some (sym (append-nil held))
 
+pub received_start : {S : Type 0} (ways : Ways S) (start : S) (taken had : ℕ) → taken ≡ 0 → had ≡ 0 → Received ways start start [] [] taken had
+received_start {S} ways start taken had no_taken no_had = record {
+  writes = [];
+  tooks = [];
+  whole = refl;
+  each = tt;
+  took = refl;
+  holds = holds_start (ways.list start);
+  new = no_taken;
+  held = no_had;
+  number = omega (arith, no_taken, no_had);
+}
+
 pub standing_start : {S : Type 0} (ways : Ways S) (start : S) (frames : Option (List ℕ)) (pulled : Pulled) → frames ≡ Some [] → pulled.taken ≡ 0 → pulled.had ≡ 0
     → Standing ways start start [] frames pulled
 standing_start {S} ways start frames pulled waits taken had = record {
   held = [];
   partial = tt;
   waits = waits;
-  received = record {
-    writes = [];
-    tooks = [];
-    whole = refl;
-    each = tt;
-    took = refl;
-    holds = holds_start (ways.list start);
-    new = taken;
-    held = had;
-    number = omega (arith, taken, had);
-  };
+  received = received_start ways start pulled.taken pulled.had taken had;
 }
 
 pub stands : {S : Type 0} (ways : Ways S) (start now : S) (read : List ℕ) (frames : Option (List ℕ)) (pulled : Pulled) → Standing ways start now read frames pulled → Stands ways start now read
@@ -230,3 +234,14 @@ standing_room {S} ways start now read frames pulled s piece turns later first sh
 pub consumes_none : (a b c : Option (List ℕ)) (read piece : List ℕ) (count : ℕ) → count ≡ 0 → Consumes a b read → Consumes b c (take count piece) → Consumes a c read
 consumes_none a b c read piece count none p q =
     subst (Consumes a c) (append-nil read) (Consumes-trans a b c read [] p (subst (λ (n : ℕ). Consumes b c (take n piece)) none q))
+
+-- ---- before anything was read
+
+-- what may end the Offer's sending ends the pull before anything is read
+pub ends_sending : {S : Type 0} (ways : Ways S) (start : S) (is_end : Type 0) (fault : Fault) → IsSendFault fault → PullEnds ways start start [] is_end (Err (Stream fault))
+ends_sending {S} ways start is_end faults.Read is = absurd is
+ends_sending {S} ways start is_end faults.TooManyTurns is = ([], 0, 0, tt, received_start ways start 0 0 refl refl)
+ends_sending {S} ways start is_end faults.Write is = (refl, refl)
+ends_sending {S} ways start is_end faults.Cut is = absurd is
+ends_sending {S} ways start is_end faults.BadFrame is = absurd is
+ends_sending {S} ways start is_end faults.OutOfMemory is = ([], 0, 0, received_start ways start 0 0 refl refl)

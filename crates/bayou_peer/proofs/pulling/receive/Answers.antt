@@ -1,8 +1,8 @@
-use Rattle.std.proofs.Common.{rules, arith, [], Err, ◌≡◌, ◌+◌, ◌*◌, ◌≤◌, ◌++◌, length, take, refl, ◌∙◌, length-take, length-append, ◌<◌}
+use Rattle.std.proofs.Common.{arith, [], Err, ◌≤◌, ◌++◌, length, take, refl, ◌∙◌, length-take, length-append, ◌<◌}
 use Rattle.std.proofs.KnownBytes.{Consumes-kept, Consumes-nil, Consumes-trans}
 use Rattle.std.specs.Io.KnownBytes.{IsAtEnd}
 use Rattle.std.proofs.lemmas.Result.{err_from_is_err_and}
-use Rattle.bayou_base.specs.declared.limits.TheConstants.{MAX_TURNS, READ_BYTES}
+use Rattle.bayou_base.specs.declared.limits.TheConstants.{READ_BYTES}
 use Rattle.bayou_peer.proofs.Received.{consumes_none, ends_anywhere, ends_reading, standing_room, standing_start, stands}
 use Rattle.bayou_peer.proofs.pulling.receive.Goals as goal
 
