@@ -7,7 +7,7 @@ use Rattle.bayou_peer.specs.Framing.{Comes}
 use Rattle.bayou_wire.specs.declared.fault.Fault.{Fault}
 use Rattle.bayou_wire.specs.declared.frame.Frame.{Frame}
 use Rattle.bayou_wire.specs.declared.stream.FeedFault.TheVariants as feeds
-use Rattle.bayou_wire.specs.Spelling.{IsFrame}
+use Rattle.bayou_wire.specs.Spelling.{IsFrame, SpellsFrame}
 use Rattle.bayou_wire.specs.Stream.{Fed, Holds, IsFaultAt, IsFaulty, IsPartial, spelling, spellings, stream_of}
 use Rattle.bayou_wire.proofs.Feeding.{faulty_on}
 
@@ -74,3 +74,9 @@ next_frame frames i frame behind within same =
     ap (λ fs. spellings fs ++ behind) (drop_more frames i frame within)
     ∙ append_assoc (spelling (get_or frames i frame)) (spellings (drop (i + 1) frames)) behind
     ∙ ap (λ f. spelling f ++ (spellings (drop (i + 1) frames) ++ behind)) (sym same)
+
+-- ---- bytes that are sent
+
+pub spelled_one : (bytes : List ℕ) (frame : Frame) → SpellsFrame bytes frame → bytes ≡ spelling frame
+unfolding spelling
+spelled_one bytes frame s = s.spelled
