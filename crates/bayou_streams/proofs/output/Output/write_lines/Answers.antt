@@ -30,6 +30,6 @@ loop-rest-preserved-in-Ok g c =
       λ failed. clean (only_before _ _ _ some turn.honest failed),
       λ empty ends.
           let all : c.turn.new.self.channel.turns_left ≡ MAX_TURNS =
-          turns_again c.args.text.now front rest c.in-Ok.count _ c.turn.new.self.channel.turns_left split (search (rules, tests)) (sym (take_rest rest c.in-Ok.count) ∙ empty) ends left in
+          turns_again _ front rest c.in-Ok.count _ c.turn.new.self.channel.turns_left split (search (rules, tests)) (sym (take_rest rest c.in-Ok.count) ∙ empty) ends left in
           omega (arith, all, c.args.self.now.channel.in_budget),
     )
