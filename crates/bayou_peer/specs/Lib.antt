@@ -2,6 +2,7 @@ pub mod Framing
 pub mod Lent
 pub mod Offers
 pub mod Pulls
+pub mod Sending
 pub mod Spelled
 pub mod Steps
 pub mod Stopping

@@ -15,6 +15,7 @@ mod framing;
 mod lent;
 pub mod pulling;
 pub mod replica;
+mod sending;
 
 pub use answering::{answer_offer_on, serve_offer_on};
 pub use fault::{Fault, PullFault};
