@@ -12,12 +12,12 @@ use Rattle.bayou_lang.specs.declared.write.Write.{Write}
 use Rattle.bayou_lang.specs.Ranges.{IsWrite}
 use Rattle.bayou_lang.specs.Writes.{lacking_of, raised_by}
 use Rattle.bayou_peer.specs.declared.fault.Fault.{Fault}
-use Rattle.bayou_peer.specs.Offers.{Sends}
-use Rattle.bayou_peer.specs.Sending.{SendsBatch, SendsItems}
+use Rattle.bayou_peer.specs.Offers.{Answers, Sends}
+use Rattle.bayou_peer.specs.Sending.{HasSent, SendsBatch, SendsItems}
 use Rattle.bayou_peer.specs.Spelled.{answer_bytes, item_bytes, items_of}
 use Rattle.bayou_streams.specs.Written.{AppendsFront}
 use Rattle.bayou_wire.specs.declared.frame.Frame.{Frame}
-use Rattle.bayou_wire.specs.declared.frame.Frame.TheVariants.{Item}
+use Rattle.bayou_wire.specs.declared.frame.Frame.TheVariants.{End, Item}
 use Rattle.bayou_wire.specs.Spelling.{SpellsFrame, frame_bytes, kind_of, payload_bytes}
 use Rattle.bayou_wire.specs.Stream.{spelling, spellings}
 
@@ -99,3 +99,78 @@ lacks_none (Some held) told writes most some is none = of most (lacking_of told 
 pub sends_fault : (spelled : List Write → List ℕ) (writes : List Write) (before after : Option (List ℕ)) (fault : Fault) → AppendsFront before after (spelled writes)
     → Sends spelled writes before after (Err fault)
 sends_fault spelled writes before after fault part = record { whole = tt; part = part; number = tt; each = tt }
+
+-- ---- one batch after another
+
+-- one batch more
+pub sent_more : (list : Option (List Write)) (counts told now : List ℕ) (before mid after : Option (List ℕ)) (number more : ℕ)
+    → HasSent list counts told before mid number → SendsBatch list told now mid after (Ok more) → HasSent list counts now before after (number + more)
+sent_more list counts told now before mid after number more (sent, lacks, wrote, counted, each) (writes, others, sends) =
+    (
+      sent ++ writes,
+      lacks_more list lacks others,
+      subst (Appends before after) (sym (item_bytes-append sent writes)) (Appends-trans before mid after (item_bytes sent) (item_bytes writes) wrote sends.whole),
+      omega (arith, counted, sends.number, length-append sent writes),
+      all-append IsWrite sent writes each sends.each,
+    )
+  where
+    lacks_more : (list : Option (List Write)) → IfSome list (λ held. lacking_of counts held ≡ sent ++ lacking_of told held)
+        → IfSome list (λ held. lacking_of told held ≡ writes ++ lacking_of now held) → IfSome list (λ held. lacking_of counts held ≡ (sent ++ writes) ++ lacking_of now held)
+    lacks_more None lacks others = tt
+    lacks_more (Some held) lacks others = lacks ∙ ap (λ rest. sent ++ rest) others ∙ sym (append_assoc sent writes (lacking_of now held))
+
+-- a batch of none is behind the last
+pub sent_whole : (list : Option (List Write)) (counts told now : List ℕ) (before mid after : Option (List ℕ)) (number more : ℕ)
+    → HasSent list counts told before mid number → SendsBatch list told now mid after (Ok more) → more ≡ 0 → IfSome list (λ held. lacking_of told held ≡ [])
+    → SendsItems list counts before after (Ok number)
+sent_whole list counts told now before mid after number more (sent, lacks, wrote, counted, each) ([], others, sends) none all =
+    let whole = subst (Appends before after) (append-nil (item_bytes sent)) (Appends-trans before mid after (item_bytes sent) [] wrote sends.whole) in
+    (
+      sent,
+      is_all list lacks all,
+      record { whole = whole; part = front_of_whole before after (item_bytes sent) whole; number = counted; each = each },
+    )
+  where
+    is_all : (list : Option (List Write)) → IfSome list (λ held. lacking_of counts held ≡ sent ++ lacking_of told held) → IfSome list (λ held. lacking_of told held ≡ [])
+        → IfSome list (λ held. sent ≡ lacking_of counts held)
+    is_all None lacks all = tt
+    is_all (Some held) lacks all = sym (lacks ∙ ap (λ rest. sent ++ rest) all ∙ append-nil sent)
+sent_whole list counts told now before mid after number more sent (write ∷ writes, others, sends) none all = absurd (omega (arith, sends.number, none))
+
+-- a fault ends a batch
+pub sent_part : (list : Option (List Write)) (counts told now : List ℕ) (before mid after : Option (List ℕ)) (number : ℕ) (fault : Fault)
+    → HasSent list counts told before mid number → SendsBatch list told now mid after (Err fault) → SendsItems list counts before after (Err fault)
+sent_part None counts told now before mid after number fault (sent, lacks, wrote, counted, each) (writes, others, sends) =
+    let part = front_behind before mid after (item_bytes sent) (item_bytes writes) wrote sends.part in
+    (sent ++ writes, tt, sends_fault item_bytes (sent ++ writes) before after fault (subst (AppendsFront before after) (sym (item_bytes-append sent writes)) part))
+sent_part (Some held) counts told now before mid after number fault (sent, lacks, wrote, counted, each) (writes, others, sends) =
+    let all = lacking_of counts held in
+    let rest = lacking_of now held in
+    let bytes : item_bytes all ≡ item_bytes sent ++ (item_bytes writes ++ item_bytes rest) =
+    ap item_bytes (lacks ∙ ap (λ rest. sent ++ rest) others) ∙ item_bytes-append sent (writes ++ rest) ∙ ap (λ more. item_bytes sent ++ more) (item_bytes-append writes rest) in
+    let part = front_behind before mid after (item_bytes sent) (item_bytes writes ++ item_bytes rest) wrote (front_of_more mid after (item_bytes writes) (item_bytes rest) sends.part) in
+    (all, refl, sends_fault item_bytes all before after fault (subst (AppendsFront before after) (sym bytes) part))
+
+-- ---- the End behind them
+
+-- the Items were not all sent
+pub answers_items : (list : Option (List Write)) (counts : List ℕ) (before after : Option (List ℕ)) (fault : Fault) → SendsItems list counts before after (Err fault)
+    → Answers list counts before after (Err fault)
+answers_items list counts before after fault (writes, lacks, sends) =
+    (writes, lacks, sends_fault answer_bytes writes before after fault (front_of_more before after (item_bytes writes) (spelling (End (length writes))) sends.part))
+
+-- they were, and no End
+pub answers_part : (list : Option (List Write)) (counts : List ℕ) (before mid after : Option (List ℕ)) (number : ℕ) (bytes : List ℕ) (fault : Fault)
+    → SendsItems list counts before mid (Ok number) → SpellsFrame bytes (End number) → AppendsFront mid after bytes → Answers list counts before after (Err fault)
+answers_part list counts before mid after number bytes fault (writes, lacks, sends) spells part =
+    let end : bytes ≡ spelling (End (length writes)) = spelling_of (End number) bytes spells ∙ ap (λ n. spelling (End n)) sends.number in
+    let text = front_behind before mid after (item_bytes writes) (spelling (End (length writes))) sends.whole (subst (AppendsFront mid after) end part) in
+    (writes, lacks, sends_fault answer_bytes writes before after fault text)
+
+-- all was sent
+pub answers_whole : (list : Option (List Write)) (counts : List ℕ) (before mid after : Option (List ℕ)) (number : ℕ) (bytes : List ℕ)
+    → SendsItems list counts before mid (Ok number) → SpellsFrame bytes (End number) → Appends mid after bytes → Answers list counts before after (Ok number)
+answers_whole list counts before mid after number bytes (writes, lacks, sends) spells wrote =
+    let end : bytes ≡ spelling (End (length writes)) = spelling_of (End number) bytes spells ∙ ap (λ n. spelling (End n)) sends.number in
+    let whole = Appends-trans before mid after (item_bytes writes) (spelling (End (length writes))) sends.whole (subst (Appends mid after) end wrote) in
+    (writes, lacks, record { whole = whole; part = front_of_whole before after (answer_bytes writes) whole; number = sends.number; each = sends.each })
