@@ -3,6 +3,7 @@ pub mod Lent
 pub mod Meeting
 pub mod Offers
 pub mod Pulls
+pub mod Sending
 pub mod Spelled
 pub mod Steps
 pub mod Stopping

@@ -1,1 +1,22 @@
--- What comes of an Offer that is read (anti-entropy, Petersen et al. 1997).
+-- What comes of an Offer (anti-entropy, Petersen et al. 1997).
+use Rattle.std.specs.Prelude.{◌≡◌, ℕ, List, Option, Result, IfOk, IfSome, OnOk, length}
+use Rattle.std.specs.Io.KnownBytes.{Appends}
+use Rattle.std.specs.List.{AllByRecursion}
+use Rattle.bayou_lang.specs.declared.write.Write.{Write}
+use Rattle.bayou_lang.specs.Ranges.{IsWrite}
+use Rattle.bayou_lang.specs.Writes.{lacking_of}
+use Rattle.bayou_peer.specs.declared.fault.Fault.{Fault}
+use Rattle.bayou_peer.specs.Spelled.{answer_bytes}
+use Rattle.bayou_streams.specs.Written.{AppendsFront}
+
+-- What these Writes are spelled by was written, and their number is answered; where a fault is, a front of it was written.
+pub record Sends (spelled : List Write → List ℕ) (writes : List Write) (before after : Option (List ℕ)) (result : Result ℕ Fault) : Type 0 where
+  pub whole : OnOk result (Appends before after (spelled writes))
+  pub part : AppendsFront before after (spelled writes)
+  pub number : IfOk result (λ number. number ≡ length writes)
+  pub each : OnOk result (AllByRecursion IsWrite writes)
+
+-- An Item of each of some Writes was sent, and one End of their number: of those that are lacking, where it is told which Writes are held.
+abbrev pub Answers : Option (List Write) → List ℕ → (before after : Option (List ℕ)) → Result ℕ Fault → Type 0
+Answers list counts before after result =
+    (writes : List Write) × IfSome list (λ held. writes ≡ lacking_of counts held) × Sends answer_bytes writes before after result

@@ -9,6 +9,10 @@ use Rattle.bayou_wire.specs.Stream.{spelling, spellings}
 abbrev pub items_of : List Write → List Frame
 items_of writes = map Item writes
 
+-- the bytes of those
+abbrev pub item_bytes : List Write → List ℕ
+item_bytes writes = spellings (items_of writes)
+
 -- the Items of the Writes, and one End of their number
 abbrev pub answer_bytes : List Write → List ℕ
-answer_bytes writes = spellings (items_of writes) ++ spelling (End (length writes))
+answer_bytes writes = item_bytes writes ++ spelling (End (length writes))

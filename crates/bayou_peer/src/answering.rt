@@ -1,16 +1,42 @@
-ghost use Rattle.std.specs.Prelude.{◌≡◌, ◌≤◌, IfErr, IfOk, IfSome, OnOk, length};
-ghost use Rattle.std.specs.Io.KnownBytes.{Appends};
-ghost use Rattle.bayou_lang.specs.Writes.{lacking_of};
-ghost use Rattle.bayou_peer.specs.Spelled.{answer_bytes};
+ghost use Rattle.std.specs.Prelude.{◌≡◌, ◌≤◌, IfErr};
+ghost use Rattle.bayou_peer.specs.Offers.{Answers};
+ghost use Rattle.bayou_peer.specs.Sending.{SendsItems};
 ghost use Rattle.bayou_peer.specs.Stopping.{IsSendFault, Stops};
-ghost use Rattle.bayou_streams.specs.Written.{AppendsFront};
 
 use crate::fault::Fault;
+use crate::framing::send;
 use crate::replica::Replica;
+use crate::sending::send_batch;
 use bayou_base::Vector;
 use bayou_streams::Channel;
+use bayou_wire::{Frame, encode_frame};
 use std::alloc::Global;
 use std::io::{Read, Write};
+
+// Sends an Item of each Write that is held and that the vector doesn't count, in stamp order, and tells how many they are.
+fn send_items<P: Replica, R, W: Write>(
+    alloc: Global,
+    replica: &mut P,
+    counts: &Vector,
+    channel: &mut Channel<R, W>,
+) -> Result<u32, Fault>
+    ensures same { replica.new ≡ replica.old }
+    ensures sends { SendsItems (P.list replica.old) counts.now (W.contents channel.old.writer) (W.contents channel.new.writer) result }
+    ensures fault { IfErr result IsSendFault }
+    ensures stopped { IfErr result (Stops channel.new.read_failed channel.new.write_failed channel.new.turns_left) }
+    ensures turns { channel.new.turns_left ≤ channel.old.turns_left }
+    ensures reader { (channel.new.reader ≡ channel.old.reader) × (channel.new.read_failed ≡ channel.old.read_failed) }
+{
+    let mut told = *counts;
+    let mut number = 0;
+    loop {
+        let sent = send_batch(alloc, replica, &mut told, channel)?;
+        if sent == 0 {
+            return Ok(number);
+        }
+        number += sent;
+    }
+}
 
 /// Sends an Item of each Write that is held and that the vector doesn't count, in stamp order, and an End of their number,
 /// which it answers.
@@ -21,15 +47,16 @@ pub fn answer_offer_on<P: Replica, R, W: Write>(
     channel: &mut Channel<R, W>,
 ) -> Result<u32, Fault>
     ensures same { replica.new ≡ replica.old }
-    ensures number { IfSome (P.list replica.old) (λ held. IfOk result (λ number. number ≡ length (lacking_of counts.now held))) }
-    ensures whole { IfSome (P.list replica.old) (λ held. OnOk result (Appends (W.contents channel.old.writer) (W.contents channel.new.writer) (answer_bytes (lacking_of counts.now held)))) }
-    ensures part { IfSome (P.list replica.old) (λ held. AppendsFront (W.contents channel.old.writer) (W.contents channel.new.writer) (answer_bytes (lacking_of counts.now held))) }
+    ensures answers { Answers (P.list replica.old) counts.now (W.contents channel.old.writer) (W.contents channel.new.writer) result }
     ensures fault { IfErr result IsSendFault }
     ensures stopped { IfErr result (Stops channel.new.read_failed channel.new.write_failed channel.new.turns_left) }
     ensures turns { channel.new.turns_left ≤ channel.old.turns_left }
     ensures reader { (channel.new.reader ≡ channel.old.reader) × (channel.new.read_failed ≡ channel.old.read_failed) }
 {
-    loop {}
+    let number = send_items(alloc, replica, counts, channel)?;
+    let end = encode_frame(alloc, &Frame::End(number))?;
+    send(channel, &end)?;
+    Ok(number)
 }
 
 /// Reads one Offer, and answers it.

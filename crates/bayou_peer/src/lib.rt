@@ -16,6 +16,7 @@ mod lent;
 pub mod meeting;
 pub mod pulling;
 pub mod replica;
+mod sending;
 
 pub use answering::{answer_offer_on, serve_offer_on};
 pub use fault::{Fault, PullFault};
