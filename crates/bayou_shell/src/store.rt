@@ -68,6 +68,7 @@ impl Store {
         }
     }
 
+    #[tactic(auto, unfolding(bayou_script::specs::Script::are_servers))]
     /// What the command is answered. Only a log may want memory that it has no answer for.
     pub fn answer(&mut self, alloc: Global, command: Command) -> Result<Answer, AllocError>
         requires { IsTrue (is_served self.old.count (command_said command)) }
