@@ -3,7 +3,7 @@ use Rattle.std.proofs.KnownBytes.{Consumes-kept, Consumes-nil, Consumes-trans}
 use Rattle.std.specs.Io.KnownBytes.{IsAtEnd}
 use Rattle.std.proofs.lemmas.Result.{err_from_is_err_and}
 use Rattle.bayou_base.specs.declared.limits.TheConstants.{READ_BYTES}
-use Rattle.bayou_peer.proofs.Received.{few_received, consumes_none, ends_anywhere, ends_reading, standing_room, standing_start, stands}
+use Rattle.bayou_peer.proofs.Received.{few_ended, consumes_none, ends_anywhere, ends_reading, standing_room, standing_start, stands}
 use Rattle.bayou_peer.proofs.pulling.receive.Goals as goal
 
 pub loop-frames-init : goal.loop-frames-init
@@ -78,7 +78,7 @@ pub returns-then-branch-clause-few : goal.returns-then-branch-clause-few
 returns-then-branch-clause-few g c =
     let (read, consumed, standing, room) = c.loop-frames.invariant.went in
     let went = c.in_ok-take_piece.ensures.goes _ read standing.held standing.partial standing.waits standing.received in
-    let (behind, received) = rw c.if-branch.true at went in
-    let few = few_received _ _ _ (read ++ take c.in_ok-count.count c.read_piece.new.piece) _ _ _ received in
+    let few = few_ended {S = g.row.P.Denot} (record { list = g.P.Replica.list; takes = g.P.Replica.takes }) c.args.replica.now c.take_piece.new.replica
+    (read ++ take c.in_ok-count.count c.read_piece.new.piece) ⊥ c.take_piece.new.pulled (rw c.if-branch.true at went) in
     let some = length-take c.in_ok-count.count c.read_piece.new.piece in
     omega (arith, few, room, some, c.read_piece.ensures.size, c.loop-frames.invariant.room, c.in_ok-count.ensures.spent, c.args.channel.now.in_budget, length-append read (take c.in_ok-count.count c.read_piece.new.piece))
