@@ -248,3 +248,10 @@ ends_sending {S} ways start is_end faults.Write is = (refl, refl)
 ends_sending {S} ways start is_end faults.Cut is = absurd is
 ends_sending {S} ways start is_end faults.BadFrame is = absurd is
 ends_sending {S} ways start is_end faults.OutOfMemory is = ([], 0, 0, received_start ways start 0 0 refl refl)
+
+-- a pull that has ended was given no more Writes than a third of the bytes
+pub few_ended : {S : Type 0} (ways : Ways S) (start now : S) (read : List ℕ) (is_end : Type 0) (pulled : Pulled) → PullEnds ways start now read is_end (Ok pulled)
+    → 3 * (pulled.taken + pulled.had) ≤ length read
+few_ended {S} ways start now read is_end pulled e =
+    let few = few_received ways start now read (spelling (End (pulled.taken + pulled.had)) ++ e.0) pulled.taken pulled.had e.1 in
+    omega (arith, few)

@@ -12,6 +12,7 @@
 pub mod answering;
 pub mod fault;
 mod framing;
+pub mod laws;
 mod lent;
 pub mod meeting;
 pub mod pulling;
