@@ -1,10 +1,13 @@
 -- What a piece of a stream of frames gives.
-use Rattle.std.proofs.Common.{rules, ◌≡◌, ℕ, List, [], ◌++◌, Bool, true, false, Option, None, Some, Ok, Err, refl, sym, ap, subst, ◌∙◌, inl, inr}
+use Rattle.std.proofs.Common.{rules, arith, ◌≡◌, ◌<◌, ℕ, zero, suc, ◌+◌, List, [], ◌∷◌, ◌++◌, length, drop, get_or, append_assoc, Bool, true, false, Option, None, Some, Ok, Err, refl, sym, ap, subst, ◌∙◌, inl, inr}
+use Rattle.std.specs.List.{AllByRecursion}
+use Rattle.std.proofs.lemmas.List.{drop_more}
 use Rattle.std.specs.Prelude.{is_some, MatchOption}
 use Rattle.bayou_peer.specs.Framing.{Comes}
 use Rattle.bayou_wire.specs.declared.fault.Fault.{Fault}
 use Rattle.bayou_wire.specs.declared.frame.Frame.{Frame}
 use Rattle.bayou_wire.specs.declared.stream.FeedFault.TheVariants as feeds
+use Rattle.bayou_wire.specs.Spelling.{IsFrame, SpellsFrame}
 use Rattle.bayou_wire.specs.Stream.{Fed, Holds, IsFaultAt, IsFaulty, IsPartial, spelling, spellings, stream_of}
 use Rattle.bayou_wire.proofs.Feeding.{faulty_on}
 
@@ -54,3 +57,26 @@ comes_bad held piece frames is_bad old new fault e fed none true_is =
 
 pub comes_never : (held piece : List ℕ) (old new : Option (List ℕ)) → old ≡ Some held → Fed old piece (Err feeds.Failed) new → ⊥
 comes_never held piece old new e fed = subst (λ o. Fed o piece (Err feeds.Failed) new) e fed
+
+-- ---- frames one after another
+
+pub frame_at : (frames : List Frame) (i : ℕ) (frame : Frame) → AllByRecursion IsFrame frames → i < length frames → frame ≡ get_or frames i frame → IsFrame frame
+frame_at frames i frame all within same = rw same (at frames i all within)
+  where
+    at : (frames : List Frame) (i : ℕ) → AllByRecursion IsFrame frames → i < length frames → IsFrame (get_or frames i frame)
+    at [] i all within = absurd (omega arith)
+    at (f ∷ frames) zero all within = all.0
+    at (f ∷ frames) (suc i) all within = at frames i all.1 (omega arith)
+
+pub next_frame : (frames : List Frame) (i : ℕ) (frame : Frame) (behind : List ℕ) → i < length frames → frame ≡ get_or frames i frame
+    → spellings (drop i frames) ++ behind ≡ spelling frame ++ (spellings (drop (i + 1) frames) ++ behind)
+next_frame frames i frame behind within same =
+    ap (λ fs. spellings fs ++ behind) (drop_more frames i frame within)
+    ∙ append_assoc (spelling (get_or frames i frame)) (spellings (drop (i + 1) frames)) behind
+    ∙ ap (λ f. spelling f ++ (spellings (drop (i + 1) frames) ++ behind)) (sym same)
+
+-- ---- bytes that are sent
+
+pub spelled_one : (bytes : List ℕ) (frame : Frame) → SpellsFrame bytes frame → bytes ≡ spelling frame
+unfolding spelling
+spelled_one bytes frame s = s.spelled

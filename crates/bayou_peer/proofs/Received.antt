@@ -1,16 +1,23 @@
 -- What a pull has received so far, and how it grows by an Item.
-use Rattle.std.proofs.Common.{rules, arith, inl, inr, ◌≡◌, ◌≢◌, Bool, true, false, ℕ, ◌+◌, ◌*◌, ◌≤◌, List, [], ◌∷◌, ◌++◌, Option, None, Some, Result, Ok, Err, IfSome, IfOk, IfErr, refl, sym, ap, subst, ◌∙◌, append_assoc, length, suc}
+use Rattle.std.proofs.Common.{arith, inr, ◌≡◌, ◌≢◌, Bool, true, ℕ, ◌+◌, ◌*◌, ◌<◌, ◌≤◌, length, take, List, [], ◌∷◌, ◌++◌, Option, None, Some, Result, Ok, Err, IfSome, IfOk, IfErr, refl, sym, ap, subst, ◌∙◌, append_assoc}
 use Rattle.std.specs.List.{AllByRecursion}
-use Rattle.std.proofs.lemmas.List.{append-nil, length-append}
+use Rattle.std.proofs.KnownBytes.{Consumes-trans}
+use Rattle.std.specs.Io.KnownBytes.{Consumes}
+use Rattle.std.proofs.lemmas.List.{append-nil, length-append, length-map}
 use Rattle.bayou_lang.specs.declared.write.Write.{Write}
 use Rattle.bayou_lang.specs.Ranges.{IsWrite}
+use Rattle.bayou_base.specs.declared.limits.TheConstants.{MAX_TURNS, READ_BYTES}
+use Rattle.bayou_peer.specs.declared.fault.Fault.{Fault}
+use Rattle.bayou_peer.specs.declared.fault.Fault.TheVariants as faults
 use Rattle.bayou_peer.specs.declared.fault.Fault.TheVariants.{BadFrame}
+use Rattle.bayou_peer.specs.Framing.{IsReadFault}
 use Rattle.bayou_peer.specs.declared.fault.PullFault.{PullFault}
 use Rattle.bayou_peer.specs.declared.fault.PullFault.TheVariants.{Stream, Refused}
 use Rattle.bayou_peer.specs.declared.pulling.Pulled.{Pulled}
-use Rattle.bayou_peer.specs.Pulls.{HasNoPlace, PullEnds, Received, Ways}
+use Rattle.bayou_peer.specs.Pulls.{HasNoPlace, PullEnds, Received, Stands, Ways}
 use Rattle.bayou_peer.specs.Spelled.{items_of}
-use Rattle.bayou_peer.specs.Steps.{Goes}
+use Rattle.bayou_peer.specs.Stopping.{IsSendFault}
+use Rattle.bayou_peer.specs.Steps.{Goes, Standing}
 use Rattle.bayou_peer.specs.Taking.{Lists, TakesEach, hads, new_ones, news}
 use Rattle.bayou_server.specs.declared.answer.Took.{Took}
 use Rattle.bayou_server.specs.declared.answer.Took.TheVariants.{New, Had}
@@ -121,3 +128,120 @@ received_end {S} ways start now read behind frame count pulled (Ok ended) same i
 received_end {S} ways start now read behind frame count pulled (Err fault) same is at bad r =
     let place : HasNoPlace (pulled.taken + pulled.had) frame = rw same bad.1 in
     rw bad.0 (spelling frame ++ behind, pulled.taken, pulled.had, inr (frame, behind, is, refl, place), r)
+
+-- the rest in another way
+pub received_rest : {S : Type 0} (ways : Ways S) (start now : S) (read rest left : List ℕ) (taken had : ℕ) → rest ≡ left → Received ways start now read rest taken had → Received ways start now read left taken had
+received_rest {S} ways start now read rest left taken had same r = subst (λ (s : List ℕ). Received ways start now read s taken had) same r
+
+-- a piece more was read, and it stands behind what stood there
+pub received_more : {S : Type 0} (ways : Ways S) (start now : S) (read held piece : List ℕ) (taken had : ℕ) → Received ways start now read held taken had
+    → Received ways start now (read ++ piece) (held ++ piece) taken had
+received_more {S} ways start now read held piece taken had r = record {
+  writes = r.writes;
+  tooks = r.tooks;
+  whole = ap (λ s. s ++ piece) r.whole ∙ append_assoc (spellings (items_of r.writes)) held piece;
+  each = r.each;
+  took = r.took;
+  holds = r.holds;
+  new = r.new;
+  held = r.held;
+  number = r.number;
+}
+
+-- ---- how many
+
+frame_size : (frame : Frame) → 3 ≤ length (spelling frame)
+unfolding spelling
+frame_size frame = omega arith
+
+frames_size : (frames : List Frame) → 3 * length frames ≤ length (spellings frames)
+frames_size [] = omega arith
+frames_size (frame ∷ frames) = omega (arith, frame_size frame, frames_size frames, length-append (spelling frame) (spellings frames))
+
+-- so many bytes have no more frames than a third
+pub few_frames : (held piece rest : List ℕ) (frames : List Frame) (taken had limit : ℕ) → held ++ piece ≡ spellings frames ++ rest → 3 * (taken + had) + (length held + length piece) ≤ limit
+    → 3 * (taken + had + length frames) ≤ limit
+few_frames held piece rest frames taken had limit whole few =
+    omega (arith, few, frames_size frames, ap length whole, length-append held piece, length-append (spellings frames) rest)
+
+-- what was received has no more bytes than were read
+pub few_received : {S : Type 0} (ways : Ways S) (start now : S) (read held : List ℕ) (taken had : ℕ) → Received ways start now read held taken had → 3 * (taken + had) + length held ≤ length read
+few_received {S} ways start now read held taken had r =
+    omega (arith, frames_size (items_of r.writes), ap length r.whole, r.number, length-map r.writes Item, length-append (spellings (items_of r.writes)) held)
+
+-- ---- between two pieces
+
+holds_start : (known : Option (List Write)) → IfSome known (λ held. known ≡ Some (held ++ []))
+holds_start None = tt
+holds_start (Some held) = ap Some (sym (append-nil held))
+
+pub received_start : {S : Type 0} (ways : Ways S) (start : S) (taken had : ℕ) → taken ≡ 0 → had ≡ 0 → Received ways start start [] [] taken had
+received_start {S} ways start taken had no_taken no_had = record {
+  writes = [];
+  tooks = [];
+  whole = refl;
+  each = tt;
+  took = refl;
+  holds = holds_start (ways.list start);
+  new = no_taken;
+  held = no_had;
+  number = omega (arith, no_taken, no_had);
+}
+
+pub standing_start : {S : Type 0} (ways : Ways S) (start : S) (frames : Option (List ℕ)) (pulled : Pulled) → frames ≡ Some [] → pulled.taken ≡ 0 → pulled.had ≡ 0
+    → Standing ways start start [] frames pulled
+standing_start {S} ways start frames pulled waits taken had = record {
+  held = [];
+  partial = tt;
+  waits = waits;
+  received = received_start ways start pulled.taken pulled.had taken had;
+}
+
+pub stands : {S : Type 0} (ways : Ways S) (start now : S) (read : List ℕ) (frames : Option (List ℕ)) (pulled : Pulled) → Standing ways start now read frames pulled → Stands ways start now read
+stands {S} ways start now read frames pulled s = (s.held, pulled.taken, pulled.had, s.partial, s.received)
+
+-- what may end a read ends the pull between two pieces
+pub ends_reading : {S : Type 0} (ways : Ways S) (start now : S) (read : List ℕ) (is_end : Type 0) (fault : Fault) → IsReadFault fault → Stands ways start now read
+    → PullEnds ways start now read is_end (Err (Stream fault))
+ends_reading {S} ways start now read is_end faults.Read is s = s
+ends_reading {S} ways start now read is_end faults.TooManyTurns is s = s
+ends_reading {S} ways start now read is_end faults.Write is s = absurd is
+ends_reading {S} ways start now read is_end faults.Cut is s = absurd is
+ends_reading {S} ways start now read is_end faults.BadFrame is s = absurd is
+ends_reading {S} ways start now read is_end faults.OutOfMemory is s = absurd is
+
+-- what ended the pull at a frame ended it, whether the input has ended or not
+pub ends_anywhere : {S : Type 0} (ways : Ways S) (start now : S) (read : List ℕ) (is_end : Type 0) (result : Result Pulled PullFault) → PullEnds ways start now read ⊥ result
+    → PullEnds ways start now read is_end result
+ends_anywhere {S} ways start now read is_end (Ok pulled) e = e
+ends_anywhere {S} ways start now read is_end (Err (Refused fault)) e = e
+ends_anywhere {S} ways start now read is_end (Err (Stream faults.Read)) e = e
+ends_anywhere {S} ways start now read is_end (Err (Stream faults.TooManyTurns)) e = e
+ends_anywhere {S} ways start now read is_end (Err (Stream faults.Write)) e = e
+ends_anywhere {S} ways start now read is_end (Err (Stream faults.Cut)) e = absurd e.0
+ends_anywhere {S} ways start now read is_end (Err (Stream faults.BadFrame)) e = e
+ends_anywhere {S} ways start now read is_end (Err (Stream faults.OutOfMemory)) e = e
+
+-- no turn read more than a piece, so that the numbers stay small
+pub standing_room : {S : Type 0} (ways : Ways S) (start now : S) (read : List ℕ) (frames : Option (List ℕ)) (pulled : Pulled) (s : Standing ways start now read frames pulled) (piece : List ℕ)
+    (turns later first : ℕ) → length piece ≤ READ_BYTES → length read + READ_BYTES * turns ≤ READ_BYTES * first → later < turns → first ≤ MAX_TURNS
+    → 3 * (pulled.taken + pulled.had) + (length s.held + length piece) ≤ READ_BYTES * MAX_TURNS
+standing_room {S} ways start now read frames pulled s piece turns later first short room spent budget =
+    let few = few_received ways start now read s.held pulled.taken pulled.had s.received in
+    omega (arith, few, short, room, spent, budget)
+
+-- a read that gives nothing takes nothing
+pub consumes_none : (a b c : Option (List ℕ)) (read piece : List ℕ) (count : ℕ) → count ≡ 0 → Consumes a b read → Consumes b c (take count piece) → Consumes a c read
+consumes_none a b c read piece count none p q =
+    subst (Consumes a c) (append-nil read) (Consumes-trans a b c read [] p (subst (λ (n : ℕ). Consumes b c (take n piece)) none q))
+
+-- ---- before anything was read
+
+-- what may end the Offer's sending ends the pull before anything is read
+pub ends_sending : {S : Type 0} (ways : Ways S) (start : S) (is_end : Type 0) (fault : Fault) → IsSendFault fault → PullEnds ways start start [] is_end (Err (Stream fault))
+ends_sending {S} ways start is_end faults.Read is = absurd is
+ends_sending {S} ways start is_end faults.TooManyTurns is = ([], 0, 0, tt, received_start ways start 0 0 refl refl)
+ends_sending {S} ways start is_end faults.Write is = (refl, refl)
+ends_sending {S} ways start is_end faults.Cut is = absurd is
+ends_sending {S} ways start is_end faults.BadFrame is = absurd is
+ends_sending {S} ways start is_end faults.OutOfMemory is = ([], 0, 0, received_start ways start 0 0 refl refl)

@@ -1,24 +1,27 @@
-ghost use Rattle.std.specs.Prelude.{◌≡◌, ◌≢◌, ◌+◌, ◌<◌, ◌≤◌, ◌^◌, ◌++◌, true, ℕ, List, IfErr, IfOk, IfSome, OnOk, length};
+ghost use Rattle.std.specs.Prelude.{◌≡◌, ◌≢◌, ◌+◌, ◌*◌, ◌<◌, ◌≤◌, ◌^◌, ◌++◌, true, ℕ, List, Some, IfErr, IfOk, IfSome, OnOk, length};
 ghost use Rattle.std.specs.List.{AllByRecursion};
 ghost use Rattle.std.specs.Io.KnownBytes.{Appends, Consumes, IsAtEnd};
+ghost use Rattle.bayou_base.specs.declared.limits.TheConstants.{MAX_TURNS, READ_BYTES};
 ghost use Rattle.bayou_lang.specs.Ranges.{IsWrite};
 ghost use Rattle.bayou_lang.specs.Writes.{count_of};
 ghost use Rattle.bayou_peer.specs.declared.fault.Fault.TheVariants.{BadFrame};
 ghost use Rattle.bayou_peer.specs.declared.fault.PullFault.TheVariants.{Stream};
 ghost use Rattle.bayou_peer.specs.Pulls.{PullEnds, Received};
-ghost use Rattle.bayou_peer.specs.Steps.{Goes, IsTakeFault};
+ghost use Rattle.bayou_peer.specs.Steps.{Goes, GoesOn, IsTakeFault};
 ghost use Rattle.bayou_peer.specs.Stopping.{StopsPull};
 ghost use Rattle.bayou_streams.specs.Written.{AppendsFront};
 ghost use Rattle.bayou_wire.specs.declared.frame.Frame.TheVariants.{Item, Offer};
 ghost use Rattle.bayou_wire.specs.Spelling.{IsFrame};
-ghost use Rattle.bayou_wire.specs.Stream.{spelling, spellings};
+ghost use Rattle.bayou_wire.specs.Stream.{IsPartial, spelling, spellings};
 
 use crate::fault::{Fault, PullFault};
+use crate::framing::{feed_piece, read_piece, send};
 use crate::replica::Replica;
 use bayou_base::Vector;
+use bayou_base::limits::READ_BYTES;
 use bayou_server::Took;
 use bayou_streams::Channel;
-use bayou_wire::Frame;
+use bayou_wire::{Frame, Frames, encode_frame};
 use std::alloc::Global;
 use std::io::{Read, Write};
 
@@ -115,6 +118,57 @@ fn take_came<P: Replica>(
     Ok(false)
 }
 
+// Takes a piece of what comes.
+fn take_piece<P: Replica>(
+    alloc: Global,
+    replica: &mut P,
+    frames: &mut Frames,
+    piece: &[u8],
+    pulled: &mut Pulled,
+) -> Result<bool, PullFault>
+    requires few { (held : List ℕ) × IsPartial held × (frames.old ≡ Some held)
+        × (3 * (pulled.old.taken + pulled.old.had) + (length held + length piece.now) ≤ READ_BYTES * MAX_TURNS) }
+    ensures goes { (start : P) (read held : List ℕ) → IsPartial held → frames.old ≡ Some held
+        → Received (record { list = P.list; takes = P.takes }) start replica.old read held pulled.old.taken pulled.old.had
+        → GoesOn (record { list = P.list; takes = P.takes }) start replica.new (read ++ piece.now) frames.new pulled.new result }
+    ensures fault { IfErr result IsTakeFault }
+{
+    let came = feed_piece(alloc, frames, piece)?;
+    if take_came(alloc, replica, &came.frames, pulled)? {
+        return Ok(true);
+    }
+    if came.is_bad {
+        return Err(PullFault::Stream(Fault::BadFrame));
+    }
+    Ok(false)
+}
+
+// Takes what comes, each piece as it comes, up to the End.
+fn receive<P: Replica, R: Read, W>(
+    alloc: Global,
+    replica: &mut P,
+    channel: &mut Channel<R, W>,
+) -> Result<Pulled, PullFault>
+    ensures ends { (read : List ℕ) × Consumes (R.remaining channel.old.reader) (R.remaining channel.new.reader) read
+        × PullEnds (record { list = P.list; takes = P.takes }) replica.old replica.new read (IsAtEnd (R.remaining channel.new.reader)) result }
+    ensures stopped { IfErr result (StopsPull channel.new.read_failed channel.new.write_failed channel.new.turns_left) }
+    ensures turns { channel.new.turns_left ≤ channel.old.turns_left }
+    ensures other { (channel.new.writer ≡ channel.old.writer) × (channel.new.write_failed ≡ channel.old.write_failed) }
+{
+    let mut frames = Frames::new(alloc);
+    let mut pulled = Pulled { taken: 0, had: 0 };
+    let mut piece = [0; READ_BYTES];
+    loop {
+        let count = read_piece(channel, &mut piece)?;
+        if count == 0 {
+            return Err(PullFault::Stream(Fault::Cut));
+        }
+        if take_piece(alloc, replica, &mut frames, &piece[..count], &mut pulled)? {
+            return Ok(pulled);
+        }
+    }
+}
+
 /// Sends the vector as an Offer, and takes the Writes that come, each as it comes, up to the End.
 pub fn pull_from_on<P: Replica, R: Read, W: Write>(
     alloc: Global,
@@ -129,7 +183,11 @@ pub fn pull_from_on<P: Replica, R: Read, W: Write>(
     ensures stopped { IfErr result (StopsPull channel.new.read_failed channel.new.write_failed channel.new.turns_left) }
     ensures turns { channel.new.turns_left ≤ channel.old.turns_left }
 {
-    loop {}
+    let Ok(offer) = encode_frame(alloc, &Frame::Offer(*counts)) else {
+        return Err(PullFault::Stream(Fault::OutOfMemory));
+    };
+    send(channel, &offer)?;
+    receive(alloc, replica, channel)
 }
 
 /// Sends the replica's own vector as an Offer, and takes what comes, as [`pull_from_on`] does.

@@ -1,4 +1,4 @@
-use Rattle.std.proofs.Common.{rules, arith, ◌≡◌, ◌+◌, [], ◌∷◌, refl}
+use Rattle.std.proofs.Common.{arith, ◌≡◌, ◌+◌, [], ◌∷◌, refl}
 use Rattle.bayou_peer.specs.Taking.{hads, news}
 use Rattle.bayou_peer.proofs.Received.{received_refused, received_took}
 use Rattle.bayou_peer.proofs.pulling.take_item.Goals as goal
