@@ -1,6 +1,7 @@
 -- The servers of a machine, each in its place.
 use Rattle.std.proofs.Common.{◌≡◌, ℕ, zero, suc, ◌<◌, List, [], ◌∷◌, Some, set, length, get_or, ap, sym, ◌∙◌, subst, refl, arith}
 use Rattle.std.proofs.lemmas.Option.{slice_get_read}
+use Rattle.std.proofs.lemmas.List.{get_or_default, set-get_or}
 use Rattle.std.specs.List.{insert, remove, slice_get}
 use Rattle.bayou_shell.specs.declared.replica.Replica.{Replica}
 
@@ -16,3 +17,16 @@ pub put_back : (replicas : List Replica) (place : ℕ) (replica : Replica) → p
 put_back [] place replica within = absurd (omega arith)
 put_back (first ∷ replicas) zero replica within = refl
 put_back (first ∷ replicas) (suc place) replica within = ap (λ (list : List Replica). first ∷ list) (put_back replicas place replica (omega arith))
+
+-- a server that is put in its place again changes nothing
+pub put_same : (replicas : List Replica) (at : ℕ) (replica same : Replica) → replica ≡ get_or replicas at replica → same ≡ replica → set replicas at same ≡ replicas
+put_same replicas at replica same here is =
+    ap (set replicas at) (is ∙ here) ∙ set-get_or replicas at replica
+
+-- some server stands at a place that there is
+pub one_stands : (replicas servers : List Replica) (count place : ℕ) (default : Replica) → replicas ≡ servers → length replicas ≡ count → place < count
+    → slice_get servers place ≡ Some (get_or replicas place default)
+one_stands replicas servers count place default same many within =
+    stands_at replicas servers count place place (get_or replicas place default) same many refl within
+    (get_or_default replicas place (get_or replicas place default) default (omega (arith, many, within)))
+

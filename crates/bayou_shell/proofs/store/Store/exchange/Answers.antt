@@ -1,21 +1,58 @@
-use Rattle.std.proofs.Common.{rules, ◌≡◌, ◌<◌, ℕ, IfOk, IfErr, IsTrue, List, MatchResult, ◌+◌, ◌-◌, ◌*◌, ◌≤◌, length, ◌/◌, ◌%◌, Bool, true, false, nat_eq, nat_lt, [], ◌∷◌, ◌++◌, slice_index_or, slice_set, bit_and, bit_or, Fits, w8, w32, w64, Bor, MutBor}
-use Rattle.bayou_shell.specs.declared.answer.Answer.TheVariants.{Done, Exchanged, Recovered}
-use Rattle.bayou_text.specs.Said.{fuse, log, lose, pull, read, reopen, resend, restart, session, write, command_said}
-use Rattle.bayou_shell.specs.Exchange.{Exchanges}
-use Rattle.bayou_shell.specs.declared.replica.Replica.{Replica as Replicated}
-use Rattle.bayou_shell.specs.Machine.{FailsToBegin, HasBegun, StandsAt, session_of}
-use Rattle.bayou_shell.specs.Run.{IsLog, Step}
-use Rattle.bayou_script.specs.Script.{is_served}
+use Rattle.std.proofs.Common.{◌≡◌, ◌<◌, ◌∙◌, ℕ, List, Option, None, Some, inl, ap, sym, subst, arith, refl, length, get_or, set}
+use Rattle.bayou_lang.specs.declared.write.Write.{Write}
+use Rattle.bayou_lang.specs.Writes.{lacking_of}
+use Rattle.bayou_peer.specs.Meeting.{cut_answer}
+use Rattle.bayou_shell.specs.declared.answer.Answer.TheVariants.{Exchanged}
+use Rattle.bayou_shell.specs.declared.answer.Exchange.TheVariants.{NotRunning}
+use Rattle.bayou_shell.specs.declared.replica.Replica.{Replica}
+use Rattle.bayou_shell.specs.Exchange.{IsExchanged}
+use Rattle.bayou_shell.specs.Inner.Sent.{IsGiven, IsNoAnswer}
+use Rattle.bayou_shell.proofs.Exchanged.{given, no_answer}
+use Rattle.bayou_shell.proofs.Standing.{one_stands, put_same, stands_at}
 use Rattle.bayou_shell.proofs.store.Store.exchange.Goals as goal
+use Rattle.bayou_shell.proofs.store.Store.exchange.Goals.{in-Some, in-None}
 
--- src/store.rt:188:13
 pub returns-in-Stopped : goal.returns-in-Stopped
-returns-in-Stopped c = ?
+returns-in-Stopped c counts_of same =
+    let replicas = c.self.inside.replicas.items in
+    let servers : replicas ≡ c.args.self.now.servers = ap (λ machine. machine.servers) c.self.view_is in
+    let count : c.self.inside.servers.count ≡ c.args.self.now.count = ap (λ machine. machine.count) c.self.view_is in
+    let before = c.index.result.now in
+    record {
+      before = before;
+      sender = get_or replicas c.args.from.index before;
+      after = before;
+      exchange = NotRunning;
+      takes = stands_at replicas c.args.self.now.servers c.self.inside.servers.count c.args.to.index c.from.result before servers c.self.invariant c.from.ensures
+          (omega (arith, count, c.requires.to)) c.index.ensures;
+      sends = one_stands replicas c.args.self.now.servers c.self.inside.servers.count c.args.from.index before servers c.self.invariant (omega (arith, count, c.requires.from));
+      answered = refl;
+      does = (inl (c.in-Stopped.field-0, c.in-Stopped.is), refl);
+      only = ?;
+    }
 
--- src/store.rt:192:30
 pub returns-in-Err : goal.returns-in-Err
-returns-in-Err c = ?
+returns-in-Err c counts_of same =
+    let replicas = c.self.inside.replicas.items in
+    let servers : replicas ≡ c.args.self.now.servers = ap (λ machine. machine.servers) c.self.view_is in
+    let count : c.self.inside.servers.count ≡ c.args.self.now.count = ap (λ machine. machine.count) c.self.view_is in
+    let before = c.index.result.now in
+    let sender = c.index_mut.result.now in
+    let takes = stands_at replicas c.args.self.now.servers c.self.inside.servers.count c.args.to.index c.from.result before servers c.self.invariant c.from.ensures
+        (omega (arith, count, c.requires.to)) c.index.ensures in
+    record {
+      before = before;
+      sender = sender;
+      after = before;
+      exchange = c.in-Err.exchange;
+      takes = takes;
+      sends = stands_at replicas c.args.self.now.servers c.self.inside.servers.count c.args.from.index c.from-2.result sender servers c.self.invariant c.from-2.ensures
+          (omega (arith, count, c.requires.from)) c.index_mut.ensures.value;
+      answered = refl;
+      does = subst (λ counts. IsExchanged counts c.args.cut before sender c.in-Err.exchange before) (sym (same before takes))
+          (no_answer c.args.counts.now c.args.cut before sender c.in-Err.exchange c.in_default.field-0 c.in_default.is c.in-Err.ensures.none);
+      only = ?;
+    }
 
--- src/store.rt:174:5
 pub returns : goal.returns
-returns c = ?
+returns c counts_of same = ?
