@@ -11,6 +11,7 @@
 
 pub mod answering;
 pub mod fault;
+mod first;
 mod framing;
 mod lent;
 pub mod pulling;
