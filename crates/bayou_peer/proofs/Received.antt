@@ -123,8 +123,11 @@ pub received_end : {S : Type 0} (ways : Ways S) (start now : S) (read behind : L
     → IfOk result (λ ended. (ended ≡ true) × (count ≡ pulled.taken + pulled.had)) → IfErr result (λ fault. (fault ≡ Stream BadFrame) × (count ≢ pulled.taken + pulled.had))
     → Received ways start now read (spelling frame ++ behind) pulled.taken pulled.had → Goes ways start now read behind pulled result
 received_end {S} ways start now read behind frame count pulled (Ok ended) same is at bad r =
-    rw at.0 (behind, subst (λ (n : ℕ). Received ways start now read (spelling (End n) ++ behind) pulled.taken pulled.had) at.1
-        (subst (λ (f : Frame). Received ways start now read (spelling f ++ behind) pulled.taken pulled.had) same r))
+    rw at.0 (
+      behind,
+      subst (λ (n : ℕ). Received ways start now read (spelling (End n) ++ behind) pulled.taken pulled.had) at.1
+          (subst (λ (f : Frame). Received ways start now read (spelling f ++ behind) pulled.taken pulled.had) same r),
+    )
 received_end {S} ways start now read behind frame count pulled (Err fault) same is at bad r =
     let place : HasNoPlace (pulled.taken + pulled.had) frame = rw same bad.1 in
     rw bad.0 (spelling frame ++ behind, pulled.taken, pulled.had, inr (frame, behind, is, refl, place), r)
@@ -245,3 +248,10 @@ ends_sending {S} ways start is_end faults.Write is = (refl, refl)
 ends_sending {S} ways start is_end faults.Cut is = absurd is
 ends_sending {S} ways start is_end faults.BadFrame is = absurd is
 ends_sending {S} ways start is_end faults.OutOfMemory is = ([], 0, 0, received_start ways start 0 0 refl refl)
+
+-- a pull that has ended was given no more Writes than a third of the bytes
+pub few_ended : {S : Type 0} (ways : Ways S) (start now : S) (read : List ℕ) (is_end : Type 0) (pulled : Pulled) → PullEnds ways start now read is_end (Ok pulled)
+    → 3 * (pulled.taken + pulled.had) ≤ length read
+few_ended {S} ways start now read is_end pulled e =
+    let few = few_received ways start now read (spelling (End (pulled.taken + pulled.had)) ++ e.0) pulled.taken pulled.had e.1 in
+    omega (arith, few)

@@ -77,3 +77,7 @@ PullEnds ways start now read is_end (Err (Stream faults.OutOfMemory)) =
     (rest : List ℕ) × (taken had : ℕ) × Received ways start now read rest taken had
 -- the Offer wasn't sent
 PullEnds ways start now read is_end (Err (Stream faults.Write)) = (read ≡ []) × (now ≡ start)
+
+-- how a pull of known input ends: it read a front of it
+abbrev pub EndsOf : {S : Type 0} → Ways S → (start now : S) → (input : List ℕ) → Result Pulled PullFault → Type 0
+EndsOf ways start now input result = (read left : List ℕ) × (input ≡ read ++ left) × PullEnds ways start now read (left ≡ []) result

@@ -13,6 +13,7 @@ pub mod answering;
 pub mod fault;
 mod first;
 mod framing;
+pub mod laws;
 mod lent;
 pub mod pulling;
 pub mod replica;

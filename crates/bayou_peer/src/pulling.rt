@@ -152,6 +152,7 @@ fn receive<P: Replica, R: Read, W>(
     ensures ends { (read : List ℕ) × Consumes (R.remaining channel.old.reader) (R.remaining channel.new.reader) read
         × PullEnds (record { list = P.list; takes = P.takes }) replica.old replica.new read (IsAtEnd (R.remaining channel.new.reader)) result }
     ensures stopped { IfErr result (StopsPull channel.new.read_failed channel.new.write_failed channel.new.turns_left) }
+    ensures few { IfOk result (λ pulled. pulled.taken + pulled.had < 2 ^ 32) }
     ensures turns { channel.new.turns_left ≤ channel.old.turns_left }
     ensures other { (channel.new.writer ≡ channel.old.writer) × (channel.new.write_failed ≡ channel.old.write_failed) }
 {
@@ -181,6 +182,7 @@ pub fn pull_from_on<P: Replica, R: Read, W: Write>(
     ensures ends { (read : List ℕ) × Consumes (R.remaining channel.old.reader) (R.remaining channel.new.reader) read
         × PullEnds (record { list = P.list; takes = P.takes }) replica.old replica.new read (IsAtEnd (R.remaining channel.new.reader)) result }
     ensures stopped { IfErr result (StopsPull channel.new.read_failed channel.new.write_failed channel.new.turns_left) }
+    ensures few { IfOk result (λ pulled. pulled.taken + pulled.had < 2 ^ 32) }
     ensures turns { channel.new.turns_left ≤ channel.old.turns_left }
 {
     let Ok(offer) = encode_frame(alloc, &Frame::Offer(*counts)) else {
@@ -202,6 +204,7 @@ pub fn pull_on<P: Replica, R: Read, W: Write>(
     ensures ends { (read : List ℕ) × Consumes (R.remaining channel.old.reader) (R.remaining channel.new.reader) read
         × PullEnds (record { list = P.list; takes = P.takes }) replica.old replica.new read (IsAtEnd (R.remaining channel.new.reader)) result }
     ensures stopped { IfErr result (StopsPull channel.new.read_failed channel.new.write_failed channel.new.turns_left) }
+    ensures few { IfOk result (λ pulled. pulled.taken + pulled.had < 2 ^ 32) }
     ensures turns { channel.new.turns_left ≤ channel.old.turns_left }
 {
     let counts = replica.offer();

@@ -26,7 +26,7 @@ pub returns-in_err-send-clause-ends : goal.returns-in_err-send-clause-ends
 returns-in_err-send-clause-ends g c =
     let p = err_from_is_err_and c.from_residual.result c.from_residual.ensures.1 in
     let ended = ends_sending {S = g.row.P.Denot} (record { list = g.P.Replica.list; takes = g.P.Replica.takes }) c.args.replica.now
-        (IsAtEnd (g.R.Read.remaining c.send.new.channel.reader)) c.in_err-send.field-0.0 c.in_err-send.ensures.fault in
+    (IsAtEnd (g.R.Read.remaining c.send.new.channel.reader)) c.in_err-send.field-0.0 c.in_err-send.ensures.fault in
     ([], rw c.in_err-send.ensures.other.0 (Consumes-nil _), rw (p.1, p.2) ended)
 
 pub returns-clause-offered : goal.returns-clause-offered

@@ -3,7 +3,7 @@ use Rattle.std.proofs.KnownBytes.{Consumes-kept, Consumes-nil, Consumes-trans}
 use Rattle.std.specs.Io.KnownBytes.{IsAtEnd}
 use Rattle.std.proofs.lemmas.Result.{err_from_is_err_and}
 use Rattle.bayou_base.specs.declared.limits.TheConstants.{READ_BYTES}
-use Rattle.bayou_peer.proofs.Received.{consumes_none, ends_anywhere, ends_reading, standing_room, standing_start, stands}
+use Rattle.bayou_peer.proofs.Received.{few_ended, consumes_none, ends_anywhere, ends_reading, standing_room, standing_start, stands}
 use Rattle.bayou_peer.proofs.pulling.receive.Goals as goal
 
 pub loop-frames-init : goal.loop-frames-init
@@ -26,9 +26,12 @@ returns-in_err-take_piece-clause-ends g c =
     let (read, consumed, standing, room) = c.loop-frames.invariant.went in
     let more = Consumes-trans _ _ _ _ _ consumed c.in_ok-count.ensures.bytes.0 in
     let went = c.in_err-take_piece.ensures.goes _ read standing.held standing.partial standing.waits standing.received in
-    let p = err_from_is_err_and c.from_residual-in_err-take_piece.result c.from_residual-in_err-take_piece.ensures.1 in
-    (read ++ take c.in_ok-count.count c.read_piece.new.piece, more, rw (p.1, p.2) (ends_anywhere {S = g.row.P.Denot} (record { list = g.P.Replica.list; takes = g.P.Replica.takes }) c.args.replica.now c.take_piece.new.replica (read ++ take c.in_ok-count.count c.read_piece.new.piece)
-        (IsAtEnd (g.R.Read.remaining c.read_piece.new.channel.reader)) (Err c.in_err-take_piece.field-0.0) went))
+    let p = err_from_is_err_and c.from_residual-in_err-take_piece.result c.from_residual-in_err-take_piece.ensures.1 in (
+      read ++ take c.in_ok-count.count c.read_piece.new.piece,
+      more,
+      rw (p.1, p.2) (ends_anywhere {S = g.row.P.Denot} (record { list = g.P.Replica.list; takes = g.P.Replica.takes }) c.args.replica.now c.take_piece.new.replica (read ++ take c.in_ok-count.count c.read_piece.new.piece)
+          (IsAtEnd (g.R.Read.remaining c.read_piece.new.channel.reader)) (Err c.in_err-take_piece.field-0.0) went),
+    )
 
 pub returns-then-branch-clause-ends : goal.returns-then-branch-clause-ends
 returns-then-branch-clause-ends g c =
@@ -44,8 +47,12 @@ loop-frames-preserved g c =
     let went = c.in_ok-take_piece.ensures.goes _ read standing.held standing.partial standing.waits standing.received in
     let some = length-take c.in_ok-count.count c.read_piece.new.piece in
     record {
-      went = (read ++ take c.in_ok-count.count c.read_piece.new.piece, more, rw c.if-branch.false at went,
-          omega (arith, room, some, c.read_piece.ensures.size, c.loop-frames.invariant.room, c.in_ok-count.ensures.spent, length-append read (take c.in_ok-count.count c.read_piece.new.piece)));
+      went = (
+        read ++ take c.in_ok-count.count c.read_piece.new.piece,
+        more,
+        rw c.if-branch.false at went,
+        omega (arith, room, some, c.read_piece.ensures.size, c.loop-frames.invariant.room, c.in_ok-count.ensures.spent, length-append read (take c.in_ok-count.count c.read_piece.new.piece)),
+      );
       room = c.read_piece.ensures.size ∙ c.loop-frames.invariant.room;
       fewer = omega (arith, c.loop-frames.invariant.fewer, c.read_piece.ensures.turns);
       other = (c.read_piece.ensures.other.0 ∙ c.loop-frames.invariant.other.0, c.read_piece.ensures.other.1 ∙ c.loop-frames.invariant.other.1);
@@ -57,7 +64,7 @@ returns-in_err-count-clause-ends g c =
     let kept = Consumes-kept _ _ _ _ consumed c.in_err-count.ensures.bytes in
     let p = err_from_is_err_and c.from_residual.result c.from_residual.ensures.1 in
     let ended = ends_reading {S = g.row.P.Denot} (record { list = g.P.Replica.list; takes = g.P.Replica.takes }) c.args.replica.now c.loop-frames.replica read
-        (IsAtEnd (g.R.Read.remaining c.read_piece.new.channel.reader)) c.in_err-count.field-0.0 c.in_err-count.ensures.fault (stands _ _ _ _ _ _ standing) in
+    (IsAtEnd (g.R.Read.remaining c.read_piece.new.channel.reader)) c.in_err-count.field-0.0 c.in_err-count.ensures.fault (stands _ _ _ _ _ _ standing) in
     (read, kept, rw (p.1, p.2) ended)
 
 pub returns-then-count-eq0-clause-ends : goal.returns-then-count-eq0-clause-ends
@@ -66,3 +73,12 @@ returns-then-count-eq0-clause-ends g c =
     let taken = c.in_ok-count.ensures.bytes in
     let some : 0 < length c.read_piece.new.piece = omega (arith, c.read_piece.ensures.size, c.loop-frames.invariant.room) in
     (read, consumes_none _ _ _ read _ _ c.if-count-eq0.true consumed taken.0, (taken.1 c.if-count-eq0.true some, stands _ _ _ _ _ _ standing))
+
+pub returns-then-branch-clause-few : goal.returns-then-branch-clause-few
+returns-then-branch-clause-few g c =
+    let (read, consumed, standing, room) = c.loop-frames.invariant.went in
+    let went = c.in_ok-take_piece.ensures.goes _ read standing.held standing.partial standing.waits standing.received in
+    let few = few_ended {S = g.row.P.Denot} (record { list = g.P.Replica.list; takes = g.P.Replica.takes }) c.args.replica.now c.take_piece.new.replica
+    (read ++ take c.in_ok-count.count c.read_piece.new.piece) ⊥ c.take_piece.new.pulled (rw c.if-branch.true at went) in
+    let some = length-take c.in_ok-count.count c.read_piece.new.piece in
+    omega (arith, few, room, some, c.read_piece.ensures.size, c.loop-frames.invariant.room, c.in_ok-count.ensures.spent, c.args.channel.now.in_budget, length-append read (take c.in_ok-count.count c.read_piece.new.piece))
