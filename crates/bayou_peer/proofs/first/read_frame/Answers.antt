@@ -1,4 +1,4 @@
-use Rattle.std.proofs.Common.{arith, ◌≡◌, ◌≤◌, ◌++◌, ◌∙◌, length, take, subst, ℕ, List, Option, Some, None, Ok, Err}
+use Rattle.std.proofs.Common.{arith, ◌++◌, ◌∙◌, take, subst, Option, Ok}
 use Rattle.std.proofs.KnownBytes.{Consumes-trans}
 use Rattle.std.proofs.lemmas.Result.{err_from_is_err_and}
 use Rattle.std.specs.Io.KnownBytes.{IsAtEnd}
