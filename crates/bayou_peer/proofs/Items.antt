@@ -1,5 +1,5 @@
 -- The Items that are sent, and how they grow by a few at a time.
-use Rattle.std.proofs.Common.{arith, ◌≡◌, ◌<◌, ◌≤◌, ℕ, ◌+◌, List, [], ◌∷◌, ◌++◌, Option, None, Some, Result, Ok, Err, IsErr, IfOk, IfSome, OnOk, refl, sym, ap, subst, get_or, add-one, zero, suc, ◌∙◌, append_assoc, length, length-append, take, drop, map}
+use Rattle.std.proofs.Common.{arith, ◌≡◌, ◌<◌, ℕ, ◌+◌, List, [], ◌∷◌, ◌++◌, Option, None, Some, Ok, Err, IfSome, refl, sym, ap, subst, get_or, add-one, zero, suc, ◌∙◌, append_assoc, length, length-append, take, drop}
 use Rattle.std.proofs.KnownBytes.{Appends-nil, Appends-trans}
 use Rattle.std.proofs.lemmas.Grind.{flat_map-append}
 use Rattle.std.proofs.lemmas.List.{append-nil, map-append, take-append-drop}
@@ -18,7 +18,7 @@ use Rattle.bayou_peer.specs.Spelled.{answer_bytes, item_bytes, items_of}
 use Rattle.bayou_streams.specs.Written.{AppendsFront}
 use Rattle.bayou_wire.specs.declared.frame.Frame.{Frame}
 use Rattle.bayou_wire.specs.declared.frame.Frame.TheVariants.{End, Item}
-use Rattle.bayou_wire.specs.Spelling.{SpellsFrame, frame_bytes, kind_of, payload_bytes}
+use Rattle.bayou_wire.specs.Spelling.{SpellsFrame, kind_of, payload_bytes}
 use Rattle.bayou_wire.specs.Stream.{spelling, spellings}
 
 -- ---- their bytes
@@ -105,14 +105,13 @@ sends_fault spelled writes before after fault part = record { whole = tt; part =
 -- one batch more
 pub sent_more : (list : Option (List Write)) (counts told now : List ℕ) (before mid after : Option (List ℕ)) (number more : ℕ)
     → HasSent list counts told before mid number → SendsBatch list told now mid after (Ok more) → HasSent list counts now before after (number + more)
-sent_more list counts told now before mid after number more (sent, lacks, wrote, counted, each) (writes, others, sends) =
-    (
-      sent ++ writes,
-      lacks_more list lacks others,
-      subst (Appends before after) (sym (item_bytes-append sent writes)) (Appends-trans before mid after (item_bytes sent) (item_bytes writes) wrote sends.whole),
-      omega (arith, counted, sends.number, length-append sent writes),
-      all-append IsWrite sent writes each sends.each,
-    )
+sent_more list counts told now before mid after number more (sent, lacks, wrote, counted, each) (writes, others, sends) = (
+  sent ++ writes,
+  lacks_more list lacks others,
+  subst (Appends before after) (sym (item_bytes-append sent writes)) (Appends-trans before mid after (item_bytes sent) (item_bytes writes) wrote sends.whole),
+  omega (arith, counted, sends.number, length-append sent writes),
+  all-append IsWrite sent writes each sends.each,
+)
   where
     lacks_more : (list : Option (List Write)) → IfSome list (λ held. lacking_of counts held ≡ sent ++ lacking_of told held)
         → IfSome list (λ held. lacking_of told held ≡ writes ++ lacking_of now held) → IfSome list (λ held. lacking_of counts held ≡ (sent ++ writes) ++ lacking_of now held)
@@ -124,8 +123,7 @@ pub sent_whole : (list : Option (List Write)) (counts told now : List ℕ) (befo
     → HasSent list counts told before mid number → SendsBatch list told now mid after (Ok more) → more ≡ 0 → IfSome list (λ held. lacking_of told held ≡ [])
     → SendsItems list counts before after (Ok number)
 sent_whole list counts told now before mid after number more (sent, lacks, wrote, counted, each) ([], others, sends) none all =
-    let whole = subst (Appends before after) (append-nil (item_bytes sent)) (Appends-trans before mid after (item_bytes sent) [] wrote sends.whole) in
-    (
+    let whole = subst (Appends before after) (append-nil (item_bytes sent)) (Appends-trans before mid after (item_bytes sent) [] wrote sends.whole) in (
       sent,
       is_all list lacks all,
       record { whole = whole; part = front_of_whole before after (item_bytes sent) whole; number = counted; each = each },

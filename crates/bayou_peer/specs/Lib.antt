@@ -1,3 +1,4 @@
+pub mod First
 pub mod Framing
 pub mod Lent
 pub mod Meeting

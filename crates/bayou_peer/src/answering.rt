@@ -1,9 +1,11 @@
-ghost use Rattle.std.specs.Prelude.{◌≡◌, ◌≤◌, IfErr};
-ghost use Rattle.bayou_peer.specs.Offers.{Answers};
+ghost use Rattle.std.specs.Prelude.{◌≡◌, ◌≤◌, ℕ, List, IfErr};
+ghost use Rattle.std.specs.Io.KnownBytes.{Consumes, IsAtEnd};
+ghost use Rattle.bayou_peer.specs.Offers.{Answers, OfferServed};
 ghost use Rattle.bayou_peer.specs.Sending.{SendsItems};
 ghost use Rattle.bayou_peer.specs.Stopping.{IsSendFault, Stops};
 
 use crate::fault::Fault;
+use crate::first::read_offer;
 use crate::framing::send;
 use crate::replica::Replica;
 use crate::sending::send_batch;
@@ -59,13 +61,18 @@ pub fn answer_offer_on<P: Replica, R, W: Write>(
     Ok(number)
 }
 
-/// Reads one Offer, and answers it.
+/// Reads one Offer, and answers it as [`answer_offer_on`] does. What came behind the Offer in the same piece is dropped.
 pub fn serve_offer_on<P: Replica, R: Read, W: Write>(
     alloc: Global,
     replica: &mut P,
     channel: &mut Channel<R, W>,
 ) -> Result<u32, Fault>
     ensures same { replica.new ≡ replica.old }
+    ensures serves { (read : List ℕ) × Consumes (R.remaining channel.old.reader) (R.remaining channel.new.reader) read
+        × OfferServed (P.list replica.old) read (W.contents channel.old.writer) (W.contents channel.new.writer) (IsAtEnd (R.remaining channel.new.reader)) result }
+    ensures stopped { IfErr result (Stops channel.new.read_failed channel.new.write_failed channel.new.turns_left) }
+    ensures turns { channel.new.turns_left ≤ channel.old.turns_left }
 {
-    loop {}
+    let counts = read_offer(alloc, channel)?;
+    answer_offer_on(alloc, replica, &counts, channel)
 }

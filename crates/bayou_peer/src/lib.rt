@@ -11,6 +11,7 @@
 
 pub mod answering;
 pub mod fault;
+mod first;
 mod framing;
 pub mod laws;
 mod lent;

@@ -4,6 +4,7 @@ use Rattle.std.proofs.lemmas.Option.{slice_get_read}
 use Rattle.std.proofs.lemmas.List.{get_or_default, set-get_or}
 use Rattle.std.specs.List.{insert, remove, slice_get}
 use Rattle.bayou_shell.specs.declared.replica.Replica.{Replica}
+use Rattle.bayou_shell.specs.Machine.{Machine, with_server}
 
 -- the server that is found at its place stands there
 pub stands_at : (replicas servers : List Replica) (count place at : ℕ) (replica : Replica) → replicas ≡ servers → length replicas ≡ count → at ≡ place
@@ -28,5 +29,14 @@ pub one_stands : (replicas servers : List Replica) (count place : ℕ) (default 
     → slice_get servers place ≡ Some (get_or replicas place default)
 one_stands replicas servers count place default same many within =
     stands_at replicas servers count place place (get_or replicas place default) same many refl within
-    (get_or_default replicas place (get_or replicas place default) default (omega (arith, many, within)))
+    (sym (get_or_default replicas place (get_or replicas place default) default (omega (arith, many, within))))
+
+-- nor in a machine
+pub same_machine : (machine : Machine) (replicas : List Replica) (place at : ℕ) (replica : Replica) → replicas ≡ machine.servers → at ≡ place → replica ≡ get_or replicas at replica
+    → machine ≡ with_server machine place replica
+same_machine machine replicas place at replica servers here found =
+    let same : set machine.servers place replica ≡ machine.servers =
+    subst (λ (list : List Replica). set list place replica ≡ list) servers
+    (subst (λ i. set replicas i replica ≡ replicas) here (put_same replicas at replica replica found refl)) in
+    ap (λ (list : List Replica). record machine { servers = list }) (sym same)
 

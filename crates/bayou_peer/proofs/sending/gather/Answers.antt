@@ -1,4 +1,4 @@
-use Rattle.std.proofs.Common.{◌≡◌, ◌∙◌, ap, subst, sym, [], ◌∷◌, ◌++◌, take, length, arith, refl, Err, Ok}
+use Rattle.std.proofs.Common.{◌∙◌, ap, subst, sym, [], ◌∷◌, ◌++◌, take}
 use Rattle.std.specs.List.{AllByRecursion}
 use Rattle.bayou_lang.specs.Ranges.{IsWrite}
 use Rattle.bayou_peer.specs.Spelled.{item_bytes}

@@ -1,4 +1,4 @@
-use Rattle.std.proofs.Common.{◌≡◌, ◌∙◌, ap, subst, sym, [], ◌∷◌, ◌++◌, take, length, arith, refl, Err, Ok}
+use Rattle.std.proofs.Common.{◌∙◌, ap, sym, take}
 use Rattle.bayou_base.specs.Vector.{raised}
 use Rattle.bayou_lang.specs.Writes.{raised_by}
 use Rattle.bayou_peer.proofs.Items.{raised_by-push, take-one_more}
