@@ -1,5 +1,5 @@
 -- The Items that are sent, and how they grow by a few at a time.
-use Rattle.std.proofs.Common.{arith, ◌≡◌, ◌<◌, ℕ, ◌+◌, List, [], ◌∷◌, ◌++◌, Option, None, Some, Ok, Err, IfSome, refl, sym, ap, subst, get_or, add-one, zero, suc, ◌∙◌, append_assoc, length, length-append, take, drop}
+use Rattle.std.proofs.Common.{arith, ◌≡◌, ◌<◌, ℕ, ◌+◌, List, [], ◌∷◌, ◌++◌, Option, None, Some, Ok, Err, IfSome, refl, sym, ap, subst, get_or, add-one, ◌∙◌, append_assoc, length, length-append, take, drop}
 use Rattle.std.proofs.KnownBytes.{Appends-nil, Appends-trans}
 use Rattle.std.proofs.lemmas.Grind.{flat_map-append}
 use Rattle.std.proofs.lemmas.List.{append-nil, map-append, take-append-drop}

@@ -1,5 +1,5 @@
 -- What reading one frame from a stream gives: this project's own.
-use Rattle.std.specs.Prelude.{◌≡◌, ◌≢◌, ◌⊎◌, ◌≤◌, ℕ, List, ◌++◌, Option, None, Some, Result, Ok, Err, length}
+use Rattle.std.specs.Prelude.{◌≡◌, ◌≢◌, ◌⊎◌, ◌≤◌, ℕ, List, [], ◌++◌, Option, None, Some, Result, Ok, Err, length}
 use Rattle.bayou_base.specs.declared.limits.TheConstants.{READ_BYTES}
 use Rattle.bayou_peer.specs.declared.fault.Fault.{Fault}
 use Rattle.bayou_peer.specs.declared.fault.Fault.TheVariants.{Read, Write, Cut, BadFrame, TooManyTurns, OutOfMemory}
@@ -58,3 +58,7 @@ OfferRead read is_end (Err TooManyTurns) = IsPartial read
 OfferRead read is_end (Err BadFrame) = IsNoOffer read
 OfferRead read is_end (Err OutOfMemory) = Unit {0}
 OfferRead read is_end (Err Write) = ⊥
+
+-- How a read of one Offer from known input ends: it read a front of it.
+abbrev pub OfferOf : (input : List ℕ) → Result (List ℕ) Fault → Type 0
+OfferOf input result = (read left : List ℕ) × (input ≡ read ++ left) × OfferRead read (left ≡ []) result
