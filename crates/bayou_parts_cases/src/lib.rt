@@ -5,6 +5,8 @@
 #[cfg(test)]
 mod devices;
 #[cfg(test)]
+mod fakes;
+#[cfg(test)]
 mod fixtures;
 #[cfg(test)]
 mod frames;
@@ -26,6 +28,8 @@ mod notation;
 mod numbers;
 #[cfg(test)]
 mod programs;
+#[cfg(test)]
+mod pulls;
 #[cfg(test)]
 mod servers;
 #[cfg(test)]
