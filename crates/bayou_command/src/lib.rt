@@ -62,6 +62,11 @@ session (0 to 31), S a server. Below each form stands an example.
       ["reopen",0]
   ["restart",S]          server S is stopped, and started on what its device has
       ["restart",0]
+  ["pull",TO,FROM]  ["pull",TO,FROM,ITEMS]  server TO takes what it lacks of the Writes that server FROM holds; with ITEMS the
+                         stream is cut after so many of them (0 to 65536)
+      ["pull",1,0]
+  ["resend",TO,FROM]     server TO is sent all the Writes that server FROM holds
+      ["resend",1,0]
 
 PROGRAM is {"check":[COND,..],"update":[OP,..],"merge":[{"when":[COND,..],"ops":[OP,..]},..]}; a list may be missing.
 Where every COND of check holds, update is applied, whole or not at all; else the first part of merge that fits.
@@ -75,7 +80,8 @@ Exit status: 0 the script was run; 2 the script or the command line is refused; 
 input or the output failed.
 
 Pages: docs/LANGUAGE.md (programs), docs/GUARANTEES.md (what a session may ask for), docs/FORMATS.md (lines in and out),
-docs/RECOVERY.md (fuse, reopen, restart), docs/TROUBLE.md (what to do about each fault), examples/README.md (scripts)."#;
+docs/RECOVERY.md (fuse, reopen, restart), docs/ANTI-ENTROPY.md (pull, resend), docs/TROUBLE.md (what to do about each fault),
+examples/README.md (scripts)."#;
 
 /// What the program is to do.
 #[derive(Clone, Copy, Debug, PartialEq, Eq)]

@@ -1,5 +1,5 @@
 -- The Items that are sent, and how they grow by a few at a time.
-use Rattle.std.proofs.Common.{arith, ◌≡◌, ◌<◌, ℕ, ◌+◌, List, [], ◌∷◌, ◌++◌, Option, None, Some, Ok, Err, IfSome, refl, sym, ap, subst, get_or, add-one, zero, suc, ◌∙◌, append_assoc, length, length-append, take, drop}
+use Rattle.std.proofs.Common.{arith, ◌≡◌, ◌<◌, ℕ, ◌+◌, List, [], ◌∷◌, ◌++◌, Option, None, Some, Ok, Err, IfSome, refl, sym, ap, subst, get_or, add-one, ◌∙◌, append_assoc, length, length-append, take, drop}
 use Rattle.std.proofs.KnownBytes.{Appends-nil, Appends-trans}
 use Rattle.std.proofs.lemmas.Grind.{flat_map-append}
 use Rattle.std.proofs.lemmas.List.{append-nil, map-append, take-append-drop}
@@ -38,6 +38,9 @@ pub item_bytes-some : (writes : List Write) → 0 < length writes → 0 < length
 item_bytes-some [] none = absurd (omega arith)
 item_bytes-some (write ∷ writes) some = omega (arith, spelling_some (Item write), length-append (spelling (Item write)) (item_bytes writes))
 
+pub item_bytes-of : (written text : List ℕ) (batch writes : List Write) → written ≡ text → text ≡ item_bytes batch → batch ≡ writes → written ≡ item_bytes writes
+item_bytes-of written text batch writes is spelled same = is ∙ spelled ∙ ap item_bytes same
+
 -- the Item of one more Write
 pub item_bytes-push : (writes : List Write) (write : Write) (text bytes : List ℕ) → text ≡ item_bytes writes → SpellsFrame bytes (Item write) → text ++ bytes ≡ item_bytes (writes ++ write ∷ [])
 item_bytes-push writes write text bytes is spells =
@@ -56,6 +59,9 @@ take-one_more xs k x within is = ap (λ n. take n xs) (add-one k) ∙ take-suc x
 pub raised_by-push : (counts : List ℕ) (writes : List Write) (write : Write) → raised_by counts (writes ++ write ∷ []) ≡ raised (raised_by counts writes) write.wid
 raised_by-push counts [] write = refl
 raised_by-push counts (first ∷ writes) write = raised_by-push (raised counts first.wid) writes write
+
+pub raised_to : (told now : List ℕ) (batch writes : List Write) → now ≡ raised_by told batch → batch ≡ writes → now ≡ raised_by told writes
+raised_to told now batch writes is same = is ∙ ap (raised_by told) same
 
 -- ---- what was written
 
@@ -83,17 +89,6 @@ lacks_on None told now writes most raises is others = tt
 lacks_on (Some held) told now writes most raises is others =
     sym (take-append-drop most (lacking_of told held)) ∙ ap (λ first. first ++ drop most (lacking_of told held)) (sym is)
     ∙ ap (λ rest. writes ++ rest) (sym (ap (λ counts. lacking_of counts held) raises ∙ others))
-
--- where none is in the batch, none is lacking
-pub lacks_none : (list : Option (List Write)) (told : List ℕ) (writes : List Write) (most : ℕ) → 0 < most → IfSome list (λ held. writes ≡ take most (lacking_of told held))
-    → length writes ≡ 0 → IfSome list (λ held. lacking_of told held ≡ [])
-lacks_none None told writes most some is none = tt
-lacks_none (Some held) told writes most some is none = of most (lacking_of told held) some is
-  where
-    of : (most : ℕ) (lacking : List Write) → 0 < most → writes ≡ take most lacking → lacking ≡ []
-    of zero lacking some is = absurd (omega arith)
-    of (suc most) [] some is = refl
-    of (suc most) (first ∷ lacking) some is = absurd (omega (arith, none, ap length is))
 
 -- a fault ended it
 pub sends_fault : (spelled : List Write → List ℕ) (writes : List Write) (before after : Option (List ℕ)) (fault : Fault) → AppendsFront before after (spelled writes)

@@ -20,15 +20,15 @@ use Rattle.bayou_wire.proofs.Fronts.{frame_begins_one, partial_not_faulty, whole
 
 -- ---- frames in their spelling
 
-begins_one : (a b : Frame) (x y : List ℕ) → IsFrame a → IsFrame b → spelling a ++ x ≡ spelling b ++ y → (a ≡ b) × (x ≡ y)
+pub begins_one : (a b : Frame) (x y : List ℕ) → IsFrame a → IsFrame b → spelling a ++ x ≡ spelling b ++ y → (a ≡ b) × (x ≡ y)
 unfolding spelling
 begins_one a b x y is_a is_b same = frame_begins_one a b x y is_a is_b same
 
-not_faulty : (bytes : List ℕ) (frame : Frame) (rest : List ℕ) (fault : Fault) → IsFrame frame → bytes ≡ spelling frame ++ rest → IsFaulty bytes fault → ⊥
+pub not_faulty : (bytes : List ℕ) (frame : Frame) (rest : List ℕ) (fault : Fault) → IsFrame frame → bytes ≡ spelling frame ++ rest → IsFaulty bytes fault → ⊥
 unfolding spelling
 not_faulty bytes frame rest fault is same faulty = whole_not_faulty bytes frame rest fault is same faulty
 
-not_partial : (bytes : List ℕ) (frame : Frame) (rest : List ℕ) → IsFrame frame → bytes ≡ spelling frame ++ rest → IsPartial bytes → ⊥
+pub not_partial : (bytes : List ℕ) (frame : Frame) (rest : List ℕ) → IsFrame frame → bytes ≡ spelling frame ++ rest → IsPartial bytes → ⊥
 unfolding spelling
 not_partial bytes frame rest is same partial = whole_not_partial bytes frame rest is same partial
 

@@ -1,5 +1,6 @@
 -- What reading one frame from a stream gives: this project's own.
-use Rattle.std.specs.Prelude.{◌≡◌, ◌≢◌, ◌⊎◌, ℕ, List, ◌++◌, Option, None, Some, Result, Ok, Err}
+use Rattle.std.specs.Prelude.{◌≡◌, ◌≢◌, ◌⊎◌, ◌≤◌, ℕ, List, [], ◌++◌, Option, None, Some, Result, Ok, Err, length}
+use Rattle.bayou_base.specs.declared.limits.TheConstants.{READ_BYTES}
 use Rattle.bayou_peer.specs.declared.fault.Fault.{Fault}
 use Rattle.bayou_peer.specs.declared.fault.Fault.TheVariants.{Read, Write, Cut, BadFrame, TooManyTurns, OutOfMemory}
 use Rattle.bayou_wire.specs.declared.fault.Fault.{Fault as BadBytes}
@@ -11,6 +12,10 @@ use Rattle.bayou_wire.specs.Stream.{IsFaulty, IsPartial, spelling}
 -- the bytes begin with the frame
 abbrev pub BeginsWith : List ℕ → Frame → Type 0
 BeginsWith read frame = IsFrame frame × ((behind : List ℕ) × (read ≡ spelling frame ++ behind))
+
+-- No more was read than a piece with which a frame may be whole: all before it is less than a frame.
+abbrev pub StopsInTime : List ℕ → Type 0
+StopsInTime read = (before piece : List ℕ) × (read ≡ before ++ piece) × IsPartial before × (length piece ≤ READ_BYTES)
 
 -- How a read of one frame ends that reads these bytes, and where this says whether the input has ended. What was read behind the
 -- frame is dropped.
@@ -53,3 +58,7 @@ OfferRead read is_end (Err TooManyTurns) = IsPartial read
 OfferRead read is_end (Err BadFrame) = IsNoOffer read
 OfferRead read is_end (Err OutOfMemory) = Unit {0}
 OfferRead read is_end (Err Write) = ⊥
+
+-- How a read of one Offer from known input ends: it read a front of it.
+abbrev pub OfferOf : (input : List ℕ) → Result (List ℕ) Fault → Type 0
+OfferOf input result = (read left : List ℕ) × (input ≡ read ++ left) × OfferRead read (left ≡ []) result

@@ -1,5 +1,6 @@
 ghost use Rattle.std.specs.Prelude.{◌≡◌, ◌≤◌, ℕ, List, IfErr};
 ghost use Rattle.std.specs.Io.KnownBytes.{Consumes, IsAtEnd};
+ghost use Rattle.bayou_peer.specs.First.{StopsInTime};
 ghost use Rattle.bayou_peer.specs.Offers.{Answers, OfferServed};
 ghost use Rattle.bayou_peer.specs.Sending.{SendsItems};
 ghost use Rattle.bayou_peer.specs.Stopping.{IsSendFault, Stops};
@@ -68,7 +69,7 @@ pub fn serve_offer_on<P: Replica, R: Read, W: Write>(
     channel: &mut Channel<R, W>,
 ) -> Result<u32, Fault>
     ensures same { replica.new ≡ replica.old }
-    ensures serves { (read : List ℕ) × Consumes (R.remaining channel.old.reader) (R.remaining channel.new.reader) read
+    ensures serves { (read : List ℕ) × Consumes (R.remaining channel.old.reader) (R.remaining channel.new.reader) read × StopsInTime read
         × OfferServed (P.list replica.old) read (W.contents channel.old.writer) (W.contents channel.new.writer) (IsAtEnd (R.remaining channel.new.reader)) result }
     ensures stopped { IfErr result (Stops channel.new.read_failed channel.new.write_failed channel.new.turns_left) }
     ensures turns { channel.new.turns_left ≤ channel.old.turns_left }

@@ -2,7 +2,7 @@
 ghost use Rattle.std.specs.Prelude.{◌≡◌, ◌≢◌, ◌≤◌, ◌++◌, ℕ, List, Some, IfErr, IfOk};
 ghost use Rattle.std.specs.Io.KnownBytes.{Consumes, IsAtEnd};
 ghost use Rattle.bayou_peer.specs.declared.fault.Fault.TheVariants.{BadFrame};
-ghost use Rattle.bayou_peer.specs.First.{FirstOf, FrameRead, IsFeedFault, OfferRead};
+ghost use Rattle.bayou_peer.specs.First.{FirstOf, FrameRead, IsFeedFault, OfferRead, StopsInTime};
 ghost use Rattle.bayou_peer.specs.Stopping.{Stops};
 ghost use Rattle.bayou_wire.specs.declared.frame.Frame.TheVariants.{Offer};
 ghost use Rattle.bayou_wire.specs.Stream.{IsPartial};
@@ -29,12 +29,12 @@ fn first_of(alloc: Global, frames: &mut Frames, piece: &[u8]) -> Result<Option<F
     }
 }
 
-/// Reads up to the end of the first frame, and gives it. What came behind it in the same piece is dropped.
+/// Reads until the first frame is whole, and gives it. What came behind it in the same piece is dropped.
 pub(crate) fn read_frame<R: Read, W>(
     alloc: Global,
     channel: &mut Channel<R, W>,
 ) -> Result<Frame, Fault>
-    ensures reads { (read : List ℕ) × Consumes (R.remaining channel.old.reader) (R.remaining channel.new.reader) read
+    ensures reads { (read : List ℕ) × Consumes (R.remaining channel.old.reader) (R.remaining channel.new.reader) read × StopsInTime read
         × FrameRead read (IsAtEnd (R.remaining channel.new.reader)) result }
     ensures stopped { IfErr result (Stops channel.new.read_failed channel.new.write_failed channel.new.turns_left) }
     ensures turns { channel.new.turns_left ≤ channel.old.turns_left }
@@ -68,7 +68,7 @@ pub(crate) fn read_offer<R: Read, W>(
     alloc: Global,
     channel: &mut Channel<R, W>,
 ) -> Result<Vector, Fault>
-    ensures reads { (read : List ℕ) × Consumes (R.remaining channel.old.reader) (R.remaining channel.new.reader) read
+    ensures reads { (read : List ℕ) × Consumes (R.remaining channel.old.reader) (R.remaining channel.new.reader) read × StopsInTime read
         × OfferRead read (IsAtEnd (R.remaining channel.new.reader)) result }
     ensures stopped { IfErr result (Stops channel.new.read_failed channel.new.write_failed channel.new.turns_left) }
     ensures turns { channel.new.turns_left ≤ channel.old.turns_left }

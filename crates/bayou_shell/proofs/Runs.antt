@@ -5,7 +5,7 @@ use Rattle.std.proofs.lemmas.Grind.{flat_map-append}
 use Rattle.std.proofs.KnownBytes.{Keeps-refl}
 use Rattle.std.proofs.Math.Seq.{take-append_seam}
 use Rattle.std.specs.List.{list_all}
-use Rattle.bayou_text.specs.Said.{Said, servers, session, write, read, log, fuse, lose, reopen, restart}
+use Rattle.bayou_text.specs.Said.{Said, servers, session, write, read, log, fuse, lose, reopen, restart, pull, resend}
 use Rattle.bayou_shell.specs.declared.answer.Answer.{Answer}
 use Rattle.bayou_shell.specs.declared.fault.Fault.{Fault}
 use Rattle.bayou_shell.specs.declared.fault.Fault.TheVariants.{Line, Device, Input, Output}
@@ -43,6 +43,8 @@ Step-count old new (fuse place calls kept) answer step = let change = step.1 in 
 Step-count old new (lose place count) answer step = let change = step.1 in ap (λ machine. machine.count) change.only
 Step-count old new (reopen place) answer (recovery, is, change) = ap (λ machine. machine.count) change.only
 Step-count old new (restart place) answer (recovery, is, change) = ap (λ machine. machine.count) change.only
+Step-count old new (pull to source cut) answer step = ap (λ machine. machine.count) step.only
+Step-count old new (resend to source) answer step = ap (λ machine. machine.count) step.only
 
 and_right : (a b : Bool) → IsTrue (a && b) → IsTrue b
 and_right true b both = both

@@ -1,4 +1,4 @@
-use Rattle.std.proofs.Common.{◌≡◌, ◌<◌, ◌∙◌, ℕ, List, Option, None, Some, inl, ap, sym, subst, arith, refl, length, get_or, set}
+use Rattle.std.proofs.Common.{◌≡◌, ◌<◌, ◌∙◌, ℕ, List, Option, None, Some, inl, ap, sym, subst, arith, refl, length, get_or, set, Bor}
 use Rattle.bayou_lang.specs.declared.write.Write.{Write}
 use Rattle.bayou_lang.specs.Writes.{lacking_of}
 use Rattle.bayou_peer.specs.Meeting.{cut_answer}
@@ -73,8 +73,11 @@ returns c counts_of same =
     let (other, is, sends) = c.in-Ok.ensures.sent in
     let sent : List Write = lacking_of c.args.counts.now other.core.held in
     let input : c.match-cut.input.now ≡ cut_answer c.args.cut sent = elim c.match-cut.branch [
-      | in-Some w ↦ ?
-      | in-None w ↦ ?
+      | in-Some w ↦
+          ap (λ (b : Bor (List ℕ)). b.now) w.input-is ∙ w.cut_after-input.ensures sent sends.valid sends.few (w.deref.ensures.value ∙ sends.spelled)
+          ∙ ap (λ cut. cut_answer cut sent) (sym w.in-Some.is)
+      | in-None w ↦
+          ap (λ (b : Bor (List ℕ)). b.now) w.input-is ∙ w.deref-input.ensures.value ∙ sends.spelled ∙ ap (λ cut. cut_answer cut sent) (sym w.in-None.is)
     ] in
     let taken : IsGiven sent c.args.cut before c.take_from.result after = c.take_from.ensures sent c.args.cut sends.valid sends.few input in
     record {
