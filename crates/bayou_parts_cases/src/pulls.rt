@@ -83,11 +83,7 @@ fn full(rt: &impl Abort, alloc: Global, index: u8, counts: [u8; 2]) -> Result<Se
 
 /// The server's answer to an Offer of these counts, and the number of Items that it tells. There is room for it, so any want of
 /// memory is the server's.
-fn answered(
-    alloc: Global,
-    server: &mut Served,
-    counts: &Vector,
-) -> Result<(Vec<u8>, u32), Fault> {
+fn answered(alloc: Global, server: &mut Served, counts: &Vector) -> Result<(Vec<u8>, u32), Fault> {
     let mut channel = Channel::new((), Vec::with_capacity(alloc, 4096)?);
     let number = answer_offer_on(alloc, server, counts, &mut channel)?;
     Ok((channel.into_parts().1, number))
@@ -204,8 +200,12 @@ fn both(alloc: Global) -> Result<String, AllocError> {
     let zeros = "000000000000000000000000000000000000000000000000";
     for seq in 1..u32::from(EACH) + 1 {
         let past = seq - 1;
-        text.push_str(format!(in alloc; "003a15 00{seq:08x} {seq:08x} {past:08x} 00000000 {zeros} 00010101610101 {seq:016x} 00")?.as_str())?;
-        text.push_str(format!(in alloc; "003a15 01{seq:08x} {seq:08x} 00000000 {past:08x} {zeros} 00010101610101 {seq:016x} 00")?.as_str())?;
+        text.push_str(format!(in alloc;
+            "003a15 00{seq:08x} {seq:08x} {past:08x} 00000000 {zeros} 00010101610101 {seq:016x} 00"
+        )?.as_str())?;
+        text.push_str(format!(in alloc;
+            "003a15 01{seq:08x} {seq:08x} 00000000 {past:08x} {zeros} 00010101610101 {seq:016x} 00"
+        )?.as_str())?;
     }
     text.push_str("0005 16 00000028")?;
     Ok(text)
@@ -248,10 +248,7 @@ fn what_is_cut_is_taken_up_to_there(rt: HostRuntime) -> Result<(), Fail> {
         let is_held = puller.vector() == vector(&rt, held, 0);
         let (rest, _) = answered(alloc, &mut server, &puller.vector())?;
         let is_rest = pulled(alloc, &mut puller, &rest) == came(2 - held, 0);
-        assert!(rt;
-            is_cut && is_held && is_rest && whole.len() == 127,
-            "{cut}"
-        );
+        assert!(rt; is_cut && is_held && is_rest && whole.len() == 127, "{cut}");
     }
     Ok(())
 }
