@@ -13,7 +13,7 @@ use Rattle.bayou_lang.specs.Ranges.{IsWrite}
 use Rattle.bayou_lang.specs.Writes.{lacking_of, raised_by}
 use Rattle.bayou_peer.specs.declared.fault.Fault.{Fault}
 use Rattle.bayou_peer.specs.Offers.{Answers, Sends}
-use Rattle.bayou_peer.specs.Sending.{HasSent, SendsBatch, SendsItems}
+use Rattle.bayou_peer.specs.Inner.Sending.{HasSent, SendsBatch, SendsItems}
 use Rattle.bayou_peer.specs.Spelled.{answer_bytes, item_bytes, items_of}
 use Rattle.bayou_streams.specs.Written.{AppendsFront}
 use Rattle.bayou_wire.specs.declared.frame.Frame.{Frame}

@@ -10,14 +10,14 @@ use Rattle.bayou_base.specs.declared.limits.TheConstants.{MAX_TURNS, READ_BYTES}
 use Rattle.bayou_peer.specs.declared.fault.Fault.{Fault}
 use Rattle.bayou_peer.specs.declared.fault.Fault.TheVariants as faults
 use Rattle.bayou_peer.specs.declared.fault.Fault.TheVariants.{BadFrame}
-use Rattle.bayou_peer.specs.Framing.{IsReadFault}
+use Rattle.bayou_peer.specs.Inner.Framing.{IsReadFault}
 use Rattle.bayou_peer.specs.declared.fault.PullFault.{PullFault}
 use Rattle.bayou_peer.specs.declared.fault.PullFault.TheVariants.{Stream, Refused}
 use Rattle.bayou_peer.specs.declared.pulling.Pulled.{Pulled}
 use Rattle.bayou_peer.specs.Pulls.{HasNoPlace, PullEnds, Received, Stands, Ways}
 use Rattle.bayou_peer.specs.Spelled.{items_of}
 use Rattle.bayou_peer.specs.Stopping.{IsSendFault}
-use Rattle.bayou_peer.specs.Steps.{Goes, Standing}
+use Rattle.bayou_peer.specs.Inner.Steps.{Goes, Standing}
 use Rattle.bayou_peer.specs.Taking.{Lists, TakesEach, hads, new_ones, news}
 use Rattle.bayou_server.specs.declared.answer.Took.{Took}
 use Rattle.bayou_server.specs.declared.answer.Took.TheVariants.{New, Had}

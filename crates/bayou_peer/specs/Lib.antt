@@ -1,11 +1,9 @@
 pub mod First
-pub mod Framing
+pub mod Inner
 pub mod Lent
 pub mod Meeting
 pub mod Offers
 pub mod Pulls
-pub mod Sending
 pub mod Spelled
-pub mod Steps
 pub mod Stopping
 pub mod Taking

@@ -2,7 +2,7 @@ ghost use Rattle.std.specs.Prelude.{◌≡◌, ◌≤◌, ℕ, List, IfErr};
 ghost use Rattle.std.specs.Io.KnownBytes.{Consumes, IsAtEnd};
 ghost use Rattle.bayou_peer.specs.First.{StopsInTime};
 ghost use Rattle.bayou_peer.specs.Offers.{Answers, OfferServed};
-ghost use Rattle.bayou_peer.specs.Sending.{SendsItems};
+ghost use Rattle.bayou_peer.specs.Inner.Sending.{SendsItems};
 ghost use Rattle.bayou_peer.specs.Stopping.{IsSendFault, Stops};
 
 use crate::fault::Fault;

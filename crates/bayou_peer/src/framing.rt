@@ -3,7 +3,7 @@ ghost use Rattle.std.specs.Prelude.{◌≡◌, ◌<◌, ◌≤◌, true, ℕ, Li
 ghost use Rattle.std.specs.Io.{ReadsAtMost};
 ghost use Rattle.std.specs.Io.KnownBytes.{Appends, ReadConsumes};
 ghost use Rattle.bayou_peer.specs.declared.fault.Fault.TheVariants.{OutOfMemory};
-ghost use Rattle.bayou_peer.specs.Framing.{Comes, IsReadFault};
+ghost use Rattle.bayou_peer.specs.Inner.Framing.{Comes, IsReadFault};
 ghost use Rattle.bayou_peer.specs.Stopping.{IsSendFault, Stops};
 ghost use Rattle.bayou_streams.specs.Written.{AppendsFront};
 ghost use Rattle.bayou_wire.specs.Stream.{IsPartial};

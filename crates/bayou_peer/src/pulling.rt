@@ -7,7 +7,7 @@ ghost use Rattle.bayou_lang.specs.Writes.{count_of};
 ghost use Rattle.bayou_peer.specs.declared.fault.Fault.TheVariants.{BadFrame};
 ghost use Rattle.bayou_peer.specs.declared.fault.PullFault.TheVariants.{Stream};
 ghost use Rattle.bayou_peer.specs.Pulls.{PullEnds, Received};
-ghost use Rattle.bayou_peer.specs.Steps.{Goes, GoesOn, IsTakeFault};
+ghost use Rattle.bayou_peer.specs.Inner.Steps.{Goes, GoesOn, IsTakeFault};
 ghost use Rattle.bayou_peer.specs.Stopping.{StopsPull};
 ghost use Rattle.bayou_streams.specs.Written.{AppendsFront};
 ghost use Rattle.bayou_wire.specs.declared.frame.Frame.TheVariants.{Item, Offer};
@@ -19,6 +19,7 @@ use crate::framing::{feed_piece, read_piece, send};
 use crate::replica::Replica;
 use bayou_base::Vector;
 use bayou_base::limits::READ_BYTES;
+use bayou_lang::Write as Held;
 use bayou_server::Took;
 use bayou_streams::Channel;
 use bayou_wire::{Frame, Frames, encode_frame};
@@ -38,7 +39,7 @@ pub struct Pulled {
 fn take_item<P: Replica>(
     alloc: Global,
     replica: &mut P,
-    write: &bayou_lang::Write,
+    write: &Held,
     pulled: &mut Pulled,
 ) -> Result<bool, PullFault>
     requires few { pulled.old.taken + pulled.old.had + 1 < 2 ^ 32 }
@@ -76,7 +77,8 @@ fn take_end(count: u32, pulled: &Pulled) -> Result<bool, PullFault>
     Ok(true)
 }
 
-// Takes a frame: an Item is taken, and an End of their number ends the pull. No other frame has a place there.
+// Takes a frame: an Item is taken, and an End of their number ends the pull. No other frame has a place there. It tells whether the
+// pull came to its End.
 fn take_frame<P: Replica>(
     alloc: Global,
     replica: &mut P,
@@ -97,7 +99,7 @@ fn take_frame<P: Replica>(
     }
 }
 
-// Takes the frames that came, up to what ends the pull.
+// Takes the frames that came, up to what ends the pull, and tells whether that was its End.
 fn take_came<P: Replica>(
     alloc: Global,
     replica: &mut P,
@@ -118,7 +120,7 @@ fn take_came<P: Replica>(
     Ok(false)
 }
 
-// Takes a piece of what comes.
+// Takes a piece of what comes, and tells whether the pull came to its End.
 fn take_piece<P: Replica>(
     alloc: Global,
     replica: &mut P,

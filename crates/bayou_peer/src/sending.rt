@@ -4,7 +4,7 @@ ghost use Rattle.std.specs.List.{AllByRecursion};
 ghost use Rattle.bayou_base.specs.declared.limits.TheConstants.{ITEMS_AT_ONCE};
 ghost use Rattle.bayou_lang.specs.Ranges.{IsWrite};
 ghost use Rattle.bayou_lang.specs.Writes.{lacking_of, raised_by};
-ghost use Rattle.bayou_peer.specs.Sending.{SendsBatch};
+ghost use Rattle.bayou_peer.specs.Inner.Sending.{SendsBatch};
 ghost use Rattle.bayou_peer.specs.Spelled.{item_bytes};
 ghost use Rattle.bayou_peer.specs.Stopping.{IsSendFault, Stops};
 

@@ -39,4 +39,3 @@ same_machine machine replicas place at replica servers here found =
     subst (λ (list : List Replica). set list place replica ≡ list) servers
     (subst (λ i. set replicas i replica ≡ replicas) here (put_same replicas at replica replica found refl)) in
     ap (λ (list : List Replica). record machine { servers = list }) (sym same)
-

@@ -27,7 +27,7 @@ pub line_feeds-append : (first second : List ℕ) → line_feeds (first ++ secon
 line_feeds-append first second = sum_by-append _ first second
 
 pub Takes-nil : (a : Account) → Takes a a []
-Takes-nil a = record { bytes = Appends-nil a.contents; lines = refl; turns = omega arith }
+Takes-nil a = record { bytes = Appends-nil a.contents; lines = refl; turns = omega arith; counts = omega arith }
 
 pub Takes-trans : (a b c : Account) (first second : List ℕ) → Takes a b first → Takes b c second → Takes a c (first ++ second)
 Takes-trans a b c first second one two =
@@ -37,6 +37,7 @@ Takes-trans a b c first second one two =
       lines = two.lines ∙ ap (λ n. counted n (line_feeds second)) one.lines ∙ counted_more a.lines (line_feeds first) (line_feeds second)
           ∙ ap (counted a.lines) (sym feeds);
       turns = omega (arith, one.turns, two.turns, feeds);
+      counts = omega (arith, one.counts, two.counts);
     }
 
 Appends-kept : (a b : Option (List ℕ)) → Keeps a b → Appends a b []
@@ -53,6 +54,11 @@ spends_one : (before spent left feeds : ℕ) → 0 < left → spent ≡ counted 
 spends_one before spent left zero some is within = omega arith
 spends_one before spent left (suc feeds) some is within = omega arith
 
+counts_one : (before spent left feeds : ℕ) → 0 < left → spent ≡ counted before 1 → left ≤ MAX_TURNS
+    → min (before + left) (2 ^ 64 - 1) ≤ spent + turns_behind feeds (left - 1)
+counts_one before spent left zero some is within = omega arith
+counts_one before spent left (suc feeds) some is within = omega arith
+
 -- one turn takes what the writer took
 pub Takes-turn : {E : Type 0} (a b : Account) (answer : Result ℕ E) (text : List ℕ) → WriteAppends a.contents b.contents answer text → 0 < a.turns_left → a.turns_left ≤ MAX_TURNS
     → b.spent ≡ counted a.spent 1 → b.lines ≡ counted a.lines (line_feeds (taken_of answer text))
@@ -62,6 +68,8 @@ Takes-turn a b answer text written some within spent lines left = record {
   lines = lines;
   turns = subst (λ now. b.spent + now ≤ a.spent + a.turns_left + MAX_TURNS * line_feeds (taken_of answer text)) (sym left)
       (spends_one a.spent b.spent a.turns_left (line_feeds (taken_of answer text)) some spent within);
+  counts = subst (λ now. min (a.spent + a.turns_left) (2 ^ 64 - 1) ≤ b.spent + now) (sym left)
+      (counts_one a.spent b.spent a.turns_left (line_feeds (taken_of answer text)) some spent within);
 }
 
 -- what a run has to tell of the turns that it spent

@@ -1,5 +1,5 @@
 -- What is spent on what is written: this project's own.
-use Rattle.std.specs.Prelude.{◌≡◌, ℕ, ◌+◌, ◌*◌, ◌≤◌, List, ◌++◌, Option}
+use Rattle.std.specs.Prelude.{◌≡◌, ℕ, ◌+◌, ◌-◌, ◌*◌, ◌^◌, ◌≤◌, List, ◌++◌, Option, min}
 use Rattle.std.specs.Io.KnownBytes.{Appends}
 use Rattle.bayou_base.specs.declared.limits.TheConstants.{MAX_TURNS}
 use Rattle.bayou_streams.specs.declared.output.Output.{Output}
@@ -15,11 +15,13 @@ pub record Account : Type 0 where
 abbrev pub account : {W : Type 0} → (W → Option (List ℕ)) → Output W → Account
 account contents output = record { contents = contents output.channel.writer; spent = output.spent; lines = output.lines; turns_left = output.channel.turns_left }
 
--- An output took the text, and what it spent is what it has less, but for the turns that each line brings.
+-- An output took the text, and what it spent is what it has less, but for the turns that each line brings: as a count that stands at
+-- its greatest tells it.
 pub record Takes (old new : Account) (text : List ℕ) : Type 0 where
   pub bytes : Appends old.contents new.contents text
   pub lines : new.lines ≡ counted old.lines (line_feeds text)
   pub turns : new.spent + new.turns_left ≤ old.spent + old.turns_left + MAX_TURNS * line_feeds text
+  pub counts : min (old.spent + old.turns_left) (2 ^ 64 - 1) ≤ new.spent + new.turns_left
 
 -- it took a front of the text: nothing, a part of it, or all of it
 abbrev pub TakesFront : Account → Account → List ℕ → Type 0

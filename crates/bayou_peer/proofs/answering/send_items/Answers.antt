@@ -1,7 +1,7 @@
 use Rattle.std.proofs.Common.{arith, ◌≡◌, ◌<◌, ◌∙◌, subst, [], IfSome, Ok, Err}
 use Rattle.std.proofs.lemmas.Result.{err_from_is_err_and}
 use Rattle.bayou_lang.specs.Writes.{lacking_of}
-use Rattle.bayou_peer.specs.Sending.{SendsBatch}
+use Rattle.bayou_peer.specs.Inner.Sending.{SendsBatch}
 use Rattle.bayou_peer.proofs.Items.{sent_more, sent_part, sent_whole}
 use Rattle.bayou_peer.proofs.answering.send_items.Goals as goal
 

@@ -1,7 +1,7 @@
 -- Items of the first Writes that are lacking were sent; what is told now lacks the others
 use Rattle.std.proofs.Common.{◌≡◌, ◌≤◌, ◌+◌, ◌*◌}
 use Rattle.bayou_base.specs.declared.limits.TheConstants.{ITEMS_AT_ONCE, MAX_TURNS}
-use Rattle.bayou_peer.specs.Sending.{HasSent}
+use Rattle.bayou_peer.specs.Inner.Sending.{HasSent}
 use Rattle.bayou_peer.proofs.answering.send_items.Given as goal
 
 abbrev pub invariant-loop-sent : goal.invariant-loop-sent

@@ -2,7 +2,7 @@
 use Rattle.std.proofs.Common.{◌≡◌, ◌+◌, ◌*◌, ◌≤◌, ℕ, List, length}
 use Rattle.std.specs.Io.KnownBytes.{Consumes}
 use Rattle.bayou_base.specs.declared.limits.TheConstants.{READ_BYTES}
-use Rattle.bayou_peer.specs.Steps.{Standing}
+use Rattle.bayou_peer.specs.Inner.Steps.{Standing}
 use Rattle.bayou_peer.proofs.pulling.receive.Given as goal
 
 abbrev pub invariant-loop-frames : goal.invariant-loop-frames

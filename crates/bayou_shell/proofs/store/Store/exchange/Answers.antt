@@ -39,7 +39,7 @@ returns-in-Err c counts_of same =
     let before = c.index.result.now in
     let sender = c.index_mut.result.now in
     let takes = stands_at replicas c.args.self.now.servers c.self.inside.servers.count c.args.to.index c.from.result before servers c.self.invariant c.from.ensures
-        (omega (arith, count, c.requires.to)) c.index.ensures in
+    (omega (arith, count, c.requires.to)) c.index.ensures in
     record {
       before = before;
       sender = sender;
@@ -69,7 +69,7 @@ returns c counts_of same =
     let found : before ≡ get_or replicas c.from-3.result before =
     subst (λ (list : List Replica). before ≡ get_or list c.from-3.result before) kept c.index_mut-2.ensures.value in
     let takes = stands_at replicas c.args.self.now.servers c.self.inside.servers.count c.args.to.index c.from-3.result before servers c.self.invariant c.from-3.ensures
-        (omega (arith, count, c.requires.to)) found in
+    (omega (arith, count, c.requires.to)) found in
     let (other, is, sends) = c.in-Ok.ensures.sent in
     let sent : List Write = lacking_of c.args.counts.now other.core.held in
     let input : c.match-cut.input.now ≡ cut_answer c.args.cut sent = elim c.match-cut.branch [

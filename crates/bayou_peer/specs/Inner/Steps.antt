@@ -1,4 +1,4 @@
--- What the steps of a pull come to. Between the functions of the pull: no public clause cites it.
+-- What the steps of a pull come to. No public clause cites it.
 use Rattle.std.specs.Prelude.{◌≡◌, ℕ, Bool, true, false, List, Option, Some, Result, Ok, Err}
 use Rattle.bayou_peer.specs.declared.fault.Fault.TheVariants as faults
 use Rattle.bayou_peer.specs.declared.fault.PullFault.{PullFault}

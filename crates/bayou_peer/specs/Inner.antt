@@ -1,0 +1,3 @@
+pub mod Framing
+pub mod Sending
+pub mod Steps
