@@ -33,6 +33,8 @@ mod pulls;
 #[cfg(test)]
 mod servers;
 #[cfg(test)]
+mod serves;
+#[cfg(test)]
 mod sessions;
 #[cfg(test)]
 mod streams;

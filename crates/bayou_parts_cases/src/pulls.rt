@@ -14,7 +14,7 @@ use std::io;
 use std::process::Abort;
 use std::test::Fail;
 
-type Served = Server<MemoryDevice<OpenGate>>;
+pub type Served = Server<MemoryDevice<OpenGate>>;
 
 /// The Items of the first server's first three Writes, which put 1, 2 and 3 at `a`, of 60 bytes each; of another Write of the first
 /// name; of one whose past and clock don't go together; and of the second server's first Write.
@@ -46,7 +46,7 @@ const ITEMS: [(&str, &str); 6] = [
 ];
 
 /// The bytes of a stream.
-fn stream(alloc: Global, text: &str) -> Result<Vec<u8>, Fail> {
+pub fn stream(alloc: Global, text: &str) -> Result<Vec<u8>, Fail> {
     let items = expanded(alloc, text, &ITEMS)?;
     let zeros = "00000000000000000000000000000000000000000000000000000000";
     bytes_of(alloc, items.replace(alloc, "<zeros>", zeros)?.as_str())
@@ -65,7 +65,7 @@ fn begun(rt: &impl Abort, alloc: Global, index: u8) -> Result<Served, StartFault
 }
 
 /// A server that took so many Writes of the second server, and then of the first.
-fn full(rt: &impl Abort, alloc: Global, index: u8, counts: [u8; 2]) -> Result<Served, Fail> {
+pub fn full(rt: &impl Abort, alloc: Global, index: u8, counts: [u8; 2]) -> Result<Served, Fail> {
     let mut server = begun(rt, alloc, index)?;
     let [first, second] = counts;
     for seq in 1..u32::from(second) + 1 {
