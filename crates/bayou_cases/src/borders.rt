@@ -5,6 +5,8 @@ use std::test::Fail;
 
 const BEGIN: &str = "[\"servers\",1]\n[\"session\",0,[]]\n";
 
+const BEGIN_TWO: &str = "[\"servers\",2]\n[\"session\",0,[]]\n";
+
 /// Whether the fault is told, with nothing before it; or none is, where there is none to tell.
 fn has_told(given: &Given, fault: &str) -> bool {
     let is_told = given.errors.as_slice() == fault.as_bytes();
@@ -68,10 +70,10 @@ const LINES: &str = r#"["session",31,[]]
 ["read",0,0,"x"], => not JSON
 null => bad shape"#;
 
-/// Whether the row's line is told so.
-fn is_so(alloc: Global, row: &str) -> Result<bool, AllocError> {
+/// Whether the row's line is told so behind these.
+fn is_so(alloc: Global, begin: &str, row: &str) -> Result<bool, AllocError> {
     let (line, told) = row.split_once(" => ").unwrap_or((row, ""));
-    let given = run(alloc, format!(in alloc; "{BEGIN}{line}")?.as_bytes())?;
+    let given = run(alloc, format!(in alloc; "{begin}{line}")?.as_bytes())?;
     if told.is_empty() {
         return Ok(has_told(&given, ""));
     }
@@ -82,7 +84,41 @@ fn is_so(alloc: Global, row: &str) -> Result<bool, AllocError> {
 #[test]
 fn lines_at_their_borders(rt: HostRuntime) -> Result<(), Fail> {
     for row in LINES.lines() {
-        assert!(rt; is_so(rt.alloc(), row)?, "{row}");
+        assert!(rt; is_so(rt.alloc(), BEGIN, row)?, "{row}");
+    }
+    Ok(())
+}
+
+/// Lines that have one of two servers send its Writes to the other, or to itself.
+const EXCHANGES: &str = r#"["pull",0,1]
+["pull",0,0] => out of place
+["pull",1,1] => out of place
+["pull",2,0] => out of place
+["pull",0,2] => out of place
+["pull",2,2] => out of place
+["pull",7,0] => out of place
+["pull",8,0] => bad shape
+["pull",0,8] => bad shape
+["pull",8,8] => bad shape
+["pull",1,0,0]
+["pull",1,0,65536]
+["pull",1,1,65536] => out of place
+["pull",1,0,65537] => bad shape
+["pull",1,1,-1] => bad shape
+["pull",1] => bad shape
+["pull",1,0,1,1] => bad shape
+["resend",0,1]
+["resend",0,0] => out of place
+["resend",1,1] => out of place
+["resend",2,0] => out of place
+["resend",0,2] => out of place
+["resend",0,8] => bad shape
+["resend",1,0,1] => bad shape"#;
+
+#[test]
+fn exchanges_at_their_borders(rt: HostRuntime) -> Result<(), Fail> {
+    for row in EXCHANGES.lines() {
+        assert!(rt; is_so(rt.alloc(), BEGIN_TWO, row)?, "{row}");
     }
     Ok(())
 }

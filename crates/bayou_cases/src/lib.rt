@@ -10,6 +10,8 @@ mod faults;
 #[cfg(test)]
 mod memory;
 #[cfg(test)]
+mod pulls;
+#[cfg(test)]
 mod scripts;
 #[cfg(test)]
 mod streams;

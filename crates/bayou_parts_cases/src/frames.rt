@@ -1,7 +1,8 @@
 //! Frames and Writes, byte for byte. Behind `=>` stands the value as it prints itself, or the fault, which a `!` begins.
 use crate::notation::{AS_PRINTED, bytes_of, expanded, parts, repeated};
 use bayou_wire::{
-    Fault, decode_frame, decode_write, encode_frame, encode_resting_write, encode_write,
+    Fault, Frame, decode_frame, decode_write, encode_frame, encode_item, encode_resting_write,
+    encode_write, frame_len,
 };
 use std::alloc::{AllocError, Global};
 use std::process::Abort;
@@ -18,15 +19,20 @@ fn frame_of(alloc: Global, bytes: &[u8]) -> Result<(String, Vec<u8>), AllocError
     }
 }
 
-/// As frame_of, of a Write, which has the same bytes at rest.
+/// As frame_of, of a Write, which has the same bytes at rest, also behind the front of its Item.
 fn write_of(alloc: Global, bytes: &[u8]) -> Result<(String, Vec<u8>), AllocError> {
     match decode_write(bytes) {
         Ok(write) => {
+            let printed = format!(in alloc; "{write:?}")?;
             let mut spelling = encode_write(alloc, &write)?;
-            if encode_resting_write(alloc, &write.rest(alloc)?)? != spelling {
+            let resting = write.rest(alloc)?;
+            let item = encode_item(alloc, &resting)?;
+            let is_same = encode_resting_write(alloc, &resting)? == spelling
+                && item == encode_frame(alloc, &Frame::Item(write))?;
+            if !is_same {
                 spelling.clear();
             }
-            Ok((format!(in alloc; "{write:?}")?, spelling))
+            Ok((printed, spelling))
         }
         Err(fault) => Ok((format!(in alloc; "!{fault:?}")?, Vec::new(alloc))),
     }
@@ -99,6 +105,26 @@ fn frames_byte_for_byte(rt: HostRuntime) -> Result<(), Fail> {
         let (found, again) = frame_of(alloc, &bytes)?;
         let is_same = found == expanded(alloc, printed, &AS_PRINTED)? && again == bytes;
         assert!(rt; is_same && is_exact(alloc, &bytes)?, "{row}: {found}");
+    }
+    Ok(())
+}
+
+/// Bytes, and how many the frame in front of them has by its length, whatever it is.
+const LENGTHS: &str = " => None
+00 => None
+0000 => Some(2)
+000103 => Some(3)
+003d15 => Some(63)
+2000 => Some(8194)
+ffff => Some(65537)";
+
+#[test]
+fn lengths_of_frames(rt: HostRuntime) -> Result<(), Fail> {
+    for row in LENGTHS.lines() {
+        let (text, expected) = parts(row);
+        let bytes = bytes_of(rt.alloc(), text)?;
+        let found = format!(in rt.alloc(); "{:?}", frame_len(&bytes))?;
+        assert!(rt; found.as_str() == expected, "{row}");
     }
     Ok(())
 }

@@ -5,6 +5,8 @@
 #[cfg(test)]
 mod devices;
 #[cfg(test)]
+mod fakes;
+#[cfg(test)]
 mod fixtures;
 #[cfg(test)]
 mod frames;
@@ -27,7 +29,11 @@ mod numbers;
 #[cfg(test)]
 mod programs;
 #[cfg(test)]
+mod pulls;
+#[cfg(test)]
 mod servers;
+#[cfg(test)]
+mod serves;
 #[cfg(test)]
 mod sessions;
 #[cfg(test)]

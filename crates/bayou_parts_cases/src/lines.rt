@@ -145,6 +145,33 @@ fn trials(rt: HostRuntime) -> Result<(), Fail> {
     Ok(())
 }
 
+/// Commands that have a server send its Writes to another.
+const EXCHANGES: &str = r#"["pull",1,0]
+["pull",7,7]
+["pull",1,0,0]
+["pull",0,1,65536]
+["pull",1,0,65537] => !BadShape(Number)
+["pull",1,0,-1] => !BadShape(Number)
+["pull",1,0,1.0] => !BadShape(Number)
+["pull",1,0,null] => !BadShape(Number)
+["pull",8,0] => !BadShape(Number)
+["pull",0,8] => !BadShape(Number)
+["pull",1] => !BadShape(Arity)
+["pull",1,0,1,1] => !BadShape(Arity)
+["resend",1,0]
+["resend",7,7]
+["resend",8,0] => !BadShape(Number)
+["resend",0,8] => !BadShape(Number)
+["resend",1] => !BadShape(Arity)
+["resend",1,0,2] => !BadShape(Arity)
+["offer",1,0] => !BadShape(Command)"#;
+
+#[test]
+fn exchanges(rt: HostRuntime) -> Result<(), Fail> {
+    all_agree(&rt, rt.alloc(), EXCHANGES)?;
+    Ok(())
+}
+
 /// Texts that are no JSON.
 const NO_JSON: &str = r#"["servers",1 => !NotJson
 ["servers",1]] => !NotJson
@@ -232,6 +259,9 @@ const FORMS: &str = r#"["servers",1]
 ["lose",0,1000000000]
 ["reopen",0]
 ["restart",7]
+["pull",1,0]
+["pull",1,0,2]
+["resend",1,0]
 ["servers",9] => !BadShape(Number)
 ["read",0,0,"A"] => !Key(BadByte(0))
 ["x"," => !NotJson

@@ -272,7 +272,7 @@ fn a_server_gives_what_another_lacks(rt: HostRuntime) -> Result<(), Fail> {
 }
 
 /// Gives the Write, again where that was refused; a Write in doubt is settled first. Whether a refused Write wasn't held.
-fn take_at_last(alloc: Global, server: &mut Served, write: &Write) -> Result<bool, Fail> {
+pub fn take_at_last(alloc: Global, server: &mut Served, write: &Write) -> Result<bool, Fail> {
     let held = server.receipts().len();
     if write
         .rest(alloc)

@@ -1,0 +1,462 @@
+//! Servers that send each other what they lack: what stands in the stream, what is taken of it however it ends, each call of a
+//! reader or a writer failing in turn, and want of memory.
+use crate::fakes::{EndlessReader, FakeReader, FakeWriter};
+use crate::fixtures::{put, server_id, vector, write};
+use crate::notation::{bytes_of, expanded, parts};
+use crate::takes::take_at_last;
+use bayou_base::Vector;
+use bayou_device::{MemoryDevice, OpenGate};
+use bayou_peer::{Fault, PullFault, Pulled, answer_offer_on, cut_after, pull_from_on, pull_on};
+use bayou_server::{Server, StartFault, TakeFault};
+use bayou_streams::Channel;
+use std::alloc::{AllocError, Global};
+use std::io;
+use std::process::Abort;
+use std::test::Fail;
+
+pub type Served = Server<MemoryDevice<OpenGate>>;
+
+/// The Items of the first server's first three Writes, which put 1, 2 and 3 at `a`, of 60 bytes each; of another Write of the first
+/// name; of one whose past and clock don't go together; and of the second server's first Write.
+const ITEMS: [(&str, &str); 6] = [
+    (
+        "<item 1>",
+        "003a 15 <0:1> <stamp> <none> 00010101610101 0000000000000001 00",
+    ),
+    (
+        "<item 2>",
+        "003a 15 0000000002 00000002 <one> 00010101610101 0000000000000002 00",
+    ),
+    (
+        "<item 3>",
+        "003a 15 0000000003 00000003 00000002 <zeros> 00010101610101 0000000000000003 00",
+    ),
+    (
+        "<other 1>",
+        "003a 15 <0:1> <stamp> <none> 00010101610101 0000000000000009 00",
+    ),
+    (
+        "<early 2>",
+        "003a 15 0000000002 00000003 <one> 00010101610101 0000000000000002 00",
+    ),
+    (
+        "<own 1>",
+        "003a 15 0100000001 <stamp> <none> 00010101610101 0000000000000001 00",
+    ),
+];
+
+/// The bytes of a stream.
+pub fn stream(alloc: Global, text: &str) -> Result<Vec<u8>, Fail> {
+    let items = expanded(alloc, text, &ITEMS)?;
+    let zeros = "00000000000000000000000000000000000000000000000000000000";
+    bytes_of(alloc, items.replace(alloc, "<zeros>", zeros)?.as_str())
+}
+
+/// All three Items, and the End.
+const THREE: &str = "<item 1> <item 2> <item 3> 0005 16 00000003";
+
+/// One of four servers, which holds nothing.
+fn begun(rt: &impl Abort, alloc: Global, index: u8) -> Result<Served, StartFault> {
+    let device = MemoryDevice::new(alloc, OpenGate);
+    match Server::start(alloc, server_id(rt, index), 4, 100, device) {
+        Ok((server, _)) => Ok(server),
+        Err(refused) => Err(refused.fault),
+    }
+}
+
+/// A server that took so many Writes of the second server, and then of the first.
+pub fn full(rt: &impl Abort, alloc: Global, index: u8, counts: [u8; 2]) -> Result<Served, Fail> {
+    let mut server = begun(rt, alloc, index)?;
+    let [first, second] = counts;
+    for seq in 1..u32::from(second) + 1 {
+        let program = put(rt, i64::from(seq));
+        let given = write(rt, 1, seq, seq, [0, seq - 1], program);
+        server.take(alloc, given.rest(alloc)?)?;
+    }
+    for seq in 1..u32::from(first) + 1 {
+        let program = put(rt, i64::from(seq));
+        let given = write(rt, 0, seq, seq, [seq - 1, 0], program);
+        server.take(alloc, given.rest(alloc)?)?;
+    }
+    Ok(server)
+}
+
+/// The server's answer to an Offer of these counts, and the number of Items that it tells. There is room for it, so any want of
+/// memory is the server's.
+fn answered(alloc: Global, server: &mut Served, counts: &Vector) -> Result<(Vec<u8>, u32), Fault> {
+    let mut channel = Channel::new((), Vec::with_capacity(alloc, 4096)?);
+    let number = answer_offer_on(alloc, server, counts, &mut channel)?;
+    Ok((channel.into_parts().1, number))
+}
+
+/// What the server makes of what is sent to it.
+fn pulled(alloc: Global, server: &mut Served, sent: &[u8]) -> Result<Pulled, PullFault> {
+    pull_on(alloc, server, &mut Channel::new(sent, io::sink()))
+}
+
+/// So many came that were new, and so many that were held.
+const fn came(taken: u32, had: u32) -> Result<Pulled, PullFault> {
+    Ok(Pulled { taken, had })
+}
+
+/// How many of the first server's three Writes are counted, how many are sent, and the answer.
+const ANSWERS: [(u32, u32, &str); 4] = [
+    (0, 3, THREE),
+    (1, 2, "<item 2> <item 3> 0005 16 00000002"),
+    (2, 1, "<item 3> 0005 16 00000001"),
+    (3, 0, "0005 16 00000000"),
+];
+
+#[test]
+fn an_offer_is_answered_byte_for_byte(rt: HostRuntime) -> Result<(), Fail> {
+    let alloc = rt.alloc();
+    let mut server = full(&rt, alloc, 2, [3, 0])?;
+    for (counted, count, sent) in ANSWERS {
+        let (answer, number) = answered(alloc, &mut server, &vector(&rt, counted, 0))?;
+        let is_sent = answer == stream(alloc, sent)?;
+        assert!(rt; is_sent && number == count, "{counted}");
+    }
+    Ok(())
+}
+
+/// An Offer of what the puller counts is written, whatever is sent.
+#[test]
+fn a_pull_writes_its_offer(rt: HostRuntime) -> Result<(), Fail> {
+    let alloc = rt.alloc();
+    for (counted, offer) in [(0, "0021 05 <none>"), (1, "0021 05 <one>")] {
+        let mut server = full(&rt, alloc, 3, [counted, 0])?;
+        let mut channel = Channel::new(io::empty(), Vec::new(alloc));
+        let told = pull_on(alloc, &mut server, &mut channel);
+        assert!(rt;
+            told == Err(PullFault::Stream(Fault::Cut))
+                && channel.into_parts().1 == bytes_of(alloc, offer)?,
+            "{offer}"
+        );
+    }
+    Ok(())
+}
+
+/// Streams, how many of the first server's Writes the second one holds after it, and its answer. Neither an Item behind the End
+/// nor a fault there is looked at.
+const STREAMS: &str = "<item 1> <item 2> 0005 16 00000002 => 2 Ok(Pulled { taken: 2, had: 0 })
+<item 1> <item 1> 0005 16 00000002 => 1 Ok(Pulled { taken: 1, had: 1 })
+0005 16 00000000 => 0 Ok(Pulled { taken: 0, had: 0 })
+<item 1> 0005 16 00000001 <item 2> => 1 Ok(Pulled { taken: 1, had: 0 })
+<item 1> 0005 16 00000001 00017f => 1 Ok(Pulled { taken: 1, had: 0 })
+<item 1> <item 2> 0005 16 00000001 => 2 Err(Stream(BadFrame))
+<item 1> <item 2> 0005 16 00000003 => 2 Err(Stream(BadFrame))
+0005 16 00000001 => 0 Err(Stream(BadFrame))
+<item 1> 0022 11 00 <none> <item 2> => 1 Err(Stream(BadFrame))
+0021 05 <none> <item 1> => 0 Err(Stream(BadFrame))
+0001 03 <item 1> => 0 Err(Stream(BadFrame))
+<item 1> 00017f => 1 Err(Stream(BadFrame))
+<item 1> 2001 => 1 Err(Stream(BadFrame))
+<item 1> <item 2> 00051600000001ff => 2 Err(Stream(BadFrame))
+<item 1> => 1 Err(Stream(Cut))
+<item 1> <item 3> <item 2> => 1 Err(Refused(Gap))
+<item 1> <other 1> <item 2> => 1 Err(Refused(Conflict))
+<item 1> <early 2> <item 2> => 1 Err(Refused(BadStamp))
+<own 1> <item 1> => 0 Err(Refused(OwnLost))";
+
+/// How many Writes of the first server the second one holds once it was sent this, in pieces of at most so many bytes, and its
+/// answer.
+fn told(rt: &impl Abort, alloc: Global, sent: &[u8], most: usize) -> Result<String, Fail> {
+    let mut server = begun(rt, alloc, 1)?;
+    let reader = FakeReader {
+        bytes: sent,
+        most,
+        fails_at: 0,
+        calls: 0,
+    };
+    let answer = pull_on(alloc, &mut server, &mut Channel::new(reader, io::sink()));
+    let counts = server.vector();
+    let [held, ..] = counts.counts();
+    Ok(format!(in alloc; "{held} {answer:?}")?)
+}
+
+/// Whatever pieces it comes in.
+#[test]
+fn a_stream_is_taken_up_to_its_end_or_fault(rt: HostRuntime) -> Result<(), Fail> {
+    let alloc = rt.alloc();
+    for row in STREAMS.lines() {
+        let (text, expected) = parts(row);
+        let sent = stream(alloc, text)?;
+        for most in [1, 59, 60, 61, 4096] {
+            assert!(rt;
+                told(&rt, alloc, &sent, most)?.as_str() == expected,
+                "{row}: {most}"
+            );
+        }
+    }
+    Ok(())
+}
+
+/// So many Writes of the first server are taken, and as many of the second, each Item before those of later clocks.
+const EACH: u8 = 20;
+
+/// A hexadecimal text of the Items of both servers' Writes, in stamp order, and the End.
+fn both(alloc: Global) -> Result<String, AllocError> {
+    let mut text = String::new(alloc);
+    let zeros = "000000000000000000000000000000000000000000000000";
+    for seq in 1..u32::from(EACH) + 1 {
+        let past = seq - 1;
+        text.push_str(format!(in alloc;
+            "003a15 00{seq:08x} {seq:08x} {past:08x} 00000000 {zeros} 00010101610101 {seq:016x} 00"
+        )?.as_str())?;
+        text.push_str(format!(in alloc;
+            "003a15 01{seq:08x} {seq:08x} 00000000 {past:08x} {zeros} 00010101610101 {seq:016x} 00"
+        )?.as_str())?;
+    }
+    text.push_str("0005 16 00000028")?;
+    Ok(text)
+}
+
+#[test]
+fn forty_writes_of_two_servers_go_in_stamp_order(rt: HostRuntime) -> Result<(), Fail> {
+    let alloc = rt.alloc();
+    let mut server = full(&rt, alloc, 2, [EACH, EACH])?;
+    let (answer, number) = answered(alloc, &mut server, &Vector::zero())?;
+    let is_sent = answer == bytes_of(alloc, both(alloc)?.as_str())? && number == 40;
+    let mut puller = begun(&rt, alloc, 3)?;
+    let is_taken = pulled(alloc, &mut puller, &answer) == came(40, 0)
+        && puller.vector() == vector(&rt, 20, 20);
+    let mut channel = Channel::new(answer.as_slice(), io::sink());
+    let again = pull_from_on(alloc, &mut puller, &Vector::zero(), &mut channel);
+    let (rest, none) = answered(alloc, &mut server, &puller.vector())?;
+    let is_nothing = none == 0 && pulled(alloc, &mut puller, &rest) == came(0, 0);
+    assert!(rt; is_sent && is_taken && again == came(0, 40) && is_nothing);
+    Ok(())
+}
+
+/// A stream of two Items and the End that is cut; then what is lacking is sent.
+#[test]
+fn what_is_cut_is_taken_up_to_there(rt: HostRuntime) -> Result<(), Fail> {
+    let alloc = rt.alloc();
+    let mut server = full(&rt, alloc, 2, [2, 0])?;
+    let whole = stream(alloc, "<item 1> <item 2> 0005 16 00000002")?;
+    for cut in 0..whole.len() {
+        let mut puller = begun(&rt, alloc, 3)?;
+        let answer = pulled(alloc, &mut puller, &whole[..cut]);
+        let is_cut = answer == Err(PullFault::Stream(Fault::Cut));
+        let held = if cut < 60 {
+            0
+        } else if cut < 120 {
+            1
+        } else {
+            2
+        };
+        let is_held = puller.vector() == vector(&rt, held, 0);
+        let (rest, _) = answered(alloc, &mut server, &puller.vector())?;
+        let is_rest = pulled(alloc, &mut puller, &rest) == came(2 - held, 0);
+        assert!(rt; is_cut && is_held && is_rest && whole.len() == 127, "{cut}");
+    }
+    Ok(())
+}
+
+/// A reader that gives an Item at a call, and fails at each call in turn; the last doesn't come to it. Each Item is taken before
+/// the next one is read.
+#[test]
+fn each_read_of_a_pull_may_fail(rt: HostRuntime) -> Result<(), Fail> {
+    let alloc = rt.alloc();
+    let sent = stream(alloc, THREE)?;
+    for fails_at in 1..6_u32 {
+        let mut puller = begun(&rt, alloc, 3)?;
+        let reader = FakeReader {
+            bytes: &sent,
+            most: 60,
+            fails_at,
+            calls: 0,
+        };
+        let mut channel = Channel::new(reader, io::sink());
+        let answer = pull_on(alloc, &mut puller, &mut channel);
+        let (reader, _) = channel.into_parts();
+        let expected = if fails_at > 4 {
+            came(3, 0)
+        } else {
+            Err(PullFault::Stream(Fault::Read))
+        };
+        let is_held = puller.vector() == vector(&rt, (fails_at - 1).min(3), 0);
+        assert!(rt;
+            answer == expected && is_held && reader.calls == fails_at.min(4),
+            "call {fails_at}"
+        );
+    }
+    Ok(())
+}
+
+/// A writer that takes ten bytes at a call, and fails at this one.
+fn failing(alloc: Global, fails_at: u32) -> FakeWriter {
+    FakeWriter {
+        bytes: Vec::new(alloc),
+        most: 10,
+        fails_at,
+        calls: 0,
+    }
+}
+
+/// An Offer takes four calls; the last doesn't come to it. Where one fails nothing is read or taken.
+#[test]
+fn each_write_of_a_pull_may_fail(rt: HostRuntime) -> Result<(), Fail> {
+    let alloc = rt.alloc();
+    let sent = stream(alloc, THREE)?;
+    let offer = bytes_of(alloc, "0021 05 <none>")?;
+    for fails_at in 1..6_u32 {
+        let mut puller = begun(&rt, alloc, 3)?;
+        let mut channel = Channel::new(sent.as_slice(), failing(alloc, fails_at));
+        let answer = pull_on(alloc, &mut puller, &mut channel);
+        let (reader, writer) = channel.into_parts();
+        let (expected, held, written, left) = match fails_at {
+            5 => (came(3, 0), 3, 35, 0),
+            _ => (
+                Err(PullFault::Stream(Fault::Write)),
+                0,
+                (fails_at as usize - 1) * 10,
+                187,
+            ),
+        };
+        let is_written = offer.starts_with(&writer.bytes) && writer.bytes.len() == written;
+        let is_held = puller.vector() == vector(&rt, held, 0) && reader.len() == left;
+        assert!(rt;
+            answer == expected && is_written && is_held,
+            "call {fails_at}"
+        );
+    }
+    Ok(())
+}
+
+/// Three Items take 18 calls, and the End one; the last doesn't come to it. The front of the answer was written, and no Write is
+/// lost.
+#[test]
+fn each_write_of_an_answer_may_fail(rt: HostRuntime) -> Result<(), Fail> {
+    let alloc = rt.alloc();
+    let whole = stream(alloc, THREE)?;
+    let mut server = full(&rt, alloc, 2, [3, 0])?;
+    for fails_at in 1..21_u32 {
+        let mut channel = Channel::new((), failing(alloc, fails_at));
+        let answer = answer_offer_on(alloc, &mut server, &Vector::zero(), &mut channel);
+        let written = channel.into_parts().1.bytes;
+        let (expected, count) = match fails_at {
+            20 => (Ok(3), 187),
+            _ => (Err(Fault::Write), (fails_at as usize - 1) * 10),
+        };
+        let is_written = whole.starts_with(&written) && written.len() == count;
+        let is_held = server.vector() == vector(&rt, 3, 0);
+        assert!(rt;
+            answer == expected && is_written && is_held,
+            "call {fails_at}"
+        );
+    }
+    Ok(())
+}
+
+/// A writer that takes nothing has failed.
+#[test]
+fn a_full_writer_fails(rt: HostRuntime) -> Result<(), Fail> {
+    let alloc = rt.alloc();
+    let mut server = full(&rt, alloc, 2, [3, 0])?;
+    let mut nothing: [u8; 0] = [];
+    let mut channel = Channel::new(io::empty(), nothing.as_mut_slice());
+    let answer = answer_offer_on(alloc, &mut server, &Vector::zero(), &mut channel);
+    let offer = pull_on(alloc, &mut server, &mut channel);
+    assert!(rt; answer == Err(Fault::Write) && offer == Err(PullFault::Stream(Fault::Write)));
+    Ok(())
+}
+
+/// A Write that is held comes again and again, without an end: the stream is given up after 1,000,000 calls, one of which wrote
+/// the Offer. Most are interrupted, since each Write takes time.
+#[test]
+fn a_stream_without_an_end_is_given_up(rt: HostRuntime) -> Result<(), Fail> {
+    let alloc = rt.alloc();
+    let item = stream(alloc, "<item 1>")?;
+    let mut puller = full(&rt, alloc, 3, [1, 0])?;
+    let reader = EndlessReader {
+        bytes: &item,
+        pace: 1000,
+        calls: 0,
+    };
+    let mut channel = Channel::new(reader, io::sink());
+    let answer = pull_on(alloc, &mut puller, &mut channel);
+    let (reader, _) = channel.into_parts();
+    let is_so = puller.vector() == vector(&rt, 1, 0) && reader.calls == 999_999;
+    assert!(rt; answer == Err(PullFault::Stream(Fault::TooManyTurns)) && is_so);
+    Ok(())
+}
+
+/// After how many Items an answer of three is cut, and how many of its bytes are left.
+const CUTS: [(u32, usize); 7] = [
+    (0, 0),
+    (1, 60),
+    (2, 120),
+    (3, 180),
+    (4, 187),
+    (5, 187),
+    (u32::MAX, 187),
+];
+
+#[test]
+fn an_answer_is_cut_after_so_many_items(rt: HostRuntime) -> Result<(), Fail> {
+    let whole = stream(rt.alloc(), THREE)?;
+    for (items, left) in CUTS {
+        let cut = cut_after(&whole, items);
+        assert!(rt; whole.starts_with(cut) && cut.len() == left, "{items}");
+    }
+    Ok(())
+}
+
+/// A server that holds nothing, and once more where that was refused.
+fn begun_at_last(rt: &impl Abort, alloc: Global, index: u8) -> Result<Served, StartFault> {
+    match begun(rt, alloc, index) {
+        Err(_) => begun(rt, alloc, index),
+        server => server,
+    }
+}
+
+/// The server's answer to an Offer of nothing, and once more where memory ran out.
+fn answered_at_last(alloc: Global, server: &mut Served) -> Result<(Vec<u8>, u32), Fault> {
+    match answered(alloc, server, &Vector::zero()) {
+        Err(Fault::OutOfMemory) => answered(alloc, server, &Vector::zero()),
+        answer => answer,
+    }
+}
+
+/// Whether a pull ended so for want of memory: a journal that finds none has failed.
+fn is_want(fault: PullFault) -> bool {
+    matches!(
+        fault,
+        PullFault::Stream(Fault::OutOfMemory)
+            | PullFault::Refused(TakeFault::OutOfMemory)
+            | PullFault::Refused(TakeFault::Journal)
+    )
+}
+
+/// Takes the three Writes that are sent, and once more where that was refused; a Write in doubt is settled first. Whether it was
+/// refused for want of memory alone, and what was held by then is kept.
+fn pulled_at_last(alloc: Global, puller: &mut Served, sent: &[u8]) -> Result<bool, Fail> {
+    let Err(fault) = pulled(alloc, puller, sent) else {
+        return Ok(true);
+    };
+    let held = puller.receipts().len() as u64;
+    if puller.is_down() && puller.reopen(alloc).is_err() {
+        puller.reopen(alloc)?;
+    }
+    let again = pulled(alloc, puller, sent)?;
+    let count = again.taken.saturating_add(again.had);
+    Ok(is_want(fault) && u64::from(again.had) >= held && count == 3)
+}
+
+/// For runs in which any one allocation is refused: what was refused for it can be done again, and costs no Write that was taken.
+#[test]
+fn one_want_of_memory_costs_no_pulled_write(rt: HostRuntime) -> Result<(), Fail> {
+    let alloc = rt.alloc();
+    let mut server = begun_at_last(&rt, alloc, 2)?;
+    for seq in 1..4_u32 {
+        let given = write(&rt, 0, seq, seq, [seq - 1, 0], put(&rt, i64::from(seq)));
+        take_at_last(alloc, &mut server, &given)?;
+    }
+    let mut puller = begun_at_last(&rt, alloc, 3)?;
+    let (answer, number) = answered_at_last(alloc, &mut server)?;
+    let is_kept = pulled_at_last(alloc, &mut puller, &answer)?;
+    let is_whole = number == 3 && puller.vector() == vector(&rt, 3, 0);
+    assert!(rt; is_kept && is_whole);
+    Ok(())
+}
