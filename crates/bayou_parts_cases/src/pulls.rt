@@ -55,10 +55,11 @@ pub fn stream(alloc: Global, text: &str) -> Result<Vec<u8>, Fail> {
 /// All three Items, and the End.
 const THREE: &str = "<item 1> <item 2> <item 3> 0005 16 00000003";
 
-/// One of four servers, which holds nothing.
+/// One of eight servers, which holds nothing.
 fn begun(rt: &impl Abort, alloc: Global, index: u8) -> Result<Served, StartFault> {
     let device = MemoryDevice::new(alloc, OpenGate);
-    match Server::start(alloc, server_id(rt, index), 4, 100, device) {
+    let id = server_id(rt, index);
+    match Server::start(alloc, id, 8, 100, device) {
         Ok((server, _)) => Ok(server),
         Err(refused) => Err(refused.fault),
     }
