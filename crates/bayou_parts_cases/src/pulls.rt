@@ -363,8 +363,8 @@ fn a_full_writer_fails(rt: HostRuntime) -> Result<(), Fail> {
     Ok(())
 }
 
-/// A Write that is held comes again and again, without an end: the stream is given up after 1,000,000 calls, one of which wrote
-/// the Offer. Most are interrupted, since each Write takes time.
+/// A Write that is held comes at each read, without an end: the stream is given up after 1,000,000 calls, one of which wrote the
+/// Offer. (It takes some ten seconds where it is compiled, and more than a minute where it is tried with checks.)
 #[test]
 fn a_stream_without_an_end_is_given_up(rt: HostRuntime) -> Result<(), Fail> {
     let alloc = rt.alloc();
@@ -372,7 +372,7 @@ fn a_stream_without_an_end_is_given_up(rt: HostRuntime) -> Result<(), Fail> {
     let mut puller = full(&rt, alloc, 3, [1, 0])?;
     let reader = EndlessReader {
         bytes: &item,
-        pace: 1000,
+        pace: 1,
         calls: 0,
     };
     let mut channel = Channel::new(reader, io::sink());
