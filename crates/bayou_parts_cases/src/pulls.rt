@@ -6,7 +6,9 @@ use crate::notation::{bytes_of, expanded, parts};
 use crate::takes::take_at_last;
 use bayou_base::Vector;
 use bayou_device::{MemoryDevice, OpenGate};
-use bayou_peer::{Fault, PullFault, Pulled, answer_offer_on, cut_after, pull_from_on, pull_on};
+use bayou_peer::{
+    Fault, PullFault, Pulled, answer_offer_on, cut_after, pull_from_on, pull_on, serve_offer_on,
+};
 use bayou_server::{Server, StartFault, TakeFault};
 use bayou_streams::Channel;
 use std::alloc::{AllocError, Global};
@@ -420,6 +422,25 @@ fn answered_at_last(alloc: Global, server: &mut Served) -> Result<(Vec<u8>, u32)
     }
 }
 
+/// The number that the server answers to an Offer of nothing which it reads, and once more where memory ran out.
+fn served_at_last(alloc: Global, server: &mut Served) -> Result<u32, Fault> {
+    let mut offer = [0; 35];
+    offer[1] = 0x21;
+    offer[2] = 5;
+    match serve_offer_on(
+        alloc,
+        server,
+        &mut Channel::new(offer.as_slice(), io::sink()),
+    ) {
+        Err(Fault::OutOfMemory) => serve_offer_on(
+            alloc,
+            server,
+            &mut Channel::new(offer.as_slice(), io::sink()),
+        ),
+        answer => answer,
+    }
+}
+
 /// Whether a pull ended so for want of memory: a journal that finds none has failed.
 fn is_want(fault: PullFault) -> bool {
     matches!(
@@ -456,8 +477,9 @@ fn one_want_of_memory_costs_no_pulled_write(rt: HostRuntime) -> Result<(), Fail>
     }
     let mut puller = begun_at_last(&rt, alloc, 3)?;
     let (answer, number) = answered_at_last(alloc, &mut server)?;
+    let is_served = served_at_last(alloc, &mut server) == Ok(3);
     let is_kept = pulled_at_last(alloc, &mut puller, &answer)?;
     let is_whole = number == 3 && puller.vector() == vector(&rt, 3, 0);
-    assert!(rt; is_kept && is_whole);
+    assert!(rt; is_kept && is_whole && is_served);
     Ok(())
 }
