@@ -1,8 +1,8 @@
 -- What becomes of a server that takes Writes from another.
-use Rattle.std.proofs.Common.{◌≡◌, ◌⊎◌, inl, inr, ℕ, List, [], Option, Ok, Err, subst, sym, refl}
+use Rattle.std.proofs.Common.{◌≡◌, inl, inr, ℕ, List, [], Option, Err, subst, sym, refl}
 use Rattle.bayou_lang.specs.declared.write.Write.{Write}
 use Rattle.bayou_lang.specs.Writes.{lacking_of}
-use Rattle.bayou_peer.specs.declared.fault.Fault.TheVariants.{OutOfMemory, TooManyTurns}
+use Rattle.bayou_peer.specs.declared.fault.Fault.TheVariants.{OutOfMemory}
 use Rattle.bayou_peer.specs.declared.fault.PullFault.TheVariants.{Stream}
 use Rattle.bayou_peer.specs.Meeting.{Meets, coming}
 use Rattle.bayou_shell.specs.declared.answer.Exchange.{Exchange}
@@ -16,17 +16,12 @@ use Rattle.bayou_shell.specs.Replica.{Serving}
 none_for_memory : (sent : List Write) (cut : Option ℕ) (server : Serving) → Meets serving_ways sent cut server (Err (Stream OutOfMemory)) server
 none_for_memory sent cut server = (coming cut sent, 0, 0, record { given = []; tooks = []; split = refl; took = refl; new = refl; held = refl })
 
-none_for_turns : (sent : List Write) (cut : Option ℕ) (server : Serving) → Meets serving_ways sent cut server (Err (Stream TooManyTurns)) server
-none_for_turns sent cut server = (coming cut sent, 0, 0, record { given = []; tooks = []; split = refl; took = refl; new = refl; held = refl })
-
 -- where there is no answer nothing was taken
 pub no_answer : (counts : List ℕ) (cut : Option ℕ) (before sender : Replica) (exchange : Exchange) (server : Serving) → before ≡ Running server → IsNoAnswer sender exchange
     → IsExchanged counts cut before sender exchange before
 no_answer counts cut before sender NotRunning server runs stopped = (inr stopped, refl)
-no_answer counts cut before sender (Ended result) server runs (other, is, inl memory) =
+no_answer counts cut before sender (Ended result) server runs (other, is, memory) =
     (server, server, other, runs, is, runs, subst (λ r. Meets serving_ways (lacking_of counts other.core.held) cut server r server) (sym memory) (none_for_memory (lacking_of counts other.core.held) cut server))
-no_answer counts cut before sender (Ended result) server runs (other, is, inr turns) =
-    (server, server, other, runs, is, runs, subst (λ r. Meets serving_ways (lacking_of counts other.core.held) cut server r server) (sym turns) (none_for_turns (lacking_of counts other.core.held) cut server))
 
 -- what was given is what was sent
 pub given : (counts : List ℕ) (cut : Option ℕ) (before sender after : Replica) (exchange : Exchange) (other : Serving) → sender ≡ Running other

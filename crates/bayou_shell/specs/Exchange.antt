@@ -1,5 +1,5 @@
 -- What becomes of a server of a script that is to take Writes from another (anti-entropy, Petersen et al. 1997).
-use Rattle.std.specs.Prelude.{◌≡◌, ◌⊎◌, ℕ, List, Option, Some, Result, Ok, Err, replicate}
+use Rattle.std.specs.Prelude.{◌≡◌, ◌⊎◌, ℕ, List, Option, Some, replicate}
 use Rattle.bayou_base.specs.declared.limits.TheConstants.{SERVERS}
 use Rattle.bayou_device.specs.Memory.{Memory}
 use Rattle.bayou_device.specs.MemoryDevice.{memory_device}

@@ -1,9 +1,8 @@
 //! A server of a script that takes Writes from another.
-ghost use Rattle.std.specs.Prelude.{◌≡◌, ◌⊎◌, ◌<◌, ◌^◌, ℕ, All, Err, IfErr, IfOk, List, Option, length};
+ghost use Rattle.std.specs.Prelude.{◌≡◌, ◌<◌, ◌^◌, ℕ, All, IfErr, IfOk, List, Option, length};
 ghost use Rattle.bayou_lang.specs.declared.write.Write.{Write};
 ghost use Rattle.bayou_lang.specs.Ranges.{IsWrite};
 ghost use Rattle.bayou_lang.specs.Writes.{lacking_of};
-ghost use Rattle.bayou_peer.specs.declared.fault.Fault.TheVariants.{OutOfMemory, TooManyTurns};
 ghost use Rattle.bayou_peer.specs.Meeting.{Meets, cut_answer};
 ghost use Rattle.bayou_shell.specs.Exchange.{own_counts, serving_ways};
 ghost use Rattle.bayou_shell.specs.Inner.Sent.{IsAnswer, IsGiven, IsNoAnswer, Sends};
@@ -16,23 +15,21 @@ use bayou_peer::meeting::a_pull_takes_what_is_sent;
 use bayou_peer::{Fault, PullFault, Pulled, answer_offer_on, pull_from_on};
 use bayou_server::Server;
 use bayou_streams::Channel;
-use std::alloc::Global;
+use std::alloc::{AllocError, Global};
 use std::io;
 
 type Serving = Server<MemoryDevice<OpenGate>>;
 
 /// The server's answer to an Offer of these counts. Bytes in memory fail for want of it alone.
-fn answer_of(alloc: Global, server: &mut Serving, counts: &Vector) -> Result<Vec<u8>, Fault>
+fn answer_of(alloc: Global, server: &mut Serving, counts: &Vector) -> Result<Vec<u8>, AllocError>
     ensures same { server.new ≡ server.old }
     ensures sent { IfOk result (λ answer. Sends (lacking_of counts.now server.old.core.held) answer.items) }
-    ensures fault { IfErr result (λ fault. (fault ≡ OutOfMemory) ⊎ (fault ≡ TooManyTurns)) }
 {
     let _sound = server.receipts();
     let mut channel = Channel::new((), Vec::new(alloc));
     match answer_offer_on(alloc, server, counts, &mut channel) {
         Ok(_) => Ok(channel.into_parts().1),
-        Err(Fault::TooManyTurns) => Err(Fault::TooManyTurns),
-        Err(_) => Err(Fault::OutOfMemory),
+        Err(_) => Err(AllocError),
     }
 }
 
@@ -73,7 +70,7 @@ impl Replica {
         };
         match answer_of(alloc, server, counts) {
             Ok(answer) => Ok(answer),
-            Err(fault) => Err(Exchange::Ended(Err(PullFault::Stream(fault)))),
+            Err(_) => Err(Exchange::Ended(Err(PullFault::Stream(Fault::OutOfMemory)))),
         }
     }
 

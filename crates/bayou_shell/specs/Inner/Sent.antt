@@ -1,9 +1,9 @@
 -- What one server sends to another, and what that makes of it. No public clause cites this.
-use Rattle.std.specs.Prelude.{◌≡◌, ◌⊎◌, ℕ, ◌<◌, ◌^◌, List, Option, Result, Err, All, length}
+use Rattle.std.specs.Prelude.{◌≡◌, ℕ, ◌<◌, ◌^◌, List, Option, Err, All, length}
 use Rattle.bayou_lang.specs.declared.write.Write.{Write}
 use Rattle.bayou_lang.specs.Ranges.{IsWrite}
 use Rattle.bayou_lang.specs.Writes.{lacking_of}
-use Rattle.bayou_peer.specs.declared.fault.Fault.TheVariants.{OutOfMemory, TooManyTurns}
+use Rattle.bayou_peer.specs.declared.fault.Fault.TheVariants.{OutOfMemory}
 use Rattle.bayou_peer.specs.declared.fault.PullFault.TheVariants.{Stream}
 use Rattle.bayou_peer.specs.Meeting.{Meets}
 use Rattle.bayou_peer.specs.Spelled.{answer_bytes}
@@ -27,7 +27,7 @@ IsAnswer counts replica bytes = (server : Serving) × (replica ≡ Running serve
 -- there is no answer
 abbrev pub IsNoAnswer : Replica → Exchange → Type 0
 IsNoAnswer replica NotRunning = IsStopped replica
-IsNoAnswer replica (Ended result) = (server : Serving) × (replica ≡ Running server) × ((result ≡ Err (Stream OutOfMemory)) ⊎ (result ≡ Err (Stream TooManyTurns)))
+IsNoAnswer replica (Ended result) = (server : Serving) × (replica ≡ Running server) × (result ≡ Err (Stream OutOfMemory))
 
 -- what a server makes of these Writes, cut or not
 abbrev pub IsGiven : List Write → Option ℕ → Replica → Exchange → Replica → Type 0

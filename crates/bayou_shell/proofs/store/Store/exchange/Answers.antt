@@ -1,12 +1,11 @@
-use Rattle.std.proofs.Common.{◌≡◌, ◌<◌, ◌∙◌, ℕ, List, Option, None, Some, inl, ap, sym, subst, arith, refl, length, get_or, set, Bor}
+use Rattle.std.proofs.Common.{◌≡◌, ◌∙◌, ℕ, List, inl, ap, sym, subst, arith, refl, get_or, set, Bor}
 use Rattle.bayou_lang.specs.declared.write.Write.{Write}
 use Rattle.bayou_lang.specs.Writes.{lacking_of}
 use Rattle.bayou_peer.specs.Meeting.{cut_answer}
-use Rattle.bayou_shell.specs.declared.answer.Answer.TheVariants.{Exchanged}
 use Rattle.bayou_shell.specs.declared.answer.Exchange.TheVariants.{NotRunning}
 use Rattle.bayou_shell.specs.declared.replica.Replica.{Replica}
 use Rattle.bayou_shell.specs.Exchange.{IsExchanged}
-use Rattle.bayou_shell.specs.Inner.Sent.{IsGiven, IsNoAnswer}
+use Rattle.bayou_shell.specs.Inner.Sent.{IsGiven}
 use Rattle.bayou_shell.proofs.Exchanged.{given, no_answer}
 use Rattle.bayou_shell.proofs.Standing.{one_stands, put_same, same_machine, stands_at}
 use Rattle.bayou_shell.proofs.store.Store.exchange.Goals as goal
