@@ -42,3 +42,5 @@ mod streams;
 mod takes;
 #[cfg(test)]
 mod vectors;
+#[cfg(test)]
+mod watching;
