@@ -366,7 +366,7 @@ fn a_full_writer_fails(rt: HostRuntime) -> Result<(), Fail> {
 }
 
 /// A Write that is held comes at each read, without an end: the stream is given up after 1,000,000 calls, one of which wrote the
-/// Offer. (It takes some ten seconds where it is compiled, and more than a minute where it is tried with checks.)
+/// Offer. A run with checks takes more than a minute for it.
 #[test]
 fn a_stream_without_an_end_is_given_up(rt: HostRuntime) -> Result<(), Fail> {
     let alloc = rt.alloc();
