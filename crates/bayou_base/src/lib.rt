@@ -1,5 +1,6 @@
 //! The names and values that every other crate speaks of: servers, Writes' names and stamps, version vectors, keys,
-//! values, and what a session asks for and is answered. It has no collection that grows and takes no memory.
+//! values, what a session asks for and is answered, and the entry of an audit that tells of it. It has no collection that
+//! grows and takes no memory.
 //!
 //! Callers see a [`ServerId`], a [`Wid`] and a [`Stamp`] as their numbers, with the ranges kept by the types; a
 //! [`Vector`] as the list of its [`SERVERS`] counts; a [`Key`] and a [`Text`] as the list of their bytes. Constructors
@@ -9,6 +10,7 @@
 
 pub mod answer;
 pub mod asks;
+pub mod entry;
 pub mod key;
 pub mod limits;
 pub mod server;
@@ -20,9 +22,10 @@ pub mod wid;
 
 pub use answer::{Accepted, Seen};
 pub use asks::Asks;
+pub use entry::{Entry, What};
 pub use key::{Key, KeyFault};
 pub use limits::{
-    DEFAULT_LIMIT, MAX_ALTERNATIVES, MAX_BODY_BYTES, MAX_CONDITIONS, MAX_FRAME_BYTES,
+    DEFAULT_LIMIT, MAX_ALTERNATIVES, MAX_BODY_BYTES, MAX_CONDITIONS, MAX_ENTRIES, MAX_FRAME_BYTES,
     MAX_KEY_BYTES, MAX_LINE_BYTES, MAX_LINES, MAX_OPS, MAX_PLACES, MAX_TEXT_BYTES, MAX_TURNS,
     MAX_WRITE_BYTES, MAX_WRITES, SERVERS, SESSIONS,
 };

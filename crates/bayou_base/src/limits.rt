@@ -65,3 +65,6 @@ pub const PIECE_BYTES: usize = 65_536;
 
 /// How many Writes that another server lacks are copied and sent at once at the most.
 pub const ITEMS_AT_ONCE: usize = 16;
+
+/// How many entries a book of what was served has places for at the most, and how many an audit file has.
+pub const MAX_ENTRIES: usize = 65_536;
