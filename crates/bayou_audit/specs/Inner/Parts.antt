@@ -1,0 +1,18 @@
+-- Parts of the four ledgers of a book.
+use Rattle.std.specs.Prelude.{ℕ, ◌+◌, ◌<◌, ◌^◌}
+use Rattle.bayou_audit.specs.declared.totals.Totals.{Totals}
+use Rattle.bayou_audit.specs.Totals.{totals_of}
+
+-- how many of each ledger, and what is counted on them
+pub record PartsOf : Type 0 where
+  pub parts : ℕ
+  pub totals : Totals
+
+abbrev pub parts_of : (parts slips reads writes refusals : ℕ) → PartsOf
+parts_of parts slips reads writes refusals = record { parts = parts; totals = totals_of slips reads writes refusals }
+
+-- one entry more can be counted
+pub record HasRoom (totals : Totals) : Type 0 where
+  pub reads : totals.reads + 1 < 2 ^ 64
+  pub writes : totals.writes + 1 < 2 ^ 64
+  pub refusals : totals.refusals + 1 < 2 ^ 64
