@@ -31,9 +31,9 @@ number_of-le is_kind entries =
 counts_more : (what : What) (totals : Totals) (reads writes refusals : ℕ)
     → totals.reads ≡ reads → totals.writes ≡ writes → totals.refusals ≡ refusals
     → ((counted what totals).reads ≡ reads + cond (is_read what) 1 0)
-        × ((counted what totals).writes ≡ writes + cond (is_write what) 1 0)
-        × ((counted what totals).refusals ≡ refusals + cond (is_refusal what) 1 0)
-        × ((counted what totals).slips ≡ totals.slips)
+    × ((counted what totals).writes ≡ writes + cond (is_write what) 1 0)
+    × ((counted what totals).refusals ≡ refusals + cond (is_refusal what) 1 0)
+    × ((counted what totals).slips ≡ totals.slips)
 counts_more (whats.Read key vector) totals reads writes refusals r w f = (omega arith, omega arith, omega arith, refl)
 counts_more (whats.Write wid stamp deps) totals reads writes refusals r w f = (omega arith, omega arith, omega arith, refl)
 counts_more whats.Refused totals reads writes refusals r w f = (omega arith, omega arith, omega arith, refl)
@@ -42,15 +42,15 @@ counts_more whats.Refused totals reads writes refusals r w f = (omega arith, ome
 exact_with_entry : (book : Booked) (entry : Entry) → IsExact book → 0 < book.totals.slips → IsExact (with_entry book entry)
 exact_with_entry book entry exact out =
     let more = counts_more entry.what (without_slip book.totals) (number_of is_read book.entries) (number_of is_write book.entries) (number_of is_refusal book.entries)
-          exact.reads exact.writes exact.refusals in
+    exact.reads exact.writes exact.refusals in
     record {
       reads = more.0 ∙ sym (number_of-more is_read book.entries entry);
       writes = more.1 ∙ sym (number_of-more is_write book.entries entry);
       refusals = more.2 ∙ sym (number_of-more is_refusal book.entries entry);
       room =
-        let room = exact.room in
-        let slips = more.3 in
-        omega (arith, length-append book.entries (entry ∷ []));
+          let room = exact.room in
+          let slips = more.3 in
+          omega (arith, length-append book.entries (entry ∷ []));
     }
 
 pub exact_filed : (old : Booked) (entry : Entry) (shares places : ℕ) (entries after : List Entry) (between totals : Totals)
@@ -60,10 +60,10 @@ pub exact_filed : (old : Booked) (entry : Entry) (shares places : ℕ) (entries 
     → IsExact (record { shares = shares; places = places; entries = after; totals = totals })
 exact_filed old entry shares places entries after between totals exact out is more counts =
     subst IsExact
-      (sym (ap (λ (b : Booked). record { shares = b.shares; places = b.places; entries = b.entries ++ entry ∷ []; totals = counted entry.what b.totals }) is)
-        ∙ sym (ap (λ list. record { shares = shares; places = places; entries = list; totals = counted entry.what between }) more)
-        ∙ sym (ap (λ now. record { shares = shares; places = places; entries = after; totals = now }) counts))
-      (exact_with_entry old entry exact out)
+    (sym (ap (λ (b : Booked). record { shares = b.shares; places = b.places; entries = b.entries ++ entry ∷ []; totals = counted entry.what b.totals }) is)
+    ∙ sym (ap (λ list. record { shares = shares; places = places; entries = list; totals = counted entry.what between }) more)
+    ∙ sym (ap (λ now. record { shares = shares; places = places; entries = after; totals = now }) counts))
+    (exact_with_entry old entry exact out)
 
 -- where a slip was out, one entry more can be counted, and there is a place for it
 pub has_room : (old : Booked) (shares places : ℕ) (entries : List Entry) (between : Totals)
@@ -75,8 +75,7 @@ has_room old shares places entries between exact out fits is =
     let same_places = ap (λ (b : Booked). b.places) is in
     let same_totals = ap (λ (b : Booked). b.totals) is in
     let as_long = ap length same_entries in
-    let room = exact.room in
-    (
+    let room = exact.room in (
       record {
         reads = omega (arith, ap (λ (t : Totals). t.reads) same_totals, exact.reads, number_of-le is_read old.entries);
         writes = omega (arith, ap (λ (t : Totals). t.writes) same_totals, exact.writes, number_of-le is_write old.entries);

@@ -14,15 +14,15 @@ at_more : (number : ℕ) (shares : List Shared) (share found : Shared) (at : ℕ
 at_more number shares share found at made named none is (inl before) =
     let reads = get_or_from_slice_get (shares ++ share ∷ []) at found found is in
     made.in_order at found (slice_get-get_or shares at found before
-      ∙ ap Some (sym (get_or_append_left shares (share ∷ []) found at before) ∙ reads))
+    ∙ ap Some (sym (get_or_append_left shares (share ∷ []) found at before) ∙ reads))
 at_more number shares share found at made named none is (inr behind) =
     let within = slice_get_within (shares ++ share ∷ []) at found is in
     let reads = get_or_from_slice_get (shares ++ share ∷ []) at found found is in
     let last : at ≡ length shares = omega (arith, length-append shares (share ∷ [])) in
     let same : share ≡ found = sym (get_or-append_seam shares share [] found)
-        ∙ ap (λ place. get_or (shares ++ share ∷ []) place found) (sym last) ∙ reads in
+    ∙ ap (λ place. get_or (shares ++ share ∷ []) place found) (sym last) ∙ reads in
     subst (λ (s : Shared). (s.session.index ≡ at) × (s.totals ≡ no_totals)) same
-      (named ∙ sym made.one_each ∙ sym last, none)
+    (named ∙ sym made.one_each ∙ sym last, none)
 
 pub new_shares-more : (number : ℕ) (shares after : List Shared) (share : Shared) → AreNewShares number shares
     → after ≡ shares ++ share ∷ [] → share.session.index ≡ number → share.totals ≡ no_totals → AreNewShares (number + 1) after

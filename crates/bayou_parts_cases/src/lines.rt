@@ -97,7 +97,8 @@ const COMMANDS: &str = r#"["servers",1]
 ["log"] => !BadShape(Arity)
 ["log",0,0] => !BadShape(Arity)
 ["log",8] => !BadShape(Number)
-["totals"] => !BadShape(Command)
+["totals"]
+["totals",0] => !BadShape(Arity)
 ["Read",0,0,"a"] => !BadShape(Command)
 ["entry",0] => !BadShape(Command)
 ["x"] => !BadShape(Command)
@@ -262,6 +263,7 @@ const FORMS: &str = r#"["servers",1]
 ["pull",1,0]
 ["pull",1,0,2]
 ["resend",1,0]
+["totals"]
 ["servers",9] => !BadShape(Number)
 ["read",0,0,"A"] => !Key(BadByte(0))
 ["x"," => !NotJson

@@ -6,7 +6,7 @@ use Rattle.bayou_base.specs.declared.limits.TheConstants.{DEFAULT_LIMIT, MAX_LIN
 use Rattle.bayou_text.specs.declared.line.LineFault.{LineFault}
 use Rattle.bayou_text.specs.declared.line.LineFault.TheVariants as line
 use Rattle.bayou_text.specs.Lines.{IsFaultOf}
-use Rattle.bayou_text.specs.Said.{Said, servers, session, write, read, log, fuse, lose, reopen, restart, pull, resend}
+use Rattle.bayou_text.specs.Said.{Said, servers, session, write, read, log, fuse, lose, reopen, restart, pull, resend, totals}
 use Rattle.bayou_text.specs.Table.{Spells}
 use Rattle.bayou_script.specs.declared.fault.Refusal.{Refusal}
 use Rattle.bayou_script.specs.declared.fault.Refusal.TheVariants.{Line, OutOfMemory}
@@ -42,6 +42,7 @@ use_of (reopen place) = at_server place
 use_of (restart place) = at_server place
 use_of (pull to source cut) = of_servers to source
 use_of (resend to source) = of_servers to source
+use_of totals = record { starts = None; opens = []; sessions = []; servers = [] }
 
 -- whether no two of these are one
 abbrev pub are_distinct : List ℕ → Bool

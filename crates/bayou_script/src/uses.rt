@@ -75,5 +75,10 @@ pub(crate) fn used_by(command: &Command) -> Uses
         | Command::Reopen { server }
         | Command::Restart { server } => at_server(None, *server),
         Command::Pull { to, from, .. } | Command::Resend { to, from } => between(*to, *from),
+        Command::Totals => Uses {
+            opens: None,
+            session: None,
+            servers: Places::Nowhere,
+        },
     }
 }

@@ -6,7 +6,7 @@ use Rattle.bayou_lang.specs.declared.eval.Outcome.{Outcome}
 use Rattle.bayou_lang.specs.declared.eval.Outcome.TheVariants.{Updated, Merged, Nothing}
 use Rattle.bayou_log.specs.declared.listing.Listed.{Listed}
 use Rattle.bayou_shell.specs.declared.answer.Answer.{Answer}
-use Rattle.bayou_shell.specs.declared.answer.Answer.TheVariants.{Done, Wrote, Read, Refused, NotServed, Lost, Logged, Stopped, Recovered, Exchanged}
+use Rattle.bayou_shell.specs.declared.answer.Answer.TheVariants.{Done, Wrote, Read, Refused, NotServed, Lost, Logged, Stopped, Recovered, Exchanged, Counted}
 use Rattle.bayou_shell.specs.declared.answer.Exchange.{Exchange}
 use Rattle.bayou_shell.specs.declared.answer.Exchange.TheVariants.{NotRunning as NothingRuns, Ended}
 use Rattle.bayou_shell.specs.declared.answer.Recovery.{Recovery}
@@ -69,3 +69,6 @@ last_ends servers (Logged server listing vector) = ends_is _ (behind (codes "log
 last_ends servers (Stopped server) = ends_is _ (behind (codes "stopped ") _ (behind (decimal server.index) _ feed))
 last_ends servers (Recovered recovery) = ends_is _ (recovery_ends recovery)
 last_ends servers (Exchanged exchange) = ends_is _ (exchange_ends exchange)
+last_ends servers (Counted totals) =
+    ends_is _
+    (behind (codes "totals reads ") _ (behind (decimal totals.reads) _ (behind (codes " writes ") _ (behind (decimal totals.writes) _ (behind (codes " refusals ") _ (behind (decimal totals.refusals) _ (behind (codes " slips ") _ (behind (decimal totals.slips) _ feed))))))))

@@ -1,3 +1,4 @@
 pub mod Faults
+pub mod Filing
 pub mod Sent
 pub mod Waiting

@@ -1,5 +1,6 @@
 pub mod Exchange
 pub mod Fault
+pub mod Filed
 pub mod Inner
 pub mod Machine
 pub mod Printed

@@ -4,6 +4,7 @@ use Rattle.std.specs.Fmt.{signed_decimal}
 use Rattle.std.specs.List.{join_with_byte}
 use Rattle.serde_json.specs.Data.{string}
 use Rattle.serde_json.specs.Written.{compact_text}
+use Rattle.bayou_audit.specs.declared.totals.Totals.{Totals}
 use Rattle.bayou_base.specs.declared.value.Value.{Value}
 use Rattle.bayou_base.specs.declared.value.Value.TheVariants.{Num, Text}
 use Rattle.bayou_lang.specs.declared.eval.Outcome.{Outcome}
@@ -17,7 +18,7 @@ use Rattle.bayou_server.specs.declared.fault.StartFault.TheVariants as starting
 use Rattle.bayou_server.specs.declared.fault.WriteFault.{WriteFault}
 use Rattle.bayou_server.specs.declared.fault.WriteFault.TheVariants as writing
 use Rattle.bayou_shell.specs.declared.answer.Answer.{Answer}
-use Rattle.bayou_shell.specs.declared.answer.Answer.TheVariants.{Done, Wrote, Read, Refused, NotServed, Lost, Logged, Stopped, Recovered, Exchanged}
+use Rattle.bayou_shell.specs.declared.answer.Answer.TheVariants.{Done, Wrote, Read, Refused, NotServed, Lost, Logged, Stopped, Recovered, Exchanged, Counted}
 use Rattle.bayou_peer.specs.declared.fault.Fault.TheVariants as streams
 use Rattle.bayou_peer.specs.declared.fault.PullFault.{PullFault}
 use Rattle.bayou_peer.specs.declared.fault.PullFault.TheVariants as pulling
@@ -100,6 +101,7 @@ log_text (Lost session) = []
 log_text (Stopped server) = []
 log_text (Recovered recovery) = []
 log_text (Exchanged exchange) = []
+log_text (Counted totals) = []
 
 -- the line of a server that was to be reopened or restarted
 abbrev pub recovery_text : Recovery → List ℕ
@@ -138,6 +140,12 @@ exchange_text NothingRuns = codes "pull fault lost\n"
 exchange_text (Ended (Ok pulled)) = codes "pulled " ++ (decimal pulled.taken ++ (codes " had " ++ (decimal pulled.had ++ codes "\n")))
 exchange_text (Ended (Err fault)) = codes "pull fault " ++ (pulling_text fault ++ codes "\n")
 
+-- how many reads, Writes and refusals were filed, and how many slips are out
+abbrev pub totals_text : Totals → List ℕ
+totals_text totals =
+    codes "totals reads " ++ (decimal totals.reads ++ (codes " writes " ++ (decimal totals.writes
+    ++ (codes " refusals " ++ (decimal totals.refusals ++ (codes " slips " ++ (decimal totals.slips ++ codes "\n")))))))
+
 -- the last line that is printed for an answer, or nothing where there is nothing to tell
 abbrev pub last_text : ℕ → Answer → List ℕ
 last_text servers Done = []
@@ -157,6 +165,7 @@ last_text servers (Logged server listing vector) =
 last_text servers (Stopped server) = codes "stopped " ++ (decimal server.index ++ codes "\n")
 last_text servers (Recovered recovery) = recovery_text recovery
 last_text servers (Exchanged exchange) = exchange_text exchange
+last_text servers (Counted totals) = totals_text totals
 
 -- what is printed for an answer: a log's lines, one for each Write, go before its last
 abbrev pub answer_text : ℕ → Answer → List ℕ

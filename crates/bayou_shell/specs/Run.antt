@@ -1,19 +1,21 @@
 -- What a script may be answered: a run of a machine over its servers and its sessions.
-use Rattle.std.specs.Prelude.{◌≡◌, ℕ, ◌⊎◌, List, [], ◌∷◌, ◌++◌, Option, None, Result, Ok, Err, take, flat_map}
+use Rattle.std.specs.Prelude.{◌≡◌, ℕ, ◌⊎◌, Bool, true, false, List, [], ◌∷◌, ◌++◌, Option, None, Some, Result, Ok, Err, take, flat_map}
 use Rattle.std.specs.Io.KnownBytes.{Appends, Keeps}
 use Rattle.bayou_base.specs.declared.asks.Asks.{Asks}
+use Rattle.bayou_base.specs.declared.entry.Entry.{Entry}
 use Rattle.bayou_base.specs.declared.server.ServerId.{ServerId}
 use Rattle.bayou_base.specs.declared.session.SessionId.{SessionId}
 use Rattle.bayou_session.specs.Needs.{Told, new_session}
-use Rattle.bayou_text.specs.Said.{Said, servers, session, write, read, log, fuse, lose, reopen, restart, pull, resend}
+use Rattle.bayou_text.specs.Said.{Said, servers, session, write, read, log, fuse, lose, reopen, restart, pull, resend, totals}
 use Rattle.bayou_shell.specs.declared.answer.Answer.{Answer}
-use Rattle.bayou_shell.specs.declared.answer.Answer.TheVariants.{Done, Recovered}
+use Rattle.bayou_shell.specs.declared.answer.Answer.TheVariants.{Counted, Done, Recovered}
 use Rattle.bayou_shell.specs.declared.answer.Recovery.{Recovery}
 use Rattle.bayou_shell.specs.declared.fault.Fault.{Fault}
 use Rattle.bayou_shell.specs.declared.fault.Fault.TheVariants.{Line, Device, Input, Output}
 use Rattle.bayou_shell.specs.declared.fault.Fault.TheVariants as fault
 use Rattle.bayou_shell.specs.declared.replica.Replica.{Replica}
 use Rattle.bayou_shell.specs.Exchange.{Exchanges, own_counts, zero_counts}
+use Rattle.bayou_shell.specs.Filed.{Files, Filings, operation_of, places_for, totals_filed, what_told}
 use Rattle.bayou_shell.specs.Machine.{FailsToBegin, HasBegun, Machine, StandsAt, session_of, with_server, with_session}
 use Rattle.bayou_shell.specs.Printed.{answer_text}
 use Rattle.bayou_shell.specs.Replica.{IsFused, IsListed, IsRead, IsReopened, IsRestarted, IsShortened, IsWritten}
@@ -83,6 +85,12 @@ Step old (reopen place) answer new = Recovers IsReopened old place answer new
 Step old (restart place) answer new = Recovers (IsRestarted old.count old.limit) old place answer new
 Step old (pull to source cut) answer new = Exchanges own_counts cut old to source answer new
 Step old (resend to source) answer new = Exchanges zero_counts None old to source answer new
+Step old totals answer new = ⊥
+
+-- Servers and sessions have nothing to say of the book.
+abbrev pub asks_book : Said → Bool
+asks_book totals = true
+asks_book _ = false
 
 -- it asks for a log
 abbrev pub IsLog : Said → Type 0
@@ -97,11 +105,48 @@ IsLog (reopen server) = ⊥
 IsLog (restart server) = ⊥
 IsLog (pull to source cut) = ⊥
 IsLog (resend to source) = ⊥
+IsLog totals = ⊥
+
+-- The machine of a script: its servers and sessions, and the book of what was served.
+pub record Audited : Type 0 where
+  pub machine : Machine
+  pub book : Filings
+
+-- as a script begins, nothing was filed
+pub record IsNewRun (plan : Plan) (audited : Audited) : Type 0 where
+  pub machine : HasBegun plan.count plan.limit audited.machine
+  pub places : audited.book.places ≡ places_for plan.commands
+  pub none_filed : audited.book.entries ≡ []
+
+-- The session tries an operation at the server, and what it was told is filed, and nothing else.
+pub record Tries (old : Audited) (who place : ℕ) (said : Said) (answer : Answer) (new : Audited) : Type 0 where
+  pub step : Step old.machine said answer new.machine
+  pub name : SessionId
+  pub is_named : name.index ≡ who
+  pub filed : List Entry
+  pub files : Files who place (session_of old.machine name) (what_told answer) filed
+  pub only : new.book ≡ record old.book { entries = old.book.entries ++ filed }
+
+-- nothing is filed
+pub record Leaves (old : Audited) (said : Said) (answer : Answer) (new : Audited) : Type 0 where
+  pub step : Step old.machine said answer new.machine
+  pub same : new.book ≡ old.book
+
+-- what a session does is filed, and what is done to servers alone isn't
+abbrev pub Does : Option (ℕ × ℕ) → Audited → Said → Answer → Audited → Type 0
+Does None old said answer new = Leaves old said answer new
+Does (Some (who, place)) old said answer new = Tries old who place said answer new
+
+-- From old, what a line says may get this answer and leave new: what sessions are told is filed, and the totals are those of what
+-- was filed so far.
+abbrev pub Turn : Audited → Said → Answer → Audited → Type 0
+Turn old totals answer new = (new ≡ old) × (answer ≡ Counted (totals_filed old.book.entries))
+Turn old said answer new = Does (operation_of said) old said answer new
 
 -- what is said one after another may get these answers
-abbrev pub Run : Machine → List Said → List Answer → Machine → Type 0
+abbrev pub Run : Audited → List Said → List Answer → Audited → Type 0
 Run old [] [] new = new ≡ old
-Run old (said ∷ others) (answer ∷ answers) new = (mid : Machine) × Step old said answer mid × Run mid others answers new
+Run old (said ∷ others) (answer ∷ answers) new = (mid : Audited) × Turn old said answer mid × Run mid others answers new
 Run old [] (answer ∷ answers) new = ⊥
 Run old (said ∷ others) [] new = ⊥
 
@@ -112,9 +157,9 @@ answers_text count answers = flat_map (answer_text count) answers
 -- the text is what is printed for the answers of some run of all commands
 pub record Prints (plan : Plan) (text : List ℕ) : Type 0 where
   pub answers : List Answer
-  pub first : Machine
-  pub last : Machine
-  pub begun : HasBegun plan.count plan.limit first
+  pub first : Audited
+  pub last : Audited
+  pub begun : IsNewRun plan first
   pub run : Run first plan.commands answers last
   pub lines : text ≡ answers_text plan.count answers
 
@@ -122,9 +167,9 @@ pub record Prints (plan : Plan) (text : List ℕ) : Type 0 where
 pub record PrintsPart (plan : Plan) (text : List ℕ) : Type 0 where
   pub number : ℕ
   pub answers : List Answer
-  pub first : Machine
-  pub last : Machine
-  pub begun : HasBegun plan.count plan.limit first
+  pub first : Audited
+  pub last : Audited
+  pub begun : IsNewRun plan first
   pub run : Run first (take number plan.commands) answers last
   pub missing : List ℕ
   pub lines : answers_text plan.count answers ≡ text ++ missing

@@ -1,3 +1,4 @@
+use bayou_audit::Totals;
 use bayou_base::{Accepted, Key, Seen, ServerId, SessionId, Vector, Wid};
 use bayou_log::Listed;
 use bayou_peer::{PullFault, Pulled};
@@ -47,6 +48,8 @@ pub enum Answer {
     Recovered(Recovery),
     /// What became of a server that was to take Writes from another.
     Exchanged(Exchange),
+    /// How much was filed so far.
+    Counted(Totals),
 }
 
 /// What became of a server that was to take Writes from another.

@@ -18,6 +18,7 @@
 mod answer;
 mod exchange;
 pub mod fault;
+mod filing;
 mod printed;
 pub mod program;
 mod reading;

@@ -3,9 +3,10 @@ ghost use Rattle.serde_json.specs.Data.{string};
 ghost use Rattle.serde_json.specs.Written.{compact_text};
 ghost use Rattle.bayou_base.specs.declared.limits.TheConstants.{SERVERS};
 ghost use Rattle.bayou_shell.specs.declared.answer.Answer.TheVariants.{NotServed, Read, Wrote};
-ghost use Rattle.bayou_shell.specs.Printed.{adopted_text, counts_text, exchange_text, last_text, listed_text, pulling_text, recovery_text, refusal_text, reopening_text, starting_text, taking_text, value_text};
+ghost use Rattle.bayou_shell.specs.Printed.{adopted_text, counts_text, exchange_text, last_text, listed_text, pulling_text, recovery_text, refusal_text, reopening_text, starting_text, taking_text, totals_text, value_text};
 
 use crate::answer::{Answer, Exchange, Recovery};
+use bayou_audit::Totals;
 use bayou_base::{Accepted, Key, Seen, ServerId, SessionId, Value, Vector, Wid};
 use bayou_lang::Outcome;
 use bayou_log::Listed;
@@ -270,6 +271,19 @@ fn exchange_line(alloc: Global, exchange: &Exchange) -> Result<String, AllocErro
     }
 }
 
+/// The line of what was filed so far.
+fn totals_line(alloc: Global, totals: Totals) -> Result<String, AllocError>
+    ensures { IfOk result (λ text. string_bytes text ≡ totals_text totals) }
+{
+    let Totals {
+        slips,
+        reads,
+        writes,
+        refusals,
+    } = totals;
+    format!(in alloc; "totals reads {reads} writes {writes} refusals {refusals} slips {slips}\n")
+}
+
 /// The last line that is printed for an answer where there are so many servers, or nothing.
 pub fn printed(alloc: Global, servers: u8, answer: &Answer) -> Result<String, AllocError>
     requires { servers ≤ SERVERS }
@@ -300,5 +314,6 @@ pub fn printed(alloc: Global, servers: u8, answer: &Answer) -> Result<String, Al
         }
         Answer::Recovered(recovery) => recovery_line(alloc, recovery),
         Answer::Exchanged(exchange) => exchange_line(alloc, exchange),
+        Answer::Counted(totals) => totals_line(alloc, *totals),
     }
 }

@@ -1,60 +1,70 @@
-ghost use Rattle.std.specs.Prelude.{◌≡◌, ◌≤◌, ◌⊎◌, [], List, ℕ, IfErr, IfSome, IsTrue, MatchResult, OnOk};
+ghost use Rattle.std.specs.Prelude.{◌≡◌, ◌≢◌, ◌<◌, ◌≤◌, ◌⊎◌, [], List, ℕ, IfErr, IfSome, IsTrue, MatchResult, None, OnOk, length};
 ghost use Rattle.bayou_script.specs.Plan.{plan_of};
 ghost use Rattle.bayou_script.specs.Script.{is_served};
 ghost use Rattle.bayou_text.specs.Said.{command_said};
 ghost use Rattle.bayou_shell.specs.declared.answer.Answer.{Answer};
-ghost use Rattle.bayou_shell.specs.Machine.{HasBegun};
+ghost use Rattle.bayou_base.specs.declared.limits.TheConstants.{SESSIONS as SESSIONS_NUMBER};
+ghost use Rattle.bayou_shell.specs.Filed.{operation_of};
+ghost use Rattle.bayou_shell.specs.Inner.Filing.{audited};
 ghost use Rattle.bayou_shell.specs.Printed.{answer_text};
-ghost use Rattle.bayou_shell.specs.Run.{Prints, PrintsPart, RunsAs, Step};
+ghost use Rattle.bayou_shell.specs.Run.{IsNewRun, Prints, PrintsPart, RunsAs, Turn};
 ghost use Rattle.bayou_shell.specs.Inner.Faults.{IsRunFault};
 ghost use Rattle.bayou_streams.specs.Account.{Pays, Takes, account};
 ghost use Rattle.bayou_shell.specs.Inner.Waiting.{Gathers, stage};
 ghost use Rattle.bayou_shell.specs.Turns.{EndsReading, EndsWriting, cut_lines};
 
 use crate::fault::Fault;
+use crate::filing::{Filing, places_for};
 use crate::reading::read_script;
 use crate::store::Store;
 use crate::telling::write_answer;
 use crate::waiting::Waiting;
+use bayou_audit::{Blanks, Four, Ledgers};
+use bayou_base::SESSIONS;
 use bayou_script::{Script, Servers};
 use bayou_streams::{Channel, Output};
 use bayou_text::Command;
 use std::alloc::Global;
 use std::io::{Read, Write};
+use std::marker::Brand;
+use std::sync::ledger::{Blank, Ledger};
 
 /// Answers one command, and writes what is printed for it, or has it wait. Where a log wants memory, nothing is printed for it.
-fn answer_one<W: Write>(
+fn answer_one<K: Ledgers, W: Write>(
     alloc: Global,
     servers: Servers,
     store: &mut Store,
+    filing: &mut Filing<K>,
     command: Command,
     output: &mut Output<W>,
     waiting: &mut Waiting,
 ) -> Result<(), Fault>
-    requires { IsTrue (is_served store.old.count (command_said command)) }
+    requires served { IsTrue (is_served store.old.count (command_said command)) }
+    requires room { operation_of (command_said command) ≢ None → length filing.old.entries < filing.old.places }
     ensures answered { MatchResult result
-        (λ _. (answer : Answer) × Step store.old (command_said command) answer store.new
+        (λ _. (answer : Answer) × Turn (audited store.old filing.old) (command_said command) answer (audited store.new filing.new)
         × Gathers (stage W.contents output.old waiting.old) (stage W.contents output.new waiting.new) (answer_text servers.count answer) [])
         (λ fault. IsRunFault fault × ((stage W.contents output.new waiting.new ≡ stage W.contents output.old waiting.old)
-        ⊎ (answer : Answer) × Step store.old (command_said command) answer store.new
+        ⊎ (answer : Answer) × Turn (audited store.old filing.old) (command_said command) answer (audited store.new filing.new)
         × (missing : List ℕ) × Gathers (stage W.contents output.old waiting.old) (stage W.contents output.new waiting.new) (answer_text servers.count answer) missing)) }
     ensures ended { IfErr result (EndsWriting output.new.channel.write_failed output.new.channel.turns_left) }
     ensures ready { OnOk result (output.old.channel.turns_left ≤ output.new.channel.turns_left) }
 {
-    let answer = store.answer(alloc, command)?;
+    let answer = filing.answer(alloc, store, command)?;
     write_answer(alloc, servers.count, &answer, output, waiting)
 }
 
 /// Answers the commands in order, from what the servers hold as a script begins, and writes what is printed for each, or has
 /// it wait.
-fn answer_each<W: Write>(
+fn answer_each<K: Ledgers, W: Write>(
     alloc: Global,
     script: Script,
     store: Store,
+    filing: Filing<K>,
     output: &mut Output<W>,
     waiting: &mut Waiting,
 ) -> Result<(), Fault>
-    requires { HasBegun script.servers.count script.servers.limit store }
+    requires { IsNewRun (plan_of script) (audited store filing) }
     ensures ok { OnOk result ((text : List ℕ) × Prints (plan_of script) text × Gathers (stage W.contents output.old waiting.old) (stage W.contents output.new waiting.new) text []) }
     ensures err { IfErr result (λ fault. IsRunFault fault × (text : List ℕ) × (missing : List ℕ) × PrintsPart (plan_of script) text
         × Gathers (stage W.contents output.old waiting.old) (stage W.contents output.new waiting.new) text missing) }
@@ -66,21 +76,31 @@ fn answer_each<W: Write>(
         mut commands,
     } = script;
     let mut store = store;
+    let mut filing = filing;
     while let Some(command) = commands.pop_front() {
-        answer_one(alloc, servers, &mut store, command, output, waiting)?;
+        answer_one(
+            alloc,
+            servers,
+            &mut store,
+            &mut filing,
+            command,
+            output,
+            waiting,
+        )?;
     }
     Ok(())
 }
 
 /// Answers the commands, and writes what is printed for them. What was printed before a fault is written too.
-fn answer_all<W: Write>(
+fn answer_all<K: Ledgers, W: Write>(
     alloc: Global,
     script: Script,
     store: Store,
+    filing: Filing<K>,
     output: &mut Output<W>,
     waiting: Waiting,
 ) -> Result<(), Fault>
-    requires begun { HasBegun script.servers.count script.servers.limit store }
+    requires begun { IsNewRun (plan_of script) (audited store filing) }
     requires none { waiting.lines.items ≡ [] }
     ensures ok { OnOk result ((text : List ℕ) × Prints (plan_of script) text × Takes (account W.contents output.old) (account W.contents output.new) text) }
     ensures err { IfErr result (λ fault. IsRunFault fault
@@ -89,7 +109,7 @@ fn answer_all<W: Write>(
     ensures ready { OnOk result (output.old.channel.turns_left ≤ output.new.channel.turns_left) }
 {
     let mut waiting = waiting;
-    match answer_each(alloc, script, store, output, &mut waiting) {
+    match answer_each(alloc, script, store, filing, output, &mut waiting) {
         Ok(()) => waiting.write(output),
         Err(Fault::Memory) => {
             // What was printed before is written. Where that fails, want of memory still came first.
@@ -98,6 +118,58 @@ fn answer_all<W: Write>(
         }
         Err(fault) => Err(fault),
     }
+}
+
+/// Reads a script to its end, or to its least line with a fault, and writes the lines of its answers. The book counts in these
+/// ledgers.
+fn run_with<K: Ledgers, R: Read, W: Write>(
+    alloc: Global,
+    blanks: Blanks,
+    input: &mut Channel<R, ()>,
+    output: &mut Output<W>,
+) -> Result<(), Fault>
+    requires slips { (blanks.slips.name ≡ K.Slips.name) × (blanks.slips.parts ≡ K.Slips.parts) × (blanks.slips.parts ≡ SESSIONS_NUMBER) }
+    requires reads { (blanks.reads.name ≡ K.Reads.name) × (blanks.reads.parts ≡ K.Reads.parts) × (blanks.reads.parts ≡ SESSIONS_NUMBER) }
+    requires writes { (blanks.writes.name ≡ K.Writes.name) × (blanks.writes.parts ≡ K.Writes.parts) × (blanks.writes.parts ≡ SESSIONS_NUMBER) }
+    requires refusals { (blanks.refusals.name ≡ K.Refusals.name) × (blanks.refusals.parts ≡ K.Refusals.parts) × (blanks.refusals.parts ≡ SESSIONS_NUMBER) }
+    ensures runs { IfSome (R.remaining input.old.reader) (λ text. RunsAs text result (W.contents output.old.channel.writer) (W.contents output.new.channel.writer)) }
+    ensures read { IfErr result (EndsReading input.new.read_failed input.new.turns_left) }
+    ensures written { IfErr result (EndsWriting output.new.channel.write_failed output.new.channel.turns_left) }
+    ensures turns { input.new.turns_left ≤ input.old.turns_left }
+    ensures paid { Pays (account W.contents output.old) (account W.contents output.new) (cut_lines result) }
+{
+    let script = read_script(alloc, input)?;
+    let waiting = Waiting::new(alloc)?;
+    let store = Store::new(alloc, script.servers)?;
+    let filing = Filing::<K>::new(alloc, blanks, places_for(&script.commands))?;
+    answer_all(alloc, script, store, filing, output, waiting)
+}
+
+/// The same, with a ledger for each of the four totals.
+fn run_over<S, T, U, V, R, W>(
+    alloc: Global,
+    blanks: Blanks,
+    input: &mut Channel<R, ()>,
+    output: &mut Output<W>,
+) -> Result<(), Fault>
+where
+    S: Ledger + Send + Sync,
+    T: Ledger + Send + Sync,
+    U: Ledger + Send + Sync,
+    V: Ledger + Send + Sync,
+    R: Read,
+    W: Write,
+    requires slips { (blanks.slips.name ≡ S.name) × (blanks.slips.parts ≡ S.parts) × (blanks.slips.parts ≡ SESSIONS_NUMBER) }
+    requires reads { (blanks.reads.name ≡ T.name) × (blanks.reads.parts ≡ T.parts) × (blanks.reads.parts ≡ SESSIONS_NUMBER) }
+    requires writes { (blanks.writes.name ≡ U.name) × (blanks.writes.parts ≡ U.parts) × (blanks.writes.parts ≡ SESSIONS_NUMBER) }
+    requires refusals { (blanks.refusals.name ≡ V.name) × (blanks.refusals.parts ≡ V.parts) × (blanks.refusals.parts ≡ SESSIONS_NUMBER) }
+    ensures runs { IfSome (R.remaining input.old.reader) (λ text. RunsAs text result (W.contents output.old.channel.writer) (W.contents output.new.channel.writer)) }
+    ensures read { IfErr result (EndsReading input.new.read_failed input.new.turns_left) }
+    ensures written { IfErr result (EndsWriting output.new.channel.write_failed output.new.channel.turns_left) }
+    ensures turns { input.new.turns_left ≤ input.old.turns_left }
+    ensures paid { Pays (account W.contents output.old) (account W.contents output.new) (cut_lines result) }
+{
+    run_with::<Four<S, T, U, V>, R, W>(alloc, blanks, input, output)
 }
 
 /// Reads a script to its end, or to its least line with a fault, and writes the lines of its answers.
@@ -112,8 +184,11 @@ pub fn run_script<R: Read, W: Write>(
     ensures turns { input.new.turns_left ≤ input.old.turns_left }
     ensures paid { Pays (account W.contents output.old) (account W.contents output.new) (cut_lines result) }
 {
-    let script = read_script(alloc, input)?;
-    let waiting = Waiting::new(alloc)?;
-    let store = Store::new(alloc, script.servers)?;
-    answer_all(alloc, script, store, output, waiting)
+    let blanks = Blanks {
+        slips: Blank::new(SESSIONS as u64),
+        reads: Blank::new(SESSIONS as u64),
+        writes: Blank::new(SESSIONS as u64),
+        refusals: Blank::new(SESSIONS as u64),
+    };
+    run_over::<Brand, Brand, Brand, Brand, R, W>(alloc, blanks, input, output)
 }

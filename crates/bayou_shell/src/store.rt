@@ -1,4 +1,4 @@
-ghost use Rattle.std.specs.Prelude.{◌≡◌, ◌<◌, ℕ, IfOk, IfErr, IsTrue, List, MatchResult};
+ghost use Rattle.std.specs.Prelude.{◌≡◌, ◌<◌, ℕ, IfOk, IfErr, IsTrue, List, MatchResult, false};
 ghost use Rattle.bayou_shell.specs.declared.answer.Answer.TheVariants.{Done, Exchanged, Recovered};
 ghost use Rattle.bayou_text.specs.Said.{fuse, log, lose, pull, read, reopen, resend, restart, session, write};
 
@@ -38,7 +38,7 @@ impl Store {
     ghost use Rattle.bayou_shell.specs.Exchange.{Exchanges};
     ghost use Rattle.bayou_shell.specs.declared.replica.Replica.{Replica as Replicated};
     ghost use Rattle.bayou_shell.specs.Machine.{FailsToBegin, HasBegun, StandsAt, session_of};
-    ghost use Rattle.bayou_shell.specs.Run.{IsLog, Step};
+    ghost use Rattle.bayou_shell.specs.Run.{IsLog, Step, asks_book};
     ghost use Rattle.bayou_script.specs.Script.{is_served};
     ghost use Rattle.bayou_text.specs.Said.{command_said};
 
@@ -58,8 +58,8 @@ impl Store {
         })
     }
 
-    // The session of this name. One that wasn't opened asks for nothing; no script uses it.
-    fn session(&self, who: SessionId) -> Session
+    /// The session of this name. One that wasn't opened asks for nothing; no script uses it.
+    pub fn session(&self, who: SessionId) -> Session
         ensures { result ≡ session_of self.now who }
     {
         match self.sessions[usize::from(who.index)] {
@@ -69,9 +69,10 @@ impl Store {
     }
 
     #[tactic(auto, unfolding(bayou_script::specs::Script::are_servers))]
-    /// What the command is answered. Only a log may want memory that it has no answer for.
+    /// What the command is answered, which asks nothing of the book. Only a log may want memory that it has no answer for.
     pub fn answer(&mut self, alloc: Global, command: Command) -> Result<Answer, AllocError>
-        requires { IsTrue (is_served self.old.count (command_said command)) }
+        requires served { IsTrue (is_served self.old.count (command_said command)) }
+        requires other { asks_book (command_said command) ≡ false }
         ensures { MatchResult result
             (λ answer. Step self.old (command_said command) answer self.new)
             (λ _. IsLog (command_said command) × (self.new ≡ self.old)) }
@@ -106,6 +107,7 @@ impl Store {
                 Ok(Answer::Exchanged(self.pull(alloc, to, from, cut)))
             }
             Command::Resend { to, from } => Ok(Answer::Exchanged(self.resend(alloc, to, from))),
+            Command::Totals => unreachable!(),
         }
     }
 

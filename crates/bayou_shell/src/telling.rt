@@ -88,6 +88,7 @@ pub(crate) fn write_answer<W: Write>(
         | Answer::Lost { .. }
         | Answer::Stopped { .. }
         | Answer::Recovered(_)
-        | Answer::Exchanged(_) => write_last(alloc, servers, answer, output, waiting),
+        | Answer::Exchanged(_)
+        | Answer::Counted(_) => write_last(alloc, servers, answer, output, waiting),
     }
 }

@@ -12,7 +12,7 @@ use Rattle.bayou_text.specs.Asks.{asks_in}
 use Rattle.bayou_text.specs.Numbers.{count_in, limit_in, session_in, server_in, calls_in, kept_in, lost_in, cut_in}
 use Rattle.bayou_text.specs.Programs.{program_in}
 use Rattle.bayou_text.specs.Reading.{Parsed, ◌>>=◌, worded}
-use Rattle.bayou_text.specs.Said.{Said, servers, session, write, read, log, fuse, lose, reopen, restart, pull, resend}
+use Rattle.bayou_text.specs.Said.{Said, servers, session, write, read, log, fuse, lose, reopen, restart, pull, resend, totals}
 use Rattle.bayou_text.specs.Values.{key_in}
 
 -- ["servers", count] and ["servers", count, limit], behind the word
@@ -102,12 +102,21 @@ resending_in (to ∷ source ∷ []) = do
   Ok (resend at other)
 resending_in _ = Err (BadShape Arity)
 
+-- ["totals"]
+unfoldable pub totals_in : List Data → Parsed Said
+totals_in [] = Ok totals
+totals_in _ = Err (BadShape Arity)
+
+-- what is asked of the whole run
+unfoldable pub asked_of : List ℕ → List Data → Parsed Said
+asked_of word parts = if bytes_eq word (codes "totals") then totals_in parts else trial_of word parts
+
 -- what two servers do
 unfoldable pub exchange_of : List ℕ → List Data → Parsed Said
 exchange_of word parts =
     if bytes_eq word (codes "pull") then pulling_in parts
     else (if bytes_eq word (codes "resend") then resending_in parts
-    else trial_of word parts)
+    else asked_of word parts)
 
 abbrev pub command_of : List ℕ → List Data → Parsed Said
 command_of word parts =

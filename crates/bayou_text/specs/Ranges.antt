@@ -1,7 +1,7 @@
 -- Which lines are read.
 use Rattle.std.specs.Prelude.{ℕ, ◌≤◌, IfSome, ⊤}
 use Rattle.bayou_base.specs.declared.limits.TheConstants.{MAX_WRITES, SERVERS, MAX_FUSE_CALLS, MAX_FUSE_KEPT, MAX_LOST_BYTES}
-use Rattle.bayou_text.specs.Said.{Said, servers, session, write, read, log, fuse, lose, reopen, restart, pull, resend}
+use Rattle.bayou_text.specs.Said.{Said, servers, session, write, read, log, fuse, lose, reopen, restart, pull, resend, totals}
 
 abbrev pub IsCount : ℕ → Type 0
 IsCount count = (1 ≤ count) × (count ≤ SERVERS)
@@ -27,3 +27,4 @@ IsReadable (reopen place) = ⊤
 IsReadable (restart place) = ⊤
 IsReadable (pull to source cut) = IfSome cut (λ items. items ≤ MAX_WRITES)
 IsReadable (resend to source) = ⊤
+IsReadable totals = ⊤

@@ -20,6 +20,7 @@ pub data Said : Type 0 where
   restart : ℕ → Said
   pull : ℕ → ℕ → Option ℕ → Said
   resend : ℕ → ℕ → Said
+  totals : Said
 
 -- what a command says
 abbrev pub command_said : Command → Said
@@ -33,6 +34,7 @@ command_said (command.Reopen place) = reopen place.index
 command_said (command.Restart place) = restart place.index
 command_said (command.Pull to source cut) = pull to.index source.index cut
 command_said (command.Resend to source) = resend to.index source.index
+command_said command.Totals = totals
 
 abbrev pub said : Line → Said
 said (line.Servers count limit) = servers count limit

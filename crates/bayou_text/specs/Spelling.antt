@@ -14,7 +14,7 @@ use Rattle.bayou_lang.specs.declared.program.Cond.{Cond}
 use Rattle.bayou_lang.specs.declared.program.Cond.TheVariants.{Equals, Absent, AtLeast}
 use Rattle.bayou_lang.specs.declared.program.Alt.{Alt}
 use Rattle.bayou_lang.specs.declared.program.Program.{Program}
-use Rattle.bayou_text.specs.Said.{Said, servers, session, write, read, log, fuse, lose, reopen, restart, pull, resend}
+use Rattle.bayou_text.specs.Said.{Said, servers, session, write, read, log, fuse, lose, reopen, restart, pull, resend, totals}
 
 -- an array that begins with a word
 abbrev pub form : List ℕ → List Data → Data
@@ -86,3 +86,4 @@ line_json (restart place) = form (codes "restart") (count_json place ∷ [])
 line_json (pull to source None) = form (codes "pull") (count_json to ∷ count_json source ∷ [])
 line_json (pull to source (Some items)) = form (codes "pull") (count_json to ∷ count_json source ∷ count_json items ∷ [])
 line_json (resend to source) = form (codes "resend") (count_json to ∷ count_json source ∷ [])
+line_json totals = form (codes "totals") []

@@ -68,4 +68,6 @@ pub enum Command {
         to: ServerId,
         from: ServerId,
     },
+    /// The numbers of reads, Writes and refusals that were filed so far, and of slips that are out.
+    Totals,
 }

@@ -18,6 +18,7 @@ use serde_json::Value;
 use std::alloc::Global;
 use std::str;
 
+mod asked;
 mod asks;
 mod exchange;
 mod number;

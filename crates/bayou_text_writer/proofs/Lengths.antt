@@ -71,6 +71,9 @@ value_size : (v : Value) → IsValue v → size (value_json v) ≤ 194
 value_size (Num n) fits = omega (arith, integer_size n fits)
 value_size (Text text) kept = omega (arith, string_size text, kept.0)
 
+form_none : (word : List ℕ) → size (form word []) ≤ 6 * length word + 4
+form_none word = simp length-append (omega (arith, simp length-append at (string_size word)))
+
 form_one : (word : List ℕ) (d : Data) → size (form word (d ∷ [])) ≤ 6 * length word + size d + 5
 form_one word d = simp length-append (omega (arith, simp length-append at (string_size word)))
 
@@ -292,3 +295,4 @@ line_size (line.Command (command.Resend to source)) kept =
       count_size to.index (omega (arith, to.in_range)),
       count_size source.index (omega (arith, source.in_range)),
     )
+line_size (line.Command command.Totals) kept = omega (arith, form_none (codes "totals"))

@@ -156,5 +156,6 @@ fn line_json(alloc: Global, line: &Line) -> Result<Value, AllocError>
             ],
         ),
         Line::Command(Command::Resend { to, from }) => between_json(alloc, "resend", *to, *from),
+        Line::Command(Command::Totals) => numbers_json(alloc, "totals", &[]),
     }
 }

@@ -6,11 +6,11 @@ ghost use Rattle.bayou_text.specs.Said.{said};
 
 use crate::command::Command;
 use crate::line::{Line, LineFault, Shape};
+use crate::read::asked::asked_in;
 use crate::read::number::{cut_in, server_in};
-use crate::read::trial::trial_in;
 use serde_json::Value;
 
-/// A command by which two servers exchange Writes, or one that tries a server.
+/// A command by which two servers exchange Writes, or one that speaks of the whole run or of one server.
 #[tactic(auto, unfolding(crate::specs::Lines::exchange_of))]
 pub(crate) fn exchange_in(word: &str, parts: &[Value]) -> Result<Line, LineFault>
     ensures { Answers said result (grammar.exchange_of word.now (map view parts.now)) }
@@ -21,7 +21,7 @@ pub(crate) fn exchange_in(word: &str, parts: &[Value]) -> Result<Line, LineFault
     if word == "resend" {
         return resending_in(parts);
     }
-    trial_in(word, parts)
+    asked_in(word, parts)
 }
 
 #[tactic(auto, unfolding(crate::specs::Lines::pulling_in))]

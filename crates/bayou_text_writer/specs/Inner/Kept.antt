@@ -18,6 +18,7 @@ IsCommand (command.Reopen place) = ⊤
 IsCommand (command.Restart place) = ⊤
 IsCommand (command.Pull to source cut) = IfSome cut (λ items. items < 2 ^ 32)
 IsCommand (command.Resend to source) = ⊤
+IsCommand command.Totals = ⊤
 
 -- and each line
 abbrev pub IsLine : Line → Type 0

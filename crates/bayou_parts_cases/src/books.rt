@@ -1,0 +1,368 @@
+//! The book of what was served: what is filed in it, when it is full, when it is settled, and two threads that file at once.
+ghost use Rattle.std.specs.Prelude.{◌≡◌, ◌<◌, ◌≤◌};
+ghost use Rattle.bayou_base.specs.declared.limits.TheConstants.{SESSIONS};
+
+use crate::fixtures::{key, server_id, vector, wid};
+use bayou_audit::{
+    AuditBook, Blanks, Book, Four, Full, Ledgers, SettleFault, Settled, Share, Totals, Unsettled,
+};
+use bayou_base::{Asks, Entry, Stamp, What};
+use std::alloc::{AllocError, Global};
+use std::marker::Brand;
+use std::process::Abort;
+use std::sync::Wait;
+use std::sync::ledger::{Blank, Ledger};
+use std::test::Fail;
+use std::thread;
+use std::thread::Threads;
+
+/// New ledgers for so many shares.
+fn blanks(shares: u8) -> Blanks
+    ensures slips { result.slips.parts ≡ shares }
+    ensures reads { result.reads.parts ≡ shares }
+    ensures writes { result.writes.parts ≡ shares }
+    ensures refusals { result.refusals.parts ≡ shares }
+{
+    Blanks {
+        slips: Blank::new(u64::from(shares)),
+        reads: Blank::new(u64::from(shares)),
+        writes: Blank::new(u64::from(shares)),
+        refusals: Blank::new(u64::from(shares)),
+    }
+}
+
+/// A read, a Write or a refusal, by turns.
+fn what(rt: &impl Abort, number: u32) -> What {
+    match number % 3 {
+        0 => What::Read(key(rt, "a"), vector(rt, number, 0)),
+        1 => What::Write(
+            wid(rt, 1, 7),
+            Stamp::new(9, server_id(rt, 1)).expect(rt, "no stamp"),
+            vector(rt, 3, number),
+        ),
+        _ => What::Refused,
+    }
+}
+
+/// The entry of what the session of this share did at its place of this number, counted from 0.
+fn entry<K: Ledgers>(rt: &impl Abort, share: &Share<K>, number: u32) -> Entry
+    ensures { result.session ≡ share.now.session }
+{
+    Entry {
+        session: share.session(),
+        place: (number % 1000) + 1,
+        asks: Asks::default(),
+        server: server_id(rt, 1),
+        what: what(rt, number),
+    }
+}
+
+/// Files so many reads at a book that others may file at.
+fn file_reads<K: Ledgers, R: Wait + Abort>(
+    rt: &R,
+    book: &AuditBook<K>,
+    share: Share<K>,
+    count: u32,
+) -> Share<K> {
+    let mut share = share;
+    for number in 0..count {
+        let Ok(slip) = book.claim(rt, &mut share) else {
+            rt.abort();
+        };
+        let entry = entry(rt, &share, (number % 1000) * 3);
+        book.file(rt, slip, &mut share, entry);
+    }
+    share
+}
+
+/// What a book of eight places comes to at which two threads filed, three reads and two, and a slip was voided.
+fn file_at_once<S, T, U, V, R>(rt: &R, alloc: Global, blanks: Blanks) -> Result<Settled, AllocError>
+where
+    S: Ledger + Send + Sync,
+    T: Ledger + Send + Sync,
+    U: Ledger + Send + Sync,
+    V: Ledger + Send + Sync,
+    R: Threads + Wait + Abort + Sync,
+    requires slips { (blanks.slips.name ≡ S.name) × (blanks.slips.parts ≡ S.parts) × (blanks.slips.parts ≡ 2) }
+    requires reads { (blanks.reads.name ≡ T.name) × (blanks.reads.parts ≡ T.parts) × (blanks.reads.parts ≡ 2) }
+    requires writes { (blanks.writes.name ≡ U.name) × (blanks.writes.parts ≡ U.parts) × (blanks.writes.parts ≡ 2) }
+    requires refusals { (blanks.refusals.name ≡ V.name) × (blanks.refusals.parts ≡ V.parts) × (blanks.refusals.parts ≡ 2) }
+{
+    let (book, mut shares) = AuditBook::<Four<S, T, U, V>>::new(alloc, blanks, 2, 8)?;
+    let (Some(second), Some(first)) = (shares.pop(), shares.pop()) else {
+        rt.abort();
+    };
+    let lent = &book;
+    let (mut first, second) = thread::join(
+        rt,
+        move || file_reads(rt, lent, first, 3),
+        move || file_reads(rt, lent, second, 2),
+    );
+    let Ok(slip) = book.claim(rt, &mut first) else {
+        rt.abort();
+    };
+    book.void(rt, slip, &mut first);
+    shares.push(first)?;
+    shares.push(second)?;
+    let Ok(settled) = book.settle(shares) else {
+        rt.abort();
+    };
+    Ok(settled)
+}
+
+/// The places of the entries of this session, in the order in which they were filed.
+fn places_of(entries: &[Entry], session: u8) -> [u32; 4] {
+    let mut places = [0; 4];
+    let mut count = 0;
+    for entry in entries {
+        if entry.session.index == session && count < places.len() {
+            places[count] = entry.place;
+            count += 1;
+        }
+    }
+    places
+}
+
+#[test]
+fn two_threads_file_at_once(rt: HostRuntime) -> Result<(), Fail> {
+    let settled = file_at_once::<Brand, Brand, Brand, Brand, HostRuntime>(
+        &rt,
+        rt.alloc(),
+        blanks(2),
+    )?;
+    let reads = Totals {
+        slips: 0,
+        reads: 5,
+        writes: 0,
+        refusals: 0,
+    };
+    let entries = settled.entries.as_slice();
+    let in_order = places_of(entries, 0) == [1, 4, 7, 0] && places_of(entries, 1) == [1, 4, 0, 0];
+    assert!(rt; settled.totals == reads && entries.len() == 5 && in_order);
+    Ok(())
+}
+
+/// Why a book isn't settled with one of two shares kept back.
+fn settle_without<S, T, U, V>(
+    rt: &impl Abort,
+    alloc: Global,
+    blanks: Blanks,
+) -> Result<SettleFault, AllocError>
+where
+    S: Ledger + Send + Sync,
+    T: Ledger + Send + Sync,
+    U: Ledger + Send + Sync,
+    V: Ledger + Send + Sync,
+    requires slips { (blanks.slips.name ≡ S.name) × (blanks.slips.parts ≡ S.parts) × (blanks.slips.parts ≡ 2) }
+    requires reads { (blanks.reads.name ≡ T.name) × (blanks.reads.parts ≡ T.parts) × (blanks.reads.parts ≡ 2) }
+    requires writes { (blanks.writes.name ≡ U.name) × (blanks.writes.parts ≡ U.parts) × (blanks.writes.parts ≡ 2) }
+    requires refusals { (blanks.refusals.name ≡ V.name) × (blanks.refusals.parts ≡ V.parts) × (blanks.refusals.parts ≡ 2) }
+{
+    let (book, mut shares) = AuditBook::<Four<S, T, U, V>>::new(alloc, blanks, 2, 8)?;
+    let Some(_) = shares.pop() else {
+        rt.abort();
+    };
+    let Err(left) = book.settle(shares) else {
+        rt.abort();
+    };
+    Ok(left.fault)
+}
+
+/// Why a book isn't settled with a slip out, and what it comes to once that is spent.
+fn settle_with_slip<S, T, U, V, R>(
+    rt: &R,
+    alloc: Global,
+    blanks: Blanks,
+) -> Result<(SettleFault, Settled), AllocError>
+where
+    S: Ledger + Send + Sync,
+    T: Ledger + Send + Sync,
+    U: Ledger + Send + Sync,
+    V: Ledger + Send + Sync,
+    R: Wait + Abort,
+    requires slips { (blanks.slips.name ≡ S.name) × (blanks.slips.parts ≡ S.parts) × (blanks.slips.parts ≡ 1) }
+    requires reads { (blanks.reads.name ≡ T.name) × (blanks.reads.parts ≡ T.parts) × (blanks.reads.parts ≡ 1) }
+    requires writes { (blanks.writes.name ≡ U.name) × (blanks.writes.parts ≡ U.parts) × (blanks.writes.parts ≡ 1) }
+    requires refusals { (blanks.refusals.name ≡ V.name) × (blanks.refusals.parts ≡ V.parts) × (blanks.refusals.parts ≡ 1) }
+{
+    let (book, mut made) = AuditBook::<Four<S, T, U, V>>::new(alloc, blanks, 1, 8)?;
+    let mut shares = Vec::with_capacity(alloc, 1)?;
+    let Some(mut share) = made.pop() else {
+        rt.abort();
+    };
+    let Ok(slip) = book.claim(rt, &mut share) else {
+        rt.abort();
+    };
+    shares.push_reserved(share);
+    let Err(left) = book.settle(shares) else {
+        rt.abort();
+    };
+    let Unsettled {
+        fault,
+        book,
+        mut shares,
+    } = left;
+    book.void(rt, slip, &mut shares[0]);
+    let Ok(settled) = book.settle(shares) else {
+        rt.abort();
+    };
+    Ok((fault, settled))
+}
+
+#[test]
+fn a_share_or_a_slip_is_missed(rt: HostRuntime) -> Result<(), Fail> {
+    let alloc = rt.alloc();
+    let missing = settle_without::<Brand, Brand, Brand, Brand>(&rt, alloc, blanks(2))?;
+    let (out, settled) = settle_with_slip::<Brand, Brand, Brand, Brand, HostRuntime>(
+        &rt,
+        alloc,
+        blanks(1),
+    )?;
+    assert!(rt;
+        (missing, out) == (SettleFault::ShareMissing, SettleFault::SlipOut)
+            && settled.totals == Totals::default()
+            && settled.entries.is_empty()
+    );
+    Ok(())
+}
+
+/// How many entries find a place.
+fn fill<K: Ledgers>(rt: &impl Abort, book: &mut Book<K>, share: &mut Share<K>) -> usize {
+    let mut filed = 0;
+    for number in 0..9 {
+        let Ok(slip) = book.claim(share) else {
+            return filed;
+        };
+        let entry = entry(rt, share, number);
+        book.file(slip, share, entry);
+        filed += 1;
+    }
+    filed
+}
+
+/// Whether a slip that is out keeps its place, and gives it back.
+fn holds_its_place<K: Ledgers>(book: &mut Book<K>, share: &mut Share<K>) -> bool {
+    let Ok(first) = book.claim(share) else {
+        return false;
+    };
+    let is_full = match book.claim(share) {
+        Ok(second) => {
+            book.void(second, share);
+            false
+        }
+        Err(Full) => true,
+    };
+    book.void(first, share);
+    is_full
+}
+
+/// How many entries find a place in a book of so many, and whether a slip keeps the last one.
+fn fill_places<S, T, U, V>(
+    rt: &impl Abort,
+    alloc: Global,
+    blanks: Blanks,
+    places: usize,
+) -> Result<(usize, bool), AllocError>
+where
+    S: Ledger + Send + Sync,
+    T: Ledger + Send + Sync,
+    U: Ledger + Send + Sync,
+    V: Ledger + Send + Sync,
+    requires slips { (blanks.slips.name ≡ S.name) × (blanks.slips.parts ≡ S.parts) × (blanks.slips.parts ≡ 1) }
+    requires reads { (blanks.reads.name ≡ T.name) × (blanks.reads.parts ≡ T.parts) × (blanks.reads.parts ≡ 1) }
+    requires writes { (blanks.writes.name ≡ U.name) × (blanks.writes.parts ≡ U.parts) × (blanks.writes.parts ≡ 1) }
+    requires refusals { (blanks.refusals.name ≡ V.name) × (blanks.refusals.parts ≡ V.parts) × (blanks.refusals.parts ≡ 1) }
+{
+    let (mut book, mut shares) = Book::<Four<S, T, U, V>>::new(alloc, blanks, 1, places)?;
+    let Some(mut share) = shares.pop() else {
+        rt.abort();
+    };
+    let is_kept = places != 1 || holds_its_place(&mut book, &mut share);
+    let filed = fill(rt, &mut book, &mut share);
+    Ok((filed, is_kept && book.totals().slips == 0))
+}
+
+#[test]
+fn a_book_is_full_at_its_places(rt: HostRuntime) -> Result<(), Fail> {
+    for places in 0..5 {
+        let found = fill_places::<Brand, Brand, Brand, Brand>(&rt, rt.alloc(), blanks(1), places)?;
+        assert!(rt; found == (places, true), "{places}");
+    }
+    Ok(())
+}
+
+/// Whether a book behind its lock counts and keeps what is filed, of each kind, and a slip that is out.
+fn keeps<K: Ledgers, R: Wait + Abort>(
+    rt: &R,
+    alloc: Global,
+    book: &AuditBook<K>,
+    share: &mut Share<K>,
+) -> Result<bool, AllocError> {
+    for number in 0..7 {
+        let Ok(slip) = book.claim(rt, share) else {
+            return Ok(false);
+        };
+        let entry = entry(rt, share, number);
+        book.file(rt, slip, share, entry);
+    }
+    let Ok(slip) = book.claim(rt, share) else {
+        return Ok(false);
+    };
+    let totals = book.totals(rt);
+    book.void(rt, slip, share);
+    let counts = Totals {
+        slips: 1,
+        reads: 3,
+        writes: 2,
+        refusals: 2,
+    };
+    let entries = book.entries(rt, alloc)?;
+    let mut are_kept = entries.len() == 7;
+    for (number, kept) in (0..).zip(entries.iter()) {
+        are_kept = are_kept && *kept == entry(rt, share, number);
+    }
+    Ok(are_kept && totals == counts && book.totals(rt).slips == 0)
+}
+
+/// The same of a new book.
+fn keeps_all<S, T, U, V, R>(rt: &R, alloc: Global, blanks: Blanks) -> Result<bool, AllocError>
+where
+    S: Ledger + Send + Sync,
+    T: Ledger + Send + Sync,
+    U: Ledger + Send + Sync,
+    V: Ledger + Send + Sync,
+    R: Wait + Abort,
+    requires slips { (blanks.slips.name ≡ S.name) × (blanks.slips.parts ≡ S.parts) × (blanks.slips.parts ≡ 1) }
+    requires reads { (blanks.reads.name ≡ T.name) × (blanks.reads.parts ≡ T.parts) × (blanks.reads.parts ≡ 1) }
+    requires writes { (blanks.writes.name ≡ U.name) × (blanks.writes.parts ≡ U.parts) × (blanks.writes.parts ≡ 1) }
+    requires refusals { (blanks.refusals.name ≡ V.name) × (blanks.refusals.parts ≡ V.parts) × (blanks.refusals.parts ≡ 1) }
+{
+    let (book, mut shares) = AuditBook::<Four<S, T, U, V>>::new(alloc, blanks, 1, 8)?;
+    let Some(mut share) = shares.pop() else {
+        rt.abort();
+    };
+    keeps(rt, alloc, &book, &mut share)
+}
+
+#[test]
+fn what_is_filed_is_counted_and_kept(rt: HostRuntime) -> Result<(), Fail> {
+    let is_kept = keeps_all::<Brand, Brand, Brand, Brand, HostRuntime>(&rt, rt.alloc(), blanks(1))?;
+    assert!(rt; is_kept);
+    Ok(())
+}
+
+/// Want of memory, once, is answered by what takes memory, and the next try succeeds.
+#[test]
+fn one_want_of_memory_costs_no_entry(rt: HostRuntime) -> Result<(), Fail> {
+    let alloc = rt.alloc();
+    let is_kept = match keeps_all::<Brand, Brand, Brand, Brand, HostRuntime>(
+        &rt,
+        alloc,
+        blanks(1),
+    ) {
+        Ok(is_kept) => is_kept,
+        Err(_) => keeps_all::<Brand, Brand, Brand, Brand, HostRuntime>(&rt, alloc, blanks(1))?,
+    };
+    assert!(rt; is_kept);
+    Ok(())
+}

@@ -1,0 +1,16 @@
+use Rattle.std.proofs.lemmas.Result.{err_from_is_err_and}
+use Rattle.bayou_script.specs.Plan.{plan_of}
+use Rattle.bayou_streams.specs.Account.{account}
+use Rattle.bayou_shell.proofs.Runs.{RunsAs-script, RunsAs-unread}
+use Rattle.bayou_shell.proofs.run.run_with.Goals as goal
+
+pub returns-in_err-script-clause-runs : goal.returns-in_err-script-clause-runs
+returns-in_err-script-clause-runs g c =
+    let p = err_from_is_err_and c.from_residual.result c.from_residual.ensures.1 in
+    rw (p.1, p.2)
+    (RunsAs-unread (g.R.Read.remaining c.args.input.now.reader) (g.W.Write.contents c.args.output.now.channel.writer) c.in_err-script.field-0.0 c.in_err-script.ensures.fault)
+
+pub returns-clause-runs : goal.returns-clause-runs
+returns-clause-runs g c =
+    RunsAs-script (g.R.Read.remaining c.args.input.now.reader) (account g.W.Write.contents c.args.output.now) (account g.W.Write.contents c.answer_all.new.output)
+    (plan_of c.in_ok-script.script) c.answer_all.result c.in_ok-script.ensures.script c.answer_all.ensures.ok c.answer_all.ensures.err

@@ -1,0 +1,31 @@
+ghost use Rattle.std.specs.Prelude.{◌≡◌, map};
+ghost use Rattle.serde_json.specs.View.{view};
+ghost use Rattle.bayou_text.specs.Lines as grammar;
+ghost use Rattle.bayou_text.specs.Reading.{Answers};
+ghost use Rattle.bayou_text.specs.Said.{said};
+
+use crate::command::Command;
+use crate::line::{Line, LineFault, Shape};
+use crate::read::trial::trial_in;
+use serde_json::Value;
+
+/// A command that asks something of the whole run, or one that tries a server.
+#[tactic(auto, unfolding(crate::specs::Lines::asked_of))]
+pub(crate) fn asked_in(word: &str, parts: &[Value]) -> Result<Line, LineFault>
+    ensures { Answers said result (grammar.asked_of word.now (map view parts.now)) }
+{
+    if word == "totals" {
+        return totals_in(parts);
+    }
+    trial_in(word, parts)
+}
+
+#[tactic(auto, unfolding(crate::specs::Lines::totals_in))]
+fn totals_in(parts: &[Value]) -> Result<Line, LineFault>
+    ensures { Answers said result (grammar.totals_in (map view parts.now)) }
+{
+    let [] = parts else {
+        return Err(LineFault::BadShape(Shape::Arity));
+    };
+    Ok(Line::Command(Command::Totals))
+}
