@@ -113,7 +113,9 @@ const EXCHANGES: &str = r#"["pull",0,1]
 ["resend",2,0] => out of place
 ["resend",0,2] => out of place
 ["resend",0,8] => bad shape
-["resend",1,0,1] => bad shape"#;
+["resend",1,0,1] => bad shape
+["totals"]
+["totals",0] => bad shape"#;
 
 #[test]
 fn exchanges_at_their_borders(rt: HostRuntime) -> Result<(), Fail> {

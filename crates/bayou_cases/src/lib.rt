@@ -16,4 +16,6 @@ mod scripts;
 #[cfg(test)]
 mod streams;
 #[cfg(test)]
+mod totals;
+#[cfg(test)]
 mod words;

@@ -67,6 +67,8 @@ session (0 to 31), S a server. Below each form stands an example.
       ["pull",1,0]
   ["resend",TO,FROM]     server TO is sent all the Writes that server FROM holds
       ["resend",1,0]
+  ["totals"]             how many reads, Writes and refusals were filed in the book of what was served
+      ["totals"]
 
 PROGRAM is {"check":[COND,..],"update":[OP,..],"merge":[{"when":[COND,..],"ops":[OP,..]},..]}; a list may be missing.
 Where every COND of check holds, update is applied, whole or not at all; else the first part of merge that fits.
@@ -80,7 +82,7 @@ Exit status: 0 the script was run; 2 the script or the command line is refused; 
 input or the output failed.
 
 Pages: docs/LANGUAGE.md (programs), docs/GUARANTEES.md (what a session may ask for), docs/FORMATS.md (lines in and out),
-docs/RECOVERY.md (fuse, reopen, restart), docs/ANTI-ENTROPY.md (pull, resend), docs/TROUBLE.md (what to do about each fault),
+docs/RECOVERY.md (fuse, reopen, restart), docs/ANTI-ENTROPY.md (pull, resend), docs/BOOK.md (totals), docs/TROUBLE.md (what to do about each fault),
 examples/README.md (scripts)."#;
 
 /// What the program is to do.
