@@ -1,0 +1,3 @@
+pub mod Checks
+pub mod Index
+pub mod Needs

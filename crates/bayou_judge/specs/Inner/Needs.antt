@@ -1,0 +1,115 @@
+-- Vectors in place of sets: what a session was told of, and what an operation demands of it. Inner words.
+use Rattle.std.specs.Prelude.{◌≡◌, ℕ, ◌<◌, ◌≤◌, ◌↔◌, Bool, true, false, List, Option, Some, None, Contains, All, ◌∷◌, [], take}
+use Rattle.bayou_base.specs.Order.{is_before}
+use Rattle.bayou_base.specs.Vector.{Covers, Dominates}
+use Rattle.bayou_base.specs.declared.entry.Entry.{Entry}
+use Rattle.bayou_base.specs.declared.entry.What.{What}
+use Rattle.bayou_base.specs.declared.entry.What.TheVariants as whats
+use Rattle.bayou_base.specs.declared.stamp.Stamp.{Stamp}
+use Rattle.bayou_base.specs.declared.wid.Wid.{Wid}
+use Rattle.bayou_lang.specs.declared.write.Write.{Write}
+use Rattle.bayou_judge.specs.declared.breach.Breach.{Breach}
+use Rattle.bayou_judge.specs.declared.breach.Guarantee.{Guarantee}
+use Rattle.bayou_judge.specs.declared.breach.Guarantee.TheVariants as guarantees
+use Rattle.bayou_judge.specs.declared.demand.Demand.{Demand}
+use Rattle.bayou_judge.specs.declared.locate.Fault.{Fault}
+use Rattle.bayou_judge.specs.declared.needs.Need.{Need}
+use Rattle.bayou_judge.specs.Answers.{IsEvidence}
+use Rattle.bayou_judge.specs.Breaches.{is_less, IsLeastOf}
+use Rattle.bayou_judge.specs.Guarantees.{PrecedesIn}
+use Rattle.bayou_judge.specs.History.{dump_of, history_of, IsFrontOf, IsReadFrom, IsWriteOf}
+use Rattle.bayou_judge.specs.Inner.Index.{AreIndexed, Tables}
+
+-- entries and dumps stand for a history, and each dump has its tables
+pub record IsChecked (count : ℕ) (entries : List Entry) (dumps : List (List Write)) (indexes : List Tables) : Type 0 where
+  pub evidence : IsEvidence count entries dumps
+  pub indexed : AreIndexed dumps indexes
+
+-- one of the dumps has the Write
+abbrev pub IsHeld : List (List Write) → Write → Type 0
+IsHeld dumps write = (server : ℕ) × Contains (dump_of dumps server) write
+
+-- the operation told its session of the Write: it read a database that has it, or wrote it
+abbrev pub Tells : List Write → What → Write → Type 0
+Tells dump (whats.Read key vector) write = (database : List Write) × IsReadFrom dump (whats.Read key vector) database × Contains database write
+Tells dump (whats.Write wid stamp deps) write = IsWriteOf dump (whats.Write wid stamp deps) write
+Tells dump whats.Refused write = ⊥
+
+-- The operation demands the earlier Write at this server, and it fails there: it was read from a database that lacks it; or some
+-- database has the later Write and lacks the earlier one, or has them in the other order.
+abbrev pub Lacks : List (List Write) → (home : ℕ) → What → (server : ℕ) → Write → Type 0
+Lacks dumps home (whats.Read key vector) server earlier = (home ≡ server)
+    × ((database : List Write) × IsReadFrom (dump_of dumps server) (whats.Read key vector) database × ¬ Contains database earlier)
+Lacks dumps home (whats.Write wid stamp deps) server earlier = (later : Write) × IsWriteOf (dump_of dumps home) (whats.Write wid stamp deps) later
+    × ((database : List Write) × IsFrontOf (dump_of dumps server) database × ¬ PrecedesIn database earlier later)
+Lacks dumps home whats.Refused server earlier = ⊥
+
+-- the later operation lacks at this server a Write of this name, of which the earlier one told
+abbrev pub Fails : List (List Write) → Entry → Entry → (server : ℕ) → Wid → Type 0
+Fails dumps first second server wid = (earlier : Write) × Tells (dump_of dumps first.server.index) first.what earlier × (earlier.wid ≡ wid)
+    × Lacks dumps second.server.index second.what server earlier
+
+-- the guarantee speaks of such an operation as the earlier one
+abbrev pub is_first : Guarantee → What → Bool
+is_first guarantees.ReadYourWrites (whats.Write wid stamp deps) = true
+is_first guarantees.MonotonicReads (whats.Read key vector) = true
+is_first guarantees.WritesFollowReads (whats.Read key vector) = true
+is_first guarantees.MonotonicWrites (whats.Write wid stamp deps) = true
+is_first guarantee what = false
+
+-- and of such an operation as the later one
+abbrev pub is_second : Guarantee → What → Bool
+is_second guarantees.ReadYourWrites (whats.Read key vector) = true
+is_second guarantees.MonotonicReads (whats.Read key vector) = true
+is_second guarantees.WritesFollowReads (whats.Write wid stamp deps) = true
+is_second guarantees.MonotonicWrites (whats.Write wid stamp deps) = true
+is_second guarantee what = false
+
+-- the stamp is none or not after the last
+abbrev pub IsUpTo : Option Stamp → Stamp → Type 0
+IsUpTo None stamp = ⊥
+IsUpTo (Some last) stamp = is_before last stamp ≡ false
+
+-- the need counts the Write, and its last stamp isn't before the Write's
+pub record IsNeeded (need : Need) (write : Write) : Type 0 where
+  pub counted : Covers need.counts write.wid.origin.index write.wid.seq
+  pub up_to : IsUpTo need.last write.stamp
+
+-- the stamp is before that one, where there is one
+abbrev pub IsBeforeAll : Stamp → Option Stamp → Type 0
+IsBeforeAll stamp None = Unit {0}
+IsBeforeAll stamp (Some next) = is_before stamp next ≡ true
+
+-- the demand is met by the Write: it is counted, and before the later Write, if there is one
+pub record IsMet (demand : Demand) (write : Write) : Type 0 where
+  pub counted : Covers demand.counts write.wid.origin.index write.wid.seq
+  pub in_order : IsBeforeAll write.stamp demand.next
+
+-- what the operation demands at the server, if anything, of the Writes that are held
+abbrev pub IsDemandOf : List (List Write) → (home : ℕ) → What → (server : ℕ) → Option Demand → Type 0
+IsDemandOf dumps home what server None = (write : Write) → IsHeld dumps write → ¬ Lacks dumps home what server write
+IsDemandOf dumps home what server (Some demand) = (write : Write) → IsHeld dumps write → Lacks dumps home what server write ↔ ¬ IsMet demand write
+
+-- what faults are ordered by
+abbrev pub fault_key : Fault → List ℕ
+fault_key fault = fault.server.index ∷ fault.wid.origin.index ∷ fault.wid.seq ∷ []
+
+-- the least fault of two operations, if there is one
+abbrev pub IsLeastFault : List (List Write) → Entry → Entry → Option Fault → Type 0
+IsLeastFault dumps first second None = (server : ℕ) (wid : Wid) → ¬ Fails dumps first second server wid
+IsLeastFault dumps first second (Some fault) = Fails dumps first second fault.server.index fault.wid
+    × ((other : Fault) → Fails dumps first second other.server.index other.wid → is_less (fault_key other) (fault_key fault) ≡ false)
+
+-- it is of the session and such an earlier operation
+pub record IsFirst (guarantee : Guarantee) (session : ℕ) (entry : Entry) : Type 0 where
+  pub session_is : entry.session.index ≡ session
+  pub kind : is_first guarantee entry.what ≡ true
+
+-- the later operation lacks nothing of which one of these told its session
+abbrev pub IsKept : List (List Write) → Guarantee → ℕ → List Entry → Entry → Type 0
+IsKept dumps guarantee session earlier second = All (λ first. IsFirst guarantee session first → (server : ℕ) (wid : Wid) → ¬ Fails dumps first second server wid) earlier
+
+-- the need has all of which those of the entries told their session
+abbrev pub IsNeedOf : List (List Write) → Guarantee → ℕ → List Entry → Need → Type 0
+IsNeedOf dumps guarantee session entries need = All (λ first. IsFirst guarantee session first
+    → (write : Write) → Tells (dump_of dumps first.server.index) first.what write → IsNeeded need write) entries
