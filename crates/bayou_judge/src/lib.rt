@@ -16,6 +16,8 @@ mod demand;
 mod dumps;
 mod entries;
 mod evidence;
+mod finding;
+mod fitting;
 mod index;
 mod judge_all;
 pub mod laws;

@@ -1,0 +1,3 @@
+pub mod DumpsClocks
+pub mod DumpsFound
+pub mod DumpsGood
