@@ -1,3 +1,5 @@
 pub mod DumpsClocks
 pub mod DumpsFound
 pub mod DumpsGood
+pub mod Indexes
+pub mod Stamps

@@ -22,6 +22,11 @@ place_in rows server seq = slice_index (slice_index_or rows (seq - 1) []) server
 abbrev pub AreUpTo : List Write → Stamp → Type 0
 AreUpTo writes last = All (λ write. is_before last write.stamp ≡ false) writes
 
+-- the stamp is not after the last one
+abbrev pub IsUpTo : Option Stamp → Stamp → Type 0
+IsUpTo None stamp = ⊥
+IsUpTo (Some last) stamp = is_before last stamp ≡ false
+
 -- the later of the stamps
 abbrev pub later_of : Option Stamp → Stamp → Stamp
 later_of None stamp = stamp

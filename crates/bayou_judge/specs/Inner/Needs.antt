@@ -18,7 +18,7 @@ use Rattle.bayou_judge.specs.Answers.{IsEvidence}
 use Rattle.bayou_judge.specs.Breaches.{is_less, IsLeastOf}
 use Rattle.bayou_judge.specs.Guarantees.{PrecedesIn}
 use Rattle.bayou_judge.specs.History.{dump_of, history_of, IsFrontOf, IsReadFrom, IsWriteOf}
-use Rattle.bayou_judge.specs.Inner.Index.{AreIndexed, Tables}
+use Rattle.bayou_judge.specs.Inner.Index.{AreIndexed, IsUpTo, Tables}
 
 -- entries and dumps stand for a history, and each dump has its tables
 pub record IsChecked (count : ℕ) (entries : List Entry) (dumps : List (List Write)) (indexes : List Tables) : Type 0 where
@@ -64,11 +64,6 @@ is_second guarantees.MonotonicReads (whats.Read key vector) = true
 is_second guarantees.WritesFollowReads (whats.Write wid stamp deps) = true
 is_second guarantees.MonotonicWrites (whats.Write wid stamp deps) = true
 is_second guarantee what = false
-
--- the stamp is none or not after the last
-abbrev pub IsUpTo : Option Stamp → Stamp → Type 0
-IsUpTo None stamp = ⊥
-IsUpTo (Some last) stamp = is_before last stamp ≡ false
 
 -- the need counts the Write, and its last stamp isn't before the Write's
 pub record IsNeeded (need : Need) (write : Write) : Type 0 where
