@@ -1,5 +1,5 @@
 -- The Write that stands at the place of a name.
-use Rattle.std.proofs.Common.{◌≡◌, ◌≢◌, ℕ, ◌<◌, true, false, Bor, List, length, All, Contains, Option, Some, None, IfSome, IfNone, nat_lt, ap, sym, ◌∙◌, subst, arith}
+use Rattle.std.proofs.Common.{◌≡◌, ◌≢◌, ℕ, true, false, Bor, List, length, All, Contains, Option, Some, None, IfSome, IfNone, sym, ◌∙◌, subst}
 use Rattle.std.specs.Slice.{IsItemAt}
 use Rattle.std.proofs.lemmas.Bool.{lt-ltb}
 use Rattle.std.proofs.lemmas.Option.{get_or_from_slice_get, slice_get_within}

@@ -2,15 +2,15 @@
 use Rattle.std.proofs.Common.{◌≡◌, ℕ, zero, suc, ◌+◌, ◌<◌, ◌≤◌, ◌⊎◌, inl, inr, List, [], ◌∷◌, ◌++◌, Some, get_or, length, take, ap, sym, ◌∙◌, subst, arith}
 use Rattle.std.specs.List.{slice_get}
 use Rattle.std.proofs.lemmas.Bool.{cases_lt}
-use Rattle.std.proofs.lemmas.List.{get_or_default, get_or_past, take_all, take_more}
-use Rattle.std.proofs.lemmas.Option.{get_or_from_slice_get, slice_get-get_or, slice_get_read, slice_get_within}
+use Rattle.std.proofs.lemmas.List.{get_or_append_left, get_or_default, get_or_past, get_or_push, length_push, take_all, take_more}
+use Rattle.std.proofs.lemmas.Option.{get_or_from_slice_get, slice_get-get_or, slice_get_within}
 use Rattle.bayou_lang.specs.declared.write.Write.{Write}
 use Rattle.bayou_lang.specs.Laws.Fitting.{AreFitting-empty, AreFitting-push}
 use Rattle.bayou_lang.specs.Writes.{AreFitting}
 use Rattle.bayou_judge.specs.Evidence.{AreGood, IsFirstBad, IsGood, IsGoodAt}
 use Rattle.bayou_judge.specs.History.{dump_of}
 use Rattle.bayou_judge.specs.Inner.Checks.{AreRead}
-use Rattle.bayou_judge.specs.Inner.Index.{AreIndexed, IsIndexOf, Tables}
+use Rattle.bayou_judge.specs.Inner.Index.{IsIndexOf, Tables}
 
 -- a list is empty, or has a first element
 at_most : (xs : List Write) (n : ℕ) → (length xs ≤ n) ⊎ ((write : Write) × (slice_get xs n ≡ Some write) × (take (n + 1) xs ≡ take n xs ++ write ∷ []))
@@ -58,7 +58,7 @@ good_more count dumps servers server dump at write next same within is good befo
       | inr last ↦
           let here : place ≡ at = omega (arith, last, less) in
           let one : write ≡ other = is ∙ sym (get_or_default dump at other write within) ∙ ap (λ list. get_or list at other) same ∙ ap (λ k. get_or (dump_of dumps server) k other) (sym here)
-              ∙ get_or_from_slice_get (dump_of dumps server) place other other got in
+          ∙ get_or_from_slice_get (dump_of dumps server) place other other got in
           subst (IsGood count dumps server (take place (dump_of dumps server))) one
           (subst (λ k. IsGood count dumps server (take k (dump_of dumps server)) write) (sym here)
           (subst (λ list. IsGood count dumps server (take at list) write) same (subst (λ s. IsGood count dumps s (take at dump) write) (sym next) good)))
@@ -87,3 +87,35 @@ index_more dumps server dump at write same within is tables indexed =
 pub good_whole : (count : ℕ) (dumps : List (List Write)) (server at : ℕ) → length (dump_of dumps server) ≤ at → ((place : ℕ) → place < at → IsGoodAt count dumps server place)
     → (place : ℕ) → IsGoodAt count dumps server place
 good_whole count dumps server at past good place write got = good place (omega (arith, past, slice_get_within (dump_of dumps server) place write got)) write got
+
+-- one more dump that was read
+pub read_more : (count : ℕ) (dumps : List (List Write)) (server : ℕ) (indexes : List Tables) (tables : Tables) → length indexes ≡ server → AreRead count dumps server indexes
+    → ((place : ℕ) → IsGoodAt count dumps server place) → IsIndexOf (dump_of dumps server) tables → AreRead count dumps (server + 1) (indexes ++ tables ∷ [])
+read_more count dumps server indexes tables many read good indexed = record {
+  good = λ other place less.
+      elim (cases_lt other server) as (λ _. IsGoodAt count dumps other place) [
+        | inl smaller ↦ read.good other place smaller
+        | inr last ↦ let here : server ≡ other = omega (arith, last, less) in subst (λ s. IsGoodAt count dumps s place) here (good place)
+      ];
+  each = λ other found got.
+      let all = indexes ++ tables ∷ [] in
+      elim (cases_lt other (length indexes)) as (λ _. IsIndexOf (dump_of dumps other) found) [
+        | inl smaller ↦
+            read.each other found (slice_get-get_or indexes other found smaller ∙ ap Some (sym (get_or_append_left indexes (tables ∷ []) found other smaller) ∙ get_or_from_slice_get all other found found got))
+        | inr last ↦
+            let within : other < length indexes + 1 = omega (arith, slice_get_within all other found got, length_push indexes tables) in
+            let here : length indexes ≡ other = omega (arith, last, within) in
+            let one : tables ≡ found = sym (get_or_push indexes tables found other here) ∙ get_or_from_slice_get all other found found got in
+            subst (IsIndexOf (dump_of dumps other)) one (subst (λ s. IsIndexOf (dump_of dumps s) tables) (sym many ∙ here) indexed)
+      ];
+}
+
+-- all dumps were read
+pub read_all : (count : ℕ) (dumps : List (List Write)) (servers : ℕ) (indexes : List Tables) → length indexes ≡ servers → length dumps ≤ servers → AreRead count dumps servers indexes → AreGood count dumps
+read_all count dumps servers indexes many covered read server at write got =
+    elim (cases_lt server servers) as (λ _. IsGood count dumps server (take at (dump_of dumps server)) write) [
+      | inl within ↦ read.good server at within write got
+      | inr past ↦
+          let none : dump_of dumps server ≡ [] = get_or_past dumps server [] (omega (arith, past, covered)) in
+          absurd (omega (arith, slice_get_within (dump_of dumps server) at write got, ap length none))
+    ]

@@ -8,7 +8,11 @@ use bayou_base::Wid;
 use bayou_lang::RestingWrite;
 
 /// The Write of this name among those of a dump, if it has one.
-pub(crate) fn find<'a>(dump: &'a [RestingWrite], index: &Index, wid: Wid) -> Option<&'a RestingWrite>
+pub(crate) fn find<'a>(
+    dump: &'a [RestingWrite],
+    index: &Index,
+    wid: Wid,
+) -> Option<&'a RestingWrite>
     requires fitting { (count : ℕ) × AreFitting count dump.now }
     requires indexed { IsIndexOf dump.now index.now }
     ensures found { IfSome result (λ write. Contains dump.now write.now × (write.now.wid ≡ wid)) }

@@ -1,9 +1,6 @@
-use Rattle.std.proofs.Common.{◌≡◌, ℕ, ◌+◌, ◌<◌, ◌≤◌, ◌++◌, ◌∷◌, [], true, false, get_or, length, take, ap, sym, ◌∙◌, subst, arith}
-use Rattle.std.proofs.lemmas.List.{take_all, take_more}
-use Rattle.std.proofs.lemmas.Option.{slice_get-get_or}
-use Rattle.bayou_lang.specs.declared.write.Write.{Write}
+use Rattle.std.proofs.Common.{◌≡◌, ◌≤◌, true, false, length, take, ap, sym, ◌∙◌, subst, arith}
+use Rattle.std.proofs.lemmas.List.{take_all}
 use Rattle.bayou_lang.specs.Writes.{AreFitting}
-use Rattle.bayou_judge.specs.Evidence.{IsGood, IsGoodAt}
 use Rattle.bayou_judge.specs.History.{dump_of, lists_of}
 use Rattle.bayou_judge.specs.Inner.Index.{IsIndexOf}
 use Rattle.bayou_judge.proofs.DumpsGood.{first_bad, good_front_fits, good_more, good_whole, index_more}

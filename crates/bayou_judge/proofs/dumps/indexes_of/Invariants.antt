@@ -1,4 +1,4 @@
-use Rattle.std.proofs.Common.{◌≡◌, ◌≤◌, length}
+use Rattle.std.proofs.Common.{◌≡◌, length}
 use Rattle.bayou_judge.specs.History.{lists_of}
 use Rattle.bayou_judge.specs.Inner.Checks.{AreRead}
 use Rattle.bayou_judge.proofs.dumps.indexes_of.Given as goal

@@ -1,9 +1,7 @@
-use Rattle.std.proofs.Common.{◌≡◌, ℕ, ◌<◌, List, Some, get_or, length, ap, sym, ◌∙◌, subst, arith}
-use Rattle.std.specs.List.{slice_get}
-use Rattle.bayou_lang.specs.declared.write.Write.{Write}
+use Rattle.std.proofs.Common.{length, sym, subst}
 use Rattle.bayou_lang.specs.Writes.{AreFitting}
-use Rattle.bayou_judge.specs.History.{dump_of, lists_of}
-use Rattle.bayou_judge.specs.Inner.Index.{IsIndexOf, Tables}
+use Rattle.bayou_judge.specs.History.{lists_of}
+use Rattle.bayou_judge.specs.Inner.Index.{IsIndexOf}
 use Rattle.bayou_judge.proofs.DumpsGood.{read_fits, read_index}
 use Rattle.bayou_judge.proofs.dumps.is_same_before.Goals as goal
 

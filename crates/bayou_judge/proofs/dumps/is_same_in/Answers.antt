@@ -14,8 +14,8 @@ returns-in-Some c =
     let named : held.wid ≡ write.wid = found.1 ∙ c.wid.ensures in
     let decides = same_write-decides held write in (
       λ equal k d within same.
-      let one = one_of_name c.requires.fitting.0 dump (slice_index_or dump k d) held c.requires.fitting.1 (Contains-get_or dump k d within) found.0 (same ∙ sym named) in
-      one ∙ decides.0 (sym c.eq.ensures ∙ equal),
+          let one = one_of_name c.requires.fitting.0 dump (slice_index_or dump k d) held c.requires.fitting.1 (Contains-get_or dump k d within) found.0 (same ∙ sym named) in
+          one ∙ decides.0 (sym c.eq.ensures ∙ equal),
       λ all. c.eq.ensures ∙ decides.1 (All-contains (λ (w : Write). w.wid ≡ write.wid → w ≡ write) dump held all found.0 named),
     )
 
