@@ -25,6 +25,7 @@ mod locate;
 mod needs;
 mod passes;
 mod survey_all;
+mod told;
 pub mod verdict;
 
 pub use breach::{Breach, Guarantee};
