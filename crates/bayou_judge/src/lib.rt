@@ -19,6 +19,7 @@ mod evidence;
 mod index;
 mod judge_all;
 pub mod laws;
+mod kinds;
 mod locate;
 mod needs;
 mod passes;
