@@ -31,11 +31,17 @@ read_demand count dumps good home server key vector here served write held = (
   λ unmet.
       let moved : IsServed (dump_of dumps server) (whats.Read key vector) = subst (λ s. IsServed (dump_of dumps s) (whats.Read key vector)) here served in
       let database = moved.0 in
-      let from : IsReadFrom (dump_of dumps server) (whats.Read key vector) database = moved.1 in
-      (here, (database, from, λ has. unmet (record {
-        counted = subst (λ counts. Covers counts write.wid.origin.index write.wid.seq) from.1 (front_counts count dumps good server database from.0 write has);
-        in_order = tt;
-      }))),
+      let from : IsReadFrom (dump_of dumps server) (whats.Read key vector) database = moved.1 in (
+        here,
+        (
+          database,
+          from,
+          λ has. unmet (record {
+            counted = subst (λ counts. Covers counts write.wid.origin.index write.wid.seq) from.1 (front_counts count dumps good server database from.0 write has);
+            in_order = tt;
+          }),
+        ),
+      ),
 )
 
 -- where no Write of the name stands, nothing is demanded
@@ -74,8 +80,7 @@ present_demand count dumps good home server wid stamp deps demand served is writ
     let is_there : (later : Write) → IsWriteOf (dump_of dumps home) (whats.Write wid stamp deps) later → there ≡ later =
     λ later which. one_write count dumps good there later (server, held_at dump place there got) (home, which.0) (is.3 ∙ sym which.1) in
     let stamped : (later : Write) → IsWriteOf (dump_of dumps home) (whats.Write wid stamp deps) later → later.stamp ≡ stamp =
-    λ later which. ap (λ (w : Write). w.stamp) (sym (is_there later which) ∙ is_there own own_is) ∙ served.2 in
-    (
+    λ later which. ap (λ (w : Write). w.stamp) (sym (is_there later which) ∙ is_there own own_is) ∙ served.2 in (
       λ lacks met.
           let later = lacks.0 in
           let database = lacks.2.0 in
@@ -88,13 +93,21 @@ present_demand count dumps good home server wid stamp deps demand served is writ
           let behind = front_has count dumps good server (take (place + 1) dump) front write held counted in
           let order = subst (IsBeforeAll write.stamp) next met.in_order in
           (front_behind dump database place lacks.2.1 within write behind, subst (λ s. is_before write.stamp s ≡ true) (sym (stamped later lacks.1)) order)),
-      λ unmet. (own, own_is, (take (place + 1) dump, front, λ precedes.
-          let at : Contains (take (place + 1) dump) own = subst (Contains (take (place + 1) dump)) (is_there own own_is) (last_of_front dump place there got) in
-          let both = precedes at in
-          unmet (record {
-            counted = subst (λ list. Covers list write.wid.origin.index write.wid.seq) (sym counts) (front_counts count dumps good server (take (place + 1) dump) front write both.0);
-            in_order = subst (IsBeforeAll write.stamp) (sym next) (subst (λ s. is_before write.stamp s ≡ true) (stamped own own_is) both.1);
-          }))),
+      λ unmet. (
+        own,
+        own_is,
+        (
+          take (place + 1) dump,
+          front,
+          λ precedes.
+              let at : Contains (take (place + 1) dump) own = subst (Contains (take (place + 1) dump)) (is_there own own_is) (last_of_front dump place there got) in
+              let both = precedes at in
+              unmet (record {
+                counted = subst (λ list. Covers list write.wid.origin.index write.wid.seq) (sym counts) (front_counts count dumps good server (take (place + 1) dump) front write both.0);
+                in_order = subst (IsBeforeAll write.stamp) (sym next) (subst (λ s. is_before write.stamp s ≡ true) (stamped own own_is) both.1);
+              }),
+        ),
+      ),
     )
 
 pub write_demand : (count : ℕ) (dumps : List (List Write)) → AreGood count dumps → (home server : ℕ) (wid : Wid) (stamp : Stamp) (deps : List ℕ) (result : Option Demand)

@@ -18,6 +18,7 @@ use Rattle.bayou_judge.specs.Evidence.{AreGood}
 use Rattle.bayou_judge.specs.History.{dump_of, IsFrontOf, IsReadFrom, IsWriteOf}
 use Rattle.bayou_judge.specs.Inner.Needs.{wid_key, Fails, IsDemandOf, IsHeld, IsLeastAt, IsLeastUnmet, IsLesser, IsMet, IsNeeded, IsServed, IsTold, Lacks, Tells}
 use Rattle.bayou_judge.proofs.Good.{front_counts, front_has, front_is_held}
+use Rattle.bayou_judge.proofs.Demands.{beyond}
 
 -- what an operation told of its server's dump has, and its own vector or name counts it
 pub told_is : (count : ℕ) (dumps : List (List Write)) → AreGood count dumps → (home : ℕ) (what : What) (write : Write) → Tells (dump_of dumps home) what write → Contains (dump_of dumps home) write × IsTold what write
@@ -55,30 +56,34 @@ wid_less-self a = less-self a.origin.index a.seq
 pub least-more : (writes : List Write) (what : What) (demand : Demand) (least : Option Wid) (write : Write) (result : Wid) → IsLeastUnmet writes what demand least → IsTold what write → (IsMet demand write → ⊥) → IsLesser least write.wid result
     → IsLeastUnmet (writes ++ write ∷ []) what demand (Some result)
 least-more writes what demand None write result none told unmet is =
-    let Least : Write → Type 0 = λ other. IsTold what other → (IsMet demand other → ⊥) → is_less (wid_key other.wid) (wid_key result) ≡ false in
-    ((write, Contains-push writes write, told, sym is, unmet),
-    All-push Least writes write (λ k d within told_other unmet_other. absurd (unmet_other (none k d within told_other))) (λ _ _. subst (λ w. is_less (wid_key write.wid) (wid_key w) ≡ false) (sym is) (wid_less-self write.wid)))
+    let Least : Write → Type 0 = λ other. IsTold what other → (IsMet demand other → ⊥) → is_less (wid_key other.wid) (wid_key result) ≡ false in (
+      (write, Contains-push writes write, told, sym is, unmet),
+      All-push Least writes write (λ k d within told_other unmet_other. absurd (unmet_other (none k d within told_other))) (λ _ _. subst (λ w. is_less (wid_key write.wid) (wid_key w) ≡ false) (sym is) (wid_less-self write.wid)),
+    )
 least-more writes what demand (Some least) write result old told unmet (inl is) =
     let Least : Write → Type 0 = λ other. IsTold what other → (IsMet demand other → ⊥) → is_less (wid_key other.wid) (wid_key result) ≡ false in
-    let found = old.0 in
-    ((found.0, Contains-append_left writes (write ∷ []) found.0 found.1, found.2, found.3 ∙ sym is.0, found.4),
-    All-push Least writes write (λ k d within told_other unmet_other. subst (λ w. is_less (wid_key (get_or writes k d).wid) (wid_key w) ≡ false) (sym is.0) (old.1 k d within told_other unmet_other))
-    (λ _ _. subst (λ w. is_less (wid_key write.wid) (wid_key w) ≡ false) (sym is.0) is.1))
+    let found = old.0 in (
+      (found.0, Contains-append_left writes (write ∷ []) found.0 found.1, found.2, found.3 ∙ sym is.0, found.4),
+      All-push Least writes write (λ k d within told_other unmet_other. subst (λ w. is_less (wid_key (get_or writes k d).wid) (wid_key w) ≡ false) (sym is.0) (old.1 k d within told_other unmet_other))
+          (λ _ _. subst (λ w. is_less (wid_key write.wid) (wid_key w) ≡ false) (sym is.0) is.1),
+    )
 least-more writes what demand (Some least) write result old told unmet (inr is) =
-    let Least : Write → Type 0 = λ other. IsTold what other → (IsMet demand other → ⊥) → is_less (wid_key other.wid) (wid_key result) ≡ false in
-    ((write, Contains-push writes write, told, sym is.0, unmet),
-    All-push Least writes write (λ k d within told_other unmet_other. subst (λ w. is_less (wid_key (get_or writes k d).wid) (wid_key w) ≡ false) (sym is.0)
-    (wid_less-trans (get_or writes k d).wid least write.wid (old.1 k d within told_other unmet_other) is.1))
-    (λ _ _. subst (λ w. is_less (wid_key write.wid) (wid_key w) ≡ false) (sym is.0) (wid_less-self write.wid)))
+    let Least : Write → Type 0 = λ other. IsTold what other → (IsMet demand other → ⊥) → is_less (wid_key other.wid) (wid_key result) ≡ false in (
+      (write, Contains-push writes write, told, sym is.0, unmet),
+      All-push Least writes write (λ k d within told_other unmet_other. subst (λ w. is_less (wid_key (get_or writes k d).wid) (wid_key w) ≡ false) (sym is.0)
+          (wid_less-trans (get_or writes k d).wid least write.wid (old.1 k d within told_other unmet_other) is.1))
+          (λ _ _. subst (λ w. is_less (wid_key write.wid) (wid_key w) ≡ false) (sym is.0) (wid_less-self write.wid)),
+    )
 
 -- and with one more that isn't told of, or meets it
 pub least-kept : (writes : List Write) (what : What) (demand : Demand) (least : Option Wid) (write : Write) → IsLeastUnmet writes what demand least → (IsTold what write → IsMet demand write)
     → IsLeastUnmet (writes ++ write ∷ []) what demand least
 least-kept writes what demand None write none met = All-push (λ other. IsTold what other → IsMet demand other) writes write none met
 least-kept writes what demand (Some least) write old met =
-    let found = old.0 in
-    ((found.0, Contains-append_left writes (write ∷ []) found.0 found.1, found.2, found.3, found.4),
-    All-push (λ other. IsTold what other → (IsMet demand other → ⊥) → is_less (wid_key other.wid) (wid_key least) ≡ false) writes write old.1 (λ told unmet. absurd (unmet (met told))))
+    let found = old.0 in (
+      (found.0, Contains-append_left writes (write ∷ []) found.0 found.1, found.2, found.3, found.4),
+      All-push (λ other. IsTold what other → (IsMet demand other → ⊥) → is_less (wid_key other.wid) (wid_key least) ≡ false) writes write old.1 (λ told unmet. absurd (unmet (met told))),
+    )
 
 -- where nothing is demanded there is no fault
 pub no_demand : (count : ℕ) (dumps : List (List Write)) → AreGood count dumps → (first second : Entry) (server : ℕ) → IsDemandOf dumps second.server.index second.what server None → IsLeastAt dumps first second server None
@@ -105,11 +110,51 @@ least_is count dumps good first second server demand is served None none = λ wi
 least_is count dumps good first second server demand is served (Some wid) least =
     let found = least.0 in
     let dump = dump_of dumps first.server.index in
-    let lacks = (is found.0 (first.server.index, found.1)).1 found.4 in
-    ((found.0, is_told count dumps good first.server.index first.what found.0 served found.1 found.2, found.3, lacks),
-    λ other fails.
-        let told = told_is count dumps good first.server.index first.what fails.0 fails.1 in
-        let here : get_or dump told.0.0 fails.0 ≡ fails.0 = told.0.2 in
-        let unmet : IsMet demand fails.0 → ⊥ = (is fails.0 (first.server.index, told.0)).0 fails.3 in
-        let above = subst (λ (write : Write). IsTold first.what write → (IsMet demand write → ⊥) → is_less (wid_key write.wid) (wid_key wid) ≡ false) here (least.1 told.0.0 fails.0 told.0.1) told.1 unmet in
-        subst (λ w. is_less (wid_key w) (wid_key wid) ≡ false) fails.2 above)
+    let lacks = (is found.0 (first.server.index, found.1)).1 found.4 in (
+      (found.0, is_told count dumps good first.server.index first.what found.0 served found.1 found.2, found.3, lacks),
+      λ other fails.
+          let told = told_is count dumps good first.server.index first.what fails.0 fails.1 in
+          let here : get_or dump told.0.0 fails.0 ≡ fails.0 = told.0.2 in
+          let unmet : IsMet demand fails.0 → ⊥ = (is fails.0 (first.server.index, told.0)).0 fails.3 in
+          let above = subst (λ (write : Write). IsTold first.what write → (IsMet demand write → ⊥) → is_less (wid_key write.wid) (wid_key wid) ≡ false) here (least.1 told.0.0 fails.0 told.0.1) told.1 unmet in
+          subst (λ w. is_less (wid_key w) (wid_key wid) ≡ false) fails.2 above,
+    )
+
+-- a key with a first number that isn't less
+pub less-later : (s t : ℕ) (xs ys : List ℕ) → s ≤ t → (t ≡ s → is_less xs ys ≡ false) → is_less (t ∷ xs) (s ∷ ys) ≡ false
+less-later s t xs ys above least =
+    let not_less : nat_lt t s ≡ false = grind (arith, nat_tests) in
+    elim (t == s) as (λ b. (t == s) ≡ b → (nat_lt t s || (b && is_less xs ys)) ≡ false) [
+      | true ↦ λ is. let same : t ≡ s = grind (arith, nat_tests) in rw not_less (least same)
+      | false ↦ λ isnt. rw not_less refl
+    ] refl
+
+-- the least name at the first server that has a fault is that of the least fault
+pub least_server : (dumps : List (List Write)) (first second : Entry) (server : ℕ) (wid : Wid) → ((other : ℕ) (w : Wid) → other < server → Fails dumps first second other w → ⊥) → IsLeastAt dumps first second server (Some wid)
+    → Fails dumps first second server wid × ((other : ℕ) (w : Wid) → Fails dumps first second other w → is_less (other ∷ wid_key w) (server ∷ wid_key wid) ≡ false)
+least_server dumps first second server wid none_before least = (
+  least.0,
+  λ other w fails.
+      elim (cases_lt other server) as (λ _. is_less (other ∷ wid_key w) (server ∷ wid_key wid) ≡ false) [
+        | inl before ↦ absurd (none_before other w before fails)
+        | inr above ↦ less-later server other (wid_key w) (wid_key wid) above (λ same. least.1 w (subst (λ s. Fails dumps first second s w) same fails))
+      ],
+)
+
+-- what one more server without a fault comes to
+pub none_to : (dumps : List (List Write)) (first second : Entry) (server : ℕ) → ((other : ℕ) (w : Wid) → other < server → Fails dumps first second other w → ⊥) → IsLeastAt dumps first second server None
+    → (other : ℕ) (w : Wid) → other < server + 1 → Fails dumps first second other w → ⊥
+none_to dumps first second server none_before none other w within fails =
+    elim (cases_lt other server) as (λ _. ⊥) [
+      | inl before ↦ none_before other w before fails
+      | inr above ↦ let same : other ≡ server = omega arith in none w (subst (λ s. Fails dumps first second s w) same fails)
+    ]
+
+-- and all of them
+pub none_at_all : (dumps : List (List Write)) (first second : Entry) → ((other : ℕ) (w : Wid) → other < length dumps → Fails dumps first second other w → ⊥) → second.server.index < length dumps
+    → (other : ℕ) (w : Wid) → Fails dumps first second other w → ⊥
+none_at_all dumps first second none known other w fails =
+    elim (cases_lt other (length dumps)) as (λ _. ⊥) [
+      | inl within ↦ none other w within fails
+      | inr past ↦ beyond dumps second.server.index second.what other fails.0 past known fails.3
+    ]

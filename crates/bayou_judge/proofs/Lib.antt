@@ -4,3 +4,6 @@ pub mod Indexes
 pub mod Stamps
 pub mod Told
 pub mod Faults
+pub mod Served
+pub mod Kept
+pub mod Pairs

@@ -39,12 +39,13 @@ read_need count dumps good home vector database write size last front counts has
     let number : size ≡ length database = size_is ∙ ap sum (sym counts) ∙ sum-count_of database in
     let within : size ≤ length dump = omega (arith, ap length front.1, length-append database front.0) in
     let cut : take size dump ≡ database = ap (λ n. take n dump) number ∙ ap (take (length database)) front.1 ∙ take-middle database front.0 in
-    let answer = last_is within in
-    (subst (λ list. Covers list write.wid.origin.index write.wid.seq) counts (front_counts count dumps good home database front write has),
-    elim last as (λ l. IsLastOf dump size l → IsUpTo l write.stamp) [
-      | None ↦ λ none. absurd (omega (arith, none, has.1))
-      | Some stamp ↦ λ all. subst (λ (w : Write). is_before stamp w.stamp ≡ false) has.2 (subst (λ list. All (λ w. is_before stamp w.stamp ≡ false) list) cut all has.0 write has.1)
-    ] answer)
+    let answer = last_is within in (
+      subst (λ list. Covers list write.wid.origin.index write.wid.seq) counts (front_counts count dumps good home database front write has),
+      elim last as (λ l. IsLastOf dump size l → IsUpTo l write.stamp) [
+        | None ↦ λ none. absurd (omega (arith, none, has.1))
+        | Some stamp ↦ λ all. subst (λ (w : Write). is_before stamp w.stamp ≡ false) has.2 (subst (λ list. All (λ w. is_before stamp w.stamp ≡ false) list) cut all has.0 write has.1)
+      ] answer,
+    )
 
 -- the Write that is told of is the one of its name
 pub write_need : (count : ℕ) (dumps : List (List Write)) → AreGood count dumps → (home : ℕ) (wid : Wid) (stamp : Stamp) (deps : List ℕ) (need : Need) (write : Write)

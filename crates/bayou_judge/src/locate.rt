@@ -5,7 +5,7 @@ ghost use Rattle.bayou_base.specs.declared.entry.Entry.{Entry};
 ghost use Rattle.bayou_lang.specs.declared.write.Write.{Write};
 ghost use Rattle.bayou_judge.specs.Breaches.{is_less};
 ghost use Rattle.bayou_judge.specs.History.{dump_of, lists_of};
-ghost use Rattle.bayou_judge.specs.Inner.Needs.{wid_key, IsBreachOf, IsChecked, IsLeastAt, IsLeastFault, IsLeastUnmet, IsLesser, IsMet, IsSecond, IsServed, IsTold};
+ghost use Rattle.bayou_judge.specs.Inner.Needs.{wid_key, IsBreachOf, IsBreachWith, IsChecked, IsLeastAt, IsLeastFault, IsLeastUnmet, IsLesser, IsMet, IsSecond, IsServed, IsTold};
 
 use crate::breach::{Breach, Guarantee};
 use crate::demand::Demand;
@@ -108,7 +108,11 @@ impl<'a> Evidence<'a> {
         if demand.is_met_by_all(&self.need_of(first.server, &first.what)) {
             return None;
         }
-        least_unmet(dump_at(self.dumps, usize::from(first.server.index)), &first.what, &demand)
+        least_unmet(
+            dump_at(self.dumps, usize::from(first.server.index)),
+            &first.what,
+            &demand,
+        )
     }
 
     /// The least fault of the two operations.
@@ -128,8 +132,43 @@ impl<'a> Evidence<'a> {
         None
     }
 
+    /// The breach of the two operations, if the guarantee speaks of the earlier one.
+    fn breach_with(
+        &self,
+        guarantee: Guarantee,
+        session: SessionId,
+        first: &Entry,
+        second: &Entry,
+    ) -> Option<Breach>
+        requires checked { IsChecked self.now.count self.now.entries.now (lists_of self.now.dumps.now) self.now.indexes.now }
+        requires first { IsServed (dump_of (lists_of self.now.dumps.now) first.now.server.index) first.now.what }
+        requires second { IsServed (dump_of (lists_of self.now.dumps.now) second.now.server.index) second.now.what }
+        requires home { second.now.server.index < self.now.count }
+        ensures { IsBreachWith (lists_of self.now.dumps.now) guarantee session.index first.now second.now result }
+    {
+        if !is_first_of(guarantee, session, first) {
+            return None;
+        }
+        let Some(fault) = self.fault_between(first, second) else {
+            return None;
+        };
+        Some(Breach {
+            guarantee,
+            session,
+            first: first.place,
+            second: second.place,
+            server: fault.server,
+            wid: fault.wid,
+        })
+    }
+
     /// The breach of the entry at this place with the first of those before it with which it has a fault.
-    pub(crate) fn breach_at(&self, guarantee: Guarantee, session: SessionId, at: usize) -> Option<Breach>
+    pub(crate) fn breach_at(
+        &self,
+        guarantee: Guarantee,
+        session: SessionId,
+        at: usize,
+    ) -> Option<Breach>
         requires checked { IsChecked self.now.count self.now.entries.now (lists_of self.now.dumps.now) self.now.indexes.now }
         requires at { at < length self.now.entries.now }
         ensures { (second : Entry) → slice_get self.now.entries.now at ≡ Some second → IsSecond guarantee session.index second
@@ -138,17 +177,8 @@ impl<'a> Evidence<'a> {
         let second = &self.entries[at];
         for place in 0..at {
             let first = &self.entries[place];
-            if is_first_of(guarantee, session, first)
-                && let Some(fault) = self.fault_between(first, second)
-            {
-                return Some(Breach {
-                    guarantee,
-                    session,
-                    first: first.place,
-                    second: second.place,
-                    server: fault.server,
-                    wid: fault.wid,
-                });
+            if let Some(breach) = self.breach_with(guarantee, session, first, second) {
+                return Some(breach);
             }
         }
         None

@@ -158,6 +158,20 @@ abbrev pub IsNeedOf : List (List Write) → Guarantee → ℕ → List Entry →
 IsNeedOf dumps guarantee session entries need = All (λ first. IsFirst guarantee session first
     → (write : Write) → Tells (dump_of dumps first.server.index) first.what write → IsNeeded need write) entries
 
+-- The breach is that of the two operations with their least fault.
+pub record IsBreachOfBoth (dumps : List (List Write)) (guarantee : Guarantee) (session : ℕ) (first second : Entry) (breach : Breach) : Type 0 where
+  pub first_is : IsFirst guarantee session first
+  pub fault : IsLeastFault dumps first second (Some (record { server = breach.server; wid = breach.wid }))
+  pub guarantee_is : breach.guarantee ≡ guarantee
+  pub session_is : breach.session.index ≡ session
+  pub first_place : breach.first ≡ first.place
+  pub second_place : breach.second ≡ second.place
+
+-- the breach of two operations, if the guarantee speaks of the earlier one and they have a fault
+abbrev pub IsBreachWith : List (List Write) → Guarantee → ℕ → Entry → Entry → Option Breach → Type 0
+IsBreachWith dumps guarantee session first second None = IsFirst guarantee session first → (server : ℕ) (wid : Wid) → ¬ Fails dumps first second server wid
+IsBreachWith dumps guarantee session first second (Some breach) = IsBreachOfBoth dumps guarantee session first second breach
+
 -- The breach is that of the entry at this place with the first of those before it with which it has a fault, and of that
 -- the least.
 pub record IsBreachAt (dumps : List (List Write)) (entries : List Entry) (guarantee : Guarantee) (session at : ℕ) (breach : Breach) : Type 0 where
@@ -167,14 +181,9 @@ pub record IsBreachAt (dumps : List (List Write)) (entries : List Entry) (guaran
   pub first_at : slice_get entries place ≡ Some first
   pub second_at : slice_get entries at ≡ Some second
   pub before : place < at
-  pub first_is : IsFirst guarantee session first
   pub second_is : IsSecond guarantee session second
-  pub fault : IsLeastFault dumps first second (Some (record { server = breach.server; wid = breach.wid }))
+  pub both : IsBreachOfBoth dumps guarantee session first second breach
   pub none_before : IsKept dumps guarantee session (take place entries) second
-  pub guarantee_is : breach.guarantee ≡ guarantee
-  pub session_is : breach.session.index ≡ session
-  pub first_place : breach.first ≡ first.place
-  pub second_place : breach.second ≡ second.place
 
 -- none of the entries before this place breaks the guarantee in the session
 abbrev pub AreKeptTo : List (List Write) → List Entry → Guarantee → (session upto : ℕ) → Type 0
@@ -191,3 +200,8 @@ IsFirstBreach dumps entries guarantee session (Some breach) = (at : ℕ) × AreK
 abbrev pub IsBreachOf : List (List Write) → List Entry → Guarantee → (session at : ℕ) → Entry → Option Breach → Type 0
 IsBreachOf dumps entries guarantee session at second None = IsKept dumps guarantee session (take at entries) second
 IsBreachOf dumps entries guarantee session at second (Some breach) = IsBreachAt dumps entries guarantee session at breach
+
+-- the breach of the entry at this place, if it is such a later operation of the session and has one
+abbrev pub IsBreachFor : List (List Write) → List Entry → Guarantee → (session at : ℕ) → Entry → Option Breach → Type 0
+IsBreachFor dumps entries guarantee session at second None = IsSecond guarantee session second → IsKept dumps guarantee session (take at entries) second
+IsBreachFor dumps entries guarantee session at second (Some breach) = IsBreachAt dumps entries guarantee session at breach

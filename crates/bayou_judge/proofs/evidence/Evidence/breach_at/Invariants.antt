@@ -1,4 +1,4 @@
-use Rattle.std.proofs.Common.{take, ◌≤◌}
+use Rattle.std.proofs.Common.{take}
 use Rattle.bayou_judge.specs.History.{lists_of}
 use Rattle.bayou_judge.specs.Inner.Needs.{IsKept}
 use Rattle.bayou_judge.proofs.evidence.Evidence.breach_at.Given as goal
