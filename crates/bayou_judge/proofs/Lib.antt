@@ -7,3 +7,4 @@ pub mod Faults
 pub mod Served
 pub mod Kept
 pub mod Pairs
+pub mod Least

@@ -1,3 +1,4 @@
 pub mod Checks
 pub mod Index
 pub mod Needs
+pub mod Verdicts
