@@ -16,6 +16,8 @@ mod demand;
 mod dumps;
 mod entries;
 mod evidence;
+mod finding;
+mod fitting;
 mod index;
 mod judge_all;
 mod kinds;
@@ -24,6 +26,7 @@ mod locate;
 mod needs;
 mod passes;
 mod survey_all;
+mod told;
 pub mod verdict;
 
 pub use breach::{Breach, Guarantee};
