@@ -1,8 +1,16 @@
+pub mod Demands
 pub mod DumpsClocks
 pub mod DumpsFound
 pub mod DumpsGood
 pub mod EntriesFronts
 pub mod EntriesGenuine
 pub mod EntriesHeard
+pub mod Faults
+pub mod Good
 pub mod Indexes
+pub mod Kept
+pub mod Least
+pub mod Pairs
+pub mod Served
 pub mod Stamps
+pub mod Told

@@ -1,5 +1,5 @@
 -- The later of two stamps.
-use Rattle.std.proofs.Common.{◌≡◌, Bool, true, false, cond, Option, Some, None, sym, ◌∙◌, refl}
+use Rattle.std.proofs.Common.{◌≡◌, ◌⊎◌, inl, inr, subst, Bool, true, false, cond, Option, Some, None, sym, ◌∙◌, refl}
 use Rattle.bayou_base.specs.declared.stamp.Stamp.{Stamp}
 use Rattle.bayou_base.specs.Order.{is_before}
 use Rattle.bayou_lang.specs.Laws.StampOrder.{is_before-asym, is_before-cotrans}
@@ -39,3 +39,15 @@ later_of-new (Some last) stamp other up_to =
             | false ↦ λ not_before. refl
           ] refl
     ] refl
+
+-- what isn't after the last stamp is before what that one is before
+pub before_past : (last next stamp : Stamp) → is_before last next ≡ true → is_before last stamp ≡ false → is_before stamp next ≡ true
+before_past last next stamp past up_to =
+    elim (is_before stamp next) as (λ t. is_before stamp next ≡ t → t ≡ true) [
+      | true ↦ λ is. refl
+      | false ↦ λ isnt. sym up_to ∙ is_before-cotrans last next stamp past isnt
+    ] refl
+
+pub last_of-either : (last other : Option Stamp) (stamp : Stamp) → (IsUpTo last stamp ⊎ IsUpTo other stamp) → (made : Stamp) → other ≡ Some made → is_before (later_of last made) stamp ≡ false
+last_of-either last other stamp (inl up_to) made is = later_of-old last made stamp up_to
+last_of-either last other stamp (inr up_to) made is = later_of-new last made stamp (subst (λ o. IsUpTo o stamp) is up_to)

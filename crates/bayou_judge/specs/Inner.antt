@@ -2,3 +2,4 @@ pub mod Checks
 pub mod Heard
 pub mod Index
 pub mod Needs
+pub mod Verdicts

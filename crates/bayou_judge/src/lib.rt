@@ -20,6 +20,7 @@ mod finding;
 mod fitting;
 mod index;
 mod judge_all;
+mod kinds;
 pub mod laws;
 mod locate;
 mod needs;

@@ -1,9 +1,9 @@
-use Rattle.std.proofs.Common.{rules, ◌≡◌, ◌≢◌, ℕ, ◌+◌, ◌-◌, ◌<◌, ◌≤◌, List, [], ◌∷◌, ◌++◌, OnOk, length, take, true, false, ap, sym, ◌∙◌, subst, arith}
+use Rattle.std.proofs.Common.{◌≡◌, ◌≢◌, ◌-◌, ◌≤◌, [], ◌∷◌, ◌++◌, length, ap, sym, ◌∙◌, subst, arith}
 use Rattle.std.specs.List.{slice_get}
 use Rattle.bayou_base.specs.Vector.{raised}
 use Rattle.bayou_base.specs.declared.wid.Wid.{Wid}
 use Rattle.bayou_lang.specs.Writes.{count_of}
-use Rattle.bayou_judge.specs.Inner.Index.{later_of, place_in, IsIndexOf, IsLastOf, IsPlaceOf, Tables}
+use Rattle.bayou_judge.specs.Inner.Index.{later_of, place_in, Tables}
 use Rattle.bayou_judge.proofs.Indexes.{IsIndexOf-push}
 use Rattle.bayou_judge.proofs.index.Index.add.Goals as goal
 

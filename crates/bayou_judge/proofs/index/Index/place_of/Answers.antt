@@ -1,4 +1,4 @@
-use Rattle.std.proofs.Common.{rules, ◌≡◌, ◌≢◌, ℕ, ◌+◌, ◌<◌, ◌≤◌, List, Some, [], length, ◌-◌, ap, sym, ◌∙◌, subst, true, false, slice_index, slice_index_or, arith}
+use Rattle.std.proofs.Common.{◌≡◌, ◌≤◌, Some, [], ◌-◌, ap, sym, ◌∙◌, subst, true, slice_index, slice_index_or}
 use Rattle.bayou_base.specs.Vector.{Covers}
 use Rattle.bayou_lang.specs.Writes.{count_of}
 use Rattle.bayou_judge.specs.Inner.Index.{place_in, IsPlaceOf, Tables}
