@@ -9,7 +9,8 @@ use std::alloc::{AllocError, Global};
 use std::process::Abort;
 use std::test::Fail;
 
-const HISTORIES: u32 = 100;
+/// How many from each seed.
+const HISTORIES: u32 = 1_000;
 
 static ASKS: [&str; 8] = ["", "r", "m", "f", "w", "rm", "fw", "rmfw"];
 
@@ -260,22 +261,34 @@ fn agreed(rt: &impl Abort, alloc: Global, world: &World) -> Option<Result<Verdic
     are_same.then_some(verdict)
 }
 
-#[test]
-fn the_judge_is_its_twin(rt: HostRuntime) -> Result<(), Fail> {
-    let mut dice = Dice { state: 1994 };
-    let mut kinds = [0; 8];
-    let mut others = 0;
+/// How many answers of each kind come from the dice, and how often the twin answers otherwise.
+fn answers(rt: &impl Abort, alloc: Global, seed: u64) -> Result<([u32; 8], u32), AllocError> {
+    let mut dice = Dice { state: seed };
+    let mut kinds = [0_u32; 8];
+    let mut others = 0_u32;
     for _ in 0..HISTORIES {
-        let world = history(&rt, rt.alloc(), &mut dice)?;
-        match agreed(&rt, rt.alloc(), &world) {
-            Some(verdict) => kinds[kind_of(verdict) % 8] += 1,
-            None => others += 1,
+        let world = history(rt, alloc, &mut dice)?;
+        match agreed(rt, alloc, &world) {
+            Some(verdict) => {
+                let kind = kind_of(verdict) % 8;
+                kinds[kind] = kinds[kind].saturating_add(1);
+            }
+            None => others = others.saturating_add(1),
         }
     }
-    let is_each = kinds[..7].iter().all(|many| *many > 0);
-    assert!(rt;
-        is_each && kinds[7] == 0 && others == 0,
-        "{kinds:?} {others}"
-    );
+    Ok((kinds, others))
+}
+
+#[test]
+fn the_judge_is_its_twin(rt: HostRuntime) -> Result<(), Fail> {
+    for seed in [1994, 1997] {
+        let (kinds, others) = answers(&rt, rt.alloc(), seed)?;
+        let (told, want_of_memory) = (&kinds[..7], kinds[7]);
+        let is_each = told.iter().all(|many| *many > 0);
+        assert!(rt;
+            is_each && want_of_memory == 0 && others == 0,
+            "{kinds:?} {others}"
+        );
+    }
     Ok(())
 }
