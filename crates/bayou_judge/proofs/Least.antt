@@ -159,6 +159,90 @@ breach_is count dumps entries genuine guarantee session at breach is =
       (subst (λ g. Violates (history_of entries dumps) g session breach.first breach.second breach.server.index breach.wid) (sym is.both.guarantee_is) violates);
     }
 
+-- numbers that are equal to others in this order
+moved_lt : (a b c d : ℕ) → a < b → c ≡ a → b ≡ d → c ≤ d
+moved_lt a b c d less same other = omega arith
+
+moved_eq : (a b c d : ℕ) → a ≡ b → c ≡ a → b ≡ d → c ≤ d
+moved_eq a b c d equal same other = omega arith
+
+moved_not : (a b c d : ℕ) → a < b → c ≡ a → b ≡ d → d ≡ c → ⊥
+moved_not a b c d less same other equal = omega arith
+
+both_le : (a b : ℕ) → a ≤ b → b ≤ a → a ≡ b
+both_le a b here there = omega arith
+
+equal_le : (a b : ℕ) → a ≡ b → b ≤ a
+equal_le a b same = omega arith
+
+within_lt : (i j k : ℕ) → i < j → j < k → i < k
+within_lt i j k here there = omega arith
+
+lt_le : (j k : ℕ) → j < k → j ≤ k
+lt_le j k here = omega arith
+
+-- two entries of one session: the one at the later place in the list is at the later place in the session, or they are one
+in_place : (count : ℕ) (dumps : List (List Write)) (entries : List Entry) → AreGenuine count dumps entries → (i j : ℕ) (a b : Entry) (here there : ℕ) → slice_get entries i ≡ Some a → slice_get entries j ≡ Some b
+    → i ≤ j → a.session.index ≡ b.session.index → here ≡ a.place → b.place ≡ there → (here ≤ there) × (there ≡ here → a ≡ b)
+in_place count dumps entries genuine i j a b here there at_i at_j order same is_a is_b =
+    elim (cases_lt i j) as (λ _. (here ≤ there) × (there ≡ here → a ≡ b)) [
+      | inl less ↦
+          let rises = places_rise count dumps entries genuine i j a b at_i at_j less same in
+          (moved_lt a.place b.place here there rises is_a is_b, λ equal. absurd (moved_not a.place b.place here there rises is_a is_b equal))
+      | inr above ↦
+          let one : i ≡ j = both_le i j order above in
+          let both : Some a ≡ Some b = sym at_i ∙ ap (slice_get entries) one ∙ at_j in
+          let entry : a ≡ b = cc in
+          (moved_eq a.place b.place here there (ap (λ (e : Entry). e.place) entry) is_a is_b, λ equal. entry)
+    ]
+
+-- the later entry of a fault isn't before the first that is broken
+second_order : (dumps : List (List Write)) (entries : List Entry) (guarantee : Guarantee) (session at i j : ℕ) (one other : Entry) → AreKeptTo dumps entries guarantee session at
+    → slice_get entries i ≡ Some one → slice_get entries j ≡ Some other → i < j → IsFirst guarantee session one → IsSecond guarantee session other → (server : ℕ) (wid : Wid) → Fails dumps one other server wid → at ≤ j
+second_order dumps entries guarantee session at i j one other kept at_i at_j order first_of second_of server wid fails =
+    elim (cases_lt j at) as (λ _. at ≤ j) [
+      | inl less ↦ absurd (kept_fails dumps guarantee session entries i j one other (kept j other less at_j second_of) at_i order (lt_le j (length entries) (slice_get_within entries j other at_j)) first_of server wid fails)
+      | inr above ↦ above
+    ]
+
+first_order : (dumps : List (List Write)) (entries : List Entry) (guarantee : Guarantee) (session place i at : ℕ) (one second : Entry) → IsKept dumps guarantee session (take place entries) second → place < at → at < length entries
+    → slice_get entries i ≡ Some one → IsFirst guarantee session one → (server : ℕ) (wid : Wid) → Fails dumps one second server wid → place ≤ i
+first_order dumps entries guarantee session place i at one second none_before before within at_i first_of server wid fails =
+    elim (cases_lt i place) as (λ _. place ≤ i) [
+      | inl less ↦ absurd (kept_fails dumps guarantee session entries i place one second none_before at_i less (lt_le place (length entries) (within_lt place at (length entries) before within)) first_of server wid fails)
+      | inr above ↦ above
+    ]
+
+-- keys of breaches, part by part
+keys : (s t q r a b c d : ℕ) (xs ys : List ℕ) → t ≡ s → r ≡ q → a ≤ b → (b ≡ a → (c ≤ d) × (d ≡ c → is_less xs ys ≡ false)) → is_less (t ∷ r ∷ b ∷ d ∷ xs) (s ∷ q ∷ a ∷ c ∷ ys) ≡ false
+keys s t q r a b c d xs ys sessions ranks seconds rest =
+    less-later s t (r ∷ b ∷ d ∷ xs) (q ∷ a ∷ c ∷ ys) (equal_le t s sessions) (λ _.
+    less-later q r (b ∷ d ∷ xs) (a ∷ c ∷ ys) (equal_le r q ranks) (λ _.
+    less-later a b (d ∷ xs) (c ∷ ys) seconds (λ places.
+    less-later c d xs ys (rest places).0 (rest places).1)))
+
+-- a breach that is met first against a fault of other entries
+least_against : (count : ℕ) (dumps : List (List Write)) (entries : List Entry) → AreGenuine count dumps entries → (guarantee : Guarantee) (session at : ℕ) (breach : Breach) → AreKeptTo dumps entries guarantee session at
+    → IsBreachAt dumps entries guarantee session at breach → (first second server : ℕ) (wid : Wid) → first < second → HaveFault entries dumps guarantee session first second server wid
+    → (breach.second ≤ second) × (second ≡ breach.second → (breach.first ≤ first) × (first ≡ breach.first → is_less (server ∷ wid_key wid) (breach.server.index ∷ wid_key breach.wid) ≡ false))
+least_against count dumps entries genuine guarantee session at breach kept is first second server wid in_order both =
+    let i = both.one_at.0.0 in
+    let j = both.other_at.0.0 in
+    let at_i : slice_get entries i ≡ Some both.one = slice_get-get_or entries i both.one both.one_at.0.1 ∙ ap Some both.one_at.0.2 in
+    let at_j : slice_get entries j ≡ Some both.other = slice_get-get_or entries j both.other both.other_at.0.1 ∙ ap Some both.other_at.0.2 in
+    let places : both.one.place < both.other.place = subst (λ n. n < both.other.place) (sym both.one_at.2) (subst (λ n. first < n) (sym both.other_at.2) in_order) in
+    let order : i < j = place_order count dumps entries genuine i j both.one both.other at_i at_j (both.one_at.1 ∙ sym both.other_at.1) places in
+    let first_of : IsFirst guarantee session both.one = record { session_is = both.one_at.1; kind = both.one_is } in
+    let second_of : IsSecond guarantee session both.other = record { session_is = both.other_at.1; kind = both.other_is } in
+    let after = second_order dumps entries guarantee session at i j both.one both.other kept at_i at_j order first_of second_of server wid both.fails in
+    let seconds = in_place count dumps entries genuine at j is.second both.other breach.second second is.second_at at_j after (is.second_is.session_is ∙ sym both.other_at.1) is.both.second_place both.other_at.2 in
+    (seconds.0, λ same.
+    let one_second : is.second ≡ both.other = seconds.1 same in
+    let fails : Fails dumps both.one is.second server wid = subst (λ e. Fails dumps both.one e server wid) (sym one_second) both.fails in
+    let behind = first_order dumps entries guarantee session is.place i at both.one is.second is.none_before is.before (slice_get_within entries at is.second is.second_at) at_i first_of server wid fails in
+    let firsts = in_place count dumps entries genuine is.place i is.first both.one breach.first first is.first_at at_i behind (is.both.first_is.session_is ∙ sym both.one_at.1) is.both.first_place both.one_at.2 in
+    (firsts.0, λ same_first. is.both.fault.1 server wid (subst (λ e. Fails dumps e is.second server wid) (sym (firsts.1 same_first)) fails)))
+
 -- and the least of its guarantee in its session
 breach_is_least : (count : ℕ) (dumps : List (List Write)) (entries : List Entry) → AreGenuine count dumps entries → (guarantee : Guarantee) (session at : ℕ) (breach : Breach) → AreKeptTo dumps entries guarantee session at
     → IsBreachAt dumps entries guarantee session at breach → (other : Breach) → other.guarantee ≡ guarantee → other.session.index ≡ session → IsBreach (history_of entries dumps) other → is_less (key_of other) (key_of breach) ≡ false
@@ -166,78 +250,9 @@ breach_is_least count dumps entries genuine guarantee session at breach kept is 
     let violates = subst (λ s. Violates (history_of entries dumps) guarantee s other.first other.second other.server.index other.wid) same_session
     (subst (λ g. Violates (history_of entries dumps) g other.session.index other.first other.second other.server.index other.wid) same_guarantee other_is.violates) in
     let both = fault_of_violation entries dumps guarantee session other.first other.second other.server.index other.wid violates in
-    let i = both.one_at.0.0 in
-    let j = both.other_at.0.0 in
-    let at_i : slice_get entries i ≡ Some both.one = slice_get-get_or entries i both.one both.one_at.0.1 ∙ ap Some both.one_at.0.2 in
-    let at_j : slice_get entries j ≡ Some both.other = slice_get-get_or entries j both.other both.other_at.0.1 ∙ ap Some both.other_at.0.2 in
-    let order : i < j = place_order count dumps entries genuine i j both.one both.other at_i at_j (both.one_at.1 ∙ sym both.other_at.1) (omega (arith, both.one_at.2, both.other_at.2, other_is.in_order)) in
-    let first_of : IsFirst guarantee session both.one = record { session_is = both.one_at.1; kind = both.one_is } in
-    let within : at < length entries = slice_get_within entries at is.second is.second_at in
-    let not_before : at ≤ j = elim (cases_lt j at) as (λ _. at ≤ j) [
-      | inl less ↦ absurd (kept_fails dumps guarantee session entries i j both.one both.other (kept j both.other less at_j (record { session_is = both.other_at.1; kind = both.other_is })) at_i order (omega arith) first_of
-        other.server.index other.wid both.fails)
-      | inr above ↦ above
-    ] in
-    let seconds : breach.second ≤ other.second = elim (cases_lt at j) as (λ _. breach.second ≤ other.second) [
-      | inl less ↦ let rises = places_rise count dumps entries genuine at j is.second both.other is.second_at at_j less (is.second_is.session_is ∙ sym both.other_at.1) in omega (arith, is.both.second_place, both.other_at.2)
-      | inr above ↦
-          let one : at ≡ j = omega arith in
-          let entry : is.second ≡ both.other = let e : Some is.second ≡ Some both.other = sym is.second_at ∙ ap (slice_get entries) one ∙ at_j in cc in
-          omega (arith, is.both.second_place, ap (λ (e : Entry). e.place) entry, both.other_at.2)
-    ] in
-    let same_second : other.second ≡ breach.second → is.second ≡ both.other = λ places.
-    elim (cases_lt at j) as (λ _. is.second ≡ both.other) [
-      | inl less ↦
-          let rises = places_rise count dumps entries genuine at j is.second both.other is.second_at at_j less (is.second_is.session_is ∙ sym both.other_at.1) in
-          absurd (omega (arith, places, is.both.second_place, both.other_at.2))
-      | inr above ↦
-          let one : at ≡ j = omega arith in
-          let e : Some is.second ≡ Some both.other = sym is.second_at ∙ ap (slice_get entries) one ∙ at_j in cc
-    ] in
-    let same_place : other.second ≡ breach.second → at ≡ j = λ places.
-    elim (cases_lt at j) as (λ _. at ≡ j) [
-      | inl less ↦
-          let rises = places_rise count dumps entries genuine at j is.second both.other is.second_at at_j less (is.second_is.session_is ∙ sym both.other_at.1) in
-          absurd (omega (arith, places, is.both.second_place, both.other_at.2))
-      | inr above ↦ omega arith
-    ] in
-    let not_earlier : other.second ≡ breach.second → is.place ≤ i = λ places.
-    elim (cases_lt i is.place) as (λ _. is.place ≤ i) [
-      | inl less ↦
-          let fails : Fails dumps both.one is.second other.server.index other.wid = subst (λ e. Fails dumps both.one e other.server.index other.wid) (sym (same_second places)) both.fails in
-          let bound = is.before in
-          absurd (kept_fails dumps guarantee session entries i is.place both.one is.second is.none_before at_i less (omega arith) first_of other.server.index other.wid fails)
-      | inr above ↦ above
-    ] in
-    let in_session : is.first.session.index ≡ both.one.session.index = is.both.first_is.session_is ∙ sym both.one_at.1 in
-    let firsts : other.second ≡ breach.second → breach.first ≤ other.first = λ places.
-    elim (cases_lt is.place i) as (λ _. breach.first ≤ other.first) [
-      | inl less ↦ let rises = places_rise count dumps entries genuine is.place i is.first both.one is.first_at at_i less in_session in omega (arith, is.both.first_place, both.one_at.2)
-      | inr above ↦
-          let least = not_earlier places in
-          let one : is.place ≡ i = omega arith in
-          let entry : is.first ≡ both.one = let e : Some is.first ≡ Some both.one = sym is.first_at ∙ ap (slice_get entries) one ∙ at_i in cc in
-          omega (arith, is.both.first_place, ap (λ (e : Entry). e.place) entry, both.one_at.2)
-    ] in
-    let same_first : other.second ≡ breach.second → other.first ≡ breach.first → is.first ≡ both.one = λ places firsts_same.
-    elim (cases_lt is.place i) as (λ _. is.first ≡ both.one) [
-      | inl less ↦
-          let rises = places_rise count dumps entries genuine is.place i is.first both.one is.first_at at_i less in_session in
-          absurd (omega (arith, firsts_same, is.both.first_place, both.one_at.2))
-      | inr above ↦
-          let least = not_earlier places in
-          let one : is.place ≡ i = omega arith in
-          let e : Some is.first ≡ Some both.one = sym is.first_at ∙ ap (slice_get entries) one ∙ at_i in cc
-    ] in
-    let sessions : other.session.index ≡ breach.session.index = same_session ∙ sym is.both.session_is in
-    let ranks : rank other.guarantee ≡ rank breach.guarantee = ap rank (same_guarantee ∙ sym is.both.guarantee_is) in
-    less-later breach.session.index other.session.index _ _ (omega arith) (λ _.
-    less-later (rank breach.guarantee) (rank other.guarantee) _ _ (omega arith) (λ _.
-    less-later breach.second other.second _ _ seconds (λ places.
-    less-later breach.first other.first _ _ (firsts places) (λ firsts_same.
-    is.both.fault.1 other.server.index other.wid
-    (subst (λ e. Fails dumps e is.second other.server.index other.wid) (sym (same_first places firsts_same))
-        (subst (λ e. Fails dumps both.one e other.server.index other.wid) (sym (same_second places)) both.fails))))))
+    let against = least_against count dumps entries genuine guarantee session at breach kept is other.first other.second other.server.index other.wid other_is.in_order both in
+    keys breach.session.index other.session.index (rank breach.guarantee) (rank other.guarantee) breach.second other.second breach.first other.first
+    (other.server.index ∷ wid_key other.wid) (breach.server.index ∷ wid_key breach.wid) (same_session ∙ sym is.both.session_is) (ap rank (same_guarantee ∙ sym is.both.guarantee_is)) against.0 against.1
 
 pub surveys : (count : ℕ) (entries : List Entry) (dumps : List (List Write)) (indexes : List Tables) → IsChecked count entries dumps indexes → (guarantee : Guarantee) (session : ℕ) (result : Option Breach)
     → IsFirstBreach dumps entries guarantee session result → Surveys (history_of entries dumps) guarantee session result

@@ -13,4 +13,4 @@ pub mod Least
 pub mod Pairs
 pub mod Served
 pub mod Stamps
-pub mod Told
+pub mod Needed

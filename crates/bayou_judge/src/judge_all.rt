@@ -1,4 +1,4 @@
-ghost use Rattle.std.specs.Prelude.{◌≡◌, ◌<◌, ◌≤◌, ◌↔◌, IsTrue, length};
+ghost use Rattle.std.specs.Prelude.{◌≡◌, ◌<◌, ◌≤◌, ◌↔◌, IsTrue, length, true};
 ghost use Rattle.bayou_base.specs.declared.limits.TheConstants.{SERVERS};
 ghost use Rattle.bayou_judge.specs.Answers.{Judges};
 ghost use Rattle.bayou_judge.specs.Breaches.{is_asked};
@@ -24,22 +24,34 @@ fn asks_for(asks: Asks, guarantee: Guarantee) -> bool
     }
 }
 
+/// Whether the entry is of the breach's session, which asks for its guarantee.
+fn asks_of_it(entry: &Entry, breach: &Breach) -> bool
+    ensures { IsTrue result ↔ ((entry.now.session.index ≡ breach.now.session.index) × (is_asked entry.now.asks breach.now.guarantee ≡ true)) }
+{
+    entry.session.index == breach.session.index && asks_for(entry.asks, breach.guarantee)
+}
+
 /// Whether the session of the breach asks for its guarantee.
 fn is_asked_for(entries: &[Entry], breach: &Breach) -> bool
     ensures { IsTrue result ↔ IsAskedAt entries.now breach.now }
 {
-    entries.iter().any(|entry| {
-        entry.session.index == breach.session.index && asks_for(entry.asks, breach.guarantee)
-    })
+    for entry in entries {
+        if asks_of_it(entry, breach) {
+            return true;
+        }
+    }
+    false
 }
 
 /// The breach, if it is asked for.
 fn asked_one(entries: &[Entry], found: Option<Breach>) -> Option<Breach>
     ensures { IsAsked entries.now found result }
 {
-    match found {
-        Some(breach) if is_asked_for(entries, &breach) => Some(breach),
-        _ => None,
+    let breach = found?;
+    if is_asked_for(entries, &breach) {
+        Some(breach)
+    } else {
+        None
     }
 }
 

@@ -16,9 +16,12 @@ use std::alloc::{AllocError, Global};
 fn has_entry(entries: &[Entry], session: SessionId) -> bool
     ensures { IsTrue result ↔ Any (λ entry. entry.session.index ≡ session.index) entries.now }
 {
-    entries
-        .iter()
-        .any(|entry| entry.session.index == session.index)
+    for entry in entries {
+        if entry.session.index == session.index {
+            return true;
+        }
+    }
+    false
 }
 
 /// What became of each guarantee in each session that has an entry.
@@ -30,7 +33,9 @@ fn survey_sessions(alloc: Global, evidence: &Evidence) -> Result<Vec<Surveyed>, 
     for index in 0..SESSIONS as u8 {
         let session = SessionId { index };
         if has_entry(evidence.entries, session) {
-            list.push(evidence.survey_of(session))?;
+            let Ok(()) = list.push(evidence.survey_of(session)) else {
+                return Err(AllocError);
+            };
         }
     }
     Ok(list)

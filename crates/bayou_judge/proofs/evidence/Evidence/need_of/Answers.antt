@@ -1,7 +1,7 @@
 use Rattle.std.proofs.Common.{subst}
 use Rattle.bayou_judge.specs.History.{dump_of, lists_of}
 use Rattle.bayou_judge.specs.Inner.Needs.{IsServed, Tells}
-use Rattle.bayou_judge.proofs.Told.{write_need}
+use Rattle.bayou_judge.proofs.Needed.{write_need}
 use Rattle.bayou_judge.proofs.evidence.Evidence.need_of.Goals as goal
 
 pub returns-in-Read : goal.returns-in-Read

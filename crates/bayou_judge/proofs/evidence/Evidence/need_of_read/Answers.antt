@@ -3,7 +3,7 @@ use Rattle.std.specs.List.{slice_get}
 use Rattle.std.proofs.lemmas.Bool.Decides.{nat_tests}
 use Rattle.std.proofs.lemmas.Option.{slice_get_read}
 use Rattle.bayou_judge.specs.History.{dump_of, lists_of}
-use Rattle.bayou_judge.proofs.Told.{read_beyond, read_need}
+use Rattle.bayou_judge.proofs.Needed.{read_beyond, read_need}
 use Rattle.bayou_judge.proofs.evidence.Evidence.need_of_read.Goals as goal
 
 pub returns-in-Some : goal.returns-in-Some
