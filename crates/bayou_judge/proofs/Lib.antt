@@ -14,3 +14,5 @@ pub mod Pairs
 pub mod Served
 pub mod Stamps
 pub mod Needed
+pub mod Sessions
+pub mod Verdicts
