@@ -16,3 +16,4 @@ pub mod Stamps
 pub mod Needed
 pub mod Sessions
 pub mod Verdicts
+pub mod Unique

@@ -134,7 +134,7 @@ first_here history entries surveyed breach is (IsTheFirst.mw here ryw mr wfr) = 
 }
 
 -- a guarantee is its rank
-same_rank : (a b : Guarantee) → rank a ≡ rank b → a ≡ b
+pub same_rank : (a b : Guarantee) → rank a ≡ rank b → a ≡ b
 same_rank guarantees.ReadYourWrites guarantees.ReadYourWrites same = refl
 same_rank guarantees.ReadYourWrites guarantees.MonotonicReads same = absurd (omega arith)
 same_rank guarantees.ReadYourWrites guarantees.WritesFollowReads same = absurd (omega arith)

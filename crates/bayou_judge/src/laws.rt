@@ -1,13 +1,17 @@
 //! What the definitions come to: each law is the contract of a function that does nothing.
-ghost use Rattle.std.specs.Prelude.{◌≡◌, ◌↔◌, ℕ, List, Contains};
+ghost use Rattle.std.specs.Prelude.{◌≡◌, ◌↔◌, ◌≢◌, ℕ, List, Contains, Result, Err};
 ghost use Rattle.bayou_base.specs.Vector.{Covers};
 ghost use Rattle.bayou_base.specs.declared.entry.Entry.{Entry};
 ghost use Rattle.bayou_lang.specs.Writes.{count_of, IsSound};
 ghost use Rattle.bayou_lang.specs.declared.write.Write.{Write};
+ghost use Rattle.bayou_judge.specs.Answers.{Judges};
 ghost use Rattle.bayou_judge.specs.Breaches.{Holds, IsBreach};
 ghost use Rattle.bayou_judge.specs.Evidence.{AreGood};
 ghost use Rattle.bayou_judge.specs.History.{dump_of, history_of, IsFrontOf};
 ghost use Rattle.bayou_judge.specs.declared.breach.Breach.{Breach};
+ghost use Rattle.bayou_judge.specs.declared.verdict.Refusal.{Refusal};
+ghost use Rattle.bayou_judge.specs.declared.verdict.Refusal.TheVariants.{OutOfMemory};
+ghost use Rattle.bayou_judge.specs.declared.verdict.Verdict.{Verdict};
 
 /// A breach violates its guarantee in its session.
 pub fn a_breach_violates()
@@ -37,4 +41,10 @@ pub fn vectors_stand_for_sets()
 /// No two databases of a dump have the same vector.
 pub fn a_vector_is_of_one_database()
     ensures { (dump database other : List Write) → IsFrontOf dump database → IsFrontOf dump other → count_of database ≡ count_of other → database ≡ other }
+{}
+
+/// Of entries and dumps there is one verdict, or one reason why there is none: two answers that aren't want of memory are equal.
+pub fn a_verdict_is_one()
+    ensures { (count : ℕ) (entries : List Entry) (dumps : List (List Write)) (one other : Result Verdict Refusal) → Judges count entries dumps one
+        → Judges count entries dumps other → one ≢ Err OutOfMemory → other ≢ Err OutOfMemory → one ≡ other }
 {}
