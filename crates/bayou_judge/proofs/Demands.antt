@@ -1,9 +1,9 @@
 -- What an operation demands, by vectors, is what the guarantees ask for.
-use Rattle.std.proofs.Common.{◌≡◌, ◌≢◌, ◌⊎◌, inl, inr, ℕ, zero, suc, ◌+◌, ◌<◌, ◌≤◌, true, false, List, [], ◌∷◌, ◌++◌, length, get_or, take, drop, slice_index, All, Contains, Option, Some, None, ap, sym, ◌∙◌, refl, subst, arith, length-append}
+use Rattle.std.proofs.Common.{◌≡◌, ◌≢◌, ℕ, ◌+◌, ◌<◌, ◌≤◌, true, List, [], length, take, drop, All, Contains, Option, Some, None, ap, sym, ◌∙◌, subst, arith, length-append}
 use Rattle.std.specs.List.{slice_get}
-use Rattle.std.proofs.lemmas.List.{get_or_append_left, get_or_past, take-append-le, take-append-drop}
+use Rattle.std.proofs.lemmas.List.{get_or_past, take-append-le, take-append-drop}
 use Rattle.std.proofs.lemmas.List.Elements.{Contains-append_left}
-use Rattle.std.proofs.lemmas.Option.{slice_get-get_or, slice_get_within, get_or_from_slice_get}
+use Rattle.std.proofs.lemmas.Option.{slice_get-get_or}
 use Rattle.bayou_base.specs.Order.{is_before}
 use Rattle.bayou_base.specs.Vector.{Covers}
 use Rattle.bayou_base.specs.declared.entry.What.{What}
@@ -13,11 +13,9 @@ use Rattle.bayou_base.specs.declared.wid.Wid.{Wid}
 use Rattle.bayou_lang.specs.declared.write.Write.{Write}
 use Rattle.bayou_lang.specs.Writes.{count_of}
 use Rattle.bayou_judge.specs.declared.demand.Demand.{Demand}
-use Rattle.bayou_judge.specs.declared.needs.Need.{Need}
 use Rattle.bayou_judge.specs.Evidence.{AreGood}
-use Rattle.bayou_judge.specs.Guarantees.{PrecedesIn}
 use Rattle.bayou_judge.specs.History.{dump_of, IsFrontOf, IsReadFrom, IsWriteOf}
-use Rattle.bayou_judge.specs.Inner.Needs.{IsBeforeAll, IsDemandOf, IsHeld, IsMet, IsServed, IsWriteDemand, Lacks}
+use Rattle.bayou_judge.specs.Inner.Needs.{IsBeforeAll, IsDemandOf, IsServed, IsWriteDemand, Lacks}
 use Rattle.bayou_judge.proofs.Good.{front_counts, front_has, front_is_held, front_of_dump, good_is_fitting, held_at, last_of_front, one_place, one_write, slice_get_front}
 
 -- of a read it is what its vector counts

@@ -1,22 +1,19 @@
 -- The least fault of two operations.
-use Rattle.std.proofs.Common.{◌≡◌, ◌≢◌, ◌⊎◌, inl, inr, ℕ, zero, suc, ◌+◌, ◌<◌, ◌≤◌, Bool, false, true, cond, nat_lt, ◌==◌, ◌&&◌, ◌||◌, List, [], ◌∷◌, ◌++◌, length, get_or, take, slice_index, All, Contains, Option, Some, None, ap, sym, ◌∙◌, refl, subst, arith, length-append}
-use Rattle.std.specs.List.{slice_get}
+use Rattle.std.proofs.Common.{◌≡◌, inl, inr, ℕ, ◌+◌, ◌<◌, ◌≤◌, false, true, nat_lt, ◌==◌, ◌&&◌, ◌||◌, List, [], ◌∷◌, ◌++◌, length, get_or, Contains, Option, Some, None, sym, ◌∙◌, refl, subst, arith}
 use Rattle.std.proofs.lemmas.Bool.{cases_lt}
 use Rattle.std.proofs.lemmas.Bool.Decides.{nat_tests}
-use Rattle.std.proofs.lemmas.List.Elements.{All-push, All-weaker, Contains-append_left, Contains-push}
+use Rattle.std.proofs.lemmas.List.Elements.{All-push, Contains-append_left, Contains-push}
 use Rattle.bayou_base.specs.Vector.{Covers}
 use Rattle.bayou_base.specs.declared.entry.Entry.{Entry}
 use Rattle.bayou_base.specs.declared.entry.What.{What}
 use Rattle.bayou_base.specs.declared.entry.What.TheVariants as whats
 use Rattle.bayou_base.specs.declared.wid.Wid.{Wid}
 use Rattle.bayou_lang.specs.declared.write.Write.{Write}
-use Rattle.bayou_lang.specs.Writes.{count_of}
 use Rattle.bayou_judge.specs.declared.demand.Demand.{Demand}
-use Rattle.bayou_judge.specs.declared.needs.Need.{Need}
 use Rattle.bayou_judge.specs.Breaches.{is_less}
 use Rattle.bayou_judge.specs.Evidence.{AreGood}
-use Rattle.bayou_judge.specs.History.{dump_of, IsFrontOf, IsReadFrom, IsWriteOf}
-use Rattle.bayou_judge.specs.Inner.Needs.{wid_key, Fails, IsDemandOf, IsHeld, IsLeastAt, IsLeastUnmet, IsLesser, IsMet, IsNeeded, IsServed, IsTold, Lacks, Tells}
+use Rattle.bayou_judge.specs.History.{dump_of}
+use Rattle.bayou_judge.specs.Inner.Needs.{wid_key, Fails, IsDemandOf, IsLeastAt, IsLeastUnmet, IsLesser, IsMet, IsServed, IsTold, Tells}
 use Rattle.bayou_judge.proofs.Good.{front_counts, front_has, front_is_held}
 use Rattle.bayou_judge.proofs.Demands.{beyond}
 

@@ -1,19 +1,16 @@
 -- What good dumps come to: each is a fitting list, and a name is of one Write.
-use Rattle.std.proofs.Common.{◌≡◌, ◌≢◌, ◌⊎◌, inl, inr, ℕ, zero, suc, ◌+◌, ◌<◌, ◌≤◌, true, false, nat_lt, List, [], ◌∷◌, ◌++◌, length, get_or, take, drop, slice_index, All, Contains, Option, Some, None, ap, sym, ◌∙◌, refl, subst, arith, length-append, append_assoc}
+use Rattle.std.proofs.Common.{◌≡◌, ℕ, ◌+◌, ◌<◌, true, false, nat_lt, List, [], ◌∷◌, ◌++◌, length, get_or, take, drop, Contains, Some, ap, sym, ◌∙◌, refl, subst, arith, length-append}
 use Rattle.std.specs.List.{slice_get}
 use Rattle.std.proofs.lemmas.Bool.Decides.{nat_tests}
-use Rattle.std.proofs.lemmas.List.{get_or_append_left, get_or_default, take-append-drop, take_all, take-append-le, length-take-le}
+use Rattle.std.proofs.lemmas.List.{get_or_append_left, take-append-drop, take_all, take-append-le, length-take-le}
 use Rattle.std.proofs.lemmas.List.Elements.{Contains-append_left}
 use Rattle.std.proofs.lemmas.Option.{slice_get-get_or, slice_get_within, get_or_from_slice_get}
-use Rattle.bayou_base.specs.Order.{is_before}
 use Rattle.bayou_base.specs.Vector.{Covers}
-use Rattle.bayou_base.specs.declared.stamp.Stamp.{Stamp}
-use Rattle.bayou_base.specs.declared.wid.Wid.{Wid}
 use Rattle.bayou_lang.specs.declared.write.Write.{Write}
 use Rattle.bayou_lang.specs.Laws.Equality.{server-ext, wid-ext}
 use Rattle.bayou_lang.specs.Laws.Fitting.{fitting-front, fitting_distinct_wids, fitting_is_prefix_closed}
-use Rattle.bayou_lang.specs.Writes.{count_of, AreFitting, Fits}
-use Rattle.bayou_judge.specs.Evidence.{AreGood, IsGood}
+use Rattle.bayou_lang.specs.Writes.{count_of, AreFitting, Fits, IsSound}
+use Rattle.bayou_judge.specs.Evidence.{AreGood}
 use Rattle.bayou_judge.specs.History.{dump_of, IsFrontOf}
 use Rattle.bayou_judge.specs.Inner.Needs.{IsHeld}
 
@@ -136,3 +133,14 @@ last_of_front dump place write got =
 
 pub place_within : (writes : List Write) (place : ℕ) (write : Write) → slice_get writes place ≡ Some write → place < length writes
 place_within writes place write got = slice_get_within writes place write got
+
+-- each good dump is sound
+pub good_is_sound : (count : ℕ) (dumps : List (List Write)) → AreGood count dumps → (server : ℕ) → IsSound server count (dump_of dumps server)
+good_is_sound count dumps good server = record {
+  fitting = good_is_fitting count dumps good server;
+  own = λ before write after same is_own.
+      let dump = dump_of dumps server in
+      let got : slice_get dump (length before) ≡ Some write = ap (λ list. slice_get list (length before)) same ∙ slice_get-middle before write after in
+      let front : take (length before) dump ≡ before = ap (take (length before)) same ∙ take-middle before (write ∷ after) in
+      subst (λ held. write.deps ≡ count_of held) front ((good server (length before) write got).own is_own);
+}

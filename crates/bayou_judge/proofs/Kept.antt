@@ -1,10 +1,10 @@
 -- The pass over one session's operations.
-use Rattle.std.proofs.Common.{◌≡◌, ◌≢◌, ◌⊎◌, inl, inr, ℕ, zero, suc, ◌+◌, ◌<◌, ◌≤◌, List, [], ◌∷◌, ◌++◌, length, get_or, take, All, Contains, Option, Some, None, ap, sym, ◌∙◌, refl, subst, arith}
+use Rattle.std.proofs.Common.{◌≡◌, inl, inr, ℕ, zero, suc, ◌+◌, ◌<◌, List, [], ◌∷◌, ◌++◌, length, get_or, take, All, Option, Some, None, ap, sym, ◌∙◌, refl, subst, arith}
 use Rattle.std.specs.List.{slice_get}
 use Rattle.std.proofs.lemmas.Bool.{cases_lt}
 use Rattle.std.proofs.lemmas.List.{take_more}
 use Rattle.std.proofs.lemmas.List.Elements.{All-push, All-weaker}
-use Rattle.std.proofs.lemmas.Option.{slice_get-get_or, slice_get_within, get_or_from_slice_get}
+use Rattle.std.proofs.lemmas.Option.{slice_get_within, get_or_from_slice_get}
 use Rattle.bayou_base.specs.declared.entry.Entry.{Entry}
 use Rattle.bayou_lang.specs.declared.write.Write.{Write}
 use Rattle.bayou_judge.specs.declared.breach.Breach.{Breach}
@@ -12,7 +12,7 @@ use Rattle.bayou_judge.specs.declared.breach.Guarantee.{Guarantee}
 use Rattle.bayou_judge.specs.declared.needs.Need.{Need}
 use Rattle.bayou_judge.specs.Evidence.{AreGood}
 use Rattle.bayou_judge.specs.History.{dump_of}
-use Rattle.bayou_judge.specs.Inner.Needs.{AreKeptTo, Fails, IsBreachAt, IsBreachFor, IsBreachOf, IsFirst, IsFirstBreach, IsHeld, IsKept, IsNeeded, IsNeedOf, IsSecond, Lacks, Tells}
+use Rattle.bayou_judge.specs.Inner.Needs.{AreKeptTo, IsBreachFor, IsBreachOf, IsFirst, IsHeld, IsKept, IsNeeded, IsNeedOf, Lacks, Tells}
 use Rattle.bayou_judge.proofs.Faults.{told_is}
 
 -- where all that is needed is there, no entry before this one has a fault with it

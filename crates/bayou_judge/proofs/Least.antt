@@ -1,9 +1,8 @@
 -- The first breach that a pass meets is the least, and where it meets none the guarantee holds.
-use Rattle.std.proofs.Common.{◌≡◌, ◌≢◌, ◌⊎◌, inl, inr, ℕ, ◌+◌, ◌<◌, ◌≤◌, Bool, true, false, nat_le, List, [], ◌∷◌, ◌++◌, length, get_or, take, slice_index, All, Contains, Option, Some, None, ap, sym, ◌∙◌, refl, subst, arith}
+use Rattle.std.proofs.Common.{◌≡◌, ◌⊎◌, inl, inr, ℕ, ◌<◌, ◌≤◌, true, false, List, ◌∷◌, length, get_or, take, slice_index, Contains, Option, Some, None, ap, sym, ◌∙◌, refl, subst, arith}
 use Rattle.std.specs.Coded.{le_prop}
 use Rattle.std.specs.List.{slice_get}
 use Rattle.std.proofs.lemmas.Bool.{cases_lt}
-use Rattle.std.proofs.lemmas.Bool.Decides.{nat_tests}
 use Rattle.std.proofs.lemmas.List.{get_or-take, length-take-le}
 use Rattle.std.proofs.lemmas.Option.{slice_get-get_or, slice_get_within, get_or_from_slice_get}
 use Rattle.bayou_base.specs.Order.{is_before}
@@ -19,7 +18,7 @@ use Rattle.bayou_judge.specs.declared.breach.Breach.{Breach}
 use Rattle.bayou_judge.specs.declared.breach.Guarantee.{Guarantee}
 use Rattle.bayou_judge.specs.declared.breach.Guarantee.TheVariants as guarantees
 use Rattle.bayou_judge.specs.Answers.{Surveys}
-use Rattle.bayou_judge.specs.Breaches.{is_less, key_of, rank, Holds, IsBreach, IsLeastOf, Violates}
+use Rattle.bayou_judge.specs.Breaches.{is_less, key_of, rank, Holds, IsBreach, Violates}
 use Rattle.bayou_judge.specs.Evidence.{AreGenuine, AreGood}
 use Rattle.bayou_judge.specs.Guarantees.{PrecedesIn}
 use Rattle.bayou_judge.specs.History.{dump_of, history_of, IsEntryAt, IsFrontOf, IsReadFrom, IsWriteOf}
@@ -98,10 +97,13 @@ precedes_decides : (count : ℕ) (dumps : List (List Write)) → AreGood count d
     → ((PrecedesIn database write later → ⊥) → ⊥) → PrecedesIn database write later
 precedes_decides count dumps good server database front write later held not_not has =
     elim (front_decides count dumps good server database front write held) as (λ _. Contains database write × (is_before write.stamp later.stamp ≡ true)) [
-      | inl there ↦ (there, elim (is_before write.stamp later.stamp) as (λ t. is_before write.stamp later.stamp ≡ t → t ≡ true) [
-        | true ↦ λ is. refl
-        | false ↦ λ isnt. absurd (not_not (λ precedes. let yes = (precedes has).1 in absurd (cc)))
-      ] refl)
+      | inl there ↦ (
+        there,
+        elim (is_before write.stamp later.stamp) as (λ t. is_before write.stamp later.stamp ≡ t → t ≡ true) [
+          | true ↦ λ is. refl
+          | false ↦ λ isnt. absurd (not_not (λ precedes. let yes = (precedes has).1 in absurd (cc)))
+        ] refl,
+      )
       | inr absent ↦ absurd (not_not (λ precedes. absent (precedes has).0))
     ]
 
@@ -156,7 +158,7 @@ breach_is count dumps entries genuine guarantee session at breach is =
     record {
       in_order = omega (arith, rises, is.both.first_place, is.both.second_place);
       violates = subst (λ s. Violates (history_of entries dumps) breach.guarantee s breach.first breach.second breach.server.index breach.wid) (sym is.both.session_is)
-      (subst (λ g. Violates (history_of entries dumps) g session breach.first breach.second breach.server.index breach.wid) (sym is.both.guarantee_is) violates);
+          (subst (λ g. Violates (history_of entries dumps) g session breach.first breach.second breach.server.index breach.wid) (sym is.both.guarantee_is) violates);
     }
 
 -- numbers that are equal to others in this order
@@ -235,13 +237,15 @@ least_against count dumps entries genuine guarantee session at breach kept is fi
     let first_of : IsFirst guarantee session both.one = record { session_is = both.one_at.1; kind = both.one_is } in
     let second_of : IsSecond guarantee session both.other = record { session_is = both.other_at.1; kind = both.other_is } in
     let after = second_order dumps entries guarantee session at i j both.one both.other kept at_i at_j order first_of second_of server wid both.fails in
-    let seconds = in_place count dumps entries genuine at j is.second both.other breach.second second is.second_at at_j after (is.second_is.session_is ∙ sym both.other_at.1) is.both.second_place both.other_at.2 in
-    (seconds.0, λ same.
-    let one_second : is.second ≡ both.other = seconds.1 same in
-    let fails : Fails dumps both.one is.second server wid = subst (λ e. Fails dumps both.one e server wid) (sym one_second) both.fails in
-    let behind = first_order dumps entries guarantee session is.place i at both.one is.second is.none_before is.before (slice_get_within entries at is.second is.second_at) at_i first_of server wid fails in
-    let firsts = in_place count dumps entries genuine is.place i is.first both.one breach.first first is.first_at at_i behind (is.both.first_is.session_is ∙ sym both.one_at.1) is.both.first_place both.one_at.2 in
-    (firsts.0, λ same_first. is.both.fault.1 server wid (subst (λ e. Fails dumps e is.second server wid) (sym (firsts.1 same_first)) fails)))
+    let seconds = in_place count dumps entries genuine at j is.second both.other breach.second second is.second_at at_j after (is.second_is.session_is ∙ sym both.other_at.1) is.both.second_place both.other_at.2 in (
+      seconds.0,
+      λ same.
+          let one_second : is.second ≡ both.other = seconds.1 same in
+          let fails : Fails dumps both.one is.second server wid = subst (λ e. Fails dumps both.one e server wid) (sym one_second) both.fails in
+          let behind = first_order dumps entries guarantee session is.place i at both.one is.second is.none_before is.before (slice_get_within entries at is.second is.second_at) at_i first_of server wid fails in
+          let firsts = in_place count dumps entries genuine is.place i is.first both.one breach.first first is.first_at at_i behind (is.both.first_is.session_is ∙ sym both.one_at.1) is.both.first_place both.one_at.2 in
+          (firsts.0, λ same_first. is.both.fault.1 server wid (subst (λ e. Fails dumps e is.second server wid) (sym (firsts.1 same_first)) fails)),
+    )
 
 -- and the least of its guarantee in its session
 breach_is_least : (count : ℕ) (dumps : List (List Write)) (entries : List Entry) → AreGenuine count dumps entries → (guarantee : Guarantee) (session at : ℕ) (breach : Breach) → AreKeptTo dumps entries guarantee session at

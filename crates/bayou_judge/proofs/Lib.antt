@@ -14,3 +14,6 @@ pub mod Pairs
 pub mod Served
 pub mod Stamps
 pub mod Needed
+pub mod Sessions
+pub mod Verdicts
+pub mod Unique

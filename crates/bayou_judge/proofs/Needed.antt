@@ -1,22 +1,20 @@
 -- What a read or a Write tells of is needed.
-use Rattle.std.proofs.Common.{◌≡◌, ◌≢◌, ℕ, zero, suc, ◌+◌, ◌<◌, ◌≤◌, false, true, List, [], ◌∷◌, ◌++◌, length, get_or, take, drop, slice_index, replicate, set, sum, All, Contains, Option, Some, None, ap, sym, ◌∙◌, refl, subst, arith, length-append}
-use Rattle.std.proofs.lemmas.List.{get_or_past, take-append-le, take_all, length-replicate}
+use Rattle.std.proofs.Common.{◌≡◌, ℕ, ◌+◌, ◌<◌, ◌≤◌, false, List, [], ◌∷◌, length, get_or, take, set, sum, All, Contains, Option, Some, None, ap, sym, ◌∙◌, refl, subst, arith, length-append}
+use Rattle.std.proofs.lemmas.List.{get_or_past}
 use Rattle.std.proofs.lemmas.List.Sums.{sum_by-set}
 use Rattle.bayou_base.specs.Order.{is_before}
 use Rattle.bayou_base.specs.Vector.{Covers}
-use Rattle.bayou_base.specs.declared.entry.What.{What}
 use Rattle.bayou_base.specs.declared.entry.What.TheVariants as whats
-use Rattle.bayou_base.specs.declared.limits.TheConstants.{SERVERS}
 use Rattle.bayou_base.specs.declared.stamp.Stamp.{Stamp}
 use Rattle.bayou_base.specs.declared.wid.Wid.{Wid}
 use Rattle.bayou_lang.specs.Laws.Fitting.{length-count_of}
 use Rattle.bayou_lang.specs.declared.write.Write.{Write}
-use Rattle.bayou_lang.specs.Writes.{count_of, counted}
+use Rattle.bayou_lang.specs.Writes.{count_of}
 use Rattle.bayou_judge.specs.declared.needs.Need.{Need}
 use Rattle.bayou_judge.specs.Evidence.{AreGood}
-use Rattle.bayou_judge.specs.History.{dump_of, IsFrontOf, IsReadFrom, IsWriteOf}
+use Rattle.bayou_judge.specs.History.{dump_of, IsFrontOf}
 use Rattle.bayou_judge.specs.Inner.Index.{IsLastOf, IsUpTo}
-use Rattle.bayou_judge.specs.Inner.Needs.{IsHeld, IsNeeded, IsServed, Tells}
+use Rattle.bayou_judge.specs.Inner.Needs.{IsNeeded, IsServed, Tells}
 use Rattle.bayou_judge.proofs.Good.{front_counts, one_write, take-middle}
 use Rattle.bayou_judge.proofs.Stamps.{not_before_itself}
 
@@ -65,3 +63,9 @@ read_beyond dumps home database write past front has =
     let empty : dump_of dumps home ≡ [] = get_or_past dumps home [] past in
     let none = ap length (sym empty ∙ front.1) in
     absurd (omega (arith, none, length-append database front.0, has.1))
+
+-- fronts with the same counts are one
+pub one_front : (dump database other : List Write) → IsFrontOf dump database → IsFrontOf dump other → count_of database ≡ count_of other → database ≡ other
+one_front dump database other here there same =
+    let size : length database ≡ length other = sym (sum-count_of database) ∙ ap sum same ∙ sum-count_of other in
+    sym (ap (take (length database)) here.1 ∙ take-middle database here.0) ∙ ap (λ n. take n dump) size ∙ ap (take (length other)) there.1 ∙ take-middle other there.0

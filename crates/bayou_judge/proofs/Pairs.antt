@@ -1,6 +1,5 @@
 -- Two entries that have a fault are two operations that violate the guarantee, and the other way round.
-use Rattle.std.proofs.Common.{◌≡◌, ◌≢◌, ◌⊎◌, inl, inr, ℕ, ◌+◌, ◌<◌, ◌≤◌, Bool, true, false, List, [], ◌∷◌, ◌++◌, length, get_or, take, All, Contains, Option, Some, None, ap, sym, ◌∙◌, refl, subst, arith}
-use Rattle.std.specs.List.{slice_get}
+use Rattle.std.proofs.Common.{◌≡◌, ℕ, true, List, Contains, sym, refl, subst}
 use Rattle.bayou_base.specs.declared.entry.Entry.{Entry}
 use Rattle.bayou_base.specs.declared.entry.What.{What}
 use Rattle.bayou_base.specs.declared.entry.What.TheVariants as whats
@@ -8,7 +7,7 @@ use Rattle.bayou_base.specs.declared.wid.Wid.{Wid}
 use Rattle.bayou_lang.specs.declared.write.Write.{Write}
 use Rattle.bayou_judge.specs.declared.breach.Guarantee.{Guarantee}
 use Rattle.bayou_judge.specs.declared.breach.Guarantee.TheVariants as guarantees
-use Rattle.bayou_judge.specs.Breaches.{FailsToPrecede, Violates}
+use Rattle.bayou_judge.specs.Breaches.{Violates}
 use Rattle.bayou_judge.specs.Guarantees.{PrecedesIn}
 use Rattle.bayou_judge.specs.History.{dump_of, history_of, IsEntryAt, IsFrontOf, IsReadFrom, IsWriteOf}
 use Rattle.bayou_judge.specs.Inner.Needs.{is_first, is_second, Fails, Lacks, Tells}

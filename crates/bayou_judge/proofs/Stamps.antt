@@ -1,5 +1,5 @@
 -- The later of two stamps.
-use Rattle.std.proofs.Common.{◌≡◌, ◌⊎◌, inl, inr, subst, Bool, true, false, cond, Option, Some, None, sym, ◌∙◌, refl}
+use Rattle.std.proofs.Common.{◌≡◌, ◌⊎◌, inl, inr, subst, true, false, cond, Option, Some, None, sym, ◌∙◌, refl}
 use Rattle.bayou_base.specs.declared.stamp.Stamp.{Stamp}
 use Rattle.bayou_base.specs.Order.{is_before}
 use Rattle.bayou_lang.specs.Laws.StampOrder.{is_before-asym, is_before-cotrans}

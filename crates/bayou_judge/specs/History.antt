@@ -1,5 +1,5 @@
 -- What sessions did and what servers held (Terry et al. 1994), and the history that entries and dumps stand for.
-use Rattle.std.specs.Prelude.{◌≡◌, ℕ, ◌+◌, List, [], ◌++◌, Contains, map, slice_index_or}
+use Rattle.std.specs.Prelude.{◌≡◌, ℕ, List, [], ◌++◌, Contains, map, slice_index_or}
 use Rattle.std.specs.Global.{Vec}
 use Rattle.bayou_base.specs.declared.entry.Entry.{Entry}
 use Rattle.bayou_base.specs.declared.entry.What.{What}

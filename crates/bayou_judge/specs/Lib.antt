@@ -4,3 +4,4 @@ pub mod Breaches
 pub mod Evidence
 pub mod Answers
 pub mod Inner
+pub mod Laws

@@ -1,7 +1,7 @@
 -- Vectors in place of sets: what a session was told of, and what an operation demands of it. Inner words.
 use Rattle.std.specs.Prelude.{◌≡◌, ℕ, ◌+◌, ◌<◌, ◌≤◌, ◌↔◌, ◌⊎◌, Bool, true, false, List, Option, Some, None, Contains, All, ◌∷◌, [], ◌≢◌, length, slice_get, take}
 use Rattle.bayou_base.specs.Order.{is_before}
-use Rattle.bayou_base.specs.Vector.{Covers, Dominates}
+use Rattle.bayou_base.specs.Vector.{Covers}
 use Rattle.bayou_base.specs.declared.entry.Entry.{Entry}
 use Rattle.bayou_base.specs.declared.entry.What.{What}
 use Rattle.bayou_base.specs.declared.entry.What.TheVariants as whats
@@ -17,9 +17,9 @@ use Rattle.bayou_judge.specs.declared.demand.Demand.{Demand}
 use Rattle.bayou_judge.specs.declared.locate.Fault.{Fault}
 use Rattle.bayou_judge.specs.declared.needs.Need.{Need}
 use Rattle.bayou_judge.specs.Answers.{IsEvidence}
-use Rattle.bayou_judge.specs.Breaches.{is_less, IsLeastOf}
+use Rattle.bayou_judge.specs.Breaches.{is_less}
 use Rattle.bayou_judge.specs.Guarantees.{PrecedesIn}
-use Rattle.bayou_judge.specs.History.{dump_of, history_of, IsFrontOf, IsReadFrom, IsWriteOf}
+use Rattle.bayou_judge.specs.History.{dump_of, IsFrontOf, IsReadFrom, IsWriteOf}
 use Rattle.bayou_judge.specs.Inner.Index.{AreIndexed, IsUpTo, Tables}
 
 -- entries and dumps stand for a history, and each dump has its tables

@@ -1,4 +1,4 @@
-use Rattle.std.proofs.Common.{◌≡◌, ◌≢◌, ℕ, ◌<◌, take, true, All}
+use Rattle.std.proofs.Common.{◌≡◌, take, true, All}
 use Rattle.bayou_base.specs.declared.entry.Entry.{Entry}
 use Rattle.bayou_judge.specs.Breaches.{is_asked}
 use Rattle.bayou_judge.proofs.judge_all.is_asked_for.Given as goal

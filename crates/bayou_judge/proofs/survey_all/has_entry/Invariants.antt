@@ -1,4 +1,4 @@
-use Rattle.std.proofs.Common.{◌≡◌, ◌≢◌, ℕ, ◌<◌, take, All}
+use Rattle.std.proofs.Common.{◌≢◌, take, All}
 use Rattle.bayou_base.specs.declared.entry.Entry.{Entry}
 use Rattle.bayou_judge.proofs.survey_all.has_entry.Given as goal
 
