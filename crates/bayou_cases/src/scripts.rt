@@ -199,7 +199,7 @@ static CASES: [Case; 32] = [
     },
     Case {
         name: "a command that there isn't yet",
-        script: "[\"servers\",1]\n[\"totals\"]\n",
+        script: "[\"servers\",1]\n[\"judge\"]\n",
         output: "",
         fault: "bayou: line 2: bad shape\n",
         status: 2,

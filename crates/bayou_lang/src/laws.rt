@@ -1,10 +1,12 @@
 //! What the definitions come to, in the subject's own words: each law is the contract of a function that does nothing.
-ghost use Rattle.std.specs.Prelude.{◌≡◌, ℕ, ◌<◌, ◌==◌, ℤ, ◌+ℤ◌, ◌≤ℤ◌, ◌↔◌, All, AllPairs, List, Option, None, Some, true, false, FitsSigned, drop, filter, length, slice_get, slice_index, take, if◌then◌else◌};
+ghost use Rattle.std.specs.Prelude.{◌≡◌, ℕ, ◌<◌, ◌==◌, ℤ, ◌+ℤ◌, ◌≤ℤ◌, ◌↔◌, All, AllPairs, Any, List, [], ◌∷◌, ◌++◌, Option, None, Some, true, false, FitsSigned, drop, filter, length, slice_get, slice_index, take, if◌then◌else◌};
 ghost use Rattle.std.specs.Int.{w64};
 ghost use Rattle.bayou_base.specs.declared.limits.TheConstants.{SERVERS};
 ghost use Rattle.bayou_base.specs.declared.value.Value.{Value};
 ghost use Rattle.bayou_base.specs.declared.value.Value.TheVariants.{Num};
+ghost use Rattle.bayou_base.specs.declared.wid.Wid.{Wid};
 ghost use Rattle.bayou_base.specs.Order.{is_before};
+ghost use Rattle.bayou_base.specs.Vector.{Covers};
 ghost use Rattle.bayou_lang.specs.declared.eval.Outcome.TheVariants.{Updated, Merged, Nothing};
 ghost use Rattle.bayou_lang.specs.declared.program.Alt.{Alt};
 ghost use Rattle.bayou_lang.specs.declared.program.Cond.TheVariants.{Equals, Absent, AtLeast};
@@ -14,7 +16,7 @@ ghost use Rattle.bayou_lang.specs.declared.write.Write.{Write};
 ghost use Rattle.bayou_lang.specs.Equality.{same_program, same_write};
 ghost use Rattle.bayou_lang.specs.Meaning.{after_alternative, after_ops, all_hold, holds, mean, term_value};
 ghost use Rattle.bayou_lang.specs.Places.{Places, changed, empty, same_key, value_at};
-ghost use Rattle.bayou_lang.specs.Writes.{count_of, in_stamp_order, lacking_of, raised_by, AreFitting, Fits, HaveDistinctStamps, HaveDistinctWids, HaveSameWrites, IsNextWrite, IsPrefixClosed};
+ghost use Rattle.bayou_lang.specs.Writes.{count_of, counted, in_stamp_order, lacking_of, raised_by, AreFitting, Fits, HaveDistinctStamps, HaveDistinctWids, HaveSameWrites, IsNextWrite, IsPrefixClosed};
 
 /// Two databases that have the same at each key are one.
 pub fn databases_are_what_they_have()
@@ -86,9 +88,20 @@ pub fn count_is_the_number_of_writes()
         → slice_index (count_of writes) server ≡ length (filter (λ write. write.wid.origin.index == server) writes) }
 {}
 
+/// One more Write is counted for its server.
+pub fn one_more_write_is_counted()
+    ensures { (writes : List Write) (write : Write) → count_of (writes ++ write ∷ []) ≡ counted (count_of writes) write.wid }
+{}
+
 /// Of each server the Writes of a fitting list are its first ones: none is missing.
 pub fn fitting_writes_are_prefix_closed()
     ensures { (count : ℕ) (writes : List Write) → AreFitting count writes → IsPrefixClosed writes }
+{}
+
+/// A fitting list has a Write of a name exactly where its counts cover it.
+pub fn fitting_writes_are_those_counted()
+    ensures { (count : ℕ) (writes : List Write) (name : Wid) → AreFitting count writes
+        → Any (λ write. write.wid ≡ name) writes ↔ Covers (count_of writes) name.origin.index name.seq }
 {}
 
 /// No two Writes of a fitting list have one name, and no two have one stamp.
@@ -115,7 +128,7 @@ pub fn own_clocks_rise()
         → All (λ one. All (λ other. one.wid.origin ≡ other.wid.origin → one.wid.seq < other.wid.seq → one.stamp.clock < other.stamp.clock) writes) writes }
 {}
 
-/// `==` on programs and on Writes is true exactly where the two are one.
+/// `==` on programs and on Writes, at rest or not, is true exactly where the two are one.
 pub fn equality_decides()
     ensures programs { (a b : Program) → (same_program a b ≡ true) ↔ (a ≡ b) }
     ensures writes { (a b : Write) → (same_write a b ≡ true) ↔ (a ≡ b) }

@@ -356,3 +356,72 @@ impl RestingWrite {
         }
     }
 }
+
+impl PartialEq for RestingAlt {
+    ghost use Rattle.std.specs.Cmp.{decided, partial_equiv_from_equiv};
+    ghost use Rattle.bayou_lang.specs.Equality.{same_alternative};
+    ghost use Rattle.bayou_lang.specs.Laws.Equality.{same_alternative-decides};
+
+    ghost eq = { same_alternative };
+
+    ghost laws = { partial_equiv_from_equiv (decided same_alternative same_alternative-decides) };
+
+    fn eq(&self, other: &Self) -> bool {
+        self.when == other.when && self.ops == other.ops
+    }
+}
+
+impl Eq for RestingAlt {
+    ghost use Rattle.std.specs.Cmp.{decided};
+    ghost use Rattle.bayou_lang.specs.Equality.{same_alternative};
+    ghost use Rattle.bayou_lang.specs.Laws.Equality.{same_alternative-decides};
+
+    ghost laws = { decided same_alternative same_alternative-decides };
+}
+
+impl PartialEq for RestingProgram {
+    ghost use Rattle.std.specs.Cmp.{decided, partial_equiv_from_equiv};
+    ghost use Rattle.bayou_lang.specs.Equality.{same_program};
+    ghost use Rattle.bayou_lang.specs.Laws.Equality.{same_program-decides};
+
+    ghost eq = { same_program };
+
+    ghost laws = { partial_equiv_from_equiv (decided same_program same_program-decides) };
+
+    fn eq(&self, other: &Self) -> bool {
+        self.check == other.check && self.update == other.update && self.merge == other.merge
+    }
+}
+
+impl Eq for RestingProgram {
+    ghost use Rattle.std.specs.Cmp.{decided};
+    ghost use Rattle.bayou_lang.specs.Equality.{same_program};
+    ghost use Rattle.bayou_lang.specs.Laws.Equality.{same_program-decides};
+
+    ghost laws = { decided same_program same_program-decides };
+}
+
+impl PartialEq for RestingWrite {
+    ghost use Rattle.std.specs.Cmp.{decided, partial_equiv_from_equiv};
+    ghost use Rattle.bayou_lang.specs.Equality.{same_write};
+    ghost use Rattle.bayou_lang.specs.Laws.Equality.{same_write-decides};
+
+    ghost eq = { same_write };
+
+    ghost laws = { partial_equiv_from_equiv (decided same_write same_write-decides) };
+
+    fn eq(&self, other: &Self) -> bool {
+        self.wid == other.wid
+            && self.stamp == other.stamp
+            && self.deps == other.deps
+            && self.program == other.program
+    }
+}
+
+impl Eq for RestingWrite {
+    ghost use Rattle.std.specs.Cmp.{decided};
+    ghost use Rattle.bayou_lang.specs.Equality.{same_write};
+    ghost use Rattle.bayou_lang.specs.Laws.Equality.{same_write-decides};
+
+    ghost laws = { decided same_write same_write-decides };
+}

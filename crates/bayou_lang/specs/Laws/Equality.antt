@@ -26,8 +26,7 @@ use Rattle.bayou_lang.specs.declared.write.Write.{Write}
 use Rattle.bayou_lang.specs.contracts.program.TermPartialEq.TheImpl as term_eq
 use Rattle.bayou_lang.specs.contracts.program.OpPartialEq.TheImpl as op_eq
 use Rattle.bayou_lang.specs.contracts.program.CondPartialEq.TheImpl as cond_eq
-use Rattle.bayou_lang.specs.contracts.program.AltPartialEq.TheImpl as alt_eq
-use Rattle.bayou_lang.specs.Equality.{same_program, same_write}
+use Rattle.bayou_lang.specs.Equality.{same_alternative, same_program, same_write}
 
 -- both of two tests
 both : {P Q R : Type 0} → (r s : Bool) → Decides r P → Decides s Q → (P → Q → R) → (R → P × Q) → Decides (r && s) R
@@ -68,8 +67,9 @@ cond-decides (AtLeast a m) (Equals b w) = (λ e. cc, λ e. cc)
 cond-decides (AtLeast a m) (Absent b) = (λ e. cc, λ e. cc)
 cond-decides (AtLeast a m) (AtLeast b n) = both _ _ (bytes_decides a b) (Decides-int_eq m n) (λ keys numbers. cc) (λ one. (cc, cc))
 
-alt-decides : (a b : Alt) → Decides ((alt_eq.ghosts).eq a b) (a ≡ b)
-alt-decides a b =
+-- of two alternatives
+pub same_alternative-decides : (a b : Alt) → Decides (same_alternative a b) (a ≡ b)
+same_alternative-decides a b =
     let made : List Cond → List Op → Alt = λ when ops. record { when = record { items = when }; ops = record { items = ops } } in
     both _ _ (slice_eq-Decides cond-decides a.when.items b.when.items _ refl) (slice_eq-Decides op-decides a.ops.items b.ops.items _ refl)
     (λ when ops. ap (λ list. made list a.ops.items) when ∙ ap (made b.when.items) ops)
@@ -81,7 +81,7 @@ same_program-decides a b =
     let made : List Cond → List Op → List Alt → Program =
     λ check update merge. record { check = record { items = check }; update = record { items = update }; merge = record { items = merge } } in
     both _ _ (slice_eq-Decides cond-decides a.check.items b.check.items _ refl)
-    (both _ _ (slice_eq-Decides op-decides a.update.items b.update.items _ refl) (slice_eq-Decides alt-decides a.merge.items b.merge.items _ refl)
+    (both _ _ (slice_eq-Decides op-decides a.update.items b.update.items _ refl) (slice_eq-Decides same_alternative-decides a.merge.items b.merge.items _ refl)
     (λ update merge. (update, merge)) (λ rest. rest))
     (λ check rest. ap (λ list. made list a.update.items a.merge.items) check
     ∙ ap (λ list. made b.check.items list a.merge.items) rest.0 ∙ ap (made b.check.items b.update.items) rest.1)

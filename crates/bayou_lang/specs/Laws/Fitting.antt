@@ -1,19 +1,20 @@
 -- Laws of lists of Writes each of which fits those before it: what such a list keeps as one more is added.
-use Rattle.std.proofs.Common.{◌≡◌, ◌≢◌, ℕ, zero, suc, ◌+◌, ◌<◌, ◌≤◌, Bool, true, false, cond, max, nat_le, nat_lt, replicate, All, Any, List, [], ◌∷◌, ◌++◌, length, drop, set, get_or, slice_index, ◌⊎◌, inl, inr, ap, sym, ◌∙◌, refl, subst, arith, append_assoc, length-append}
+use Rattle.std.proofs.Common.{◌≡◌, ◌≢◌, ◌↔◌, ℕ, zero, suc, ◌+◌, ◌<◌, ◌≤◌, Bool, true, false, cond, max, nat_le, nat_lt, replicate, All, Any, List, [], ◌∷◌, ◌++◌, length, drop, set, get_or, slice_index, ◌⊎◌, inl, inr, ap, sym, ◌∙◌, refl, subst, arith, append_assoc, length-append}
 use Rattle.std.specs.List.{filter}
 use Rattle.std.proofs.lemmas.Bool.{cases_eq, cases_lt}
 use Rattle.std.proofs.lemmas.Bool.Decides.{nat_tests}
 use Rattle.std.proofs.lemmas.List.{append-nil, length-replicate, length-set, set_comm, get_or-set_same, get_or-set_other}
-use Rattle.std.proofs.lemmas.List.Elements.{All-cons, All-push, All-weaker, Contains-append_left}
+use Rattle.std.proofs.lemmas.List.Elements.{All-cons, All-contains, All-push, All-weaker, Contains-append_left}
 use Rattle.std.proofs.lemmas.List.Quantifiers.{Any-push, all_pairs_push}
 use Rattle.bayou_base.specs.declared.limits.TheConstants.{SERVERS}
 use Rattle.bayou_base.specs.declared.wid.Wid.{Wid}
 use Rattle.bayou_base.specs.declared.server.ServerId.{ServerId}
 use Rattle.bayou_base.specs.declared.stamp.Stamp.{Stamp}
 use Rattle.bayou_base.specs.Order.{is_before}
-use Rattle.bayou_base.specs.Vector.{Dominates}
+use Rattle.bayou_base.specs.Vector.{Covers, Dominates}
 use Rattle.bayou_lang.specs.declared.program.Program.{Program}
 use Rattle.bayou_lang.specs.declared.write.Write.{Write}
+use Rattle.bayou_lang.specs.Laws.Equality.{server-ext, wid-ext}
 use Rattle.bayou_lang.specs.Writes.{counted, count_of, covered_by, greatest_clock, AreFitting, Fits, HaveDistinctStamps, HaveDistinctWids, IsNextWrite, IsPrefixClosed, IsSound}
 
 -- one more Write of each of two servers, in either order
@@ -373,3 +374,18 @@ IsSound-front server count before after sound = record {
   fitting = fitting-front count before after sound.fitting;
   own = λ front write rest same. sound.own front write (rest ++ after) (ap (λ list. list ++ after) same ∙ append_assoc front (write ∷ rest) after);
 }
+
+-- a fitting list has a Write of a name exactly where its counts cover it
+pub covered-where_held : (count : ℕ) (writes : List Write) (name : Wid) → AreFitting count writes
+    → Any (λ write. write.wid ≡ name) writes ↔ Covers (count_of writes) name.origin.index name.seq
+covered-where_held count writes name fitting =
+    let closed = fitting_is_prefix_closed count writes fitting in (
+      λ any.
+          let below : All (λ write. Covers (count_of writes) write.wid.origin.index write.wid.seq) writes = closed.none_beyond in
+          let there : Covers (count_of writes) any.1.wid.origin.index any.1.wid.seq =
+          All-contains (λ write. Covers (count_of writes) write.wid.origin.index write.wid.seq) writes any.1 below (any.0, any.2, any.3) in
+          subst (λ (wid : Wid). Covers (count_of writes) wid.origin.index wid.seq) any.4 there,
+      λ covered.
+          let any = closed.none_missing name.origin.index name.seq name.in_range.0 covered in
+          (any.0, any.1, any.2, any.3, wid-ext any.1.wid name (server-ext any.1.wid.origin name.origin any.4.0) any.4.1),
+    )

@@ -1,0 +1,11 @@
+use Rattle.std.proofs.Common.{◌≡◌, length}
+use Rattle.bayou_judge.specs.History.{lists_of}
+use Rattle.bayou_judge.specs.Inner.Checks.{AreRead}
+use Rattle.bayou_judge.proofs.dumps.indexes_of.Given as goal
+
+-- the servers so far are read
+abbrev pub invariant-loop-server : goal.invariant-loop-server
+invariant-loop-server l = record {
+  as_many : length l.indexes.items ≡ l.server;
+  read : AreRead l.count (lists_of l.dumps) l.server l.indexes.items;
+}

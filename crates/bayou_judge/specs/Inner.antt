@@ -1,0 +1,5 @@
+pub mod Checks
+pub mod Heard
+pub mod Index
+pub mod Needs
+pub mod Verdicts

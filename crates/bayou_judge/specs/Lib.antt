@@ -1,0 +1,7 @@
+pub mod History
+pub mod Guarantees
+pub mod Breaches
+pub mod Evidence
+pub mod Answers
+pub mod Inner
+pub mod Laws

@@ -1,0 +1,102 @@
+ghost use Rattle.std.specs.Prelude.{◌≡◌, ◌<◌, ◌≤◌, ◌↔◌, IsTrue, length, true};
+ghost use Rattle.bayou_base.specs.declared.limits.TheConstants.{SERVERS};
+ghost use Rattle.bayou_judge.specs.Answers.{Judges};
+ghost use Rattle.bayou_judge.specs.Breaches.{is_asked};
+ghost use Rattle.bayou_judge.specs.History.{lists_of};
+ghost use Rattle.bayou_judge.specs.Inner.Verdicts.{IsAsked, IsAskedAt, IsFirstAsked, IsFirstOf};
+
+use crate::breach::{Breach, Guarantee};
+use crate::survey_all::survey;
+use crate::verdict::{Refusal, Surveyed, Verdict};
+use bayou_base::{Asks, Entry, SERVERS};
+use bayou_lang::RestingWrite;
+use std::alloc::Global;
+
+/// Whether the guarantee is asked for.
+fn asks_for(asks: Asks, guarantee: Guarantee) -> bool
+    ensures { result ≡ is_asked asks guarantee }
+{
+    match guarantee {
+        Guarantee::ReadYourWrites => asks.ryw,
+        Guarantee::MonotonicReads => asks.mr,
+        Guarantee::WritesFollowReads => asks.wfr,
+        Guarantee::MonotonicWrites => asks.mw,
+    }
+}
+
+/// Whether the entry is of the breach's session, which asks for its guarantee.
+fn asks_of_it(entry: &Entry, breach: &Breach) -> bool
+    ensures { IsTrue result ↔ ((entry.now.session.index ≡ breach.now.session.index) × (is_asked entry.now.asks breach.now.guarantee ≡ true)) }
+{
+    entry.session.index == breach.session.index && asks_for(entry.asks, breach.guarantee)
+}
+
+/// Whether the session of the breach asks for its guarantee.
+fn is_asked_for(entries: &[Entry], breach: &Breach) -> bool
+    ensures { IsTrue result ↔ IsAskedAt entries.now breach.now }
+{
+    for entry in entries {
+        if asks_of_it(entry, breach) {
+            return true;
+        }
+    }
+    false
+}
+
+/// The breach, if it is asked for.
+fn asked_one(entries: &[Entry], found: Option<Breach>) -> Option<Breach>
+    ensures { IsAsked entries.now found result }
+{
+    let breach = found?;
+    if is_asked_for(entries, &breach) {
+        Some(breach)
+    } else {
+        None
+    }
+}
+
+/// The first of the breaches that is asked for.
+fn first_asked(entries: &[Entry], surveyed: &Surveyed) -> Option<Breach>
+    ensures { IsFirstAsked entries.now surveyed.now result }
+{
+    if let Some(breach) = asked_one(entries, surveyed.ryw) {
+        return Some(breach);
+    }
+    if let Some(breach) = asked_one(entries, surveyed.mr) {
+        return Some(breach);
+    }
+    if let Some(breach) = asked_one(entries, surveyed.wfr) {
+        return Some(breach);
+    }
+    asked_one(entries, surveyed.mw)
+}
+
+/// The first breach of the survey that is asked for.
+fn first_of(entries: &[Entry], list: &[Surveyed]) -> Option<Breach>
+    ensures { IsFirstOf entries.now list.now result }
+{
+    for surveyed in list {
+        if let Some(breach) = first_asked(entries, surveyed) {
+            return Some(breach);
+        }
+    }
+    None
+}
+
+/// Whether each session had what it asked for.
+pub fn judge(
+    alloc: Global,
+    count: u8,
+    entries: &[Entry],
+    dumps: &[Vec<RestingWrite>],
+) -> Result<Verdict, Refusal>
+    requires servers { (0 < count) × (count ≤ SERVERS) }
+    requires dumps { length dumps.now ≡ count }
+    ensures { Judges count entries.now (lists_of dumps.now) result }
+{
+    let list = survey(alloc, count, entries, dumps)?;
+    match first_of(entries, &list) {
+        Some(breach) => Ok(Verdict::Broken(breach)),
+        None => Ok(Verdict::Clean),
+    }
+}

@@ -1,0 +1,103 @@
+//! What a session was told of, by vectors.
+ghost use Rattle.std.specs.Prelude.{◌≡◌, ◌⊎◌, List, ℕ, Some, sum};
+ghost use Rattle.bayou_base.specs.Vector.{Covers};
+ghost use Rattle.bayou_base.specs.declared.entry.What.TheVariants as whats;
+ghost use Rattle.bayou_lang.specs.declared.write.Write.{Write};
+ghost use Rattle.bayou_judge.specs.History.{dump_of, lists_of};
+ghost use Rattle.bayou_judge.specs.Inner.Index.{IsUpTo};
+ghost use Rattle.bayou_base.specs.declared.stamp.Stamp.{Stamp};
+ghost use Rattle.bayou_judge.specs.Inner.Needs.{IsChecked, IsNeeded, IsServed, Tells};
+
+use crate::evidence::Evidence;
+use crate::index::later_of;
+use bayou_base::{ServerId, Stamp, Vector, What, Wid};
+
+/// The Writes that a session was told of: for each server the greatest of their sequence numbers, and their last stamp.
+#[derive(Clone, Copy, Debug)]
+pub(crate) struct Need {
+    pub(crate) counts: Vector,
+    pub(crate) last: Option<Stamp>,
+}
+
+/// The later of two stamps, where there is one.
+fn last_of(last: Option<Stamp>, other: Option<Stamp>) -> Option<Stamp>
+    ensures { (stamp : Stamp) → (IsUpTo last stamp ⊎ IsUpTo other stamp) → IsUpTo result stamp }
+{
+    match other {
+        Some(other) => Some(later_of(last, other)),
+        None => last,
+    }
+}
+
+impl Need {
+    /// What one is told of who is told of nothing.
+    pub(crate) fn none() -> Self {
+        Need {
+            counts: Vector::zero(),
+            last: None,
+        }
+    }
+
+    /// The need of one Write.
+    fn of_write(wid: Wid, stamp: Stamp) -> Self
+        ensures counted { Covers result.counts wid.origin.index wid.seq }
+        ensures last { result.last ≡ Some stamp }
+    {
+        let mut counts = Vector::zero();
+        counts.raise(wid);
+        Need {
+            counts,
+            last: Some(stamp),
+        }
+    }
+
+    /// What is needed by either.
+    pub(crate) fn join(&self, other: &Need) -> Need
+        ensures { (write : Write) → (IsNeeded self.now write ⊎ IsNeeded other.now write) → IsNeeded result write }
+    {
+        Need {
+            counts: self.counts.join(&other.counts),
+            last: last_of(self.last, other.last),
+        }
+    }
+}
+
+/// How many Writes the vector counts.
+pub(crate) fn size_of(vector: &Vector) -> usize
+    ensures { result ≡ sum vector.now }
+{
+    let mut size = 0;
+    for count in vector.counts() {
+        size += *count as usize;
+    }
+    size
+}
+
+impl<'a> Evidence<'a> {
+    /// What a read tells of.
+    fn need_of_read(&self, home: ServerId, vector: &Vector) -> Need
+        requires checked { IsChecked self.now.count self.now.entries.now (lists_of self.now.dumps.now) self.now.indexes.now }
+        ensures { (key : List ℕ) (write : Write) → Tells (dump_of (lists_of self.now.dumps.now) home.index) (whats.Read key vector.now) write → IsNeeded result write }
+    {
+        match self.indexes.get(usize::from(home.index)) {
+            Some(index) => Need {
+                counts: *vector,
+                last: index.last_of(size_of(vector)),
+            },
+            None => Need::none(),
+        }
+    }
+
+    /// What an operation tells its session of.
+    pub(crate) fn need_of(&self, home: ServerId, what: &What) -> Need
+        requires checked { IsChecked self.now.count self.now.entries.now (lists_of self.now.dumps.now) self.now.indexes.now }
+        requires served { IsServed (dump_of (lists_of self.now.dumps.now) home.index) what.now }
+        ensures { (write : Write) → Tells (dump_of (lists_of self.now.dumps.now) home.index) what.now write → IsNeeded result write }
+    {
+        match what {
+            What::Read(_, vector) => self.need_of_read(home, vector),
+            What::Write(wid, stamp, _) => Need::of_write(*wid, *stamp),
+            What::Refused => Need::none(),
+        }
+    }
+}

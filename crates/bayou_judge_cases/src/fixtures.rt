@@ -1,0 +1,151 @@
+//! What the tests are made of. Vectors have the counts of the first three servers.
+use bayou_base::{Asks, Entry, Key, SERVERS, ServerId, SessionId, Stamp, Value, Vector, What, Wid};
+use bayou_judge::{Refusal, Surveyed, Verdict, judge, survey};
+use bayou_lang::{Op, Program, RestingWrite, Term};
+use std::alloc::{AllocError, Global};
+use std::process::Abort;
+
+pub const COUNT: u8 = 3;
+
+pub fn server_id(rt: &impl Abort, index: u8) -> ServerId {
+    ServerId::new(index).expect(rt, "no server")
+}
+
+pub fn session_id(rt: &impl Abort, index: u8) -> SessionId {
+    SessionId::new(index).expect(rt, "no session")
+}
+
+pub fn vector(rt: &impl Abort, counts: [u32; 3]) -> Vector {
+    let mut all = [0; SERVERS];
+    let [first, second, third] = counts;
+    all[0] = first;
+    all[1] = second;
+    all[2] = third;
+    Vector::from_counts(all).expect(rt, "no vector")
+}
+
+/// A program that puts the number at `a`.
+pub fn put(rt: &impl Abort, number: i64) -> Program {
+    let key = Key::new("a").expect(rt, "no key");
+    let op = Op::Put(key, Term::Lit(Value::Num(number)));
+    Program::new(&[], &[op], &[]).expect(rt, "no program")
+}
+
+/// A Write at rest of this origin, seq, clock and past, which puts the number at `a`.
+pub fn held(
+    rt: &impl Abort,
+    alloc: Global,
+    write: (u8, u32, u32, [u32; 3], i64),
+) -> Result<RestingWrite, AllocError> {
+    let (origin, seq, clock, deps, number) = write;
+    let server = server_id(rt, origin);
+    Ok(RestingWrite::new(
+        Wid::new(server, seq).expect(rt, "no name"),
+        Stamp::new(clock, server).expect(rt, "no stamp"),
+        vector(rt, deps),
+        put(rt, number).rest(alloc)?,
+    ))
+}
+
+/// What an entry tells.
+#[derive(Clone, Copy, Debug)]
+pub enum Told {
+    Read([u32; 3]),
+    /// A Write of this origin and seq, with a stamp of this clock and origin.
+    Wrote((u8, u32), (u32, u8), [u32; 3]),
+    Refused,
+}
+
+/// The four guarantees, each a letter of `rmfw`, that are asked for.
+pub fn asks_of(letters: &str) -> Asks {
+    let bytes = letters.as_bytes();
+    Asks {
+        ryw: bytes.contains(&b'r'),
+        mr: bytes.contains(&b'm'),
+        wfr: bytes.contains(&b'f'),
+        mw: bytes.contains(&b'w'),
+    }
+}
+
+pub fn what_of(rt: &impl Abort, told: Told) -> What {
+    match told {
+        Told::Read(counts) => What::Read(Key::default(), vector(rt, counts)),
+        Told::Wrote((origin, seq), (clock, server), deps) => What::Write(
+            Wid::new(server_id(rt, origin), seq).expect(rt, "no name"),
+            Stamp::new(clock, server_id(rt, server)).expect(rt, "no stamp"),
+            vector(rt, deps),
+        ),
+        Told::Refused => What::Refused,
+    }
+}
+
+/// An entry of this session, place and server.
+pub fn entry(rt: &impl Abort, asks: Asks, of: (u8, u32, u8), what: What) -> Entry {
+    let (session, place, server) = of;
+    Entry {
+        session: session_id(rt, session),
+        place: place.max(1),
+        asks,
+        server: server_id(rt, server),
+        what,
+    }
+}
+
+/// What the judge answers, and what it surveys.
+pub fn asked(
+    rt: &impl Abort,
+    alloc: Global,
+    entries: &[Entry],
+    dumps: &[Vec<RestingWrite>],
+) -> (Result<Verdict, Refusal>, Result<Vec<Surveyed>, Refusal>) {
+    assert!(rt; dumps.len() == usize::from(COUNT));
+    (
+        judge(alloc, COUNT, entries, dumps),
+        survey(alloc, COUNT, entries, dumps),
+    )
+}
+
+/// A Write: its origin, its seq, its clock, its past, and the number that it puts at `a`.
+pub type Held = (u8, u32, u32, [u32; 3], i64);
+
+/// An entry: its session, its place, what is asked for, its server and what it tells.
+pub type Line = (u8, u32, &'static str, u8, Told);
+
+pub fn entries_of(
+    rt: &impl Abort,
+    alloc: Global,
+    lines: &[Line],
+) -> Result<Vec<Entry>, AllocError> {
+    let mut entries = Vec::new(alloc);
+    for (session, place, asks, server, told) in lines {
+        let what = what_of(rt, *told);
+        let line = entry(rt, asks_of(asks), (*session, *place, *server), what);
+        entries.push(line)?;
+    }
+    Ok(entries)
+}
+
+fn dump_of(
+    rt: &impl Abort,
+    alloc: Global,
+    writes: &[Held],
+) -> Result<Vec<RestingWrite>, AllocError> {
+    let mut dump = Vec::new(alloc);
+    for write in writes {
+        dump.push(held(rt, alloc, *write)?)?;
+    }
+    Ok(dump)
+}
+
+pub fn dumps_of(
+    rt: &impl Abort,
+    alloc: Global,
+    lists: [&[Held]; 3],
+) -> Result<Vec<Vec<RestingWrite>>, AllocError> {
+    let [first, second, third] = lists;
+    let mut dumps = Vec::new(alloc);
+    dumps.push(dump_of(rt, alloc, first)?)?;
+    dumps.push(dump_of(rt, alloc, second)?)?;
+    dumps.push(dump_of(rt, alloc, third)?)?;
+    Ok(dumps)
+}

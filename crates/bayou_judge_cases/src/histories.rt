@@ -1,0 +1,297 @@
+//! Histories at random, of up to forty entries over three servers and four sessions: the judge and its twin agree on each, and
+//! each kind of answer is among theirs.
+ghost use Rattle.std.specs.Prelude.{◌<◌};
+
+use crate::fixtures::{COUNT, asked, asks_of, entry, put, server_id};
+use crate::twin;
+use bayou_base::{Entry, Key, ServerId, Stamp, Vector, What, Wid};
+use bayou_judge::{Guarantee, Refusal, Verdict};
+use bayou_lang::RestingWrite;
+use std::alloc::{AllocError, Global};
+use std::process::Abort;
+use std::test::Fail;
+
+/// How many from each seed.
+const HISTORIES: u32 = 1_000;
+
+static ASKS: [&str; 8] = ["", "r", "m", "f", "w", "rm", "fw", "rmfw"];
+
+/// Numbers at random, from a seed: a linear congruential generator (Knuth).
+#[derive(Drop)]
+struct Dice {
+    state: u64,
+}
+
+impl Dice {
+    /// A number below this one, which isn't 0.
+    fn below(&mut self, bound: u32) -> u32
+        ensures { 0 < bound → result < bound }
+    {
+        self.state = self
+            .state
+            .wrapping_mul(6_364_136_223_846_793_005)
+            .wrapping_add(1_442_695_040_888_963_407);
+        (self.state >> 40) as u32 % bound.max(1)
+    }
+
+    fn chance(&mut self, one_in: u32) -> bool {
+        self.below(one_in) == 0
+    }
+}
+
+fn vector_of(writes: &[RestingWrite]) -> Vector {
+    let mut vector = Vector::zero();
+    for write in writes {
+        vector.raise(write.wid());
+    }
+    vector
+}
+
+fn clock_of(writes: &[RestingWrite]) -> u32 {
+    let mut clock = 0;
+    for write in writes {
+        clock = clock.max(write.stamp().clock);
+    }
+    clock
+}
+
+fn has(writes: &[RestingWrite], wid: Wid) -> bool {
+    writes.iter().any(|write| write.wid() == wid)
+}
+
+/// Three servers, and sessions that go from one to the other, whatever they ask for.
+#[derive(Drop)]
+struct World {
+    alloc: Global,
+    dumps: Vec<Vec<RestingWrite>>,
+    entries: Vec<Entry>,
+    /// The last place of each session, and which of the asks are its.
+    places: [(u32, usize); 4],
+}
+
+impl World {
+    fn new(alloc: Global, dice: &mut Dice) -> Result<Self, AllocError> {
+        let mut dumps = Vec::new(alloc);
+        for _ in 0..COUNT {
+            dumps.push(Vec::new(alloc))?;
+        }
+        let mut places = [(0, 0); 4];
+        for place in &mut places {
+            *place = (0, dice.below(8) as usize);
+        }
+        Ok(World {
+            alloc,
+            dumps,
+            entries: Vec::new(alloc),
+            places,
+        })
+    }
+
+    fn list(&self, server: u8) -> &[RestingWrite] {
+        match self.dumps.get(usize::from(server)) {
+            Some(list) => list.as_slice(),
+            None => &[],
+        }
+    }
+
+    fn take(&mut self, server: u8, write: RestingWrite) -> Result<(), AllocError> {
+        match self.dumps.get_mut(usize::from(server)) {
+            Some(list) => Ok(list.push(write)?),
+            None => Ok(()),
+        }
+    }
+
+    /// The session's next operation at the server is told of.
+    fn tell(
+        &mut self,
+        rt: &impl Abort,
+        dice: &mut Dice,
+        server: u8,
+        what: What,
+    ) -> Result<(), AllocError> {
+        let session = dice.below(4) as u8;
+        let (place, asks) = self.places[usize::from(session)];
+        let next = place.saturating_add(1).saturating_add(dice.below(2));
+        self.places[usize::from(session)] = (next, asks);
+        self.entries.push(entry(rt, asks_of(ASKS[asks % 8]), (session, next, server), what))?;
+        Ok(())
+    }
+
+    fn read(&mut self, rt: &impl Abort, dice: &mut Dice, server: u8) -> Result<(), AllocError> {
+        let vector = vector_of(self.list(server));
+        self.tell(rt, dice, server, What::Read(Key::default(), vector))
+    }
+
+    /// The server makes its next Write, which now and then no entry tells of.
+    fn write(&mut self, rt: &impl Abort, dice: &mut Dice, server: u8) -> Result<(), AllocError> {
+        let id = server_id(rt, server);
+        let deps = vector_of(self.list(server));
+        let clock = clock_of(self.list(server)).saturating_add(1);
+        let seq = deps.get(id).saturating_add(1);
+        let wid = Wid::new(id, seq).expect(rt, "no name");
+        let stamp = Stamp::new(clock, id).expect(rt, "no stamp");
+        let program = put(rt, i64::from(dice.below(3))).rest(self.alloc)?;
+        self.take(server, RestingWrite::new(wid, stamp, deps, program))?;
+        if dice.chance(8) {
+            return Ok(());
+        }
+        self.tell(rt, dice, server, What::Write(wid, stamp, deps))
+    }
+
+    /// The one server takes what it lacks of the other's, or the first of that.
+    fn pull(&mut self, dice: &mut Dice, to: u8, from: u8) -> Result<(), AllocError> {
+        for place in 0..self.list(from).len() {
+            if dice.chance(6) {
+                return Ok(());
+            }
+            let Some(write) = self.list(from).get(place) else {
+                return Ok(());
+            };
+            if !has(self.list(to), write.wid()) {
+                let copy = write.copy(self.alloc)?;
+                self.take(to, copy)?;
+            }
+        }
+        Ok(())
+    }
+
+    /// Something happens.
+    fn step(&mut self, rt: &impl Abort, dice: &mut Dice) -> Result<(), AllocError> {
+        let server = dice.below(3) as u8;
+        match dice.below(8) {
+            0..=2 => self.read(rt, dice, server),
+            3 | 4 => self.write(rt, dice, server),
+            5 | 6 => {
+                let from = dice.below(3) as u8;
+                self.pull(dice, server, from)
+            }
+            _ => self.tell(rt, dice, server, What::Refused),
+        }
+    }
+
+    /// One entry is changed, or told again.
+    fn forge(&mut self, rt: &impl Abort, dice: &mut Dice) -> Result<(), AllocError> {
+        let many = self.entries.len();
+        let other = match self.entries.get(dice.below(40) as usize % many.max(1)) {
+            Some(entry) => entry.copy(),
+            None => return Ok(()),
+        };
+        let at = dice.below(40) as usize % many.max(1);
+        let kind = dice.below(5);
+        let server = server_id(rt, dice.below(4) as u8);
+        let asks = asks_of(ASKS[dice.below(8) as usize % 8]);
+        if kind == 4 {
+            self.entries.push(other)?;
+            return Ok(());
+        }
+        if let Some(entry) = self.entries.get_mut(at) {
+            match kind {
+                0 => entry.place = other.place,
+                1 => entry.server = server,
+                2 => entry.asks = asks,
+                _ => entry.what = other.what.copy(),
+            }
+        }
+        Ok(())
+    }
+
+    /// One dump is changed.
+    fn spoil(&mut self, rt: &impl Abort, dice: &mut Dice) -> Result<(), AllocError> {
+        let server = dice.below(3) as u8;
+        let many = self.list(server).len();
+        let at = dice.below(40) as usize % many.max(1);
+        let kind = dice.below(3);
+        let program = put(rt, 7).rest(self.alloc)?;
+        let Some(list) = self.dumps.get_mut(usize::from(server)) else {
+            return Ok(());
+        };
+        if at + 1 >= list.len() {
+            return Ok(());
+        }
+        match kind {
+            0 => list.swap(at, at + 1),
+            1 => {
+                let _ = list.remove(at);
+            }
+            _ => {
+                let old = &list[at];
+                list[at] = RestingWrite::new(old.wid(), old.stamp(), *old.deps(), program);
+            }
+        }
+        Ok(())
+    }
+}
+
+/// A history from these dice, of which now and then an entry or a dump is changed.
+fn history(rt: &impl Abort, alloc: Global, dice: &mut Dice) -> Result<World, AllocError> {
+    let mut world = World::new(alloc, dice)?;
+    let steps = dice.below(41);
+    for _ in 0..steps {
+        world.step(rt, dice)?;
+    }
+    if dice.chance(8) {
+        world.forge(rt, dice)?;
+    }
+    if dice.chance(8) {
+        world.spoil(rt, dice)?;
+    }
+    Ok(world)
+}
+
+/// Which kind of answer it is: clean, a breach of one of the four guarantees, a bad dump, or a forged entry.
+fn kind_of(answer: Result<Verdict, Refusal>) -> usize {
+    match answer {
+        Ok(Verdict::Clean) => 0,
+        Ok(Verdict::Broken(breach)) => match breach.guarantee {
+            Guarantee::ReadYourWrites => 1,
+            Guarantee::MonotonicReads => 2,
+            Guarantee::WritesFollowReads => 3,
+            Guarantee::MonotonicWrites => 4,
+        },
+        Err(Refusal::BadDump(_, _)) => 5,
+        Err(Refusal::Forged(_)) => 6,
+        Err(Refusal::OutOfMemory) => 7,
+    }
+}
+
+/// What judge and survey answer to the history, where their twins answer so too.
+fn agreed(rt: &impl Abort, alloc: Global, world: &World) -> Option<Result<Verdict, Refusal>> {
+    let entries = world.entries.as_slice();
+    let dumps = world.dumps.as_slice();
+    let (verdict, survey) = asked(rt, alloc, entries, dumps);
+    let are_same = verdict == twin::judge(COUNT, entries, dumps)
+        && survey == twin::survey(alloc, COUNT, entries, dumps);
+    are_same.then_some(verdict)
+}
+
+/// How many answers of each kind come from the dice, and how often the twin answers otherwise.
+fn answers(rt: &impl Abort, alloc: Global, seed: u64) -> Result<([u32; 8], u32), AllocError> {
+    let mut dice = Dice { state: seed };
+    let mut kinds = [0_u32; 8];
+    let mut others = 0_u32;
+    for _ in 0..HISTORIES {
+        let world = history(rt, alloc, &mut dice)?;
+        match agreed(rt, alloc, &world) {
+            Some(verdict) => {
+                let kind = kind_of(verdict) % 8;
+                kinds[kind] = kinds[kind].saturating_add(1);
+            }
+            None => others = others.saturating_add(1),
+        }
+    }
+    Ok((kinds, others))
+}
+
+#[test]
+fn the_judge_is_its_twin(rt: HostRuntime) -> Result<(), Fail> {
+    for seed in [1994, 1997] {
+        let (kinds, others) = answers(&rt, rt.alloc(), seed)?;
+        let (told, want_of_memory) = (&kinds[..7], kinds[7]);
+        let is_each = told.iter().all(|many| *many > 0);
+        assert!(rt;
+            is_each && want_of_memory == 0 && others == 0,
+            "{kinds:?} {others}"
+        );
+    }
+    Ok(())
+}

@@ -1,0 +1,236 @@
+//! Entries and dumps that stand for no history: each way in which a dump is bad, and each in which an entry is forged. And the file of
+//! docs/FORMATS.md, with what was changed in it.
+use crate::fixtures::{Held, Line, Told, asked, dumps_of, entries_of, server_id, session_id};
+use crate::twin;
+use Told::{Read, Refused, Wrote};
+use bayou_base::Wid;
+use bayou_judge::{Breach, Guarantee, Refusal, Surveyed, Verdict};
+use std::alloc::Global;
+use std::process::Abort;
+use std::test::Fail;
+
+const ZERO: [u32; 3] = [0, 0, 0];
+
+const FIRST: Held = (0, 1, 1, ZERO, 1);
+
+const SECOND: Held = (1, 1, 1, ZERO, 2);
+
+const NEXT: Held = (0, 2, 2, [1, 0, 0], 4);
+
+const LATER: Held = (1, 2, 3, [2, 1, 0], 5);
+
+/// What each server holds, and the server and place that are bad.
+type BadDump = ([&'static [Held]; 3], (u8, usize));
+
+static BAD_DUMPS: [BadDump; 18] = [
+    // There is a gap before it: in its origin's Writes, and in what its server held.
+    ([&[NEXT], &[], &[]], (0, 0)),
+    ([&[FIRST], &[NEXT], &[]], (1, 0)),
+    ([&[FIRST, FIRST], &[], &[]], (0, 1)),
+    ([&[FIRST, (0, 3, 3, [2, 0, 0], 1)], &[], &[]], (0, 1)),
+    ([&[], &[(1, 1, 2, [1, 0, 0], 1)], &[]], (1, 0)),
+    ([&[], &[], &[FIRST, (1, 1, 3, [2, 0, 0], 1)]], (2, 1)),
+    // Its origin is none of the servers.
+    ([&[], &[(3, 1, 1, ZERO, 1)], &[]], (1, 0)),
+    // Its server didn't hold its own before it.
+    ([&[], &[FIRST, (0, 2, 1, ZERO, 1)], &[]], (1, 1)),
+    ([&[(0, 1, 1, [1, 0, 0], 1)], &[], &[]], (0, 0)),
+    // Its clock isn't the next: too small, too great, and the next of what its server didn't hold.
+    ([&[FIRST, (0, 2, 1, [1, 0, 0], 1)], &[], &[]], (0, 1)),
+    ([&[(0, 1, 2, ZERO, 1)], &[], &[]], (0, 0)),
+    ([&[], &[], &[FIRST, NEXT, (1, 1, 3, [1, 0, 0], 1)]], (2, 2)),
+    // It is the server's own, and doesn't say all that was held.
+    ([&[SECOND, FIRST], &[SECOND], &[]], (0, 1)),
+    ([&[], &[FIRST, SECOND], &[]], (1, 1)),
+    // A smaller server has another Write of its name: of another program, and of another past.
+    ([&[FIRST], &[(0, 1, 1, ZERO, 9)], &[]], (1, 0)),
+    (
+        [&[FIRST, NEXT], &[FIRST], &[FIRST, (0, 2, 2, [1, 0, 0], 5)]],
+        (2, 1),
+    ),
+    (
+        [
+            &[],
+            &[SECOND, FIRST, (0, 2, 2, [1, 0, 0], 4)],
+            &[SECOND, FIRST, (0, 2, 2, [1, 1, 0], 4)],
+        ],
+        (2, 2),
+    ),
+    // The least server's least place is told.
+    ([&[FIRST], &[SECOND, NEXT, NEXT], &[NEXT]], (1, 1)),
+];
+
+/// What each server holds, what is told, and which entry is forged.
+type Forged = ([&'static [Held]; 3], &'static [Line], usize);
+
+const HELD: [&[Held]; 3] = [&[FIRST, NEXT], &[SECOND, FIRST, NEXT, LATER], &[FIRST]];
+
+const WROTE_FIRST: Told = Wrote((0, 1), (1, 0), ZERO);
+
+const WROTE_NEXT: Told = Wrote((0, 2), (2, 0), [1, 0, 0]);
+
+static FORGERIES: [Forged; 18] = [
+    // No front of the dump has the vector.
+    (HELD, &[(0, 1, "", 0, Read([0, 1, 0]))], 0),
+    (
+        HELD,
+        &[
+            (0, 1, "", 0, Read([1, 0, 0])),
+            (0, 2, "", 2, Read([2, 0, 0])),
+        ],
+        1,
+    ),
+    (HELD, &[(0, 1, "", 1, Read([1, 0, 0]))], 0),
+    (HELD, &[(0, 1, "", 1, Read([2, 2, 1]))], 0),
+    (HELD, &[(0, 1, "", 1, Read([65_536, 65_536, 65_536]))], 0),
+    // The dump hasn't the Write, or has it with another stamp or past.
+    (HELD, &[(0, 1, "", 0, Wrote((0, 3), (3, 0), [2, 0, 0]))], 0),
+    (HELD, &[(0, 1, "", 0, Wrote((0, 1), (2, 0), ZERO))], 0),
+    (HELD, &[(0, 1, "", 0, Wrote((0, 1), (1, 1), ZERO))], 0),
+    (HELD, &[(0, 1, "", 0, Wrote((0, 2), (2, 0), ZERO))], 0),
+    // It is another server's.
+    (HELD, &[(0, 1, "", 1, WROTE_FIRST)], 0),
+    (HELD, &[(0, 1, "", 0, Wrote((1, 1), (1, 1), ZERO))], 0),
+    // An earlier entry has it, of whatever session.
+    (
+        HELD,
+        &[
+            (0, 1, "", 0, WROTE_FIRST),
+            (1, 1, "", 0, WROTE_NEXT),
+            (2, 1, "", 0, WROTE_FIRST),
+        ],
+        2,
+    ),
+    // The place isn't above the session's last, whatever became of that.
+    (
+        HELD,
+        &[(0, 2, "", 0, Read(ZERO)), (0, 2, "", 0, Read(ZERO))],
+        1,
+    ),
+    (
+        HELD,
+        &[
+            (0, 2, "", 0, Refused),
+            (1, 1, "", 0, Refused),
+            (0, 1, "", 0, Refused),
+        ],
+        2,
+    ),
+    // The session asks for something else than before.
+    (
+        HELD,
+        &[
+            (31, 1, "r", 0, Refused),
+            (0, 1, "", 0, Refused),
+            (31, 2, "rw", 0, Refused),
+        ],
+        2,
+    ),
+    (
+        HELD,
+        &[(0, 1, "rmfw", 0, Refused), (0, 2, "rmf", 0, Read(ZERO))],
+        1,
+    ),
+    // The server is none of them.
+    (HELD, &[(0, 1, "", 3, Refused)], 0),
+    // The least entry is told.
+    (
+        HELD,
+        &[
+            (0, 1, "", 0, Read(ZERO)),
+            (0, 1, "", 0, Read(ZERO)),
+            (0, 1, "", 7, Refused),
+        ],
+        1,
+    ),
+];
+
+/// Whether judge, survey and twin refuse these so.
+fn is_refused(
+    rt: &impl Abort,
+    alloc: Global,
+    lists: [&[Held]; 3],
+    lines: &[Line],
+    refusal: Refusal,
+) -> Result<bool, Fail> {
+    let dumps = dumps_of(rt, alloc, lists)?;
+    let entries = entries_of(rt, alloc, lines)?;
+    let (verdict, survey) = asked(rt, alloc, entries.as_slice(), dumps.as_slice());
+    let of_twin = twin::judge(3, entries.as_slice(), dumps.as_slice());
+    Ok(verdict == Err(refusal) && of_twin == Err(refusal) && survey == Err(refusal))
+}
+
+#[test]
+fn bad_dumps(rt: HostRuntime) -> Result<(), Fail> {
+    for (lists, (server, at)) in BAD_DUMPS {
+        let refusal = Refusal::BadDump(server_id(&rt, server), at);
+        // A forged entry is told after it.
+        let lines = [(0, 1, "", 7, Refused)];
+        let is_told = is_refused(&rt, rt.alloc(), lists, &lines, refusal)?;
+        assert!(rt; is_told, "{lists:?}");
+    }
+    Ok(())
+}
+
+#[test]
+fn forged_entries(rt: HostRuntime) -> Result<(), Fail> {
+    for (lists, lines, at) in FORGERIES {
+        let is_told = is_refused(&rt, rt.alloc(), lists, lines, Refusal::Forged(at))?;
+        assert!(rt; is_told, "{lines:?}");
+    }
+    Ok(())
+}
+
+/// The breach of Read Your Writes in the file of docs/FORMATS.md.
+fn breach_of_the_file(rt: &impl Abort) -> Breach {
+    Breach {
+        guarantee: Guarantee::ReadYourWrites,
+        session: session_id(rt, 0),
+        first: 1,
+        second: 2,
+        server: server_id(rt, 1),
+        wid: Wid::new(server_id(rt, 0), 1).expect(rt, "no name"),
+    }
+}
+
+/// Whether the file of docs/FORMATS.md, with that clock in its held line, those asks and that vector of its read, is judged so; and
+/// where it isn't refused, whether that breach is surveyed and no other.
+fn is_judged(
+    rt: &impl Abort,
+    alloc: Global,
+    file: (u32, &'static str, [u32; 3]),
+    wanted: Result<Verdict, Refusal>,
+) -> Result<bool, Fail> {
+    let (clock, asks, counts) = file;
+    let dumps = dumps_of(rt, alloc, [&[(0, 1, clock, ZERO, 1)], &[], &[]])?;
+    let lines = [(0, 1, asks, 0, WROTE_FIRST), (0, 2, asks, 1, Read(counts))];
+    let entries = entries_of(rt, alloc, &lines)?;
+    let (verdict, survey) = asked(rt, alloc, entries.as_slice(), dumps.as_slice());
+    let surveyed = Surveyed {
+        session: session_id(rt, 0),
+        ryw: Some(breach_of_the_file(rt)),
+        mr: None,
+        wfr: None,
+        mw: None,
+    };
+    let is_surveyed = match survey {
+        Ok(list) => list.as_slice() == [surveyed].as_slice(),
+        Err(refusal) => wanted == Err(refusal),
+    };
+    Ok(verdict == wanted && is_surveyed)
+}
+
+#[test]
+fn the_file_of_the_formats(rt: HostRuntime) -> Result<(), Fail> {
+    let table = [
+        ((1, "", ZERO), Ok(Verdict::Clean)),
+        ((1, "r", ZERO), Ok(Verdict::Broken(breach_of_the_file(&rt)))),
+        ((1, "", [0, 1, 0]), Err(Refusal::Forged(1))),
+        ((2, "", ZERO), Err(Refusal::BadDump(server_id(&rt, 0), 0))),
+    ];
+    for (file, wanted) in table {
+        let is_so = is_judged(&rt, rt.alloc(), file, wanted)?;
+        assert!(rt; is_so, "{file:?}");
+    }
+    Ok(())
+}
