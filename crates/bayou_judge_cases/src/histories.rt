@@ -1,5 +1,7 @@
 //! Histories at random, of up to forty entries over three servers and four sessions: the judge and its twin agree on each, and
 //! each kind of answer is among theirs.
+ghost use Rattle.std.specs.Prelude.{◌<◌};
+
 use crate::fixtures::{COUNT, asked, asks_of, entry, put, server_id};
 use crate::twin;
 use bayou_base::{Entry, Key, ServerId, Stamp, Vector, What, Wid};
@@ -21,8 +23,10 @@ struct Dice {
 }
 
 impl Dice {
-    /// A number below this one.
-    fn below(&mut self, bound: u32) -> u32 {
+    /// A number below this one, which isn't 0.
+    fn below(&mut self, bound: u32) -> u32
+        ensures { 0 < bound → result < bound }
+    {
         self.state = self
             .state
             .wrapping_mul(6_364_136_223_846_793_005)
@@ -61,8 +65,8 @@ struct World {
     alloc: Global,
     dumps: Vec<Vec<RestingWrite>>,
     entries: Vec<Entry>,
-    /// The last place of each session, and what it asks for.
-    places: [(u32, &'static str); 4],
+    /// The last place of each session, and which of the asks are its.
+    places: [(u32, usize); 4],
 }
 
 impl World {
@@ -71,9 +75,9 @@ impl World {
         for _ in 0..COUNT {
             dumps.push(Vec::new(alloc))?;
         }
-        let mut places = [(0, ""); 4];
+        let mut places = [(0, 0); 4];
         for place in &mut places {
-            *place = (0, ASKS[dice.below(8) as usize % 8]);
+            *place = (0, dice.below(8) as usize);
         }
         Ok(World {
             alloc,
@@ -105,12 +109,11 @@ impl World {
         server: u8,
         what: What,
     ) -> Result<(), AllocError> {
-        let session = dice.below(4) as u8 % 4;
+        let session = dice.below(4) as u8;
         let (place, asks) = self.places[usize::from(session)];
         let next = place.saturating_add(1).saturating_add(dice.below(2));
         self.places[usize::from(session)] = (next, asks);
-        self.entries
-            .push(entry(rt, asks_of(asks), (session, next, server), what))?;
+        self.entries.push(entry(rt, asks_of(ASKS[asks % 8]), (session, next, server), what))?;
         Ok(())
     }
 
