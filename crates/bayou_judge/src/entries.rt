@@ -1,5 +1,5 @@
 //! Whether entries tell of what can have been.
-ghost use Rattle.std.specs.Prelude.{◌≡◌, ℕ, ◌≤◌, ◌↔◌, List, IfOk, IsTrue, Contains, length, sum, take};
+ghost use Rattle.std.specs.Prelude.{◌≡◌, ℕ, ◌≤◌, ◌↔◌, List, IfOk, IsTrue, Contains, length, take};
 ghost use Rattle.bayou_base.specs.declared.limits.TheConstants.{SERVERS};
 ghost use Rattle.bayou_base.specs.declared.entry.Entry.{Entry};
 ghost use Rattle.bayou_lang.specs.declared.write.Write.{Write};
@@ -13,6 +13,7 @@ ghost use Rattle.bayou_judge.specs.Inner.Index.{AreIndexed, IsIndexOf};
 use crate::evidence::dump_at;
 use crate::finding::find;
 use crate::index::Index;
+use crate::needs::size_of;
 use crate::told::Told;
 use bayou_base::{Asks, Entry, SESSIONS, ServerId, Stamp, Vector, What, Wid};
 use bayou_lang::RestingWrite;
@@ -33,17 +34,6 @@ fn follows(latest: Option<Latest>, entry: &Entry) -> bool
         Some(latest) => latest.place < entry.place && latest.asks == entry.asks,
         None => true,
     }
-}
-
-/// How many Writes a vector counts.
-fn size_of(vector: &Vector) -> usize
-    ensures { result ≡ sum vector.now }
-{
-    let mut size = 0;
-    for count in vector.counts() {
-        size += *count as usize;
-    }
-    size
 }
 
 /// For each server the number of its Writes among the first so many.

@@ -83,7 +83,12 @@ fn first_of(entries: &[Entry], list: &[Surveyed]) -> Option<Breach>
     None
 }
 
-/// Whether each session had what it asked for.
+/// Whether each session had each of the four session guarantees (Terry et al. 1994) that it asked for, or the least breach of
+/// what was asked for: by session, guarantee, later place, earlier place, server, and name.
+///
+/// There are `count` servers and as many dumps, each in order of receipt. Where these can't have been held, the least bad place is
+/// told, by server and then by place from 0 on; else, where the entries can't have been answered, the first forged one. It takes
+/// time in proportion to the entries and the dumps, and changes nothing.
 pub fn judge(
     alloc: Global,
     count: u8,

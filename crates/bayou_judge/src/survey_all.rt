@@ -41,7 +41,8 @@ fn survey_sessions(alloc: Global, evidence: &Evidence) -> Result<Vec<Surveyed>, 
     Ok(list)
 }
 
-/// What became of each guarantee in each session that has an entry, asked for or not.
+/// What became of each guarantee in each session that has an entry, asked for or not: its least breach, if it has one. Sessions
+/// come in order of their numbers. What can be no evidence is refused as [`judge`](crate::judge) does.
 pub fn survey(
     alloc: Global,
     count: u8,
