@@ -7,8 +7,6 @@ mod books;
 #[cfg(test)]
 mod devices;
 #[cfg(test)]
-mod fakes;
-#[cfg(test)]
 mod fixtures;
 #[cfg(test)]
 mod frames;
@@ -31,18 +29,10 @@ mod numbers;
 #[cfg(test)]
 mod programs;
 #[cfg(test)]
-mod pulls;
-#[cfg(test)]
 mod servers;
-#[cfg(test)]
-mod serves;
 #[cfg(test)]
 mod sessions;
 #[cfg(test)]
 mod streams;
 #[cfg(test)]
-mod takes;
-#[cfg(test)]
 mod vectors;
-#[cfg(test)]
-mod watching;

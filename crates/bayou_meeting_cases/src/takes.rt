@@ -1,9 +1,9 @@
 //! Servers that are given Writes that others accepted: what each answers and leaves, which of two refusals comes, each device call
 //! failing in turn, every order of receipt, and want of memory.
-use crate::fixtures::{key, plus, put, vector, write};
-use bayou_base::{MAX_WRITES, ServerId, Value, Vector};
+use crate::items::{Given, vector, write};
+use bayou_base::{Key, MAX_WRITES, ServerId, Value, Vector};
 use bayou_device::{MemoryDevice, OpenGate};
-use bayou_lang::{Outcome, Write};
+use bayou_lang::{Op, Outcome, Program, Term, Write};
 use bayou_server::{ReopenFault, Server, StartFault, TakeFault, Took, WriteFault};
 use std::alloc::Global;
 use std::process::Abort;
@@ -13,18 +13,6 @@ type Memory = MemoryDevice<OpenGate>;
 
 type Served = Server<Memory>;
 
-/// The second of two servers on the device.
-fn start(rt: &impl Abort, alloc: Global, limit: u32, device: Memory) -> Result<Served, StartFault> {
-    let id = ServerId::new(1).expect(rt, "no server");
-    match Server::start(alloc, id, 2, limit.min(MAX_WRITES), device) {
-        Ok((server, _)) => Ok(server),
-        Err(refused) => Err(refused.fault),
-    }
-}
-
-/// A Write that puts a number at `a`: its origin, its seq, its clock, its past and the number.
-type Given = (u8, u32, u32, [u32; 2], i64);
-
 /// What is done to a server, and what it answers.
 #[derive(Clone, Copy)]
 enum Step {
@@ -33,7 +21,7 @@ enum Step {
     /// It is given the Write.
     Take(Given, Result<Took, TakeFault>),
     /// It puts the number itself: the Write's seq.
-    Put(i64, Result<u32, WriteFault>),
+    Put(u8, Result<u32, WriteFault>),
     /// It reopens: origin and seq of the Write that is adopted, if any.
     Reopen(Result<Option<(u8, u32)>, ReopenFault>),
     /// What `a` has, and how many Writes of each server are held.
@@ -42,9 +30,13 @@ enum Step {
 
 use Step::{Fuse, Has, Put, Reopen, Take};
 
-fn given(rt: &impl Abort, parts: Given) -> Write {
-    let (origin, seq, clock, deps, number) = parts;
-    write(rt, origin, seq, clock, deps, put(rt, number))
+/// The second of two servers on the device.
+fn start(rt: &impl Abort, alloc: Global, limit: u32, device: Memory) -> Result<Served, StartFault> {
+    let id = ServerId::new(1).expect(rt, "no server");
+    match Server::start(alloc, id, 2, limit.min(MAX_WRITES), device) {
+        Ok((server, _)) => Ok(server),
+        Err(refused) => Err(refused.fault),
+    }
 }
 
 /// Whether the server, which is given the Write, answers so, and is down exactly where it was or a device call failed.
@@ -59,15 +51,15 @@ fn takes(
     Ok(told == answer && server.is_down() == is_down)
 }
 
-/// Puts the number at `a`: the Write's seq.
+/// Makes a Write that puts the number at `a`: its seq.
 fn puts(
     rt: &impl Abort,
     alloc: Global,
     server: &mut Served,
-    number: i64,
+    number: u8,
 ) -> Result<u32, WriteFault> {
-    let program = put(rt, number).rest(alloc)?;
-    let accepted = server.write(alloc, &Vector::zero(), program)?;
+    let Write { program, .. } = write(rt, (1, 1, 1, [0, 0], number));
+    let accepted = server.write(alloc, &Vector::zero(), program.rest(alloc)?)?;
     Ok(accepted.wid.seq)
 }
 
@@ -79,21 +71,24 @@ fn reopens(alloc: Global, server: &mut Served) -> Result<Option<(u8, u32)>, Reop
     }
 }
 
+fn key(rt: &impl Abort) -> Key {
+    Key::new("a").expect(rt, "no key")
+}
+
 /// Whether `a` has that, and so many Writes of each server are held.
 fn has(rt: &impl Abort, server: &Served, value: Option<i64>, held: [u32; 2]) -> bool {
     let [first, second] = held;
-    let vector = vector(rt, first, second);
-    match server.read(&Vector::zero(), &key(rt, "a")) {
-        Ok(seen) => seen.value == value.map(Value::Num) && seen.vector == vector,
-        Err(_) => false,
-    }
+    let seen = server.read(&Vector::zero(), &key(rt));
+    seen.is_ok_and(|seen| {
+        seen.value == value.map(Value::Num) && seen.vector == vector(rt, first, second)
+    })
 }
 
 /// Does the step. Whether the server answers so.
 fn goes(rt: &impl Abort, alloc: Global, server: &mut Served, step: Step) -> Result<bool, Fail> {
     match step {
         Fuse(call, kept) => server.device().fuse(call.max(1), kept),
-        Take(parts, answer) => return takes(alloc, server, &given(rt, parts), answer),
+        Take(parts, answer) => return takes(alloc, server, &write(rt, parts), answer),
         Put(number, answer) => return Ok(puts(rt, alloc, server, number) == answer),
         Reopen(answer) => return Ok(reopens(alloc, server) == answer),
         Has(value, held) => return Ok(has(rt, server, value, held)),
@@ -101,15 +96,13 @@ fn goes(rt: &impl Abort, alloc: Global, server: &mut Served, step: Step) -> Resu
     Ok(true)
 }
 
-/// The steps go so, one after another, at a server that may hold so many Writes. It gives the device back.
+/// The steps go so, one after another. It gives the server's device back.
 fn all_go(
     rt: &impl Abort,
     alloc: Global,
-    limit: u32,
-    device: Memory,
+    mut server: Served,
     steps: &[Step],
 ) -> Result<Memory, Fail> {
-    let mut server = start(rt, alloc, limit, device)?;
     for (at, step) in steps.iter().enumerate() {
         assert!(rt; goes(rt, alloc, &mut server, *step)?, "step {at}");
     }
@@ -154,7 +147,8 @@ fn a_write_is_taken_or_refused(rt: HostRuntime) -> Result<(), Fail> {
     let alloc = rt.alloc();
     let runs: [&[Step]; 2] = [&MISFITS, &TWO_STAND];
     for steps in runs {
-        all_go(&rt, alloc, 2, MemoryDevice::new(alloc, OpenGate), steps)?;
+        let server = start(&rt, alloc, 2, MemoryDevice::new(alloc, OpenGate))?;
+        all_go(&rt, alloc, server, steps)?;
     }
     Ok(())
 }
@@ -184,21 +178,29 @@ fn each_device_call_of_a_take_may_fail(rt: HostRuntime) -> Result<(), Fail> {
             Reopen(Ok(adopted)),
             Has(Some(value), [held, 0]),
         ];
-        let device = all_go(&rt, alloc, 100, MemoryDevice::new(alloc, OpenGate), &steps)?;
+        let server = start(&rt, alloc, 100, MemoryDevice::new(alloc, OpenGate))?;
+        let device = all_go(&rt, alloc, server, &steps)?;
         let again = [Has(Some(value), [held, 0]), Put(9, Ok(1))];
-        all_go(&rt, alloc, 100, device, &again)?;
+        all_go(&rt, alloc, start(&rt, alloc, 100, device)?, &again)?;
     }
     Ok(())
 }
 
+/// A program that adds the number to what `a` has.
+fn adding(rt: &impl Abort, number: i64) -> Program {
+    let op = Op::Put(key(rt), Term::Plus(key(rt), number));
+    Program::new(&[], &[op], &[]).expect(rt, "no program")
+}
+
 /// The first Write of one of the servers 1, 2 and 3, which held none. In stamp order `a` becomes 5, then 10 and 100 more.
 fn first(rt: &impl Abort, origin: u8) -> Write {
-    let program = match origin {
-        1 => put(rt, 5),
-        2 => plus(rt, 10),
-        _ => plus(rt, 100),
-    };
-    write(rt, origin, 1, 1, [0, 0], program)
+    let mut first = write(rt, (origin, 1, 1, [0, 0], 5));
+    match origin {
+        1 => {}
+        2 => first.program = adding(rt, 10),
+        _ => first.program = adding(rt, 100),
+    }
+    first
 }
 
 /// The first of four servers, once it took the first Writes of the others in this order.
@@ -241,7 +243,7 @@ fn every_order_of_takes_gives_one_listing(rt: HostRuntime) -> Result<(), Fail> {
     let alloc = rt.alloc();
     for order in ORDERS {
         let server = taken(&rt, alloc, order)?;
-        let seen = server.read(&Vector::zero(), &key(&rt, "a"));
+        let seen = server.read(&Vector::zero(), &key(&rt));
         let is_115 = seen.is_ok_and(|seen| seen.value == Some(Value::Num(115)));
         assert!(rt; lists_all(alloc, &server)? && is_115, "{order:?}");
     }
@@ -298,7 +300,7 @@ fn start_at_last(rt: &impl Abort, alloc: Global, device: Memory) -> Result<Serve
 }
 
 /// The Writes of the first server, which put 1, 2 and 3 at `a`.
-const THREE: [Given; 3] = [
+pub const THREE: [Given; 3] = [
     (0, 1, 1, [0, 0], 1),
     (0, 2, 2, [1, 0], 2),
     (0, 3, 3, [2, 0], 3),
@@ -310,8 +312,8 @@ fn one_want_of_memory_costs_no_taken_write(rt: HostRuntime) -> Result<(), Fail> 
     let alloc = rt.alloc();
     let mut server = start_at_last(&rt, alloc, MemoryDevice::new(alloc, OpenGate))?;
     for parts in THREE {
-        let is_kept = take_at_last(alloc, &mut server, &given(&rt, parts))?;
-        assert!(rt; is_kept && server.vector() == vector(&rt, parts.1, 0));
+        let is_kept = take_at_last(alloc, &mut server, &write(&rt, parts))?;
+        assert!(rt; is_kept && server.vector() == vector(&rt, u32::from(parts.1), 0));
     }
     Ok(())
 }

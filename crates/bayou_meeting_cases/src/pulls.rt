@@ -1,10 +1,9 @@
 //! Servers that send each other what they lack: what stands in the stream, what is taken of it however it ends, each call of a
 //! reader or a writer failing in turn, and want of memory.
 use crate::fakes::{EndlessReader, FakeReader, FakeWriter};
-use crate::fixtures::{put, server_id, vector, write};
-use crate::notation::{bytes_of, expanded, parts};
-use crate::takes::take_at_last;
-use bayou_base::Vector;
+use crate::items::{item, stream, vector, write};
+use crate::takes::{self, take_at_last};
+use bayou_base::{ServerId, Vector};
 use bayou_device::{MemoryDevice, OpenGate};
 use bayou_peer::{
     Fault, PullFault, Pulled, answer_offer_on, cut_after, pull_from_on, pull_on, serve_offer_on,
@@ -18,49 +17,13 @@ use std::test::Fail;
 
 pub type Served = Server<MemoryDevice<OpenGate>>;
 
-/// The Items of the first server's first three Writes, which put 1, 2 and 3 at `a`, of 60 bytes each; of another Write of the first
-/// name; of one whose past and clock don't go together; and of the second server's first Write.
-const ITEMS: [(&str, &str); 6] = [
-    (
-        "<item 1>",
-        "003a 15 <0:1> <stamp> <none> 00010101610101 0000000000000001 00",
-    ),
-    (
-        "<item 2>",
-        "003a 15 0000000002 00000002 <one> 00010101610101 0000000000000002 00",
-    ),
-    (
-        "<item 3>",
-        "003a 15 0000000003 00000003 00000002 <zeros> 00010101610101 0000000000000003 00",
-    ),
-    (
-        "<other 1>",
-        "003a 15 <0:1> <stamp> <none> 00010101610101 0000000000000009 00",
-    ),
-    (
-        "<early 2>",
-        "003a 15 0000000002 00000003 <one> 00010101610101 0000000000000002 00",
-    ),
-    (
-        "<own 1>",
-        "003a 15 0100000001 <stamp> <none> 00010101610101 0000000000000001 00",
-    ),
-];
-
-/// The bytes of a stream.
-pub fn stream(alloc: Global, text: &str) -> Result<Vec<u8>, Fail> {
-    let items = expanded(alloc, text, &ITEMS)?;
-    let zeros = "00000000000000000000000000000000000000000000000000000000";
-    bytes_of(alloc, items.replace(alloc, "<zeros>", zeros)?.as_str())
-}
-
 /// All three Items, and the End.
-const THREE: &str = "<item 1> <item 2> <item 3> 0005 16 00000003";
+const THREE: &str = "<item-1> <item-2> <item-3> 0005 16 00000003";
 
 /// One of eight servers, which holds nothing.
 fn begun(rt: &impl Abort, alloc: Global, index: u8) -> Result<Served, StartFault> {
     let device = MemoryDevice::new(alloc, OpenGate);
-    let id = server_id(rt, index);
+    let id = ServerId::new(index).expect(rt, "no server");
     match Server::start(alloc, id, 8, 100, device) {
         Ok((server, _)) => Ok(server),
         Err(refused) => Err(refused.fault),
@@ -71,14 +34,12 @@ fn begun(rt: &impl Abort, alloc: Global, index: u8) -> Result<Served, StartFault
 pub fn full(rt: &impl Abort, alloc: Global, index: u8, counts: [u8; 2]) -> Result<Served, Fail> {
     let mut server = begun(rt, alloc, index)?;
     let [first, second] = counts;
-    for seq in 1..u32::from(second) + 1 {
-        let program = put(rt, i64::from(seq));
-        let given = write(rt, 1, seq, seq, [0, seq - 1], program);
+    for seq in 1..second.min(99) + 1 {
+        let given = write(rt, (1, seq, seq, [0, seq - 1], seq));
         server.take(alloc, given.rest(alloc)?)?;
     }
-    for seq in 1..u32::from(first) + 1 {
-        let program = put(rt, i64::from(seq));
-        let given = write(rt, 0, seq, seq, [seq - 1, 0], program);
+    for seq in 1..first.min(99) + 1 {
+        let given = write(rt, (0, seq, seq, [seq - 1, 0], seq));
         server.take(alloc, given.rest(alloc)?)?;
     }
     Ok(server)
@@ -105,19 +66,31 @@ const fn came(taken: u32, had: u32) -> Result<Pulled, PullFault> {
 /// How many of the first server's three Writes are counted, how many are sent, and the answer.
 const ANSWERS: [(u32, u32, &str); 4] = [
     (0, 3, THREE),
-    (1, 2, "<item 2> <item 3> 0005 16 00000002"),
-    (2, 1, "<item 3> 0005 16 00000001"),
+    (1, 2, "<item-2> <item-3> 0005 16 00000002"),
+    (2, 1, "<item-3> 0005 16 00000001"),
     (3, 0, "0005 16 00000000"),
 ];
+
+/// Whether the server answers these bytes to an Offer of these counts, and tells so many Items.
+fn answers(
+    alloc: Global,
+    server: &mut Served,
+    counts: &Vector,
+    (bytes, items): (&[u8], u32),
+) -> Result<bool, Fault> {
+    let (answer, number) = answered(alloc, server, counts)?;
+    Ok(answer.as_slice() == bytes && number == items)
+}
 
 #[test]
 fn an_offer_is_answered_byte_for_byte(rt: HostRuntime) -> Result<(), Fail> {
     let alloc = rt.alloc();
     let mut server = full(&rt, alloc, 2, [3, 0])?;
-    for (counted, count, sent) in ANSWERS {
-        let (answer, number) = answered(alloc, &mut server, &vector(&rt, counted, 0))?;
-        let is_sent = answer == stream(alloc, sent)?;
-        assert!(rt; is_sent && number == count, "{counted}");
+    for (counted, items, sent) in ANSWERS {
+        let bytes = stream(alloc, sent)?;
+        let counts = vector(&rt, counted, 0);
+        let is_so = answers(alloc, &mut server, &counts, (&bytes, items))?;
+        assert!(rt; is_so, "{counted}");
     }
     Ok(())
 }
@@ -126,13 +99,13 @@ fn an_offer_is_answered_byte_for_byte(rt: HostRuntime) -> Result<(), Fail> {
 #[test]
 fn a_pull_writes_its_offer(rt: HostRuntime) -> Result<(), Fail> {
     let alloc = rt.alloc();
-    for (counted, offer) in [(0, "0021 05 <none>"), (1, "0021 05 <one>")] {
+    for (counted, offer) in [(0, "0021 05 <none>"), (1, "0021 05 00000001 <zeros>")] {
         let mut server = full(&rt, alloc, 3, [counted, 0])?;
         let mut channel = Channel::new(io::empty(), Vec::new(alloc));
         let told = pull_on(alloc, &mut server, &mut channel);
         assert!(rt;
             told == Err(PullFault::Stream(Fault::Cut))
-                && channel.into_parts().1 == bytes_of(alloc, offer)?,
+                && channel.into_parts().1 == stream(alloc, offer)?,
             "{offer}"
         );
     }
@@ -141,25 +114,25 @@ fn a_pull_writes_its_offer(rt: HostRuntime) -> Result<(), Fail> {
 
 /// Streams, how many of the first server's Writes the second one holds after it, and its answer. Neither an Item behind the End
 /// nor a fault there is looked at.
-const STREAMS: &str = "<item 1> <item 2> 0005 16 00000002 => 2 Ok(Pulled { taken: 2, had: 0 })
-<item 1> <item 1> 0005 16 00000002 => 1 Ok(Pulled { taken: 1, had: 1 })
+const STREAMS: &str = "<item-1> <item-2> 0005 16 00000002 => 2 Ok(Pulled { taken: 2, had: 0 })
+<item-1> <item-1> 0005 16 00000002 => 1 Ok(Pulled { taken: 1, had: 1 })
 0005 16 00000000 => 0 Ok(Pulled { taken: 0, had: 0 })
-<item 1> 0005 16 00000001 <item 2> => 1 Ok(Pulled { taken: 1, had: 0 })
-<item 1> 0005 16 00000001 00017f => 1 Ok(Pulled { taken: 1, had: 0 })
-<item 1> <item 2> 0005 16 00000001 => 2 Err(Stream(BadFrame))
-<item 1> <item 2> 0005 16 00000003 => 2 Err(Stream(BadFrame))
+<item-1> 0005 16 00000001 <item-2> => 1 Ok(Pulled { taken: 1, had: 0 })
+<item-1> 0005 16 00000001 00017f => 1 Ok(Pulled { taken: 1, had: 0 })
+<item-1> <item-2> 0005 16 00000001 => 2 Err(Stream(BadFrame))
+<item-1> <item-2> 0005 16 00000003 => 2 Err(Stream(BadFrame))
 0005 16 00000001 => 0 Err(Stream(BadFrame))
-<item 1> 0022 11 00 <none> <item 2> => 1 Err(Stream(BadFrame))
-0021 05 <none> <item 1> => 0 Err(Stream(BadFrame))
-0001 03 <item 1> => 0 Err(Stream(BadFrame))
-<item 1> 00017f => 1 Err(Stream(BadFrame))
-<item 1> 2001 => 1 Err(Stream(BadFrame))
-<item 1> <item 2> 00051600000001ff => 2 Err(Stream(BadFrame))
-<item 1> => 1 Err(Stream(Cut))
-<item 1> <item 3> <item 2> => 1 Err(Refused(Gap))
-<item 1> <other 1> <item 2> => 1 Err(Refused(Conflict))
-<item 1> <early 2> <item 2> => 1 Err(Refused(BadStamp))
-<own 1> <item 1> => 0 Err(Refused(OwnLost))";
+<item-1> 0022 11 00 <none> <item-2> => 1 Err(Stream(BadFrame))
+0021 05 <none> <item-1> => 0 Err(Stream(BadFrame))
+0001 03 <item-1> => 0 Err(Stream(BadFrame))
+<item-1> 00017f => 1 Err(Stream(BadFrame))
+<item-1> 2001 => 1 Err(Stream(BadFrame))
+<item-1> <item-2> 00051600000001ff => 2 Err(Stream(BadFrame))
+<item-1> => 1 Err(Stream(Cut))
+<item-1> <item-3> <item-2> => 1 Err(Refused(Gap))
+<item-1> <other-1> <item-2> => 1 Err(Refused(Conflict))
+<item-1> <early-2> <item-2> => 1 Err(Refused(BadStamp))
+<own-1> <item-1> => 0 Err(Refused(OwnLost))";
 
 /// How many Writes of the first server the second one holds once it was sent this, in pieces of at most so many bytes, and its
 /// answer.
@@ -182,7 +155,7 @@ fn told(rt: &impl Abort, alloc: Global, sent: &[u8], most: usize) -> Result<Stri
 fn a_stream_is_taken_up_to_its_end_or_fault(rt: HostRuntime) -> Result<(), Fail> {
     let alloc = rt.alloc();
     for row in STREAMS.lines() {
-        let (text, expected) = parts(row);
+        let (text, expected) = row.split_once(" => ").unwrap_or((row, row));
         let sent = stream(alloc, text)?;
         for most in [1, 59, 60, 61, 4096] {
             assert!(rt;
@@ -197,38 +170,58 @@ fn a_stream_is_taken_up_to_its_end_or_fault(rt: HostRuntime) -> Result<(), Fail>
 /// So many Writes of the first server are taken, and as many of the second, each Item before those of later clocks.
 const EACH: u8 = 20;
 
-/// A hexadecimal text of the Items of both servers' Writes, in stamp order, and the End.
-fn both(alloc: Global) -> Result<String, AllocError> {
-    let mut text = String::new(alloc);
-    let zeros = "000000000000000000000000000000000000000000000000";
-    for seq in 1..u32::from(EACH) + 1 {
-        let past = seq - 1;
-        text.push_str(format!(in alloc;
-            "003a15 00{seq:08x} {seq:08x} {past:08x} 00000000 {zeros} 00010101610101 {seq:016x} 00"
-        )?.as_str())?;
-        text.push_str(format!(in alloc;
-            "003a15 01{seq:08x} {seq:08x} 00000000 {past:08x} {zeros} 00010101610101 {seq:016x} 00"
-        )?.as_str())?;
+/// The Items of both servers' Writes, in stamp order, and the End.
+fn both(alloc: Global) -> Result<Vec<u8>, AllocError> {
+    let mut bytes = Vec::new(alloc);
+    for seq in 1..EACH + 1 {
+        bytes.extend_from_slice(&item((0, seq, seq, [seq - 1, 0], seq)))?;
+        bytes.extend_from_slice(&item((1, seq, seq, [0, seq - 1], seq)))?;
     }
-    text.push_str("0005 16 00000028")?;
-    Ok(text)
+    bytes.extend_from_slice(b"\0\x05\x16\0\0\0\x28")?;
+    Ok(bytes)
+}
+
+/// Whether the server, which is sent all of them, takes each once.
+fn takes_both(rt: &impl Abort, alloc: Global, puller: &mut Served, sent: &[u8]) -> bool {
+    let is_taken = pulled(alloc, puller, sent) == came(40, 0);
+    let mut channel = Channel::new(sent, io::sink());
+    let again = pull_from_on(alloc, puller, &Vector::zero(), &mut channel);
+    is_taken && again == came(0, 40) && puller.vector() == vector(rt, 20, 20)
 }
 
 #[test]
 fn forty_writes_of_two_servers_go_in_stamp_order(rt: HostRuntime) -> Result<(), Fail> {
     let alloc = rt.alloc();
     let mut server = full(&rt, alloc, 2, [EACH, EACH])?;
-    let (answer, number) = answered(alloc, &mut server, &Vector::zero())?;
-    let is_sent = answer == bytes_of(alloc, both(alloc)?.as_str())? && number == 40;
+    let whole = both(alloc)?;
+    let is_sent = answers(alloc, &mut server, &Vector::zero(), (&whole, 40))?;
     let mut puller = begun(&rt, alloc, 3)?;
-    let is_taken = pulled(alloc, &mut puller, &answer) == came(40, 0)
-        && puller.vector() == vector(&rt, 20, 20);
-    let mut channel = Channel::new(answer.as_slice(), io::sink());
-    let again = pull_from_on(alloc, &mut puller, &Vector::zero(), &mut channel);
-    let (rest, none) = answered(alloc, &mut server, &puller.vector())?;
-    let is_nothing = none == 0 && pulled(alloc, &mut puller, &rest) == came(0, 0);
-    assert!(rt; is_sent && is_taken && again == came(0, 40) && is_nothing);
+    let is_taken = takes_both(&rt, alloc, &mut puller, &whole);
+    let nothing = b"\0\x05\x16\0\0\0\0".as_slice();
+    let is_nothing = answers(alloc, &mut server, &puller.vector(), (nothing, 0))?;
+    assert!(rt; is_sent && is_taken && is_nothing);
     Ok(())
+}
+
+/// Whether a server that is sent this front of two Items and the End takes what came whole, and then what it lacks.
+fn takes_front(
+    rt: &impl Abort,
+    alloc: Global,
+    server: &mut Served,
+    front: &[u8],
+) -> Result<bool, Fail> {
+    let mut puller = begun(rt, alloc, 3)?;
+    let is_cut = pulled(alloc, &mut puller, front) == Err(PullFault::Stream(Fault::Cut));
+    let held = if front.len() < 60 {
+        0
+    } else if front.len() < 120 {
+        1
+    } else {
+        2
+    };
+    let is_held = puller.vector() == vector(rt, held, 0);
+    let (rest, _) = answered(alloc, server, &puller.vector())?;
+    Ok(is_cut && is_held && pulled(alloc, &mut puller, &rest) == came(2 - held, 0))
 }
 
 /// A stream of two Items and the End that is cut; then what is lacking is sent.
@@ -236,22 +229,10 @@ fn forty_writes_of_two_servers_go_in_stamp_order(rt: HostRuntime) -> Result<(), 
 fn what_is_cut_is_taken_up_to_there(rt: HostRuntime) -> Result<(), Fail> {
     let alloc = rt.alloc();
     let mut server = full(&rt, alloc, 2, [2, 0])?;
-    let whole = stream(alloc, "<item 1> <item 2> 0005 16 00000002")?;
+    let whole = stream(alloc, "<item-1> <item-2> 0005 16 00000002")?;
     for cut in 0..whole.len() {
-        let mut puller = begun(&rt, alloc, 3)?;
-        let answer = pulled(alloc, &mut puller, &whole[..cut]);
-        let is_cut = answer == Err(PullFault::Stream(Fault::Cut));
-        let held = if cut < 60 {
-            0
-        } else if cut < 120 {
-            1
-        } else {
-            2
-        };
-        let is_held = puller.vector() == vector(&rt, held, 0);
-        let (rest, _) = answered(alloc, &mut server, &puller.vector())?;
-        let is_rest = pulled(alloc, &mut puller, &rest) == came(2 - held, 0);
-        assert!(rt; is_cut && is_held && is_rest && whole.len() == 127, "{cut}");
+        let is_so = takes_front(&rt, alloc, &mut server, &whole[..cut])?;
+        assert!(rt; is_so && whole.len() == 127, "{cut}");
     }
     Ok(())
 }
@@ -302,7 +283,7 @@ fn failing(alloc: Global, fails_at: u32) -> FakeWriter {
 fn each_write_of_a_pull_may_fail(rt: HostRuntime) -> Result<(), Fail> {
     let alloc = rt.alloc();
     let sent = stream(alloc, THREE)?;
-    let offer = bytes_of(alloc, "0021 05 <none>")?;
+    let offer = stream(alloc, "0021 05 <none>")?;
     for fails_at in 1..6_u32 {
         let mut puller = begun(&rt, alloc, 3)?;
         let mut channel = Channel::new(sent.as_slice(), failing(alloc, fails_at));
@@ -370,7 +351,7 @@ fn a_full_writer_fails(rt: HostRuntime) -> Result<(), Fail> {
 #[test]
 fn a_stream_without_an_end_is_given_up(rt: HostRuntime) -> Result<(), Fail> {
     let alloc = rt.alloc();
-    let item = stream(alloc, "<item 1>")?;
+    let item = stream(alloc, "<item-1>")?;
     let mut puller = full(&rt, alloc, 3, [1, 0])?;
     let reader = EndlessReader {
         bytes: &item,
@@ -471,9 +452,8 @@ fn pulled_at_last(alloc: Global, puller: &mut Served, sent: &[u8]) -> Result<boo
 fn one_want_of_memory_costs_no_pulled_write(rt: HostRuntime) -> Result<(), Fail> {
     let alloc = rt.alloc();
     let mut server = begun_at_last(&rt, alloc, 2)?;
-    for seq in 1..4_u32 {
-        let given = write(&rt, 0, seq, seq, [seq - 1, 0], put(&rt, i64::from(seq)));
-        take_at_last(alloc, &mut server, &given)?;
+    for given in takes::THREE {
+        take_at_last(alloc, &mut server, &write(&rt, given))?;
     }
     let mut puller = begun_at_last(&rt, alloc, 3)?;
     let (answer, number) = answered_at_last(alloc, &mut server)?;

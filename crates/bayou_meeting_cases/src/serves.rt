@@ -1,9 +1,8 @@
 //! Servers that are asked by an Offer: what is read of a stream and what is written, each call of a reader or a writer failing in turn,
 //! and want of memory.
 use crate::fakes::{EndlessReader, FakeReader, FakeWriter};
-use crate::fixtures::vector;
-use crate::notation::{bytes_of, parts};
-use crate::pulls::{Served, full, stream};
+use crate::items::{stream, vector};
+use crate::pulls::{Served, full};
 use bayou_peer::{Fault, serve_offer_on};
 use bayou_streams::Channel;
 use std::alloc::Global;
@@ -12,18 +11,18 @@ use std::test::Fail;
 
 /// Streams, and what a server that holds three Writes answers and writes. Nothing behind the Offer is looked at, and nothing is
 /// written where none comes.
-const STREAMS: &str = "0021 05 <none> => Ok(3) <item 1> <item 2> <item 3> 0005 16 00000003
-0021 05 <one> => Ok(2) <item 2> <item 3> 0005 16 00000002
+const STREAMS: &str = "0021 05 <none> => Ok(3) <item-1> <item-2> <item-3> 0005 16 00000003
+0021 05 00000001 <zeros> => Ok(2) <item-2> <item-3> 0005 16 00000002
 0021 05 00010000 <zeros> => Ok(0) 0005 16 00000000
 0021 05 00010001 <zeros> => Err(BadFrame)
-0021 05 <none> 0021 05 <one> => Ok(3) <item 1> <item 2> <item 3> 0005 16 00000003
-0021 05 <one> 2001 => Ok(2) <item 2> <item 3> 0005 16 00000002
+0021 05 <none> 0021 05 00000001 <zeros> => Ok(3) <item-1> <item-2> <item-3> 0005 16 00000003
+0021 05 00000001 <zeros> 2001 => Ok(2) <item-2> <item-3> 0005 16 00000002
  => Err(Cut)
 00 => Err(Cut)
-0021 05 00000000 <zeros> => Ok(3) <item 1> <item 2> <item 3> 0005 16 00000003
+0021 05 00000000 <zeros> => Ok(3) <item-1> <item-2> <item-3> 0005 16 00000003
 0021 05 <zeros> => Err(Cut)
 0001 03 0021 05 <none> => Err(BadFrame)
-<item 1> 0021 05 <none> => Err(BadFrame)
+<item-1> 0021 05 <none> => Err(BadFrame)
 0005 16 00000000 => Err(BadFrame)
 0001 05 => Err(BadFrame)
 0022 05 <none> 00 => Err(BadFrame)
@@ -59,7 +58,7 @@ fn an_offer_is_read_and_answered(rt: HostRuntime) -> Result<(), Fail> {
     let alloc = rt.alloc();
     let mut server = full(&rt, alloc, 2, [3, 0])?;
     for row in STREAMS.lines() {
-        let (text, expected) = parts(row);
+        let (text, expected) = row.split_once(" => ").unwrap_or((row, row));
         let sent = stream(alloc, text)?;
         for most in [1, 34, 35, 36, 4096] {
             assert!(rt;
@@ -77,7 +76,7 @@ fn an_offer_is_read_and_answered(rt: HostRuntime) -> Result<(), Fail> {
 fn each_read_of_an_offer_may_fail(rt: HostRuntime) -> Result<(), Fail> {
     let alloc = rt.alloc();
     let mut server = full(&rt, alloc, 2, [3, 0])?;
-    let sent = stream(alloc, "0021 05 <none> <item 1>")?;
+    let sent = stream(alloc, "0021 05 <none> <item-1>")?;
     for fails_at in 1..9_u32 {
         let reader = FakeReader {
             bytes: &sent,
@@ -103,7 +102,7 @@ fn each_read_of_an_offer_may_fail(rt: HostRuntime) -> Result<(), Fail> {
 fn each_write_behind_an_offer_may_fail(rt: HostRuntime) -> Result<(), Fail> {
     let alloc = rt.alloc();
     let mut server = full(&rt, alloc, 2, [3, 0])?;
-    let offer = bytes_of(alloc, "0021 05 <none>")?;
+    let offer = stream(alloc, "0021 05 <none>")?;
     for fails_at in 1..21_u32 {
         let writer = FakeWriter {
             bytes: Vec::new(alloc),

@@ -1,5 +1,5 @@
 //! A pull that is watched from both sides: the reader that gives Items sees how many were taken.
-use crate::pulls::stream;
+use crate::items::item;
 use bayou_base::Vector;
 use bayou_lang::RestingWrite;
 use bayou_peer::{Fault, PullFault, Replica, pull_from_on};
@@ -69,7 +69,7 @@ impl Read for Watching<'_> {
 #[test]
 fn each_item_is_taken_before_the_next_is_read(rt: HostRuntime) -> Result<(), Fail> {
     let alloc = rt.alloc();
-    let item = stream(alloc, "<item 1>")?;
+    let item = item((0, 1, 1, [0, 0], 1));
     let taken = Cell::new(0);
     let mut replica = Counting { taken: &taken };
     let reader = Watching {

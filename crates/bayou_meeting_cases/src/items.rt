@@ -1,0 +1,60 @@
+//! Writes that others accepted, as they stand in a stream, and streams of them.
+use bayou_base::{SERVERS, Vector};
+use bayou_lang::Write;
+use bayou_wire::decode_write;
+use std::alloc::Global;
+use std::process::Abort;
+use std::test::Fail;
+
+/// A Write that puts a number at `a`: its origin, its seq, its clock, how many Writes of the first two servers its server held, and
+/// the number.
+pub type Given = (u8, u8, u8, [u8; 2], u8);
+
+/// The Item of the Write: its length and kind, its name, its clock, its past, and its program.
+pub const fn item(given: Given) -> [u8; 60] {
+    let (origin, seq, clock, [first, second], number) = given;
+    [
+        0, 58, 21, origin, 0, 0, 0, seq, 0, 0, 0, clock, 0, 0, 0, first, 0, 0, 0, second, 0, 0, 0,
+        0, 0, 0, 0, 0, 0, 0, 0, 0, 0, 0, 0, 0, 0, 0, 0, 0, 0, 0, 0, 0, 0, 1, 1, 1, b'a', 1, 1, 0,
+        0, 0, 0, 0, 0, 0, number, 0,
+    ]
+}
+
+/// The Write.
+pub fn write(rt: &impl Abort, given: Given) -> Write {
+    decode_write(&item(given)[3..]).expect(rt, "no Write")
+}
+
+/// So many Writes of the first two servers, and none of the others.
+pub fn vector(rt: &impl Abort, first: u32, second: u32) -> Vector {
+    let mut counts = [0; SERVERS];
+    [counts[0], counts[1]] = [first, second];
+    Vector::from_counts(counts).expect(rt, "no vector")
+}
+
+/// The first server's first three Writes; another one of the first name; one whose past and clock don't go together; and the second
+/// server's first.
+static ITEMS: [(&str, Given); 6] = [
+    ("<item-1>", (0, 1, 1, [0, 0], 1)),
+    ("<item-2>", (0, 2, 2, [1, 0], 2)),
+    ("<item-3>", (0, 3, 3, [2, 0], 3)),
+    ("<other-1>", (0, 1, 1, [0, 0], 9)),
+    ("<early-2>", (0, 2, 3, [1, 0], 2)),
+    ("<own-1>", (1, 1, 1, [0, 0], 1)),
+];
+
+/// The bytes of a stream: each word is an Item by its name, a vector that counts nothing, as much of it as stands behind its first
+/// count, or stands for itself in hexadecimal.
+pub fn stream(alloc: Global, text: &str) -> Result<Vec<u8>, Fail> {
+    let mut bytes = Vec::new(alloc);
+    for word in text.split(' ') {
+        let named = ITEMS.iter().find(|(name, _)| *name == word);
+        match (word, named) {
+            (_, Some((_, given))) => bytes.extend_from_slice(&item(*given))?,
+            ("<none>", None) => bytes.extend_from_slice(&[0; 32])?,
+            ("<zeros>", None) => bytes.extend_from_slice(&[0; 28])?,
+            _ => bytes.extend_from_slice(&hex::decode(alloc, word)?)?,
+        }
+    }
+    Ok(bytes)
+}
