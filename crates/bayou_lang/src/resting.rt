@@ -411,9 +411,9 @@ impl PartialEq for RestingWrite {
     ghost laws = { partial_equiv_from_equiv (decided same_write same_write-decides) };
 
     fn eq(&self, other: &Self) -> bool {
-        self.wid == other.wid
+        self.deps == other.deps
+            && self.wid == other.wid
             && self.stamp == other.stamp
-            && self.deps == other.deps
             && self.program == other.program
     }
 }
