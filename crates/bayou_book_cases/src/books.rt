@@ -2,11 +2,10 @@
 ghost use Rattle.std.specs.Prelude.{◌≡◌, ◌<◌, ◌≤◌};
 ghost use Rattle.bayou_base.specs.declared.limits.TheConstants.{SESSIONS};
 
-use crate::fixtures::{key, server_id, vector, wid};
 use bayou_audit::{
     AuditBook, Blanks, Book, Four, Full, Ledgers, SettleFault, Settled, Share, Totals, Unsettled,
 };
-use bayou_base::{Asks, Entry, Stamp, What};
+use bayou_base::{Asks, Entry, Key, SERVERS, ServerId, Stamp, Vector, What, Wid};
 use std::alloc::{AllocError, Global};
 use std::marker::Brand;
 use std::process::Abort;
@@ -31,14 +30,30 @@ fn blanks(shares: u8) -> Blanks
     }
 }
 
+/// The server at which all is done.
+fn server(rt: &impl Abort) -> ServerId {
+    ServerId::new(1).expect(rt, "there is no server 1")
+}
+
+/// So many Writes of the first server, and two of the second.
+fn counts(rt: &impl Abort, number: u32) -> Vector {
+    let mut all = [0; SERVERS];
+    all[0] = number;
+    all[1] = 2;
+    Vector::from_counts(all).expect(rt, "there is no such vector")
+}
+
 /// A read, a Write or a refusal, by turns.
 fn what(rt: &impl Abort, number: u32) -> What {
     match number % 3 {
-        0 => What::Read(key(rt, "a"), vector(rt, number, 0)),
+        0 => What::Read(
+            Key::new("a").expect(rt, "there is no such key"),
+            counts(rt, number),
+        ),
         1 => What::Write(
-            wid(rt, 1, 7),
-            Stamp::new(9, server_id(rt, 1)).expect(rt, "no stamp"),
-            vector(rt, 3, number),
+            Wid::new(server(rt), 7).expect(rt, "there is no seventh Write"),
+            Stamp::new(9, server(rt)).expect(rt, "there is no ninth clock"),
+            counts(rt, number),
         ),
         _ => What::Refused,
     }
@@ -52,7 +67,7 @@ fn entry<K: Ledgers>(rt: &impl Abort, share: &Share<K>, number: u32) -> Entry
         session: share.session(),
         place: (number % 1000) + 1,
         asks: Asks::default(),
-        server: server_id(rt, 1),
+        server: server(rt),
         what: what(rt, number),
     }
 }
@@ -228,16 +243,14 @@ fn a_share_or_a_slip_is_missed(rt: HostRuntime) -> Result<(), Fail> {
 
 /// How many entries find a place.
 fn fill<K: Ledgers>(rt: &impl Abort, book: &mut Book<K>, share: &mut Share<K>) -> usize {
-    let mut filed = 0;
-    for number in 0..9 {
+    for number in 0..9_u32 {
         let Ok(slip) = book.claim(share) else {
-            return filed;
+            return number as usize;
         };
         let entry = entry(rt, share, number);
         book.file(slip, share, entry);
-        filed += 1;
     }
-    filed
+    9
 }
 
 /// Whether a slip that is out keeps its place, and gives it back.
