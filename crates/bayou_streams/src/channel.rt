@@ -26,13 +26,9 @@ pub struct Channel<R, W> {
     reader: R,
     writer: W,
     turns_left: u32,
-    // How many calls of the two were made since all turns were left.
-    made: u32,
     read_failed: bool,
     write_failed: bool,
     ghost in_budget: { turns_left ≤ MAX_TURNS },
-    // No turn is lost but to a call.
-    ghost none_lost: { made + turns_left ≡ MAX_TURNS },
 }
 
 impl<R, W> Channel<R, W> {
@@ -47,7 +43,6 @@ impl<R, W> Channel<R, W> {
             reader,
             writer,
             turns_left: MAX_TURNS,
-            made: 0,
             read_failed: false,
             write_failed: false,
         }
@@ -66,7 +61,6 @@ impl<R, W> Channel<R, W> {
         ensures others { (self.new.reader ≡ self.old.reader) × (self.new.writer ≡ self.old.writer) × (self.new.read_failed ≡ self.old.read_failed) × (self.new.write_failed ≡ self.old.write_failed) }
     {
         self.turns_left = MAX_TURNS;
-        self.made = 0;
     }
 }
 
@@ -85,7 +79,6 @@ impl<R: Read, W> Channel<R, W> {
             return None;
         }
         self.turns_left -= 1;
-        self.made += 1;
         let answer = self.reader.read(piece);
         if let Err(error) = &answer {
             if error.kind() != ErrorKind::Interrupted {
@@ -136,7 +129,6 @@ impl<R, W: Write> Channel<R, W> {
             return None;
         }
         self.turns_left -= 1;
-        self.made += 1;
         let answer = self.writer.write(text);
         match &answer {
             Ok(0) => self.write_failed = true,
