@@ -9,7 +9,7 @@ ghost use Rattle.bayou_streams.specs.Written.{AppendsFront};
 ghost use Rattle.bayou_wire.specs.Stream.{IsPartial};
 
 use crate::fault::Fault;
-use bayou_streams::{Channel, StreamFault};
+use bayou_streams::{Channel, StreamFault, Turn};
 use bayou_wire::{FeedFault, Frame, Frames};
 use std::alloc::Global;
 use std::io::{Read, Write};
@@ -24,11 +24,16 @@ pub(crate) fn send<R, W: Write>(channel: &mut Channel<R, W>, text: &[u8]) -> Res
     ensures turns { channel.new.turns_left ≤ channel.old.turns_left }
     ensures other { (channel.new.reader ≡ channel.old.reader) × (channel.new.read_failed ≡ channel.old.read_failed) }
 {
-    match channel.write_whole(text) {
-        Ok(()) => Ok(()),
-        Err(StreamFault::Failed) => Err(Fault::Write),
-        Err(StreamFault::TooManyTurns) => Err(Fault::TooManyTurns),
+    let mut rest = text;
+    while !rest.is_empty() {
+        match channel.write_turn(rest) {
+            Ok(Turn::Moved(count)) => rest = &rest[count..],
+            Ok(Turn::Interrupted) => {}
+            Err(StreamFault::Failed) => return Err(Fault::Write),
+            Err(StreamFault::TooManyTurns) => return Err(Fault::TooManyTurns),
+        }
     }
+    Ok(())
 }
 
 /// Reads the next bytes into the front of the piece, and tells how many they are: none only at the end, or where the piece has
@@ -46,10 +51,13 @@ pub(crate) fn read_piece<R: Read, W>(
     ensures turns { channel.new.turns_left ≤ channel.old.turns_left }
     ensures other { (channel.new.writer ≡ channel.old.writer) × (channel.new.write_failed ≡ channel.old.write_failed) }
 {
-    match channel.read_some(piece) {
-        Ok(count) => Ok(count),
-        Err(StreamFault::Failed) => Err(Fault::Read),
-        Err(StreamFault::TooManyTurns) => Err(Fault::TooManyTurns),
+    loop {
+        match channel.read_turn(piece) {
+            Ok(Turn::Moved(count)) => return Ok(count),
+            Ok(Turn::Interrupted) => {}
+            Err(StreamFault::Failed) => return Err(Fault::Read),
+            Err(StreamFault::TooManyTurns) => return Err(Fault::TooManyTurns),
+        }
     }
 }
 

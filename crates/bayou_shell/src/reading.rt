@@ -7,7 +7,7 @@ ghost use Rattle.bayou_shell.specs.Turns.{EndsReading};
 use crate::fault::Fault;
 use bayou_base::limits::READ_BYTES;
 use bayou_script::{Script, ScriptReader};
-use bayou_streams::Channel;
+use bayou_streams::{Channel, Turn};
 use std::alloc::Global;
 use std::io::Read;
 
@@ -24,11 +24,12 @@ pub(crate) fn read_script<R: Read>(
 {
     let mut reader = ScriptReader::new(alloc);
     let mut piece = [0; READ_BYTES];
-    while let Ok(count) = input.read_some(&mut piece) {
-        if count == 0 {
-            return Ok(reader.finish(alloc)?);
+    while let Ok(turn) = input.read_turn(&mut piece) {
+        match turn {
+            Turn::Moved(0) => return Ok(reader.finish(alloc)?),
+            Turn::Moved(count) => reader.feed(alloc, &piece[..count])?,
+            Turn::Interrupted => {}
         }
-        reader.feed(alloc, &piece[..count])?;
     }
     Err(Fault::Input)
 }

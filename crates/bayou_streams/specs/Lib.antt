@@ -1,4 +1,5 @@
 pub mod Account
+pub mod Inner
 pub mod Lines
 pub mod Turns
 pub mod Written

@@ -2,16 +2,26 @@
 use Rattle.std.specs.Prelude.{◌≡◌, ℕ, Bool, true, Result, Ok, Err}
 use Rattle.bayou_streams.specs.declared.channel.StreamFault.{StreamFault}
 use Rattle.bayou_streams.specs.declared.channel.StreamFault.TheVariants.{Failed, TooManyTurns}
+use Rattle.bayou_streams.specs.declared.channel.Turn.{Turn}
+use Rattle.bayou_streams.specs.declared.channel.Turn.TheVariants.{Moved, Interrupted}
 
--- a call of `read` failed, where only such errors are failures
-abbrev pub FailsToRead : {E : Type 0} → (E → Type 0) → Result ℕ E → Type 0
-FailsToRead IsFailure (Ok count) = ⊥
-FailsToRead IsFailure (Err error) = IsFailure error
+-- how many bytes a turn moved, where its call wasn't interrupted and didn't fail
+abbrev pub count_of : Result Turn StreamFault → Result ℕ (Unit {0})
+count_of (Ok (Moved count)) = Ok count
+count_of (Ok Interrupted) = Err tt
+count_of (Err fault) = Err tt
 
--- a call of `write` failed: also where it took nothing
-abbrev pub FailsToWrite : {E : Type 0} → (E → Type 0) → Result ℕ E → Type 0
-FailsToWrite IsFailure (Ok count) = count ≡ 0
-FailsToWrite IsFailure (Err error) = IsFailure error
+-- how many turns were spent: one, but for where none was left
+abbrev pub turns_of : Result Turn StreamFault → ℕ
+turns_of (Ok turn) = 1
+turns_of (Err Failed) = 1
+turns_of (Err TooManyTurns) = 0
+
+-- whether a call failed, where this one did or one before it
+abbrev pub failed_behind : Bool → Result Turn StreamFault → Bool
+failed_behind has_failed (Ok turn) = has_failed
+failed_behind has_failed (Err Failed) = true
+failed_behind has_failed (Err TooManyTurns) = has_failed
 
 -- a fault is told only where a call failed, or no turn is left
 abbrev pub Stops : Bool → ℕ → StreamFault → Type 0

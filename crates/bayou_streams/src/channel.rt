@@ -1,11 +1,13 @@
 //! A reader and a writer with one budget of turns.
-ghost use Rattle.std.specs.Prelude.{◌≡◌, ◌≢◌, ◌+◌, ◌<◌, ◌≤◌, ◌⊎◌, true, false, IfErr, IfSome, None, OnOk, length};
+ghost use Rattle.std.specs.Prelude.{◌≡◌, ◌+◌, ◌<◌, ◌≤◌, false, Ok, Err, IfOk, length};
 ghost use Rattle.std.specs.Io.{ReadsAtMost, WritesAtMost};
-ghost use Rattle.std.specs.Io.KnownBytes.{Appends, ReadConsumes, WriteAppends};
+ghost use Rattle.std.specs.Io.KnownBytes.{ReadConsumes, WriteAppends};
 ghost use Rattle.std.specs.IoError.{error_kind};
 ghost use Rattle.bayou_base.specs.declared.limits.TheConstants.{MAX_TURNS};
-ghost use Rattle.bayou_streams.specs.Turns.{FailsToRead, FailsToWrite, Stops};
-ghost use Rattle.bayou_streams.specs.Written.{AppendsFront};
+ghost use Rattle.bayou_streams.specs.declared.channel.StreamFault.TheVariants.{Failed, TooManyTurns};
+ghost use Rattle.bayou_streams.specs.declared.channel.Turn.TheVariants.{Moved};
+ghost use Rattle.bayou_streams.specs.Inner.Turns.{IsTurnOf};
+ghost use Rattle.bayou_streams.specs.Turns.{count_of, failed_behind, turns_of};
 
 use bayou_base::MAX_TURNS;
 use std::io;
@@ -18,6 +20,15 @@ pub enum StreamFault {
     Failed,
     /// No turn was left.
     TooManyTurns,
+}
+
+/// What a turn came to.
+#[derive(Clone, Copy, Debug, PartialEq, Eq)]
+pub enum Turn {
+    /// So many bytes were read or written.
+    Moved(usize),
+    /// The call was interrupted, and moved nothing. Another may go on.
+    Interrupted,
 }
 
 /// A reader and a writer, and the turns that are left to the two together.
@@ -64,109 +75,77 @@ impl<R, W> Channel<R, W> {
     }
 }
 
+// What a call of a reader came to. An interruption is no failure.
+fn turn_of(answer: io::Result<usize>) -> Result<Turn, StreamFault>
+    ensures { IsTurnOf (λ error. error_kind error ≡ ErrorKind.Interrupted) answer result }
+{
+    match answer {
+        Ok(count) => Ok(Turn::Moved(count)),
+        Err(error) => {
+            if error.kind() == ErrorKind::Interrupted {
+                return Ok(Turn::Interrupted);
+            }
+            Err(StreamFault::Failed)
+        }
+    }
+}
+
+// The same of a writer, which has failed too where it takes nothing of a text.
+fn write_turn_of(turn: Result<Turn, StreamFault>, text: &[u8]) -> Result<Turn, StreamFault>
+    ensures refused { turn ≡ Ok (Moved 0) → 0 < length text.now → result ≡ Err Failed }
+    ensures others { (turn ≡ Ok (Moved 0) → length text.now ≡ 0) → result ≡ turn }
+{
+    if let Ok(Turn::Moved(0)) = turn {
+        if !text.is_empty() {
+            return Err(StreamFault::Failed);
+        }
+    }
+    turn
+}
+
 impl<R: Read, W> Channel<R, W> {
-    // One turn of the reader, where one is left.
-    fn read_turn(&mut self, piece: &mut [u8]) -> Option<io::Result<usize>>
-        ensures bound { IfSome result (λ answer. ReadsAtMost answer piece.new) }
-        ensures bytes { IfSome result (λ answer. ReadConsumes (R.remaining self.old.reader) (R.remaining self.new.reader) answer piece.new) }
-        ensures spent { IfSome result (λ answer. self.new.turns_left + 1 ≡ self.old.turns_left) }
-        ensures told { IfSome result (λ answer. FailsToRead (λ error. error_kind error ≢ ErrorKind.Interrupted) answer → self.new.read_failed ≡ true) }
-        ensures honest { IfSome result (λ answer. self.new.read_failed ≡ true → (self.old.read_failed ≡ true) ⊎ FailsToRead (λ error. error_kind error ≢ ErrorKind.Interrupted) answer) }
-        ensures none { result ≡ None → (self.new ≡ self.old) × (self.old.turns_left ≡ 0) }
+    /// Calls the reader once, where a turn is left, to read the next bytes into the front of the piece. None come only at the
+    /// end, or where the piece has no room.
+    pub fn read_turn(&mut self, piece: &mut [u8]) -> Result<Turn, StreamFault>
+        ensures bound { ReadsAtMost (count_of result) piece.new }
+        ensures size { length piece.new ≡ length piece.old }
+        ensures bytes { ReadConsumes (R.remaining self.old.reader) (R.remaining self.new.reader) (count_of result) piece.new }
+        ensures failed { self.new.read_failed ≡ failed_behind self.old.read_failed result }
+        ensures left { self.new.turns_left + turns_of result ≡ self.old.turns_left }
+        ensures none { result ≡ Err TooManyTurns → (self.new ≡ self.old) × (piece.new ≡ piece.old) × (self.old.turns_left ≡ 0) }
         ensures other { (self.new.writer ≡ self.old.writer) × (self.new.write_failed ≡ self.old.write_failed) }
     {
         if self.turns_left == 0 {
-            return None;
+            return Err(StreamFault::TooManyTurns);
         }
         self.turns_left -= 1;
-        let answer = self.reader.read(piece);
-        if let Err(error) = &answer {
-            if error.kind() != ErrorKind::Interrupted {
-                self.read_failed = true;
-            }
+        let turn = turn_of(self.reader.read(piece));
+        if turn.is_err() {
+            self.read_failed = true;
         }
-        Some(answer)
-    }
-
-    /// Reads the next bytes into the front of the piece, and tells how many they are: none only at the end, or where the piece
-    /// has no room.
-    pub fn read_some(&mut self, piece: &mut [u8]) -> Result<usize, StreamFault>
-        ensures bound { ReadsAtMost result piece.new }
-        ensures size { length piece.new ≡ length piece.old }
-        ensures bytes { ReadConsumes (R.remaining self.old.reader) (R.remaining self.new.reader) result piece.new }
-        ensures stops { IfErr result (Stops self.new.read_failed self.new.turns_left) }
-        ensures clean { OnOk result (self.new.read_failed ≡ true → self.old.read_failed ≡ true) }
-        ensures spent { OnOk result (self.new.turns_left < self.old.turns_left) }
-        ensures turns { self.new.turns_left ≤ self.old.turns_left }
-        ensures other { (self.new.writer ≡ self.old.writer) × (self.new.write_failed ≡ self.old.write_failed) }
-    {
-        while let Some(answer) = self.read_turn(piece) {
-            match answer {
-                Ok(count) => return Ok(count),
-                Err(error) => {
-                    if error.kind() != ErrorKind::Interrupted {
-                        return Err(StreamFault::Failed);
-                    }
-                }
-            }
-        }
-        Err(StreamFault::TooManyTurns)
+        turn
     }
 }
 
 impl<R, W: Write> Channel<R, W> {
-    // One turn of the writer, where one is left. A writer that takes nothing has failed.
-    pub(crate) fn write_turn(&mut self, text: &[u8]) -> Option<io::Result<usize>>
-        ensures bytes { IfSome result (λ answer. WriteAppends (W.contents self.old.writer) (W.contents self.new.writer) answer text.now) }
-        ensures bound { IfSome result (λ answer. WritesAtMost answer text.now) }
-        ensures spent { IfSome result (λ answer. self.new.turns_left + 1 ≡ self.old.turns_left) }
-        ensures told { IfSome result (λ answer. FailsToWrite (λ error. error_kind error ≢ ErrorKind.Interrupted) answer → self.new.write_failed ≡ true) }
-        ensures honest { IfSome result (λ answer. self.new.write_failed ≡ true → (self.old.write_failed ≡ true) ⊎ FailsToWrite (λ error. error_kind error ≢ ErrorKind.Interrupted) answer) }
-        ensures none { result ≡ None → (self.new ≡ self.old) × (self.old.turns_left ≡ 0) }
+    /// Calls the writer once, where a turn is left, to write a front of the text.
+    pub fn write_turn(&mut self, text: &[u8]) -> Result<Turn, StreamFault>
+        ensures bound { WritesAtMost (count_of result) text.now }
+        ensures some { IfOk (count_of result) (λ count. 0 < length text.now → 0 < count) }
+        ensures bytes { WriteAppends (W.contents self.old.writer) (W.contents self.new.writer) (count_of result) text.now }
+        ensures failed { self.new.write_failed ≡ failed_behind self.old.write_failed result }
+        ensures left { self.new.turns_left + turns_of result ≡ self.old.turns_left }
+        ensures none { result ≡ Err TooManyTurns → (self.new ≡ self.old) × (self.old.turns_left ≡ 0) }
         ensures other { (self.new.reader ≡ self.old.reader) × (self.new.read_failed ≡ self.old.read_failed) }
     {
         if self.turns_left == 0 {
-            return None;
+            return Err(StreamFault::TooManyTurns);
         }
         self.turns_left -= 1;
-        let answer = self.writer.write(text);
-        match &answer {
-            Ok(0) => self.write_failed = true,
-            Ok(_) => {}
-            Err(error) => {
-                if error.kind() != ErrorKind::Interrupted {
-                    self.write_failed = true;
-                }
-            }
+        let turn = write_turn_of(turn_of(self.writer.write(text)), text);
+        if turn.is_err() {
+            self.write_failed = true;
         }
-        Some(answer)
-    }
-
-    /// Writes the whole text. Where it ends in a fault, a front of the text was written.
-    pub fn write_whole(&mut self, text: &[u8]) -> Result<(), StreamFault>
-        ensures whole { OnOk result (Appends (W.contents self.old.writer) (W.contents self.new.writer) text.now) }
-        ensures part { AppendsFront (W.contents self.old.writer) (W.contents self.new.writer) text.now }
-        ensures stops { IfErr result (Stops self.new.write_failed self.new.turns_left) }
-        ensures clean { OnOk result (self.new.write_failed ≡ true → self.old.write_failed ≡ true) }
-        ensures spent { OnOk result (0 < length text.now → self.new.turns_left < self.old.turns_left) }
-        ensures turns { self.new.turns_left ≤ self.old.turns_left }
-        ensures other { (self.new.reader ≡ self.old.reader) × (self.new.read_failed ≡ self.old.read_failed) }
-    {
-        let mut rest = text;
-        while !rest.is_empty() {
-            let Some(answer) = self.write_turn(rest) else {
-                return Err(StreamFault::TooManyTurns);
-            };
-            match answer {
-                Ok(0) => return Err(StreamFault::Failed),
-                Ok(count) => rest = &rest[count..],
-                Err(error) => {
-                    if error.kind() != ErrorKind::Interrupted {
-                        return Err(StreamFault::Failed);
-                    }
-                }
-            }
-        }
-        Ok(())
+        turn
     }
 }

@@ -1,16 +1,15 @@
 //! A writer whose turns begin anew with each line.
-ghost use Rattle.std.specs.Prelude.{◌≡◌, ◌≢◌, ◌-◌, ◌<◌, ◌≤◌, ◌⊎◌, true, false, IfErr, IfSome, None, OnOk};
+ghost use Rattle.std.specs.Prelude.{◌≡◌, ◌-◌, ◌<◌, ◌≤◌, true, false, Err, IfErr, IfOk, OnOk, length};
 ghost use Rattle.std.specs.Io.{IsEmptyOrEndsWith, WritesAtMost};
 ghost use Rattle.std.specs.Io.KnownBytes.{WriteAppends};
-ghost use Rattle.std.specs.IoError.{error_kind};
 ghost use Rattle.bayou_base.specs.declared.limits.TheConstants.{MAX_TURNS};
+ghost use Rattle.bayou_streams.specs.declared.channel.StreamFault.TheVariants.{TooManyTurns};
 ghost use Rattle.bayou_streams.specs.Account.{Takes, TakesFront, account};
 ghost use Rattle.bayou_streams.specs.Lines.{counted, line_feeds, taken_of, turns_behind};
-ghost use Rattle.bayou_streams.specs.Turns.{FailsToWrite, Stops};
+ghost use Rattle.bayou_streams.specs.Turns.{Stops, count_of, failed_behind, turns_of};
 
-use crate::channel::{Channel, StreamFault};
-use std::io;
-use std::io::{ErrorKind, Write};
+use crate::channel::{Channel, StreamFault, Turn};
+use std::io::Write;
 
 /// A writer, and the turns that are left to it for the line that it is at.
 #[derive(Drop)]
@@ -52,23 +51,26 @@ impl<W: Write> Output<W> {
     }
 
     // One turn, where one is left.
-    fn turn(&mut self, text: &[u8]) -> Option<io::Result<usize>>
-        ensures bytes { IfSome result (λ answer. WriteAppends (W.contents self.old.channel.writer) (W.contents self.new.channel.writer) answer text.now) }
-        ensures bound { IfSome result (λ answer. WritesAtMost answer text.now) }
-        ensures some { IfSome result (λ _. 0 < self.old.channel.turns_left) }
-        ensures spent { IfSome result (λ _. self.new.spent ≡ counted self.old.spent 1) }
-        ensures lines { IfSome result (λ answer. self.new.lines ≡ counted self.old.lines (line_feeds (taken_of answer text.now))) }
-        ensures left { IfSome result (λ answer. self.new.channel.turns_left ≡ turns_behind (line_feeds (taken_of answer text.now)) (self.old.channel.turns_left - 1)) }
-        ensures told { IfSome result (λ answer. FailsToWrite (λ error. error_kind error ≢ ErrorKind.Interrupted) answer → self.new.channel.write_failed ≡ true) }
-        ensures honest { IfSome result (λ answer. self.new.channel.write_failed ≡ true → (self.old.channel.write_failed ≡ true) ⊎ FailsToWrite (λ error. error_kind error ≢ ErrorKind.Interrupted) answer) }
-        ensures none { result ≡ None → (self.new ≡ self.old) × (self.old.channel.turns_left ≡ 0) }
+    fn turn(&mut self, text: &[u8]) -> Result<Turn, StreamFault>
+        ensures bound { WritesAtMost (count_of result) text.now }
+        ensures some { IfOk (count_of result) (λ count. 0 < length text.now → 0 < count) }
+        ensures bytes { WriteAppends (W.contents self.old.channel.writer) (W.contents self.new.channel.writer) (count_of result) text.now }
+        ensures enough { turns_of result ≤ self.old.channel.turns_left }
+        ensures spent { self.new.spent ≡ counted self.old.spent (turns_of result) }
+        ensures lines { self.new.lines ≡ counted self.old.lines (line_feeds (taken_of (count_of result) text.now)) }
+        ensures left { self.new.channel.turns_left ≡ turns_behind (line_feeds (taken_of (count_of result) text.now)) (self.old.channel.turns_left - turns_of result) }
+        ensures failed { self.new.channel.write_failed ≡ failed_behind self.old.channel.write_failed result }
+        ensures none { result ≡ Err TooManyTurns → (self.new ≡ self.old) × (self.old.channel.turns_left ≡ 0) }
     {
-        let answer = self.channel.write_turn(text)?;
-        self.spent = self.spent.saturating_add(1);
-        if let Ok(count) = &answer {
-            self.count_lines(&text[..*count]);
+        let turn = self.channel.write_turn(text);
+        if let Err(StreamFault::TooManyTurns) = turn {
+            return turn;
         }
-        Some(answer)
+        self.spent = self.spent.saturating_add(1);
+        if let Ok(Turn::Moved(count)) = turn {
+            self.count_lines(&text[..count]);
+        }
+        turn
     }
 
     /// Writes the whole text, each line in at most [`MAX_TURNS`](bayou_base::MAX_TURNS) turns. Where it ends in a fault, a
@@ -84,17 +86,8 @@ impl<W: Write> Output<W> {
     {
         let mut rest = text;
         while !rest.is_empty() {
-            let Some(answer) = self.turn(rest) else {
-                return Err(StreamFault::TooManyTurns);
-            };
-            match answer {
-                Ok(0) => return Err(StreamFault::Failed),
-                Ok(count) => rest = &rest[count..],
-                Err(error) => {
-                    if error.kind() != ErrorKind::Interrupted {
-                        return Err(StreamFault::Failed);
-                    }
-                }
+            if let Turn::Moved(count) = self.turn(rest)? {
+                rest = &rest[count..];
             }
         }
         Ok(())

@@ -1,51 +1,53 @@
-use Rattle.std.proofs.Common.{rules, tests, ◌≡◌, ◌<◌, ◌++◌, [], length, take, subst, arith, append-nil}
+use Rattle.std.proofs.Common.{rules, tests, ◌≡◌, ◌<◌, ◌++◌, [], Ok, length, take, subst, arith, append-nil}
 use Rattle.std.proofs.KnownBytes.{Consumes-trans}
 use Rattle.std.proofs.lemmas.Result.{err_from_is_err_and}
 use Rattle.std.specs.Io.KnownBytes.{Consumes, ReadConsumes}
+use Rattle.bayou_streams.specs.declared.channel.Turn.{Turn}
+use Rattle.bayou_streams.specs.Turns.{count_of}
 use Rattle.bayou_shell.proofs.Read.{refused_all, refused_front}
 use Rattle.bayou_shell.proofs.reading.read_script.Goals as goal
 
-pub returns-in_err-finish-clause-fault :
-    goal.returns-in_err-finish-clause-fault
-returns-in_err-finish-clause-fault g c =
+pub returns-in_err-finish-in-Moved-eq0-clause-fault :
+    goal.returns-in_err-finish-in-Moved-eq0-clause-fault
+returns-in_err-finish-in-Moved-eq0-clause-fault g c =
     let p = err_from_is_err_and c.from_residual.result c.from_residual.ensures.1 in
-    let (bytes, came, read) = c.loop-count.invariant.read in
-    let rest = g.R.Read.remaining in
-    let (more, end) = subst (λ answer. ReadConsumes (rest c.loop-count.input.reader) (rest c.read_some.new.self.reader) answer c.read_some.new.piece) c.in-Ok.is c.read_some.ensures.bytes in
-    let zero : c.in-Ok.count ≡ 0 = search (rules, tests) in
-    let none : Consumes (rest c.loop-count.input.reader) (rest c.read_some.new.self.reader) [] =
-    subst (λ n. Consumes (rest c.loop-count.input.reader) (rest c.read_some.new.self.reader) (take n c.read_some.new.piece)) zero more in
-    let all : Consumes (rest c.args.input.now.reader) (rest c.read_some.new.self.reader) bytes =
-    subst (Consumes (rest c.args.input.now.reader) (rest c.read_some.new.self.reader)) (append-nil bytes)
-    (Consumes-trans (rest c.args.input.now.reader) (rest c.loop-count.input.reader) (rest c.read_some.new.self.reader) bytes [] came none) in
-    let room : 0 < length c.read_some.new.piece = omega arith in
+    let (bytes, came, read) = c.loop-turn.invariant.read in
+    let start = g.R.Read.remaining c.args.input.now.reader in
+    let before = g.R.Read.remaining c.loop-turn.input.reader in
+    let after = g.R.Read.remaining c.read_turn.new.self.reader in
+    let piece = c.read_turn.new.piece in
+    let (more, end) = subst (λ (turn : Turn). ReadConsumes before after (count_of (Ok turn)) piece) c.in-Moved-eq0.is c.in-Ok.ensures.bytes in
+    let zero : c.in-Moved-eq0.field-0 ≡ 0 = search (rules, tests) in
+    let none : Consumes before after [] = subst (λ n. Consumes before after (take n piece)) zero more in
+    let all : Consumes start after bytes = subst (Consumes start after) (append-nil bytes) (Consumes-trans start before after bytes [] came none) in
+    let room : 0 < length piece = omega arith in
     rw (p.1, p.2)
-    (refused_all (rest c.args.input.now.reader) (rest c.read_some.new.self.reader) bytes c.in_err-finish.field-0.0 all (end zero room)
-    (c.in_err-finish.ensures bytes read))
+    (refused_all start after bytes c.in_err-finish-in-Moved-eq0.field-0.0 all (end zero room) (c.in_err-finish-in-Moved-eq0.ensures bytes read))
 
-pub loop-count-preserved : goal.loop-count-preserved
-loop-count-preserved g c =
-    let (bytes, came, read) = c.loop-count.invariant.read in
-    let rest = g.R.Read.remaining in
-    let piece = c.read_some.new.piece in
-    let (more, end) = subst (λ answer. ReadConsumes (rest c.loop-count.input.reader) (rest c.read_some.new.self.reader) answer piece) c.in-Ok.is c.read_some.ensures.bytes in
+pub loop-turn-preserved-in_ok-feed-in-Moved : goal.loop-turn-preserved-in_ok-feed-in-Moved
+loop-turn-preserved-in_ok-feed-in-Moved g c =
+    let (bytes, came, read) = c.loop-turn.invariant.read in
+    let start = g.R.Read.remaining c.args.input.now.reader in
+    let before = g.R.Read.remaining c.loop-turn.input.reader in
+    let after = g.R.Read.remaining c.read_turn.new.self.reader in
+    let piece = c.read_turn.new.piece in
+    let count = c.in-Moved.count in
+    let (more, end) = subst (λ (turn : Turn). ReadConsumes before after (count_of (Ok turn)) piece) c.in-Moved.is c.in-Ok.ensures.bytes in
     record {
-      read = (
-        bytes ++ take c.in-Ok.count piece,
-        Consumes-trans (rest c.args.input.now.reader) (rest c.loop-count.input.reader) (rest c.read_some.new.self.reader) bytes (take c.in-Ok.count piece) came more,
-        c.in_ok-feed.ensures bytes read,
-      );
-      fewer = omega (arith, c.loop-count.invariant.fewer, c.read_some.ensures.turns);
+      read = (bytes ++ take count piece, Consumes-trans start before after bytes (take count piece) came more, c.in_ok-feed-in-Moved.ensures bytes read);
+      fewer = omega (arith, c.loop-turn.invariant.fewer, c.in-Ok.ensures.left);
     }
 
-pub returns-in_err-feed-clause-fault : goal.returns-in_err-feed-clause-fault
-returns-in_err-feed-clause-fault g c =
-    let p = err_from_is_err_and c.from_residual-in_err-feed.result c.from_residual-in_err-feed.ensures.1 in
-    let (bytes, came, read) = c.loop-count.invariant.read in
-    let rest = g.R.Read.remaining in
-    let piece = c.read_some.new.piece in
-    let (more, end) = subst (λ answer. ReadConsumes (rest c.loop-count.input.reader) (rest c.read_some.new.self.reader) answer piece) c.in-Ok.is c.read_some.ensures.bytes in
+pub returns-in_err-feed-in-Moved-clause-fault : goal.returns-in_err-feed-in-Moved-clause-fault
+returns-in_err-feed-in-Moved-clause-fault g c =
+    let p = err_from_is_err_and c.from_residual-in_err-feed-in-Moved.result c.from_residual-in_err-feed-in-Moved.ensures.1 in
+    let (bytes, came, read) = c.loop-turn.invariant.read in
+    let start = g.R.Read.remaining c.args.input.now.reader in
+    let before = g.R.Read.remaining c.loop-turn.input.reader in
+    let after = g.R.Read.remaining c.read_turn.new.self.reader in
+    let piece = c.read_turn.new.piece in
+    let count = c.in-Moved.count in
+    let (more, end) = subst (λ (turn : Turn). ReadConsumes before after (count_of (Ok turn)) piece) c.in-Moved.is c.in-Ok.ensures.bytes in
     rw (p.1, p.2)
-    (refused_front (rest c.args.input.now.reader) (rest c.read_some.new.self.reader) (bytes ++ take c.in-Ok.count piece) c.in_err-feed.field-0.0
-    (Consumes-trans (rest c.args.input.now.reader) (rest c.loop-count.input.reader) (rest c.read_some.new.self.reader) bytes (take c.in-Ok.count piece) came more)
-    (c.in_err-feed.ensures bytes read))
+    (refused_front start after (bytes ++ take count piece) c.in_err-feed-in-Moved.field-0.0
+    (Consumes-trans start before after bytes (take count piece) came more) (c.in_err-feed-in-Moved.ensures bytes read))

@@ -4,11 +4,11 @@ use Rattle.std.specs.Io.KnownBytes.{Consumes}
 use Rattle.bayou_script.specs.Reading.{HasRead}
 use Rattle.bayou_shell.proofs.reading.read_script.Given as goal
 
-abbrev pub invariant-loop-count : goal.invariant-loop-count
-invariant-loop-count g l = record {
+abbrev pub invariant-loop-turn : goal.invariant-loop-turn
+invariant-loop-turn g l = record {
   read : (bytes : List ℕ) × Consumes (g.R.Read.remaining l.initial.input.reader) (g.R.Read.remaining l.input.reader) bytes × HasRead l.reader bytes;
   fewer : l.input.turns_left ≤ l.initial.input.turns_left;
 }
 
-abbrev pub decreases-loop-count : goal.decreases-loop-count
-decreases-loop-count g l = l.input.turns_left
+abbrev pub decreases-loop-turn : goal.decreases-loop-turn
+decreases-loop-turn g l = l.input.turns_left
