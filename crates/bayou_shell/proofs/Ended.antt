@@ -5,12 +5,12 @@ use Rattle.std.specs.Io.{IsEmptyOrEndsWith}
 use Rattle.bayou_lang.specs.declared.eval.Outcome.{Outcome}
 use Rattle.bayou_lang.specs.declared.eval.Outcome.TheVariants.{Updated, Merged, Nothing}
 use Rattle.bayou_log.specs.declared.listing.Listed.{Listed}
-use Rattle.bayou_shell.specs.declared.answer.Answer.{Answer}
-use Rattle.bayou_shell.specs.declared.answer.Answer.TheVariants.{Done, Wrote, Read, Refused, NotServed, Lost, Logged, Stopped, Recovered, Exchanged, Counted}
-use Rattle.bayou_shell.specs.declared.answer.Exchange.{Exchange}
-use Rattle.bayou_shell.specs.declared.answer.Exchange.TheVariants.{NotRunning as NothingRuns, Ended}
-use Rattle.bayou_shell.specs.declared.answer.Recovery.{Recovery}
-use Rattle.bayou_shell.specs.declared.answer.Recovery.TheVariants.{Reopened, NotReopened, NotRunning, Restarted, NotRestarted}
+use Rattle.bayou_machine.specs.declared.answer.Answer.{Answer}
+use Rattle.bayou_machine.specs.declared.answer.Answer.TheVariants.{Done, Wrote, Read, Refused, NotServed, Lost, Logged, Stopped, Recovered, Exchanged, Counted}
+use Rattle.bayou_machine.specs.declared.answer.Exchange.{Exchange}
+use Rattle.bayou_machine.specs.declared.answer.Exchange.TheVariants.{NotRunning as NothingRuns, Ended}
+use Rattle.bayou_machine.specs.declared.answer.Recovery.{Recovery}
+use Rattle.bayou_machine.specs.declared.answer.Recovery.TheVariants.{Reopened, NotReopened, NotRunning, Restarted, NotRestarted}
 use Rattle.bayou_shell.specs.Printed.{adopted_text, counts_text, exchange_text, last_text, listed_text, outcome_text, pulling_text, recovery_text, refusal_text, reopening_text, starting_text, value_text}
 
 -- it ends with a line feed

@@ -1,10 +1,6 @@
 pub mod Asked
-pub mod Begun
 pub mod Ended
-pub mod Exchanged
-pub mod Kept
 pub mod Gathered
 pub mod Joined
 pub mod Read
 pub mod Runs
-pub mod Standing

@@ -1,151 +1,31 @@
--- Runs, one step after another.
-use Rattle.std.proofs.Common.{◌≡◌, ℕ, Bool, true, false, ◌&&◌, List, [], ◌∷◌, ◌++◌, Option, None, Some, IfSome, IfErr, OnOk, Result, Ok, Err, inl, inr, IsTrue, map, take, length, ap, sym, ◌∙◌, refl, subst, append_assoc, arith, filter, length-append, lit≤, ◌≢◌, ◌+◌, ◌<◌, ◌≤◌}
+-- Runs, one turn after another, and what is printed for them.
+use Rattle.std.proofs.Common.{◌≡◌, ℕ, Bool, true, false, ◌&&◌, List, [], ◌∷◌, ◌++◌, Option, None, Some, IfSome, IfErr, OnOk, Result, Ok, Err, inl, inr, IsTrue, map, take, length, ap, sym, ◌∙◌, refl, subst, append_assoc, arith, ◌+◌, ◌≤◌}
 use Rattle.std.proofs.lemmas.List.{append-nil, take_all}
 use Rattle.std.proofs.lemmas.Grind.{flat_map-append}
 use Rattle.std.proofs.KnownBytes.{Keeps-refl}
-use Rattle.std.specs.Option.{is_some}
-use Rattle.std.proofs.Math.Bool.{cond}
 use Rattle.std.proofs.Math.Seq.{take-append_seam}
 use Rattle.std.specs.List.{list_all}
-use Rattle.bayou_base.specs.declared.entry.Entry.{Entry}
-use Rattle.bayou_base.specs.declared.entry.What.{What}
-use Rattle.bayou_session.specs.Needs.{Told}
-use Rattle.bayou_text.specs.Said.{Said, servers, session, write, read, log, fuse, lose, reopen, restart, pull, resend, totals}
-use Rattle.bayou_shell.specs.declared.answer.Answer.{Answer}
+use Rattle.bayou_machine.specs.declared.answer.Answer.{Answer}
+use Rattle.bayou_machine.specs.declared.fault.BeginFault.{BeginFault}
+use Rattle.bayou_machine.specs.declared.fault.BeginFault.TheVariants as beginning
+use Rattle.bayou_machine.specs.Filed.{operations}
+use Rattle.bayou_machine.specs.Laws.Runs.{Run-more, Turn-moves, operations-first}
+use Rattle.bayou_machine.specs.Machine.{FailsToBegin}
+use Rattle.bayou_machine.specs.Run.{Audited, IsNewRun, Run, Turn}
+use Rattle.bayou_script.specs.Script.{IsScript, Plan, is_served, lines_of}
+use Rattle.bayou_streams.specs.Account.{Account, Takes, TakesFront}
+use Rattle.bayou_text.specs.declared.command.Command.{Command}
+use Rattle.bayou_text.specs.Said.{Said, command_said}
 use Rattle.bayou_shell.specs.declared.fault.Fault.{Fault}
 use Rattle.bayou_shell.specs.declared.fault.Fault.TheVariants.{Line, Device, Input, Output}
 use Rattle.bayou_shell.specs.declared.fault.Fault.TheVariants as faults
-use Rattle.bayou_text.specs.declared.command.Command.{Command}
-use Rattle.bayou_shell.specs.Fault.{exit_status, status_of}
+use Rattle.bayou_shell.specs.Fault.{exit_status, fault_of_begin, status_of}
 use Rattle.bayou_shell.specs.Inner.Faults.{IsReadFault, IsRunFault}
-use Rattle.bayou_shell.specs.Filed.{Files, Filings, operation_of, operations, what_told}
-use Rattle.bayou_shell.specs.Machine.{Machine, session_of}
-use Rattle.bayou_shell.specs.Printed.{answer_text}
-use Rattle.bayou_shell.specs.Run.{Audited, Does, IsNewRun, Leaves, Prints, PrintsPart, Run, RunsAs, Step, Tries, Turn, answers_text}
-use Rattle.bayou_script.specs.Script.{IsScript, Plan, is_served, lines_of}
-use Rattle.bayou_text.specs.Said.{command_said}
-use Rattle.bayou_streams.specs.Account.{Account, Takes, TakesFront}
 use Rattle.bayou_shell.specs.Inner.Waiting.{Gathers, Stage}
+use Rattle.bayou_shell.specs.Printed.{answer_text}
+use Rattle.bayou_shell.specs.Run.{Prints, PrintsPart, RunsAs, answers_text}
 use Rattle.bayou_shell.specs.Turns.{EndsReading, EndsWriting}
 use Rattle.bayou_shell.proofs.Gathered.{Gathers-trans, Takes-all, Takes-front, Takes-rest}
-
--- a run goes on by one step
-pub Run-more : (old mid new : Audited) (done : List Said) (answers : List Answer) (said : Said) (answer : Answer) → Run old done answers mid
-    → Turn mid said answer new → Run old (done ++ said ∷ []) (answers ++ answer ∷ []) new
-Run-more old mid new [] [] said answer run step = (new, subst (λ before. Turn before said answer new) run step, refl)
-Run-more old mid new (first ∷ done) (given ∷ answers) said answer (next, taken, run) step =
-    (next, taken, Run-more next mid new done answers said answer run step)
-Run-more old mid new [] (given ∷ answers) said answer run step = absurd run
-Run-more old mid new (first ∷ done) [] said answer run step = absurd run
-
--- no step changes how many servers there are
-pub Step-count : (old new : Machine) (said : Said) (answer : Answer) → Step old said answer new → new.count ≡ old.count
-Step-count old new (servers count limit) answer step = absurd step
-Step-count old new (session who asks) answer step = ap (λ machine. machine.count) step.only
-Step-count old new (write who place program) answer step = ap (λ machine. machine.count) step.only
-Step-count old new (read who place key) answer step = ap (λ machine. machine.count) step.only
-Step-count old new (log place) answer step = ap (λ machine. machine.count) step.0
-Step-count old new (fuse place calls kept) answer step = let change = step.1 in ap (λ machine. machine.count) change.only
-Step-count old new (lose place count) answer step = let change = step.1 in ap (λ machine. machine.count) change.only
-Step-count old new (reopen place) answer (recovery, is, change) = ap (λ machine. machine.count) change.only
-Step-count old new (restart place) answer (recovery, is, change) = ap (λ machine. machine.count) change.only
-Step-count old new (pull to source cut) answer step = ap (λ machine. machine.count) step.only
-Step-count old new (resend to source) answer step = ap (λ machine. machine.count) step.only
-Step-count old new totals answer step = absurd step
-
--- no turn changes how many servers there are, nor how many places the book has, and an operation files one entry at most
-pub record Moves (old new : Audited) (said : Said) : Type 0 where
-  pub count : new.machine.count ≡ old.machine.count
-  pub places : new.book.places ≡ old.book.places
-  pub filed : length new.book.entries ≤ length old.book.entries + operations (said ∷ [])
-
-filed_one : (who place : ℕ) (told : Told) (what : Option What) (filed : List Entry) → Files who place told what filed → length filed ≤ 1
-filed_one who place told None filed is = subst (λ (list : List Entry). length list ≤ 1) (sym is) (lit≤ tt)
-filed_one who place told (Some what) filed (entry, is, of) = subst (λ (list : List Entry). length list ≤ 1) (sym is) (lit≤ tt)
-
-tried : (old new : Audited) (who place : ℕ) (said : Said) (answer : Answer) → operations (said ∷ []) ≡ 1 → Tries old who place said answer new → Moves old new said
-tried old new who place said answer one tries = record {
-  count = Step-count old.machine new.machine said answer tries.step;
-  places = ap (λ (book : Filings). book.places) tries.only;
-  filed = omega (
-    arith,
-    one,
-    ap (λ (book : Filings). length book.entries) tries.only,
-    length-append old.book.entries tries.filed,
-    filed_one who place (session_of old.machine tries.name) (what_told answer) tries.filed tries.files,
-  );
-}
-
-left : (old new : Audited) (said : Said) (answer : Answer) → Leaves old said answer new → Moves old new said
-left old new said answer leaves = record {
-  count = Step-count old.machine new.machine said answer leaves.step;
-  places = ap (λ (book : Filings). book.places) leaves.same;
-  filed = omega (arith, ap (λ (book : Filings). length book.entries) leaves.same);
-}
-
-pub Turn-moves : (old new : Audited) (said : Said) (answer : Answer) → Turn old said answer new → Moves old new said
-Turn-moves old new (servers count limit) answer turn = left old new _ answer turn
-Turn-moves old new (session who asks) answer turn = left old new _ answer turn
-Turn-moves old new (write who place program) answer turn = tried old new who place _ answer refl turn
-Turn-moves old new (read who place key) answer turn = tried old new who place _ answer refl turn
-Turn-moves old new (log place) answer turn = left old new _ answer turn
-Turn-moves old new (fuse place calls kept) answer turn = left old new _ answer turn
-Turn-moves old new (lose place count) answer turn = left old new _ answer turn
-Turn-moves old new (reopen place) answer turn = left old new _ answer turn
-Turn-moves old new (restart place) answer turn = left old new _ answer turn
-Turn-moves old new (pull to source cut) answer turn = left old new _ answer turn
-Turn-moves old new (resend to source) answer turn = left old new _ answer turn
-Turn-moves old new totals answer turn = record {
-  count = ap (λ (audited : Audited). audited.machine.count) turn.0;
-  places = ap (λ (audited : Audited). audited.book.places) turn.0;
-  filed = omega (arith, ap (λ (audited : Audited). length audited.book.entries) turn.0);
-}
-
--- what a turn is made of: a session's operation, or what leaves the book
-pub tries_turn : (old new : Audited) (who place : ℕ) (said : Said) (answer : Answer) → operation_of said ≡ Some (who, place)
-    → Tries old who place said answer new → Turn old said answer new
-tries_turn old new who place (servers count limit) answer is tries = absurd (cc)
-tries_turn old new who place (session other asks) answer is tries = absurd (cc)
-tries_turn old new who place (write other at program) answer is tries = subst (λ (op : Option (ℕ × ℕ)). Does op old (write other at program) answer new) (sym is) tries
-tries_turn old new who place (read other at key) answer is tries = subst (λ (op : Option (ℕ × ℕ)). Does op old (read other at key) answer new) (sym is) tries
-tries_turn old new who place (log at) answer is tries = absurd (cc)
-tries_turn old new who place (fuse at calls kept) answer is tries = absurd (cc)
-tries_turn old new who place (lose at count) answer is tries = absurd (cc)
-tries_turn old new who place (reopen at) answer is tries = absurd (cc)
-tries_turn old new who place (restart at) answer is tries = absurd (cc)
-tries_turn old new who place (pull to source cut) answer is tries = absurd (cc)
-tries_turn old new who place (resend to source) answer is tries = absurd (cc)
-tries_turn old new who place totals answer is tries = absurd (cc)
-
-pub leaves_turn : (old new : Audited) (said : Said) (answer : Answer) → operation_of said ≡ None → Leaves old said answer new → Turn old said answer new
-leaves_turn old new (servers count limit) answer is leaves = leaves
-leaves_turn old new (session other asks) answer is leaves = leaves
-leaves_turn old new (write other at program) answer is leaves = absurd (cc)
-leaves_turn old new (read other at key) answer is leaves = absurd (cc)
-leaves_turn old new (log at) answer is leaves = leaves
-leaves_turn old new (fuse at calls kept) answer is leaves = leaves
-leaves_turn old new (lose at count) answer is leaves = leaves
-leaves_turn old new (reopen at) answer is leaves = leaves
-leaves_turn old new (restart at) answer is leaves = leaves
-leaves_turn old new (pull to source cut) answer is leaves = leaves
-leaves_turn old new (resend to source) answer is leaves = leaves
-leaves_turn old new totals answer is leaves = absurd leaves.step
-
--- the first of the commands, and the others
-one_and : (said : Said) (others : List Said) (b : Bool) → length (cond b (said ∷ others) others) ≡ length (cond b (said ∷ []) []) + length others
-one_and said others true = omega arith
-one_and said others false = omega arith
-
-operations-first : (said : Said) (others : List Said) → operations (said ∷ others) ≡ operations (said ∷ []) + operations others
-operations-first said others = one_and said (filter (λ (s : Said). is_some (operation_of s)) others) (is_some (operation_of said))
-
-tried_one : (said : Said) (op : Option (ℕ × ℕ)) → op ≢ None → length (cond (is_some op) (said ∷ []) []) ≡ 1
-tried_one said None some = absurd (some refl)
-tried_one said (Some op) some = refl
-
--- there is a place for the next operation
-pub has_place : (said : Said) (others : List Said) (filed places : ℕ) → filed + operations (said ∷ others) ≤ places → operation_of said ≢ None → filed < places
-has_place said others filed places room some = omega (arith, room, operations-first said others, tried_one said (operation_of said) some)
 
 and_right : (a b : Bool) → IsTrue (a && b) → IsTrue b
 and_right true b both = both
@@ -329,3 +209,19 @@ RunsAs-script (Some input) old new plan (Err faults.Memory) script ok (is, text,
 RunsAs-script (Some input) old new plan (Err Device) script ok (is, text, prints, took) = absurd is
 RunsAs-script (Some input) old new plan (Err Input) script ok (is, text, prints, took) = absurd is
 RunsAs-script (Some input) old new plan (Err Output) script ok (is, text, prints, took) = (plan, script, text, prints, took.bytes)
+
+-- where the servers of a script don't begin, nothing is answered
+pub RunsAs-unbegun : (known contents : Option (List ℕ)) (plan : Plan) (fault : BeginFault) → IfSome known (λ text. IsScript (lines_of text) plan)
+    → FailsToBegin plan.count plan.limit fault → IfSome known (λ input. RunsAs input (Err (fault_of_begin fault)) contents contents)
+RunsAs-unbegun None contents plan fault script fails = tt
+RunsAs-unbegun (Some input) contents plan beginning.OutOfMemory script fails = inl (Keeps-refl contents)
+RunsAs-unbegun (Some input) contents plan beginning.Device script fails = (plan, script, fails, Keeps-refl contents)
+
+-- and no stream is told to be at fault
+pub unbegun_reads : (fails : Bool) (turns : ℕ) (fault : BeginFault) → EndsReading fails turns (fault_of_begin fault)
+unbegun_reads fails turns beginning.OutOfMemory = tt
+unbegun_reads fails turns beginning.Device = tt
+
+pub unbegun_writes : (fails : Bool) (turns : ℕ) (fault : BeginFault) → EndsWriting fails turns (fault_of_begin fault)
+unbegun_writes fails turns beginning.OutOfMemory = tt
+unbegun_writes fails turns beginning.Device = tt

@@ -1,4 +1,2 @@
 pub mod Faults
-pub mod Filing
-pub mod Sent
 pub mod Waiting

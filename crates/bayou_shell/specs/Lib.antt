@@ -1,10 +1,6 @@
-pub mod Exchange
 pub mod Fault
-pub mod Filed
 pub mod Inner
-pub mod Machine
 pub mod Printed
 pub mod Program
-pub mod Replica
 pub mod Run
 pub mod Turns

@@ -17,17 +17,17 @@ use Rattle.bayou_server.specs.declared.fault.StartFault.{StartFault}
 use Rattle.bayou_server.specs.declared.fault.StartFault.TheVariants as starting
 use Rattle.bayou_server.specs.declared.fault.WriteFault.{WriteFault}
 use Rattle.bayou_server.specs.declared.fault.WriteFault.TheVariants as writing
-use Rattle.bayou_shell.specs.declared.answer.Answer.{Answer}
-use Rattle.bayou_shell.specs.declared.answer.Answer.TheVariants.{Done, Wrote, Read, Refused, NotServed, Lost, Logged, Stopped, Recovered, Exchanged, Counted}
+use Rattle.bayou_machine.specs.declared.answer.Answer.{Answer}
+use Rattle.bayou_machine.specs.declared.answer.Answer.TheVariants.{Done, Wrote, Read, Refused, NotServed, Lost, Logged, Stopped, Recovered, Exchanged, Counted}
 use Rattle.bayou_peer.specs.declared.fault.Fault.TheVariants as streams
 use Rattle.bayou_peer.specs.declared.fault.PullFault.{PullFault}
 use Rattle.bayou_peer.specs.declared.fault.PullFault.TheVariants as pulling
 use Rattle.bayou_server.specs.declared.fault.TakeFault.{TakeFault}
 use Rattle.bayou_server.specs.declared.fault.TakeFault.TheVariants as taking
-use Rattle.bayou_shell.specs.declared.answer.Exchange.{Exchange}
-use Rattle.bayou_shell.specs.declared.answer.Exchange.TheVariants.{NotRunning as NothingRuns, Ended}
-use Rattle.bayou_shell.specs.declared.answer.Recovery.{Recovery}
-use Rattle.bayou_shell.specs.declared.answer.Recovery.TheVariants.{Reopened, NotReopened, NotRunning, Restarted, NotRestarted}
+use Rattle.bayou_machine.specs.declared.answer.Exchange.{Exchange}
+use Rattle.bayou_machine.specs.declared.answer.Exchange.TheVariants.{NotRunning as NothingRuns, Ended}
+use Rattle.bayou_machine.specs.declared.answer.Recovery.{Recovery}
+use Rattle.bayou_machine.specs.declared.answer.Recovery.TheVariants.{Reopened, NotReopened, NotRunning, Restarted, NotRestarted}
 
 -- the counts of the first servers, in order
 abbrev pub first_counts : ℕ → List ℕ → List ℕ

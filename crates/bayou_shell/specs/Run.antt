@@ -1,154 +1,15 @@
--- What a script may be answered: a run of a machine over its servers and its sessions.
-use Rattle.std.specs.Prelude.{◌≡◌, ℕ, ◌⊎◌, Bool, true, false, List, [], ◌∷◌, ◌++◌, Option, None, Some, Result, Ok, Err, take, flat_map}
+-- What is read and printed of a run.
+use Rattle.std.specs.Prelude.{◌≡◌, ℕ, ◌⊎◌, List, ◌++◌, Option, Result, Ok, Err, take, flat_map}
 use Rattle.std.specs.Io.KnownBytes.{Appends, Keeps}
-use Rattle.bayou_base.specs.declared.asks.Asks.{Asks}
-use Rattle.bayou_base.specs.declared.entry.Entry.{Entry}
-use Rattle.bayou_base.specs.declared.server.ServerId.{ServerId}
-use Rattle.bayou_base.specs.declared.session.SessionId.{SessionId}
-use Rattle.bayou_session.specs.Needs.{Told, new_session}
-use Rattle.bayou_text.specs.Said.{Said, servers, session, write, read, log, fuse, lose, reopen, restart, pull, resend, totals}
-use Rattle.bayou_shell.specs.declared.answer.Answer.{Answer}
-use Rattle.bayou_shell.specs.declared.answer.Answer.TheVariants.{Counted, Done, Recovered}
-use Rattle.bayou_shell.specs.declared.answer.Recovery.{Recovery}
+use Rattle.bayou_machine.specs.declared.answer.Answer.{Answer}
+use Rattle.bayou_machine.specs.declared.fault.BeginFault.TheVariants as beginning
+use Rattle.bayou_machine.specs.Machine.{FailsToBegin}
+use Rattle.bayou_machine.specs.Run.{Audited, IsNewRun, Run}
+use Rattle.bayou_script.specs.Script.{IsRefused, IsScript, Plan, lines_of}
 use Rattle.bayou_shell.specs.declared.fault.Fault.{Fault}
 use Rattle.bayou_shell.specs.declared.fault.Fault.TheVariants.{Line, Device, Input, Output}
 use Rattle.bayou_shell.specs.declared.fault.Fault.TheVariants as fault
-use Rattle.bayou_shell.specs.declared.replica.Replica.{Replica}
-use Rattle.bayou_shell.specs.Exchange.{Exchanges, own_counts, zero_counts}
-use Rattle.bayou_shell.specs.Filed.{Files, Filings, operation_of, places_for, totals_filed, what_told}
-use Rattle.bayou_shell.specs.Machine.{FailsToBegin, HasBegun, Machine, StandsAt, session_of, with_server, with_session}
 use Rattle.bayou_shell.specs.Printed.{answer_text}
-use Rattle.bayou_shell.specs.Replica.{IsFused, IsListed, IsRead, IsReopened, IsRestarted, IsShortened, IsWritten}
-use Rattle.bayou_script.specs.Script.{IsRefused, IsScript, Plan, lines_of}
-
--- the session is opened
-pub record Opens (old : Machine) (who : ℕ) (asks : Asks) (answer : Answer) (new : Machine) : Type 0 where
-  pub name : SessionId
-  pub is_named : name.index ≡ who
-  pub answered : answer ≡ Done
-  pub only : new ≡ with_session old name (new_session name asks)
-
--- The session tries an operation at the server: what that does to the two of them, it does in the machine, and nothing else.
-pub record Operates (Does : SessionId → Replica → Told → Answer → Replica → Told → Type 0) (old : Machine) (who place : ℕ) (answer : Answer) (new : Machine) : Type 0 where
-  pub name : SessionId
-  pub is_named : name.index ≡ who
-  pub before : Replica
-  pub after : Replica
-  pub told : Told
-  pub stands : StandsAt old place before
-  pub does : Does name before (session_of old name) answer after told
-  pub only : new ≡ with_session (with_server old place after) name told
-
--- The session asks something of the server, which stays as it is: only the session changes.
-pub record Queries (Does : SessionId → Replica → Told → Answer → Told → Type 0) (old : Machine) (who place : ℕ) (answer : Answer) (new : Machine) : Type 0 where
-  pub name : SessionId
-  pub is_named : name.index ≡ who
-  pub replica : Replica
-  pub told : Told
-  pub stands : StandsAt old place replica
-  pub does : Does name replica (session_of old name) answer told
-  pub only : new ≡ with_session old name told
-
--- What is done to the server is done in the machine, and nothing else.
-pub record Changes (Does : ServerId → Replica → Replica → Type 0) (old : Machine) (place : ℕ) (new : Machine) : Type 0 where
-  pub name : ServerId
-  pub is_named : name.index ≡ place
-  pub before : Replica
-  pub after : Replica
-  pub stands : StandsAt old place before
-  pub does : Does name before after
-  pub only : new ≡ with_server old place after
-
--- what is asked of the server is answered so
-pub record Sees (Is : ServerId → Replica → Type 0) (machine : Machine) (place : ℕ) : Type 0 where
-  pub name : ServerId
-  pub is_named : name.index ≡ place
-  pub replica : Replica
-  pub stands : StandsAt machine place replica
-  pub is : Is name replica
-
--- the server is to be reopened or restarted
-abbrev pub Recovers : (ServerId → Replica → Recovery → Replica → Type 0) → Machine → ℕ → Answer → Machine → Type 0
-Recovers Does old place answer new =
-    (recovery : Recovery) × (answer ≡ Recovered recovery) × Changes (λ name before after. Does name before recovery after) old place new
-
--- From old, what a line says may get this answer and leave new. A log has no answer for want of memory, which ends the run.
-abbrev pub Step : Machine → Said → Answer → Machine → Type 0
-Step old (servers count limit) answer new = ⊥
-Step old (session who asks) answer new = Opens old who asks answer new
-Step old (write who place program) answer new = Operates (λ name. IsWritten name program) old who place answer new
-Step old (read who place key) answer new = Queries (λ name. IsRead name key) old who place answer new
-Step old (log place) answer new = (new ≡ old) × Sees (λ name replica. IsListed name replica answer) old place
-Step old (fuse place calls kept) answer new = (answer ≡ Done) × Changes (λ name before after. IsFused calls kept before after) old place new
-Step old (lose place count) answer new = (answer ≡ Done) × Changes (λ name before after. IsShortened count before after) old place new
-Step old (reopen place) answer new = Recovers IsReopened old place answer new
-Step old (restart place) answer new = Recovers (IsRestarted old.count old.limit) old place answer new
-Step old (pull to source cut) answer new = Exchanges own_counts cut old to source answer new
-Step old (resend to source) answer new = Exchanges zero_counts None old to source answer new
-Step old totals answer new = ⊥
-
--- Servers and sessions have nothing to say of the book.
-abbrev pub asks_book : Said → Bool
-asks_book totals = true
-asks_book _ = false
-
--- it asks for a log
-abbrev pub IsLog : Said → Type 0
-IsLog (servers count limit) = ⊥
-IsLog (session who asks) = ⊥
-IsLog (write who server program) = ⊥
-IsLog (read who server key) = ⊥
-IsLog (log server) = Unit {0}
-IsLog (fuse server calls kept) = ⊥
-IsLog (lose server count) = ⊥
-IsLog (reopen server) = ⊥
-IsLog (restart server) = ⊥
-IsLog (pull to source cut) = ⊥
-IsLog (resend to source) = ⊥
-IsLog totals = ⊥
-
--- The machine of a script: its servers and sessions, and the book of what was served.
-pub record Audited : Type 0 where
-  pub machine : Machine
-  pub book : Filings
-
--- as a script begins, nothing was filed
-pub record IsNewRun (plan : Plan) (audited : Audited) : Type 0 where
-  pub machine : HasBegun plan.count plan.limit audited.machine
-  pub places : audited.book.places ≡ places_for plan.commands
-  pub none_filed : audited.book.entries ≡ []
-
--- The session tries an operation at the server, and what it was told is filed, and nothing else.
-pub record Tries (old : Audited) (who place : ℕ) (said : Said) (answer : Answer) (new : Audited) : Type 0 where
-  pub step : Step old.machine said answer new.machine
-  pub name : SessionId
-  pub is_named : name.index ≡ who
-  pub filed : List Entry
-  pub files : Files who place (session_of old.machine name) (what_told answer) filed
-  pub only : new.book ≡ record old.book { entries = old.book.entries ++ filed }
-
--- nothing is filed
-pub record Leaves (old : Audited) (said : Said) (answer : Answer) (new : Audited) : Type 0 where
-  pub step : Step old.machine said answer new.machine
-  pub same : new.book ≡ old.book
-
--- what a session does is filed, and what is done to servers alone isn't
-abbrev pub Does : Option (ℕ × ℕ) → Audited → Said → Answer → Audited → Type 0
-Does None old said answer new = Leaves old said answer new
-Does (Some (who, place)) old said answer new = Tries old who place said answer new
-
--- From old, what a line says may get this answer and leave new: what sessions are told is filed, and the totals are those of what
--- was filed so far.
-abbrev pub Turn : Audited → Said → Answer → Audited → Type 0
-Turn old totals answer new = (new ≡ old) × (answer ≡ Counted (totals_filed old.book.entries))
-Turn old said answer new = Does (operation_of said) old said answer new
-
--- what is said one after another may get these answers
-abbrev pub Run : Audited → List Said → List Answer → Audited → Type 0
-Run old [] [] new = new ≡ old
-Run old (said ∷ others) (answer ∷ answers) new = (mid : Audited) × Turn old said answer mid × Run mid others answers new
-Run old [] (answer ∷ answers) new = ⊥
-Run old (said ∷ others) [] new = ⊥
 
 -- what is printed for answers where there are so many servers
 abbrev pub answers_text : ℕ → List Answer → List ℕ
@@ -181,6 +42,6 @@ abbrev pub RunsAs : List ℕ → Result (Unit {0}) Fault → Option (List ℕ) �
 RunsAs input (Ok done) old new = (plan : Plan) × IsScript (lines_of input) plan × (text : List ℕ) × Prints plan text × Appends old new text
 RunsAs input (Err (Line number fault)) old new = IsRefused (lines_of input) number fault × Keeps old new
 RunsAs input (Err fault.Memory) old new = Keeps old new ⊎ ((plan : Plan) × IsScript (lines_of input) plan × (text : List ℕ) × PrintsPart plan text × Appends old new text)
-RunsAs input (Err Device) old new = (plan : Plan) × IsScript (lines_of input) plan × FailsToBegin plan.count plan.limit Device × Keeps old new
+RunsAs input (Err Device) old new = (plan : Plan) × IsScript (lines_of input) plan × FailsToBegin plan.count plan.limit beginning.Device × Keeps old new
 RunsAs input (Err Input) old new = Keeps old new
 RunsAs input (Err Output) old new = (plan : Plan) × IsScript (lines_of input) plan × (text : List ℕ) × PrintsPart plan text × Appends old new text

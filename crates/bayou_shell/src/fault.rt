@@ -1,4 +1,5 @@
 use arrayvec::ArrayString;
+use bayou_machine::BeginFault;
 use bayou_script::{Refusal, ScriptFault};
 use std::alloc::{AllocError, AllocFailed};
 use std::fmt::Write;
@@ -82,6 +83,20 @@ impl From<Refusal> for Fault {
         match refusal {
             Refusal::Line { number, fault } => Fault::Line { number, fault },
             Refusal::OutOfMemory => Fault::Memory,
+        }
+    }
+}
+
+impl From<BeginFault> for Fault {
+    ghost use Rattle.std.specs.Prelude.{◌≡◌};
+    ghost use Rattle.bayou_shell.specs.Fault.{fault_of_begin};
+
+    ghost from_gives = { λ begin fault. fault ≡ fault_of_begin begin };
+
+    fn from(begin: BeginFault) -> Fault {
+        match begin {
+            BeginFault::OutOfMemory => Fault::Memory,
+            BeginFault::Device => Fault::Device,
         }
     }
 }

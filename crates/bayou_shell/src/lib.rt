@@ -2,9 +2,8 @@
 //!
 //! Callers see a run as a relation (`RunsAs` in `specs/`) between the bytes that the reader has left, how the run ended,
 //! and what the writer holds before and after. The whole input is read, and checked by `bayou_script` as it comes, before
-//! anything runs. What is printed are the lines of the answers of a run of a small machine: its servers, each on a device in
-//! memory, and its sessions, with every answer that a command may get. Where the input is refused, nothing is printed, and the
-//! least line with a fault is told; where a fault comes later, a front of those lines is printed.
+//! anything runs. What is printed are the lines of the answers of a run (`bayou_machine`). Where the input is refused, nothing
+//! is printed, and the least line with a fault is told; where a fault comes later, a front of those lines is printed.
 //!
 //! Streams come as `bayou_streams`' `Channel` and `Output`, which alone call them: an input is read in at most
 //! [`MAX_TURNS`](bayou_base::MAX_TURNS) turns, and each printed line is written in at most as many, however lines are gathered
@@ -15,16 +14,11 @@
 //! gives or takes anything.
 #![tactic(auto)]
 
-mod answer;
-mod exchange;
 pub mod fault;
-mod filing;
 mod printed;
 pub mod program;
 mod reading;
-mod replica;
 pub mod run;
-mod store;
 mod telling;
 mod waiting;
 mod writing;

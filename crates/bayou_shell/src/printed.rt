@@ -2,14 +2,14 @@ ghost use Rattle.std.specs.Prelude.{◌≡◌, ◌≤◌, Some, IfOk, string_byt
 ghost use Rattle.serde_json.specs.Data.{string};
 ghost use Rattle.serde_json.specs.Written.{compact_text};
 ghost use Rattle.bayou_base.specs.declared.limits.TheConstants.{SERVERS};
-ghost use Rattle.bayou_shell.specs.declared.answer.Answer.TheVariants.{NotServed, Read, Wrote};
+ghost use Rattle.bayou_machine.specs.declared.answer.Answer.TheVariants.{NotServed, Read, Wrote};
 ghost use Rattle.bayou_shell.specs.Printed.{adopted_text, counts_text, exchange_text, last_text, listed_text, pulling_text, recovery_text, refusal_text, reopening_text, starting_text, taking_text, totals_text, value_text};
 
-use crate::answer::{Answer, Exchange, Recovery};
 use bayou_audit::Totals;
 use bayou_base::{Accepted, Key, Seen, ServerId, SessionId, Value, Vector, Wid};
 use bayou_lang::Outcome;
 use bayou_log::Listed;
+use bayou_machine::{Answer, Exchange, Recovery};
 use bayou_peer::{Fault as Stream, PullFault, Pulled};
 use bayou_server::{ReopenFault, StartFault, TakeFault, WriteFault};
 use serde_json::Value as Json;

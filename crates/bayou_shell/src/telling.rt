@@ -6,12 +6,12 @@ ghost use Rattle.bayou_shell.specs.Inner.Faults.{IsRunFault};
 ghost use Rattle.bayou_shell.specs.Inner.Waiting.{Gathers, stage};
 ghost use Rattle.bayou_shell.specs.Turns.{EndsWriting};
 
-use crate::answer::Answer;
 use crate::fault::Fault;
 use crate::printed::{listed_line, printed};
 use crate::waiting::Waiting;
 use bayou_base::ServerId;
 use bayou_log::Listed;
+use bayou_machine::Answer;
 use bayou_streams::Output;
 use std::alloc::Global;
 use std::io::Write;

@@ -3,8 +3,8 @@ use Rattle.std.proofs.lemmas.Result.{err_from_is_err_and}
 use Rattle.bayou_text.specs.declared.command.Command.{Command}
 use Rattle.bayou_script.specs.Plan.{plan_of}
 use Rattle.std.proofs.Math.Nat.{le-max_left}
-use Rattle.bayou_shell.specs.Filed.{operations}
-use Rattle.bayou_shell.specs.Inner.Filing.{audited}
+use Rattle.bayou_machine.specs.Filed.{operations}
+use Rattle.bayou_machine.specs.Run.{audited}
 use Rattle.bayou_shell.specs.Inner.Waiting.{stage}
 use Rattle.bayou_shell.proofs.Gathered.{Gathers-nil}
 use Rattle.bayou_shell.proofs.Runs.{SoFar, SoFar-more, SoFar-part, SoFar-stopped}

@@ -1,7 +1,7 @@
 -- what was answered so far is a run, what was written or waits is what is printed for it, and no fewer turns are left
 use Rattle.std.proofs.Common.{◌≤◌, length}
 use Rattle.bayou_script.specs.Plan.{plan_of}
-use Rattle.bayou_shell.specs.Inner.Filing.{audited}
+use Rattle.bayou_machine.specs.Run.{audited}
 use Rattle.bayou_shell.specs.Inner.Waiting.{stage}
 use Rattle.bayou_shell.proofs.Runs.{SoFar}
 use Rattle.bayou_shell.proofs.run.answer_each.Given as goal

@@ -1,7 +1,7 @@
 use Rattle.std.proofs.lemmas.Result.{err_from_is_err_and}
 use Rattle.bayou_script.specs.Plan.{plan_of}
 use Rattle.bayou_streams.specs.Account.{account}
-use Rattle.bayou_shell.proofs.Runs.{RunsAs-script, RunsAs-unread}
+use Rattle.bayou_shell.proofs.Runs.{RunsAs-script, RunsAs-unbegun, RunsAs-unread, unbegun_reads, unbegun_writes}
 use Rattle.bayou_shell.proofs.run.run_with.Goals as goal
 
 pub returns-in_err-script-clause-runs : goal.returns-in_err-script-clause-runs
@@ -14,3 +14,20 @@ pub returns-clause-runs : goal.returns-clause-runs
 returns-clause-runs g c =
     RunsAs-script (g.R.Read.remaining c.args.input.now.reader) (account g.W.Write.contents c.args.output.now) (account g.W.Write.contents c.answer_all.new.output)
     (plan_of c.in_ok-script.script) c.answer_all.result c.in_ok-script.ensures.script c.answer_all.ensures.ok c.answer_all.ensures.err
+
+pub returns-in_err-store-clause-runs : goal.returns-in_err-store-clause-runs
+returns-in_err-store-clause-runs g c =
+    let p = err_from_is_err_and c.from_residual-in_err-store.result c.from_residual-in_err-store.ensures.1 in
+    rw (p.1, p.2)
+    (RunsAs-unbegun (g.R.Read.remaining c.args.input.now.reader) (g.W.Write.contents c.args.output.now.channel.writer) (plan_of c.in_ok-script.script)
+    c.in_err-store.field-0.0 c.in_ok-script.ensures.script c.in_err-store.ensures.fault)
+
+pub returns-in_err-store-clause-read : goal.returns-in_err-store-clause-read
+returns-in_err-store-clause-read g c =
+    let p = err_from_is_err_and c.from_residual-in_err-store.result c.from_residual-in_err-store.ensures.1 in
+    rw (p.1, p.2) (unbegun_reads _ _ c.in_err-store.field-0.0)
+
+pub returns-in_err-store-clause-written : goal.returns-in_err-store-clause-written
+returns-in_err-store-clause-written g c =
+    let p = err_from_is_err_and c.from_residual-in_err-store.result c.from_residual-in_err-store.ensures.1 in
+    rw (p.1, p.2) (unbegun_writes _ _ c.in_err-store.field-0.0)

@@ -1,0 +1,5 @@
+pub mod Begun
+pub mod Exchanged
+pub mod Kept
+pub mod Standing
+pub mod Turned

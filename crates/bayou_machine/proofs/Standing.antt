@@ -1,0 +1,41 @@
+-- The servers of a machine, each in its place.
+use Rattle.std.proofs.Common.{◌≡◌, ℕ, zero, suc, ◌<◌, List, [], ◌∷◌, Some, set, length, get_or, ap, sym, ◌∙◌, subst, refl, arith}
+use Rattle.std.proofs.lemmas.Option.{slice_get_read}
+use Rattle.std.proofs.lemmas.List.{get_or_default, set-get_or}
+use Rattle.std.specs.List.{insert, remove, slice_get}
+use Rattle.bayou_machine.specs.declared.replica.Replica.{Replica}
+use Rattle.bayou_machine.specs.Machine.{Machine, with_server}
+
+-- the server that is found at its place stands there
+pub stands_at : (replicas servers : List Replica) (count place at : ℕ) (replica : Replica) → replicas ≡ servers → length replicas ≡ count → at ≡ place
+    → place < count → replica ≡ get_or replicas at replica → slice_get servers place ≡ Some replica
+stands_at replicas servers count place at replica same many here within found =
+    subst (λ (list : List Replica). slice_get list place ≡ Some replica) same
+    (slice_get_read replicas count place replica (sym many) within (found ∙ ap (λ i. get_or replicas i replica) here))
+
+-- what is taken out of its place and put back there, changed
+pub put_back : (replicas : List Replica) (place : ℕ) (replica : Replica) → place < length replicas → insert (remove replicas place) place replica ≡ set replicas place replica
+put_back [] place replica within = absurd (omega arith)
+put_back (first ∷ replicas) zero replica within = refl
+put_back (first ∷ replicas) (suc place) replica within = ap (λ (list : List Replica). first ∷ list) (put_back replicas place replica (omega arith))
+
+-- a server that is put in its place again changes nothing
+pub put_same : (replicas : List Replica) (at : ℕ) (replica same : Replica) → replica ≡ get_or replicas at replica → same ≡ replica → set replicas at same ≡ replicas
+put_same replicas at replica same here is =
+    ap (set replicas at) (is ∙ here) ∙ set-get_or replicas at replica
+
+-- some server stands at a place that there is
+pub one_stands : (replicas servers : List Replica) (count place : ℕ) (default : Replica) → replicas ≡ servers → length replicas ≡ count → place < count
+    → slice_get servers place ≡ Some (get_or replicas place default)
+one_stands replicas servers count place default same many within =
+    stands_at replicas servers count place place (get_or replicas place default) same many refl within
+    (sym (get_or_default replicas place (get_or replicas place default) default (omega (arith, many, within))))
+
+-- nor in a machine
+pub same_machine : (machine : Machine) (replicas : List Replica) (place at : ℕ) (replica : Replica) → replicas ≡ machine.servers → at ≡ place → replica ≡ get_or replicas at replica
+    → machine ≡ with_server machine place replica
+same_machine machine replicas place at replica servers here found =
+    let same : set machine.servers place replica ≡ machine.servers =
+    subst (λ (list : List Replica). set list place replica ≡ list) servers
+    (subst (λ i. set replicas i replica ≡ replicas) here (put_same replicas at replica replica found refl)) in
+    ap (λ (list : List Replica). record machine { servers = list }) (sym same)

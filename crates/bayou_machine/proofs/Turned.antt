@@ -1,0 +1,36 @@
+-- What a turn is made of.
+use Rattle.std.proofs.Common.{◌≡◌, ℕ, Option, None, Some, sym, subst}
+use Rattle.bayou_text.specs.Said.{Said, servers, session, write, read, log, fuse, lose, reopen, restart, pull, resend, totals}
+use Rattle.bayou_machine.specs.declared.answer.Answer.{Answer}
+use Rattle.bayou_machine.specs.Filed.{operation_of}
+use Rattle.bayou_machine.specs.Run.{Audited, Does, Leaves, Tries, Turn}
+
+-- what a turn is made of: a session's operation, or what leaves the book
+pub tries_turn : (old new : Audited) (who place : ℕ) (said : Said) (answer : Answer) → operation_of said ≡ Some (who, place)
+    → Tries old who place said answer new → Turn old said answer new
+tries_turn old new who place (servers count limit) answer is tries = absurd (cc)
+tries_turn old new who place (session other asks) answer is tries = absurd (cc)
+tries_turn old new who place (write other at program) answer is tries = subst (λ (op : Option (ℕ × ℕ)). Does op old (write other at program) answer new) (sym is) tries
+tries_turn old new who place (read other at key) answer is tries = subst (λ (op : Option (ℕ × ℕ)). Does op old (read other at key) answer new) (sym is) tries
+tries_turn old new who place (log at) answer is tries = absurd (cc)
+tries_turn old new who place (fuse at calls kept) answer is tries = absurd (cc)
+tries_turn old new who place (lose at count) answer is tries = absurd (cc)
+tries_turn old new who place (reopen at) answer is tries = absurd (cc)
+tries_turn old new who place (restart at) answer is tries = absurd (cc)
+tries_turn old new who place (pull to source cut) answer is tries = absurd (cc)
+tries_turn old new who place (resend to source) answer is tries = absurd (cc)
+tries_turn old new who place totals answer is tries = absurd (cc)
+
+pub leaves_turn : (old new : Audited) (said : Said) (answer : Answer) → operation_of said ≡ None → Leaves old said answer new → Turn old said answer new
+leaves_turn old new (servers count limit) answer is leaves = leaves
+leaves_turn old new (session other asks) answer is leaves = leaves
+leaves_turn old new (write other at program) answer is leaves = absurd (cc)
+leaves_turn old new (read other at key) answer is leaves = absurd (cc)
+leaves_turn old new (log at) answer is leaves = leaves
+leaves_turn old new (fuse at calls kept) answer is leaves = leaves
+leaves_turn old new (lose at count) answer is leaves = leaves
+leaves_turn old new (reopen at) answer is leaves = leaves
+leaves_turn old new (restart at) answer is leaves = leaves
+leaves_turn old new (pull to source cut) answer is leaves = leaves
+leaves_turn old new (resend to source) answer is leaves = leaves
+leaves_turn old new totals answer is leaves = absurd leaves.step

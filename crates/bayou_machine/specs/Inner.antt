@@ -1,0 +1,2 @@
+pub mod Filing
+pub mod Sent

@@ -1,0 +1,35 @@
+-- What one server sends to another, and what that makes of it. No public clause cites this.
+use Rattle.std.specs.Prelude.{◌≡◌, ℕ, ◌<◌, ◌^◌, List, Option, Err, All, length}
+use Rattle.bayou_lang.specs.declared.write.Write.{Write}
+use Rattle.bayou_lang.specs.Ranges.{IsWrite}
+use Rattle.bayou_lang.specs.Writes.{lacking_of}
+use Rattle.bayou_peer.specs.declared.fault.Fault.TheVariants.{OutOfMemory}
+use Rattle.bayou_peer.specs.declared.fault.PullFault.TheVariants.{Stream}
+use Rattle.bayou_peer.specs.Meeting.{Meets}
+use Rattle.bayou_peer.specs.Spelled.{answer_bytes}
+use Rattle.bayou_machine.specs.declared.answer.Exchange.{Exchange}
+use Rattle.bayou_machine.specs.declared.answer.Exchange.TheVariants.{NotRunning, Ended}
+use Rattle.bayou_machine.specs.declared.replica.Replica.{Replica}
+use Rattle.bayou_machine.specs.declared.replica.Replica.TheVariants.{Running}
+use Rattle.bayou_machine.specs.Exchange.{IsStopped, serving_ways}
+use Rattle.bayou_machine.specs.Replica.{Serving}
+
+-- the bytes are the answer of these Writes
+pub record Sends (sent : List Write) (bytes : List ℕ) : Type 0 where
+  pub valid : All IsWrite sent
+  pub few : length sent < 2 ^ 32
+  pub spelled : bytes ≡ answer_bytes sent
+
+-- the server runs, and the bytes are its answer to an Offer of these counts
+abbrev pub IsAnswer : List ℕ → Replica → List ℕ → Type 0
+IsAnswer counts replica bytes = (server : Serving) × (replica ≡ Running server) × Sends (lacking_of counts server.core.held) bytes
+
+-- there is no answer
+abbrev pub IsNoAnswer : Replica → Exchange → Type 0
+IsNoAnswer replica NotRunning = IsStopped replica
+IsNoAnswer replica (Ended result) = (server : Serving) × (replica ≡ Running server) × (result ≡ Err (Stream OutOfMemory))
+
+-- what a server makes of these Writes, cut or not
+abbrev pub IsGiven : List Write → Option ℕ → Replica → Exchange → Replica → Type 0
+IsGiven sent cut before NotRunning after = IsStopped before × (after ≡ before)
+IsGiven sent cut before (Ended result) after = (old new : Serving) × (before ≡ Running old) × (after ≡ Running new) × Meets serving_ways sent cut old result new

@@ -1,0 +1,87 @@
+//! A server of a script that takes Writes from another.
+ghost use Rattle.std.specs.Prelude.{◌≡◌, ◌<◌, ◌^◌, ℕ, All, IfErr, IfOk, List, Option, length};
+ghost use Rattle.bayou_lang.specs.declared.write.Write.{Write};
+ghost use Rattle.bayou_lang.specs.Ranges.{IsWrite};
+ghost use Rattle.bayou_lang.specs.Writes.{lacking_of};
+ghost use Rattle.bayou_peer.specs.Meeting.{Meets, cut_answer};
+ghost use Rattle.bayou_machine.specs.Exchange.{own_counts, serving_ways};
+ghost use Rattle.bayou_machine.specs.Inner.Sent.{IsAnswer, IsGiven, IsNoAnswer, Sends};
+
+use crate::answer::Exchange;
+use crate::replica::Replica;
+use bayou_base::Vector;
+use bayou_device::{MemoryDevice, OpenGate};
+use bayou_peer::meeting::a_pull_takes_what_is_sent;
+use bayou_peer::{Fault, PullFault, Pulled, answer_offer_on, pull_from_on};
+use bayou_server::Server;
+use bayou_streams::Channel;
+use std::alloc::{AllocError, Global};
+use std::io;
+
+type Serving = Server<MemoryDevice<OpenGate>>;
+
+/// The server's answer to an Offer of these counts. Bytes in memory fail for want of it alone.
+fn answer_of(alloc: Global, server: &mut Serving, counts: &Vector) -> Result<Vec<u8>, AllocError>
+    ensures same { server.new ≡ server.old }
+    ensures sent { IfOk result (λ answer. Sends (lacking_of counts.now server.old.core.held) answer.items) }
+{
+    let _sound = server.receipts();
+    let mut channel = Channel::new((), Vec::new(alloc));
+    match answer_offer_on(alloc, server, counts, &mut channel) {
+        Ok(_) => Ok(channel.into_parts().1),
+        Err(_) => Err(AllocError),
+    }
+}
+
+/// What the server makes of an input. Its Offer goes nowhere: it was answered before.
+fn take_from(
+    alloc: Global,
+    server: &mut Serving,
+    counts: &Vector,
+    input: &[u8],
+) -> Result<Pulled, PullFault>
+    ensures { (sent : List Write) (cut : Option ℕ) → All IsWrite sent → length sent < 2 ^ 32 → input.now ≡ cut_answer cut sent
+        → Meets serving_ways sent cut server.old result server.new }
+{
+    a_pull_takes_what_is_sent::<Serving>();
+    let mut channel = Channel::new(input, io::sink());
+    pull_from_on(alloc, server, counts, &mut channel)
+}
+
+impl Replica {
+    /// For each server the number of its Writes that are held.
+    pub(crate) fn counts(&self) -> Vector
+        ensures { result ≡ own_counts self.now }
+    {
+        match self {
+            Replica::Running(server) => server.vector(),
+            Replica::Stopped(stopped) => stopped.log.vector(),
+        }
+    }
+
+    /// Its answer to an Offer of these counts.
+    pub(crate) fn answer(&mut self, alloc: Global, counts: &Vector) -> Result<Vec<u8>, Exchange>
+        ensures same { self.new ≡ self.old }
+        ensures sent { IfOk result (λ answer. IsAnswer counts.now self.old answer.items) }
+        ensures none { IfErr result (IsNoAnswer self.old) }
+    {
+        let Replica::Running(server) = self else {
+            return Err(Exchange::NotRunning);
+        };
+        match answer_of(alloc, server, counts) {
+            Ok(answer) => Ok(answer),
+            Err(_) => Err(Exchange::Ended(Err(PullFault::Stream(Fault::OutOfMemory)))),
+        }
+    }
+
+    /// What it makes of an input, where it offered these counts.
+    pub(crate) fn take_from(&mut self, alloc: Global, counts: &Vector, input: &[u8]) -> Exchange
+        ensures { (sent : List Write) (cut : Option ℕ) → All IsWrite sent → length sent < 2 ^ 32 → input.now ≡ cut_answer cut sent
+            → IsGiven sent cut self.old result self.new }
+    {
+        match self {
+            Replica::Running(server) => Exchange::Ended(take_from(alloc, server, counts, input)),
+            Replica::Stopped(_) => Exchange::NotRunning,
+        }
+    }
+}
