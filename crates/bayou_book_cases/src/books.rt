@@ -1,5 +1,6 @@
 //! The book of what was served: what is filed in it, when it is full, when it is settled, and two threads that file at once.
 ghost use Rattle.std.specs.Prelude.{◌≡◌, ◌<◌, ◌≤◌};
+ghost use Rattle.bayou_audit.specs.Blanks.{AreBlanksOf, named};
 ghost use Rattle.bayou_base.specs.declared.limits.TheConstants.{SESSIONS};
 
 use bayou_audit::{
@@ -98,10 +99,7 @@ where
     U: Ledger + Send + Sync,
     V: Ledger + Send + Sync,
     R: Threads + Wait + Abort + Sync,
-    requires slips { (blanks.slips.name ≡ S.name) × (blanks.slips.parts ≡ S.parts) × (blanks.slips.parts ≡ 2) }
-    requires reads { (blanks.reads.name ≡ T.name) × (blanks.reads.parts ≡ T.parts) × (blanks.reads.parts ≡ 2) }
-    requires writes { (blanks.writes.name ≡ U.name) × (blanks.writes.parts ≡ U.parts) × (blanks.writes.parts ≡ 2) }
-    requires refusals { (blanks.refusals.name ≡ V.name) × (blanks.refusals.parts ≡ V.parts) × (blanks.refusals.parts ≡ 2) }
+    requires blanks { AreBlanksOf blanks (named S.name S.parts) (named T.name T.parts) (named U.name U.parts) (named V.name V.parts) 2 }
 {
     let (book, mut shares) = AuditBook::<Four<S, T, U, V>>::new(alloc, blanks, 2, 8)?;
     let (Some(second), Some(first)) = (shares.pop(), shares.pop()) else {
@@ -168,10 +166,7 @@ where
     T: Ledger + Send + Sync,
     U: Ledger + Send + Sync,
     V: Ledger + Send + Sync,
-    requires slips { (blanks.slips.name ≡ S.name) × (blanks.slips.parts ≡ S.parts) × (blanks.slips.parts ≡ 2) }
-    requires reads { (blanks.reads.name ≡ T.name) × (blanks.reads.parts ≡ T.parts) × (blanks.reads.parts ≡ 2) }
-    requires writes { (blanks.writes.name ≡ U.name) × (blanks.writes.parts ≡ U.parts) × (blanks.writes.parts ≡ 2) }
-    requires refusals { (blanks.refusals.name ≡ V.name) × (blanks.refusals.parts ≡ V.parts) × (blanks.refusals.parts ≡ 2) }
+    requires blanks { AreBlanksOf blanks (named S.name S.parts) (named T.name T.parts) (named U.name U.parts) (named V.name V.parts) 2 }
 {
     let (book, mut shares) = AuditBook::<Four<S, T, U, V>>::new(alloc, blanks, 2, 8)?;
     let Some(_) = shares.pop() else {
@@ -195,10 +190,7 @@ where
     U: Ledger + Send + Sync,
     V: Ledger + Send + Sync,
     R: Wait + Abort,
-    requires slips { (blanks.slips.name ≡ S.name) × (blanks.slips.parts ≡ S.parts) × (blanks.slips.parts ≡ 1) }
-    requires reads { (blanks.reads.name ≡ T.name) × (blanks.reads.parts ≡ T.parts) × (blanks.reads.parts ≡ 1) }
-    requires writes { (blanks.writes.name ≡ U.name) × (blanks.writes.parts ≡ U.parts) × (blanks.writes.parts ≡ 1) }
-    requires refusals { (blanks.refusals.name ≡ V.name) × (blanks.refusals.parts ≡ V.parts) × (blanks.refusals.parts ≡ 1) }
+    requires blanks { AreBlanksOf blanks (named S.name S.parts) (named T.name T.parts) (named U.name U.parts) (named V.name V.parts) 1 }
 {
     let (book, mut made) = AuditBook::<Four<S, T, U, V>>::new(alloc, blanks, 1, 8)?;
     let mut shares = Vec::with_capacity(alloc, 1)?;
@@ -281,10 +273,7 @@ where
     T: Ledger + Send + Sync,
     U: Ledger + Send + Sync,
     V: Ledger + Send + Sync,
-    requires slips { (blanks.slips.name ≡ S.name) × (blanks.slips.parts ≡ S.parts) × (blanks.slips.parts ≡ 1) }
-    requires reads { (blanks.reads.name ≡ T.name) × (blanks.reads.parts ≡ T.parts) × (blanks.reads.parts ≡ 1) }
-    requires writes { (blanks.writes.name ≡ U.name) × (blanks.writes.parts ≡ U.parts) × (blanks.writes.parts ≡ 1) }
-    requires refusals { (blanks.refusals.name ≡ V.name) × (blanks.refusals.parts ≡ V.parts) × (blanks.refusals.parts ≡ 1) }
+    requires blanks { AreBlanksOf blanks (named S.name S.parts) (named T.name T.parts) (named U.name U.parts) (named V.name V.parts) 1 }
 {
     let (mut book, mut shares) = Book::<Four<S, T, U, V>>::new(alloc, blanks, 1, places)?;
     let Some(mut share) = shares.pop() else {
@@ -345,10 +334,7 @@ where
     U: Ledger + Send + Sync,
     V: Ledger + Send + Sync,
     R: Wait + Abort,
-    requires slips { (blanks.slips.name ≡ S.name) × (blanks.slips.parts ≡ S.parts) × (blanks.slips.parts ≡ 1) }
-    requires reads { (blanks.reads.name ≡ T.name) × (blanks.reads.parts ≡ T.parts) × (blanks.reads.parts ≡ 1) }
-    requires writes { (blanks.writes.name ≡ U.name) × (blanks.writes.parts ≡ U.parts) × (blanks.writes.parts ≡ 1) }
-    requires refusals { (blanks.refusals.name ≡ V.name) × (blanks.refusals.parts ≡ V.parts) × (blanks.refusals.parts ≡ 1) }
+    requires blanks { AreBlanksOf blanks (named S.name S.parts) (named T.name T.parts) (named U.name U.parts) (named V.name V.parts) 1 }
 {
     let (book, mut shares) = AuditBook::<Four<S, T, U, V>>::new(alloc, blanks, 1, 8)?;
     let Some(mut share) = shares.pop() else {

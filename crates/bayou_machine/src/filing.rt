@@ -1,6 +1,7 @@
 //! What is filed of the operations of a script.
 ghost use Rattle.std.specs.Prelude.{◌≡◌, ◌≢◌, ◌<◌, ◌-◌, ◌++◌, [], IfOk, IsTrue, List, MatchResult, None, Some, length, map};
 ghost use Rattle.std.specs.Option.{option_map};
+ghost use Rattle.bayou_audit.specs.Blanks.{AreBlanksOf, named};
 ghost use Rattle.bayou_base.specs.declared.entry.Entry.{Entry as Filed};
 ghost use Rattle.bayou_base.specs.declared.limits.TheConstants.{MAX_PLACES, SESSIONS as SESSIONS_NUMBER};
 ghost use Rattle.bayou_script.specs.Script.{is_served};
@@ -135,10 +136,7 @@ pub fn places_for(commands: &VecDeque<Command>) -> usize
 impl<K: Ledgers> Filing<K> {
     /// A book with so many places, in which nothing was filed.
     pub fn new(alloc: Global, blanks: Blanks, places: usize) -> Result<Self, AllocError>
-        requires slips { (blanks.slips.name ≡ K.Slips.name) × (blanks.slips.parts ≡ K.Slips.parts) × (blanks.slips.parts ≡ SESSIONS_NUMBER) }
-        requires reads { (blanks.reads.name ≡ K.Reads.name) × (blanks.reads.parts ≡ K.Reads.parts) × (blanks.reads.parts ≡ SESSIONS_NUMBER) }
-        requires writes { (blanks.writes.name ≡ K.Writes.name) × (blanks.writes.parts ≡ K.Writes.parts) × (blanks.writes.parts ≡ SESSIONS_NUMBER) }
-        requires refusals { (blanks.refusals.name ≡ K.Refusals.name) × (blanks.refusals.parts ≡ K.Refusals.parts) × (blanks.refusals.parts ≡ SESSIONS_NUMBER) }
+        requires blanks { AreBlanksOf blanks (named K.Slips.name K.Slips.parts) (named K.Reads.name K.Reads.parts) (named K.Writes.name K.Writes.parts) (named K.Refusals.name K.Refusals.parts) SESSIONS_NUMBER }
         ensures { IfOk result (λ filing. filing ≡ record { places = places; entries = [] }) }
     {
         let (book, shares) = Book::new(alloc, blanks, SESSIONS as u8, places)?;

@@ -4,6 +4,7 @@ ghost use Rattle.bayou_script.specs.Script.{is_served};
 ghost use Rattle.bayou_text.specs.Said.{command_said};
 ghost use Rattle.bayou_machine.specs.declared.answer.Answer.{Answer};
 ghost use Rattle.bayou_base.specs.declared.limits.TheConstants.{SESSIONS as SESSIONS_NUMBER};
+ghost use Rattle.bayou_audit.specs.Blanks.{AreBlanksOf, named};
 ghost use Rattle.bayou_machine.specs.Filed.{operation_of};
 ghost use Rattle.bayou_shell.specs.Printed.{answer_text};
 ghost use Rattle.bayou_machine.specs.Run.{IsNewRun, Turn, audited};
@@ -127,10 +128,7 @@ fn run_with<K: Ledgers, R: Read, W: Write>(
     input: &mut Channel<R, ()>,
     output: &mut Output<W>,
 ) -> Result<(), Fault>
-    requires slips { (blanks.slips.name ≡ K.Slips.name) × (blanks.slips.parts ≡ K.Slips.parts) × (blanks.slips.parts ≡ SESSIONS_NUMBER) }
-    requires reads { (blanks.reads.name ≡ K.Reads.name) × (blanks.reads.parts ≡ K.Reads.parts) × (blanks.reads.parts ≡ SESSIONS_NUMBER) }
-    requires writes { (blanks.writes.name ≡ K.Writes.name) × (blanks.writes.parts ≡ K.Writes.parts) × (blanks.writes.parts ≡ SESSIONS_NUMBER) }
-    requires refusals { (blanks.refusals.name ≡ K.Refusals.name) × (blanks.refusals.parts ≡ K.Refusals.parts) × (blanks.refusals.parts ≡ SESSIONS_NUMBER) }
+    requires blanks { AreBlanksOf blanks (named K.Slips.name K.Slips.parts) (named K.Reads.name K.Reads.parts) (named K.Writes.name K.Writes.parts) (named K.Refusals.name K.Refusals.parts) SESSIONS_NUMBER }
     ensures runs { IfSome (R.remaining input.old.reader) (λ text. RunsAs text result (W.contents output.old.channel.writer) (W.contents output.new.channel.writer)) }
     ensures read { IfErr result (EndsReading input.new.read_failed input.new.turns_left) }
     ensures written { IfErr result (EndsWriting output.new.channel.write_failed output.new.channel.turns_left) }
@@ -158,10 +156,7 @@ where
     V: Ledger + Send + Sync,
     R: Read,
     W: Write,
-    requires slips { (blanks.slips.name ≡ S.name) × (blanks.slips.parts ≡ S.parts) × (blanks.slips.parts ≡ SESSIONS_NUMBER) }
-    requires reads { (blanks.reads.name ≡ T.name) × (blanks.reads.parts ≡ T.parts) × (blanks.reads.parts ≡ SESSIONS_NUMBER) }
-    requires writes { (blanks.writes.name ≡ U.name) × (blanks.writes.parts ≡ U.parts) × (blanks.writes.parts ≡ SESSIONS_NUMBER) }
-    requires refusals { (blanks.refusals.name ≡ V.name) × (blanks.refusals.parts ≡ V.parts) × (blanks.refusals.parts ≡ SESSIONS_NUMBER) }
+    requires blanks { AreBlanksOf blanks (named S.name S.parts) (named T.name T.parts) (named U.name U.parts) (named V.name V.parts) SESSIONS_NUMBER }
     ensures runs { IfSome (R.remaining input.old.reader) (λ text. RunsAs text result (W.contents output.old.channel.writer) (W.contents output.new.channel.writer)) }
     ensures read { IfErr result (EndsReading input.new.read_failed input.new.turns_left) }
     ensures written { IfErr result (EndsWriting output.new.channel.write_failed output.new.channel.turns_left) }
