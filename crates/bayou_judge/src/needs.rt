@@ -34,7 +34,9 @@ fn last_of(last: Option<Stamp>, other: Option<Stamp>) -> Option<Stamp>
 
 impl Need {
     /// What one is told of who is told of nothing.
-    pub(crate) fn none() -> Self {
+    pub(crate) fn none() -> Self
+        ensures { (write : Write) → ¬ IsNeeded result write }
+    {
         Need {
             counts: Vector::zero(),
             last: None,
@@ -85,7 +87,9 @@ pub(crate) struct Needs {
 
 impl Needs {
     /// Those of a session that neither read nor wrote.
-    pub(crate) fn none() -> Self {
+    pub(crate) fn none() -> Self
+        ensures { (guarantee : Guarantee) (write : Write) → ¬ IsNeeded (need_for result guarantee) write }
+    {
         Needs {
             read: Need::none(),
             wrote: Need::none(),
