@@ -259,7 +259,7 @@ breach_is_least count dumps entries genuine guarantee session at breach kept is 
     (other.server.index ∷ wid_key other.wid) (breach.server.index ∷ wid_key breach.wid) (same_session ∙ sym is.both.session_is) (ap rank (same_guarantee ∙ sym is.both.guarantee_is)) against.0 against.1
 
 pub surveys : (count : ℕ) (entries : List Entry) (dumps : List (List Write)) (indexes : List Tables) → IsChecked count entries dumps indexes → (guarantee : Guarantee) (session : ℕ) (result : Option Breach)
-    → IsFirstBreach dumps entries guarantee session result → Surveys (history_of entries dumps) guarantee session result
+    → IsFirstBreach dumps entries guarantee session (length entries) result → Surveys (history_of entries dumps) guarantee session result
 surveys count entries dumps indexes checked guarantee session None kept =
     holds count dumps entries checked.evidence.dumps_are guarantee session (none_violates count dumps entries checked.evidence.entries_are guarantee session kept)
 surveys count entries dumps indexes checked guarantee session (Some breach) found = record {

@@ -11,6 +11,7 @@ pub mod Indexes
 pub mod Kept
 pub mod Least
 pub mod Pairs
+pub mod Known
 pub mod Served
 pub mod Stamps
 pub mod Needed

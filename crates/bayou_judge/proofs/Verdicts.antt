@@ -13,6 +13,7 @@ use Rattle.bayou_judge.specs.declared.verdict.Surveyed.{Surveyed}
 use Rattle.bayou_judge.specs.Answers.{AreKept, IsAskedFor, IsLeastBreach, IsSurvey, IsSurveyed, Surveys}
 use Rattle.bayou_judge.specs.Breaches.{is_asked, is_less, rank, Holds, IsBreach, IsLeastOf, Violates}
 use Rattle.bayou_judge.specs.History.{History}
+use Rattle.bayou_judge.specs.Inner.Known.{found_of}
 use Rattle.bayou_judge.specs.Inner.Verdicts.{AreUnasked, IsAskedAt, IsFirstOf, IsTheFirst, IsUnasked}
 use Rattle.bayou_judge.proofs.Faults.{less-later}
 use Rattle.bayou_judge.proofs.Least.{session-ext}
@@ -28,13 +29,6 @@ holds_none history guarantees.WritesFollowReads session first second server wid 
     fails.2 (holds first second other database write before saw wrote earlier has server fails.0 fails.1)
 holds_none history guarantees.MonotonicWrites session first second server wid before holds (earlier, later, one, two, named, fails) =
     fails.2 (holds first second earlier later before one two server fails.0 fails.1)
-
--- what was surveyed of a guarantee
-abbrev pub found_of : Surveyed → Guarantee → Option Breach
-found_of surveyed guarantees.ReadYourWrites = surveyed.ryw
-found_of surveyed guarantees.MonotonicReads = surveyed.mr
-found_of surveyed guarantees.WritesFollowReads = surveyed.wfr
-found_of surveyed guarantees.MonotonicWrites = surveyed.mw
 
 found_is : (history : History) (surveyed : Surveyed) → IsSurveyed history surveyed → (guarantee : Guarantee) → Surveys history guarantee surveyed.session.index (found_of surveyed guarantee)
 found_is history surveyed is guarantees.ReadYourWrites = is.ryw

@@ -2,4 +2,5 @@ pub mod Checks
 pub mod Heard
 pub mod Index
 pub mod Needs
+pub mod Known
 pub mod Verdicts

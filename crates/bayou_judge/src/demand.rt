@@ -15,7 +15,7 @@ use bayou_base::{ServerId, Stamp, Vector, What, Wid};
 use bayou_lang::RestingWrite;
 
 /// The Writes that are there, and the later Write's stamp, before which each one has to be.
-#[derive(Clone, Copy, Debug)]
+#[derive(Clone, Copy)]
 pub(crate) struct Demand {
     pub(crate) counts: Vector,
     pub(crate) next: Option<Stamp>,

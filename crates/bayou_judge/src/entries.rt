@@ -1,5 +1,5 @@
 //! Whether entries tell of what can have been.
-ghost use Rattle.std.specs.Prelude.{◌≡◌, ℕ, ◌≤◌, ◌↔◌, List, IfOk, IsTrue, Contains, length, take};
+ghost use Rattle.std.specs.Prelude.{◌≡◌, ℕ, ◌<◌, ◌≤◌, ◌↔◌, List, IfOk, IsTrue, Contains, length, take};
 ghost use Rattle.bayou_base.specs.declared.limits.TheConstants.{SERVERS};
 ghost use Rattle.bayou_base.specs.declared.entry.Entry.{Entry};
 ghost use Rattle.bayou_lang.specs.declared.write.Write.{Write};
@@ -26,12 +26,19 @@ pub(crate) struct Latest {
     asks: Asks,
 }
 
+/// Whether the entry's place is above that of the last, whatever became of either.
+fn is_above(latest: Latest, entry: &Entry) -> bool
+    ensures { IsTrue result ↔ (latest.place < entry.now.place) }
+{
+    latest.place < entry.place
+}
+
 /// Whether the entry may stand behind the last of its session, if there is one.
 fn follows(latest: Option<Latest>, entry: &Entry) -> bool
     ensures { (earlier : List Entry) → IsLatest earlier entry.now.session.index latest → IsTrue result ↔ Follows earlier entry.now }
 {
     match latest {
-        Some(latest) => latest.place < entry.place && latest.asks == entry.asks,
+        Some(latest) => is_above(latest, entry) && latest.asks == entry.asks,
         None => true,
     }
 }

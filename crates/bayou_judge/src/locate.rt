@@ -15,7 +15,7 @@ use bayou_base::{Entry, ServerId, SessionId, What, Wid};
 use bayou_lang::RestingWrite;
 
 /// A Write that is missing at a server, or isn't before the later one.
-#[derive(Clone, Copy, Debug)]
+#[derive(Clone, Copy)]
 pub(crate) struct Fault {
     pub(crate) server: ServerId,
     pub(crate) wid: Wid,

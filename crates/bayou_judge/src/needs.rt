@@ -1,19 +1,22 @@
 //! What a session was told of, by vectors.
-ghost use Rattle.std.specs.Prelude.{◌≡◌, ◌⊎◌, List, ℕ, Some, sum};
+ghost use Rattle.std.specs.Prelude.{◌≡◌, ◌⊎◌, List, ℕ, Some, sum, true};
 ghost use Rattle.bayou_base.specs.Vector.{Covers};
 ghost use Rattle.bayou_base.specs.declared.entry.What.TheVariants as whats;
 ghost use Rattle.bayou_lang.specs.declared.write.Write.{Write};
 ghost use Rattle.bayou_judge.specs.History.{dump_of, lists_of};
 ghost use Rattle.bayou_judge.specs.Inner.Index.{IsUpTo};
 ghost use Rattle.bayou_base.specs.declared.stamp.Stamp.{Stamp};
-ghost use Rattle.bayou_judge.specs.Inner.Needs.{IsChecked, IsNeeded, IsServed, Tells};
+ghost use Rattle.bayou_judge.specs.Inner.Needs.{is_first, IsChecked, IsNeeded, IsServed, Tells};
+ghost use Rattle.bayou_judge.specs.Inner.Known.{need_for};
+ghost use Rattle.bayou_judge.specs.declared.breach.Guarantee.{Guarantee};
 
+use crate::breach::Guarantee;
 use crate::evidence::Evidence;
 use crate::index::later_of;
 use bayou_base::{ServerId, Stamp, Vector, What, Wid};
 
 /// The Writes that a session was told of: for each server the greatest of their sequence numbers, and their last stamp.
-#[derive(Clone, Copy, Debug)]
+#[derive(Clone, Copy)]
 pub(crate) struct Need {
     pub(crate) counts: Vector,
     pub(crate) last: Option<Stamp>,
@@ -31,7 +34,9 @@ fn last_of(last: Option<Stamp>, other: Option<Stamp>) -> Option<Stamp>
 
 impl Need {
     /// What one is told of who is told of nothing.
-    pub(crate) fn none() -> Self {
+    pub(crate) fn none() -> Self
+        ensures { (write : Write) → ¬ IsNeeded result write }
+    {
         Need {
             counts: Vector::zero(),
             last: None,
@@ -71,6 +76,49 @@ pub(crate) fn size_of(vector: &Vector) -> usize
         size += *count as usize;
     }
     size
+}
+
+/// What a session read and what it wrote.
+#[derive(Clone, Copy)]
+pub(crate) struct Needs {
+    pub(crate) read: Need,
+    pub(crate) wrote: Need,
+}
+
+impl Needs {
+    /// Those of a session that neither read nor wrote.
+    pub(crate) fn none() -> Self
+        ensures { (guarantee : Guarantee) (write : Write) → ¬ IsNeeded (need_for result guarantee) write }
+    {
+        Needs {
+            read: Need::none(),
+            wrote: Need::none(),
+        }
+    }
+
+    /// That of which the guarantee speaks as the earlier.
+    pub(crate) fn of(&self, guarantee: Guarantee) -> &Need
+        ensures { result.now ≡ need_for self.now guarantee }
+    {
+        match guarantee {
+            Guarantee::MonotonicReads | Guarantee::WritesFollowReads => &self.read,
+            Guarantee::ReadYourWrites | Guarantee::MonotonicWrites => &self.wrote,
+        }
+    }
+
+    /// With what an operation of this kind told of.
+    pub(crate) fn with(&self, what: &What, told: &Need) -> Needs
+        ensures kept { (guarantee : Guarantee) (write : Write) → IsNeeded (need_for self.now guarantee) write → IsNeeded (need_for result guarantee) write }
+        ensures told { (guarantee : Guarantee) (write : Write) → is_first guarantee what.now ≡ true → IsNeeded told.now write → IsNeeded (need_for result guarantee) write }
+    {
+        let mut needs = *self;
+        match what {
+            What::Read(_, _) => needs.read = self.read.join(told),
+            What::Write(_, _, _) => needs.wrote = self.wrote.join(told),
+            What::Refused => {}
+        }
+        needs
+    }
 }
 
 impl<'a> Evidence<'a> {

@@ -1,30 +1,79 @@
-//! One session's operations in turn.
-ghost use Rattle.std.specs.Prelude.{◌≡◌, ℕ, ◌<◌, ◌+◌, Some, None, length, slice_get, take};
+//! One pass over the entries, for all sessions and all guarantees.
+ghost use Rattle.std.specs.Prelude.{◌≡◌, ℕ, ◌<◌, ◌≤◌, ◌+◌, List, Some, None, length, slice_get, slice_index_or, take};
 ghost use Rattle.bayou_base.specs.declared.entry.Entry.{Entry};
-ghost use Rattle.bayou_judge.specs.Answers.{IsSurveyed, Surveys};
-ghost use Rattle.bayou_judge.specs.History.{history_of, lists_of};
-ghost use Rattle.bayou_judge.specs.Inner.Needs.{AreKeptTo, IsBreachFor, IsChecked, IsFirstBreach, IsNeedOf, IsSecond};
+ghost use Rattle.bayou_base.specs.declared.limits.TheConstants.{SESSIONS};
+ghost use Rattle.bayou_lang.specs.declared.write.Write.{Write};
+ghost use Rattle.bayou_judge.specs.declared.breach.Guarantee.{Guarantee};
+ghost use Rattle.bayou_judge.specs.History.{lists_of};
+ghost use Rattle.bayou_judge.specs.Inner.Needs.{IsBreachFor, IsChecked, IsFirstBreach, IsNeedOf};
+ghost use Rattle.bayou_judge.specs.Inner.Known.{found_of, need_for, IsKnown, IsProgress};
 
 use crate::breach::{Breach, Guarantee};
 use crate::evidence::Evidence;
-use crate::kinds::{is_first_of, is_second_of};
-use crate::needs::Need;
+use crate::kinds::is_second_of;
+use crate::needs::{Need, Needs};
 use crate::verdict::Surveyed;
-use bayou_base::{Entry, SessionId};
+use bayou_base::{SESSIONS, SessionId};
+
+/// What a session was told of so far, and the first breach of each guarantee so far, if there was one.
+#[derive(Clone, Copy)]
+pub(crate) struct Progress {
+    pub(crate) needs: Needs,
+    pub(crate) surveyed: Surveyed,
+}
+
+/// The first breach of the guarantee so far.
+fn found_of(surveyed: &Surveyed, guarantee: Guarantee) -> Option<Breach>
+    ensures { result ≡ found_of surveyed.now guarantee }
+{
+    match guarantee {
+        Guarantee::ReadYourWrites => surveyed.ryw,
+        Guarantee::MonotonicReads => surveyed.mr,
+        Guarantee::WritesFollowReads => surveyed.wfr,
+        Guarantee::MonotonicWrites => surveyed.mw,
+    }
+}
+
+impl Progress {
+    /// That of a session which tried nothing yet.
+    fn none(session: SessionId) -> Self
+        ensures session { result.surveyed.session ≡ session }
+        ensures found { (guarantee : Guarantee) → found_of result.surveyed guarantee ≡ None }
+    {
+        Progress {
+            needs: Needs::none(),
+            surveyed: Surveyed {
+                session,
+                ryw: None,
+                mr: None,
+                wfr: None,
+                mw: None,
+            },
+        }
+    }
+
+    /// That of a session of which this is known.
+    fn of_known(known: Option<Progress>, session: SessionId) -> Self
+        ensures { (dumps : List (List Write)) (entries : List Entry) (at : ℕ) → at ≤ length entries → IsKnown dumps entries session.index at known
+            → IsProgress dumps entries session.index at result }
+    {
+        match known {
+            Some(progress) => progress,
+            None => Progress::none(session),
+        }
+    }
+}
 
 impl<'a> Evidence<'a> {
-    /// What the session needs once it was told of this entry too.
-    fn need_with(&self, guarantee: Guarantee, session: SessionId, at: usize, need: Need) -> Need
+    /// What is needed by the session of this entry once it was told of it too.
+    fn needs_with(&self, at: usize, needs: &Needs) -> Needs
         requires checked { IsChecked self.now.count self.now.entries.now (lists_of self.now.dumps.now) self.now.indexes.now }
         requires at { at < length self.now.entries.now }
-        requires need { IsNeedOf (lists_of self.now.dumps.now) guarantee session.index (take at self.now.entries.now) need }
-        ensures { IsNeedOf (lists_of self.now.dumps.now) guarantee session.index (take (at + 1) self.now.entries.now) result }
+        ensures { (session : ℕ) (guarantee : Guarantee) → IsNeedOf (lists_of self.now.dumps.now) guarantee session (take at self.now.entries.now) (need_for needs.now guarantee)
+            → IsNeedOf (lists_of self.now.dumps.now) guarantee session (take (at + 1) self.now.entries.now) (need_for result guarantee) }
     {
         let entry = &self.entries[at];
-        if !is_first_of(guarantee, session, entry) {
-            return need;
-        }
-        need.join(&self.need_of(entry.server, &entry.what))
+        needs.with(&entry.what, &self.need_of(entry.server, &entry.what))
     }
 
     /// The breach of this entry, if there is one. The entries before it are looked at only where the vectors don't show that
@@ -51,33 +100,56 @@ impl<'a> Evidence<'a> {
         self.breach_at(guarantee, session, at)
     }
 
-    /// The first breach of the guarantee in the session, by one pass over the entries.
-    fn first_breach(&self, guarantee: Guarantee, session: SessionId) -> Option<Breach>
+    /// The first breach of the guarantee up to this entry.
+    fn first_with(
+        &self,
+        guarantee: Guarantee,
+        session: SessionId,
+        at: usize,
+        progress: &Progress,
+    ) -> Option<Breach>
         requires checked { IsChecked self.now.count self.now.entries.now (lists_of self.now.dumps.now) self.now.indexes.now }
-        ensures { IsFirstBreach (lists_of self.now.dumps.now) self.now.entries.now guarantee session.index result }
+        requires at { at < length self.now.entries.now }
+        requires progress { IsProgress (lists_of self.now.dumps.now) self.now.entries.now session.index at progress.now }
+        ensures { IsFirstBreach (lists_of self.now.dumps.now) self.now.entries.now guarantee session.index (at + 1) result }
     {
-        let mut need = Need::none();
-        for at in 0..self.entries.len() {
-            if let Some(breach) = self.breach_of(guarantee, session, at, &need) {
-                return Some(breach);
-            }
-            need = self.need_with(guarantee, session, at, need);
+        match found_of(&progress.surveyed, guarantee) {
+            Some(breach) => Some(breach),
+            None => self.breach_of(guarantee, session, at, progress.needs.of(guarantee)),
         }
-        None
     }
 
-    /// What became of each guarantee in the session.
-    pub(crate) fn survey_of(&self, session: SessionId) -> Surveyed
+    /// The progress of the session with this entry, which is its own.
+    fn progress_with(&self, session: SessionId, at: usize, progress: &Progress) -> Progress
         requires checked { IsChecked self.now.count self.now.entries.now (lists_of self.now.dumps.now) self.now.indexes.now }
-        ensures surveyed { IsSurveyed (history_of self.now.entries.now (lists_of self.now.dumps.now)) result }
-        ensures session { result.session ≡ session }
+        requires at { at < length self.now.entries.now }
+        requires progress { IsProgress (lists_of self.now.dumps.now) self.now.entries.now session.index at progress.now }
+        ensures { IsProgress (lists_of self.now.dumps.now) self.now.entries.now session.index (at + 1) result }
     {
-        Surveyed {
-            session,
-            ryw: self.first_breach(Guarantee::ReadYourWrites, session),
-            mr: self.first_breach(Guarantee::MonotonicReads, session),
-            wfr: self.first_breach(Guarantee::WritesFollowReads, session),
-            mw: self.first_breach(Guarantee::MonotonicWrites, session),
+        Progress {
+            needs: self.needs_with(at, &progress.needs),
+            surveyed: Surveyed {
+                session,
+                ryw: self.first_with(Guarantee::ReadYourWrites, session, at, progress),
+                mr: self.first_with(Guarantee::MonotonicReads, session, at, progress),
+                wfr: self.first_with(Guarantee::WritesFollowReads, session, at, progress),
+                mw: self.first_with(Guarantee::MonotonicWrites, session, at, progress),
+            },
         }
+    }
+
+    /// What became of each session that has an entry, by one pass over the entries.
+    pub(crate) fn pass(&self) -> [Option<Progress>; SESSIONS]
+        requires checked { IsChecked self.now.count self.now.entries.now (lists_of self.now.dumps.now) self.now.indexes.now }
+        ensures sized { length result ≡ SESSIONS }
+        ensures known { (session : ℕ) → session < SESSIONS → IsKnown (lists_of self.now.dumps.now) self.now.entries.now session (length self.now.entries.now) (slice_index_or result session None) }
+    {
+        let mut known = [None; SESSIONS];
+        for (at, entry) in self.entries.iter().enumerate() {
+            let session = usize::from(entry.session.index);
+            let progress = Progress::of_known(known[session], entry.session);
+            known[session] = Some(self.progress_with(entry.session, at, &progress));
+        }
+        known
     }
 }

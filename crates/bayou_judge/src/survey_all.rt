@@ -1,4 +1,4 @@
-ghost use Rattle.std.specs.Prelude.{◌≡◌, ◌<◌, ◌≤◌, ◌↔◌, Any, IfOk, IsTrue, length};
+ghost use Rattle.std.specs.Prelude.{◌≡◌, ◌<◌, ◌≤◌, IfOk, length};
 ghost use Rattle.bayou_base.specs.declared.limits.TheConstants.{SERVERS};
 ghost use Rattle.bayou_judge.specs.Answers.{IsSurvey, SurveyAnswer};
 ghost use Rattle.bayou_judge.specs.History.{history_of, lists_of};
@@ -8,32 +8,20 @@ use crate::dumps::indexes_of;
 use crate::entries::first_forged;
 use crate::evidence::Evidence;
 use crate::verdict::{Refusal, Surveyed};
-use bayou_base::{Entry, SERVERS, SESSIONS, SessionId};
+use bayou_base::{Entry, SERVERS, SESSIONS};
 use bayou_lang::RestingWrite;
 use std::alloc::{AllocError, Global};
-
-/// Whether the session has an entry.
-fn has_entry(entries: &[Entry], session: SessionId) -> bool
-    ensures { IsTrue result ↔ Any (λ entry. entry.session.index ≡ session.index) entries.now }
-{
-    for entry in entries {
-        if entry.session.index == session.index {
-            return true;
-        }
-    }
-    false
-}
 
 /// What became of each guarantee in each session that has an entry.
 fn survey_sessions(alloc: Global, evidence: &Evidence) -> Result<Vec<Surveyed>, AllocError>
     requires checked { IsChecked evidence.now.count evidence.now.entries.now (lists_of evidence.now.dumps.now) evidence.now.indexes.now }
     ensures { IfOk result (λ list. IsSurvey (history_of evidence.now.entries.now (lists_of evidence.now.dumps.now)) evidence.now.entries.now list.items) }
 {
+    let known = evidence.pass();
     let mut list = Vec::new(alloc);
-    for index in 0..SESSIONS as u8 {
-        let session = SessionId { index };
-        if has_entry(evidence.entries, session) {
-            let Ok(()) = list.push(evidence.survey_of(session)) else {
+    for session in 0..SESSIONS {
+        if let Some(progress) = known[session] {
+            let Ok(()) = list.push(progress.surveyed) else {
                 return Err(AllocError);
             };
         }

@@ -9,6 +9,10 @@ mod fixtures;
 #[cfg(test)]
 mod histories;
 #[cfg(test)]
+mod memory;
+#[cfg(test)]
 mod refusals;
+#[cfg(test)]
+mod servers;
 #[cfg(test)]
 mod twin;

@@ -190,10 +190,10 @@ abbrev pub AreKeptTo : List (List Write) → List Entry → Guarantee → (sessi
 AreKeptTo dumps entries guarantee session upto = (at : ℕ) (second : Entry) → at < upto → slice_get entries at ≡ Some second
     → IsSecond guarantee session second → IsKept dumps guarantee session (take at entries) second
 
--- the first breach of the guarantee in the session, if there is one
-abbrev pub IsFirstBreach : List (List Write) → List Entry → Guarantee → ℕ → Option Breach → Type 0
-IsFirstBreach dumps entries guarantee session None = AreKeptTo dumps entries guarantee session (length entries)
-IsFirstBreach dumps entries guarantee session (Some breach) = (at : ℕ) × AreKeptTo dumps entries guarantee session at
+-- the first breach of the guarantee in the session; or none, where the entries before this place have none
+abbrev pub IsFirstBreach : List (List Write) → List Entry → Guarantee → (session upto : ℕ) → Option Breach → Type 0
+IsFirstBreach dumps entries guarantee session upto None = AreKeptTo dumps entries guarantee session upto
+IsFirstBreach dumps entries guarantee session upto (Some breach) = (at : ℕ) × AreKeptTo dumps entries guarantee session at
     × IsBreachAt dumps entries guarantee session at breach
 
 -- the breach of the entry at this place, if there is one

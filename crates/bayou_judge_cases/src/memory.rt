@@ -1,0 +1,106 @@
+//! The judge and the survey where memory is refused.
+use crate::fixtures::{COUNT, Held, Line, Told, dumps_of, entries_of, server_id, session_id};
+use Told::{Read, Wrote};
+use bayou_base::{Entry, Wid};
+use bayou_judge::{Breach, Guarantee, Refusal, Surveyed, Verdict, judge, survey};
+use bayou_lang::RestingWrite;
+use std::alloc::{AllocError, Global};
+use std::process::Abort;
+use std::test::Fail;
+
+const ZERO: [u32; 3] = [0, 0, 0];
+
+static HELD: [&[Held]; 3] = [
+    &[(0, 1, 1, ZERO, 1), (0, 2, 2, [1, 0, 0], 2)],
+    &[(0, 1, 1, ZERO, 1)],
+    &[],
+];
+
+static LINES: [Line; 4] = [
+    (0, 1, "r", 0, Wrote((0, 1), (1, 0), ZERO)),
+    (0, 2, "r", 2, Read(ZERO)),
+    (9, 1, "m", 0, Wrote((0, 2), (2, 0), [1, 0, 0])),
+    (9, 2, "m", 1, Read([1, 0, 0])),
+];
+
+/// Read Your Writes, which the first session lacks at the last server, and the other at the second.
+fn breach_of(rt: &impl Abort, session: u8, server: u8, seq: u32) -> Breach {
+    Breach {
+        guarantee: Guarantee::ReadYourWrites,
+        session: session_id(rt, session),
+        first: 1,
+        second: 2,
+        server: server_id(rt, server),
+        wid: Wid::new(server_id(rt, 0), seq).expect(rt, "no name"),
+    }
+}
+
+fn surveyed_of(rt: &impl Abort, session: u8, server: u8, seq: u32) -> Surveyed {
+    Surveyed {
+        session: session_id(rt, session),
+        ryw: Some(breach_of(rt, session, server, seq)),
+        mr: None,
+        wfr: None,
+        mw: None,
+    }
+}
+
+fn dumps_at_last(rt: &impl Abort, alloc: Global) -> Result<Vec<Vec<RestingWrite>>, AllocError> {
+    match dumps_of(rt, alloc, HELD) {
+        Ok(dumps) => Ok(dumps),
+        Err(AllocError) => dumps_of(rt, alloc, HELD),
+    }
+}
+
+fn entries_at_last(rt: &impl Abort, alloc: Global) -> Result<Vec<Entry>, AllocError> {
+    match entries_of(rt, alloc, &LINES) {
+        Ok(entries) => Ok(entries),
+        Err(AllocError) => entries_of(rt, alloc, &LINES),
+    }
+}
+
+/// Whether the verdict comes, at once or after want of memory.
+fn is_judged(
+    rt: &impl Abort,
+    alloc: Global,
+    entries: &[Entry],
+    dumps: &[Vec<RestingWrite>],
+) -> bool {
+    assert!(rt; dumps.len() == usize::from(COUNT));
+    let wanted = Ok(Verdict::Broken(breach_of(rt, 0, 2, 1)));
+    let first = judge(alloc, COUNT, entries, dumps);
+    let is_want = first == Err(Refusal::OutOfMemory);
+    first == wanted || is_want && judge(alloc, COUNT, entries, dumps) == wanted
+}
+
+/// Whether the survey comes, at once or after want of memory.
+fn is_surveyed(
+    rt: &impl Abort,
+    alloc: Global,
+    entries: &[Entry],
+    dumps: &[Vec<RestingWrite>],
+) -> bool {
+    assert!(rt; dumps.len() == usize::from(COUNT));
+    let wanted = [surveyed_of(rt, 0, 2, 1), surveyed_of(rt, 9, 1, 2)];
+    let first = survey(alloc, COUNT, entries, dumps);
+    let last = match first {
+        Err(Refusal::OutOfMemory) => survey(alloc, COUNT, entries, dumps),
+        answer => answer,
+    };
+    match last {
+        Ok(list) => list.as_slice() == wanted.as_slice(),
+        Err(_) => false,
+    }
+}
+
+/// For runs in which any one allocation is refused: what was refused for it is answered as ever when it is asked again.
+#[test]
+fn one_want_of_memory_changes_no_verdict(rt: HostRuntime) -> Result<(), Fail> {
+    let alloc = rt.alloc();
+    let dumps = dumps_at_last(&rt, alloc)?;
+    let entries = entries_at_last(&rt, alloc)?;
+    let is_verdict = is_judged(&rt, alloc, entries.as_slice(), dumps.as_slice());
+    let is_survey = is_surveyed(&rt, alloc, entries.as_slice(), dumps.as_slice());
+    assert!(rt; is_verdict && is_survey);
+    Ok(())
+}
