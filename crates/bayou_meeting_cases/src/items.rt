@@ -43,18 +43,40 @@ static ITEMS: [(&str, Given); 6] = [
     ("<own-1>", (1, 1, 1, [0, 0], 1)),
 ];
 
-/// The bytes of a stream: each word is an Item by its name, a vector that counts nothing, as much of it as stands behind its first
-/// count, or stands for itself in hexadecimal.
-pub fn stream(alloc: Global, text: &str) -> Result<Vec<u8>, Fail> {
+/// The bytes of a word: of an Item by its name, of a vector that counts nothing, of as much of it as stands behind its first count, or
+/// those that it says in hexadecimal.
+fn word_bytes(alloc: Global, word: &str) -> Option<Vec<u8>> {
+    let named = ITEMS.iter().find(|(name, _)| *name == word);
+    match (word, named) {
+        (_, Some((_, given))) => item(*given).to_vec(alloc).ok(),
+        ("<none>", None) => [0; 32].to_vec(alloc).ok(),
+        ("<zeros>", None) => [0; 28].to_vec(alloc).ok(),
+        _ => hex::decode(alloc, word).ok(),
+    }
+}
+
+/// The bytes of the words, one behind the other.
+fn words_bytes(alloc: Global, text: &str) -> Option<Vec<u8>> {
     let mut bytes = Vec::new(alloc);
     for word in text.split(' ') {
-        let named = ITEMS.iter().find(|(name, _)| *name == word);
-        match (word, named) {
-            (_, Some((_, given))) => bytes.extend_from_slice(&item(*given))?,
-            ("<none>", None) => bytes.extend_from_slice(&[0; 32])?,
-            ("<zeros>", None) => bytes.extend_from_slice(&[0; 28])?,
-            _ => bytes.extend_from_slice(&hex::decode(alloc, word)?)?,
-        }
+        let behind = word_bytes(alloc, word)?;
+        bytes.extend_from_slice(&behind).ok()?;
     }
-    Ok(bytes)
+    Some(bytes)
+}
+
+/// The bytes of a stream.
+pub fn stream(alloc: Global, text: &str) -> Result<Vec<u8>, Fail> {
+    match words_bytes(alloc, text) {
+        Some(bytes) => Ok(bytes),
+        None => Err(Fail::new("no stream")),
+    }
+}
+
+/// Whether the text says these bytes.
+pub fn is_stream(alloc: Global, text: &str, bytes: &[u8]) -> bool {
+    match words_bytes(alloc, text) {
+        Some(said) => said.as_slice() == bytes,
+        None => false,
+    }
 }

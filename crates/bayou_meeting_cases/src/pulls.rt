@@ -1,8 +1,8 @@
 //! Servers that send each other what they lack: what stands in the stream, what is taken of it however it ends, each call of a
 //! reader or a writer failing in turn, and want of memory.
 use crate::fakes::{EndlessReader, FakeReader, FakeWriter};
-use crate::items::{item, stream, vector, write};
-use crate::takes::{self, take_at_last};
+use crate::items::{Given, item, stream, vector, write};
+use crate::takes;
 use bayou_base::{ServerId, Vector};
 use bayou_device::{MemoryDevice, OpenGate};
 use bayou_peer::{
@@ -30,18 +30,33 @@ fn begun(rt: &impl Abort, alloc: Global, index: u8) -> Result<Served, StartFault
     }
 }
 
+/// The Write of this number of one of the first two servers, which held its own alone.
+fn own(origin: u8, seq: u8) -> Given {
+    let held = seq.saturating_sub(1);
+    let past = if origin == 0 { [held, 0] } else { [0, held] };
+    (origin, seq, seq, past, seq)
+}
+
+/// Whether the server takes so many Writes of this one.
+fn takes_all(rt: &impl Abort, alloc: Global, server: &mut Served, origin: u8, count: u8) -> bool {
+    let mut are_taken = true;
+    for seq in 1..count.min(99) + 1 {
+        are_taken &= takes::is_given(alloc, server, &write(rt, own(origin, seq)));
+    }
+    are_taken
+}
+
 /// A server that took so many Writes of the second server, and then of the first.
-pub fn full(rt: &impl Abort, alloc: Global, index: u8, counts: [u8; 2]) -> Result<Served, Fail> {
+pub fn full(
+    rt: &impl Abort,
+    alloc: Global,
+    index: u8,
+    [first, second]: [u8; 2],
+) -> Result<Served, StartFault> {
     let mut server = begun(rt, alloc, index)?;
-    let [first, second] = counts;
-    for seq in 1..second.min(99) + 1 {
-        let given = write(rt, (1, seq, seq, [0, seq - 1], seq));
-        server.take(alloc, given.rest(alloc)?)?;
-    }
-    for seq in 1..first.min(99) + 1 {
-        let given = write(rt, (0, seq, seq, [seq - 1, 0], seq));
-        server.take(alloc, given.rest(alloc)?)?;
-    }
+    let are_taken = takes_all(rt, alloc, &mut server, 1, second)
+        && takes_all(rt, alloc, &mut server, 0, first);
+    assert!(rt; are_taken);
     Ok(server)
 }
 
@@ -77,9 +92,11 @@ fn answers(
     server: &mut Served,
     counts: &Vector,
     (bytes, items): (&[u8], u32),
-) -> Result<bool, Fault> {
-    let (answer, number) = answered(alloc, server, counts)?;
-    Ok(answer.as_slice() == bytes && number == items)
+) -> bool {
+    match answered(alloc, server, counts) {
+        Ok((answer, number)) => answer.as_slice() == bytes && number == items,
+        Err(_) => false,
+    }
 }
 
 #[test]
@@ -89,25 +106,27 @@ fn an_offer_is_answered_byte_for_byte(rt: HostRuntime) -> Result<(), Fail> {
     for (counted, items, sent) in ANSWERS {
         let bytes = stream(alloc, sent)?;
         let counts = vector(&rt, counted, 0);
-        let is_so = answers(alloc, &mut server, &counts, (&bytes, items))?;
+        let is_so = answers(alloc, &mut server, &counts, (&bytes, items));
         assert!(rt; is_so, "{counted}");
     }
     Ok(())
+}
+
+/// Whether the server, to which nothing is sent, writes these bytes.
+fn writes(alloc: Global, server: &mut Served, offer: &[u8]) -> bool {
+    let mut channel = Channel::new(io::empty(), Vec::new(alloc));
+    let is_cut = pull_on(alloc, server, &mut channel) == Err(PullFault::Stream(Fault::Cut));
+    is_cut && channel.into_parts().1.as_slice() == offer
 }
 
 /// An Offer of what the puller counts is written, whatever is sent.
 #[test]
 fn a_pull_writes_its_offer(rt: HostRuntime) -> Result<(), Fail> {
     let alloc = rt.alloc();
-    for (counted, offer) in [(0, "0021 05 <none>"), (1, "0021 05 00000001 <zeros>")] {
+    for (counted, text) in [(0, "0021 05 <none>"), (1, "0021 05 00000001 <zeros>")] {
+        let offer = stream(alloc, text)?;
         let mut server = full(&rt, alloc, 3, [counted, 0])?;
-        let mut channel = Channel::new(io::empty(), Vec::new(alloc));
-        let told = pull_on(alloc, &mut server, &mut channel);
-        assert!(rt;
-            told == Err(PullFault::Stream(Fault::Cut))
-                && channel.into_parts().1 == stream(alloc, offer)?,
-            "{offer}"
-        );
+        assert!(rt; writes(alloc, &mut server, &offer), "{text}");
     }
     Ok(())
 }
@@ -134,35 +153,59 @@ const STREAMS: &str = "<item-1> <item-2> 0005 16 00000002 => 2 Ok(Pulled { taken
 <item-1> <early-2> <item-2> => 1 Err(Refused(BadStamp))
 <own-1> <item-1> => 0 Err(Refused(OwnLost))";
 
-/// How many Writes of the first server the second one holds once it was sent this, in pieces of at most so many bytes, and its
-/// answer.
-fn told(rt: &impl Abort, alloc: Global, sent: &[u8], most: usize) -> Result<String, Fail> {
-    let mut server = begun(rt, alloc, 1)?;
+/// What the server makes of what is sent to it in pieces of at most so many bytes.
+fn pulled_in_pieces(
+    alloc: Global,
+    server: &mut Served,
+    bytes: &[u8],
+    most: usize,
+) -> Result<Pulled, PullFault> {
     let reader = FakeReader {
-        bytes: sent,
+        bytes,
         most,
         fails_at: 0,
         calls: 0,
     };
-    let answer = pull_on(alloc, &mut server, &mut Channel::new(reader, io::sink()));
+    pull_on(alloc, server, &mut Channel::new(reader, io::sink()))
+}
+
+/// Whether that is what is printed of a server that holds so many Writes and answers so.
+fn is_told(alloc: Global, held: u32, answer: Result<Pulled, PullFault>, expected: &str) -> bool {
+    match format!(in alloc; "{held} {answer:?}") {
+        Ok(told) => told.as_str() == expected,
+        Err(_) => false,
+    }
+}
+
+/// Whether the second server, which is sent this in pieces of at most so many bytes, then holds so many Writes of the first one and
+/// answers so.
+fn is_taken_so(rt: &impl Abort, alloc: Global, sent: &[u8], most: usize, expected: &str) -> bool {
+    let Ok(mut server) = begun(rt, alloc, 1) else {
+        return false;
+    };
+    let answer = pulled_in_pieces(alloc, &mut server, sent, most);
     let counts = server.vector();
     let [held, ..] = counts.counts();
-    Ok(format!(in alloc; "{held} {answer:?}")?)
+    is_told(alloc, *held, answer, expected)
 }
 
 /// Whatever pieces it comes in.
+fn is_taken_in_any_pieces(rt: &impl Abort, alloc: Global, sent: &[u8], expected: &str) -> bool {
+    let mut is_so = true;
+    for most in [1, 59, 60, 61, 4096] {
+        is_so &= is_taken_so(rt, alloc, sent, most, expected);
+    }
+    is_so
+}
+
 #[test]
 fn a_stream_is_taken_up_to_its_end_or_fault(rt: HostRuntime) -> Result<(), Fail> {
     let alloc = rt.alloc();
     for row in STREAMS.lines() {
         let (text, expected) = row.split_once(" => ").unwrap_or((row, row));
         let sent = stream(alloc, text)?;
-        for most in [1, 59, 60, 61, 4096] {
-            assert!(rt;
-                told(&rt, alloc, &sent, most)?.as_str() == expected,
-                "{row}: {most}"
-            );
-        }
+        let is_so = is_taken_in_any_pieces(&rt, alloc, &sent, expected);
+        assert!(rt; is_so, "{row}");
     }
     Ok(())
 }
@@ -189,87 +232,110 @@ fn takes_both(rt: &impl Abort, alloc: Global, puller: &mut Served, sent: &[u8]) 
     is_taken && again == came(0, 40) && puller.vector() == vector(rt, 20, 20)
 }
 
-#[test]
-fn forty_writes_of_two_servers_go_in_stamp_order(rt: HostRuntime) -> Result<(), Fail> {
-    let alloc = rt.alloc();
-    let mut server = full(&rt, alloc, 2, [EACH, EACH])?;
-    let whole = both(alloc)?;
-    let is_sent = answers(alloc, &mut server, &Vector::zero(), (&whole, 40))?;
-    let mut puller = begun(&rt, alloc, 3)?;
-    let is_taken = takes_both(&rt, alloc, &mut puller, &whole);
-    let nothing = b"\0\x05\x16\0\0\0\0".as_slice();
-    let is_nothing = answers(alloc, &mut server, &puller.vector(), (nothing, 0))?;
-    assert!(rt; is_sent && is_taken && is_nothing);
-    Ok(())
-}
-
-/// Whether a server that is sent this front of two Items and the End takes what came whole, and then what it lacks.
-fn takes_front(
+/// Whether the server sends all forty, and the puller takes each and then lacks nothing.
+fn are_sent(
     rt: &impl Abort,
     alloc: Global,
     server: &mut Served,
-    front: &[u8],
-) -> Result<bool, Fail> {
-    let mut puller = begun(rt, alloc, 3)?;
-    let is_cut = pulled(alloc, &mut puller, front) == Err(PullFault::Stream(Fault::Cut));
-    let held = if front.len() < 60 {
-        0
-    } else if front.len() < 120 {
-        1
-    } else {
-        2
+    puller: &mut Served,
+    whole: &[u8],
+) -> bool {
+    let nothing = b"\0\x05\x16\0\0\0\0".as_slice();
+    let is_sent = answers(alloc, server, &Vector::zero(), (whole, 40));
+    let is_taken = takes_both(rt, alloc, puller, whole);
+    is_sent && is_taken && answers(alloc, server, &puller.vector(), (nothing, 0))
+}
+
+#[test]
+fn forty_writes_of_two_servers_go_in_stamp_order(rt: HostRuntime) -> Result<(), Fail> {
+    let alloc = rt.alloc();
+    let whole = both(alloc)?;
+    let mut server = full(&rt, alloc, 2, [EACH, EACH])?;
+    let mut puller = begun(&rt, alloc, 3)?;
+    let are_sent = are_sent(&rt, alloc, &mut server, &mut puller, &whole);
+    assert!(rt; are_sent);
+    Ok(())
+}
+
+/// How many of two Items came whole in a front of so many bytes.
+const fn whole_in(len: usize) -> u32 {
+    match len {
+        0..60 => 0,
+        60..120 => 1,
+        _ => 2,
+    }
+}
+
+/// Whether the puller takes what the server's answer to it is: so many Writes.
+fn takes_the_rest(alloc: Global, server: &mut Served, puller: &mut Served, count: u32) -> bool {
+    match answered(alloc, server, &puller.vector()) {
+        Ok((rest, _)) => pulled(alloc, puller, &rest) == came(count, 0),
+        Err(_) => false,
+    }
+}
+
+/// Whether a server that is sent this front of two Items and the End takes what came whole, and then what it lacks.
+fn takes_front(rt: &impl Abort, alloc: Global, server: &mut Served, front: &[u8]) -> bool {
+    let Ok(mut puller) = begun(rt, alloc, 3) else {
+        return false;
     };
+    let is_cut = pulled(alloc, &mut puller, front) == Err(PullFault::Stream(Fault::Cut));
+    let held = whole_in(front.len());
     let is_held = puller.vector() == vector(rt, held, 0);
-    let (rest, _) = answered(alloc, server, &puller.vector())?;
-    Ok(is_cut && is_held && pulled(alloc, &mut puller, &rest) == came(2 - held, 0))
+    is_cut && is_held && takes_the_rest(alloc, server, &mut puller, 2_u32.saturating_sub(held))
 }
 
 /// A stream of two Items and the End that is cut; then what is lacking is sent.
 #[test]
 fn what_is_cut_is_taken_up_to_there(rt: HostRuntime) -> Result<(), Fail> {
     let alloc = rt.alloc();
-    let mut server = full(&rt, alloc, 2, [2, 0])?;
     let whole = stream(alloc, "<item-1> <item-2> 0005 16 00000002")?;
+    let mut server = full(&rt, alloc, 2, [2, 0])?;
     for cut in 0..whole.len() {
-        let is_so = takes_front(&rt, alloc, &mut server, &whole[..cut])?;
+        let is_so = takes_front(&rt, alloc, &mut server, &whole[..cut]);
         assert!(rt; is_so && whole.len() == 127, "{cut}");
     }
     Ok(())
 }
 
-/// A reader that gives an Item at a call, and fails at each call in turn; the last doesn't come to it. Each Item is taken before
-/// the next one is read.
+/// Whether a pull, whose reader gives an Item at a call and fails at this one, ends there, and what came before is taken.
+fn ends_at_read(rt: &impl Abort, alloc: Global, sent: &[u8], fails_at: u32) -> bool {
+    let Ok(mut puller) = begun(rt, alloc, 3) else {
+        return false;
+    };
+    let reader = FakeReader {
+        bytes: sent,
+        most: 60,
+        fails_at,
+        calls: 0,
+    };
+    let mut channel = Channel::new(reader, io::sink());
+    let answer = pull_on(alloc, &mut puller, &mut channel);
+    let (reader, _) = channel.into_parts();
+    let (expected, held) = match fails_at {
+        5 => (came(3, 0), 3),
+        _ => (
+            Err(PullFault::Stream(Fault::Read)),
+            fails_at.saturating_sub(1),
+        ),
+    };
+    let is_held = puller.vector() == vector(rt, held, 0);
+    answer == expected && is_held && reader.calls == fails_at.min(4)
+}
+
+/// The last call doesn't come to it. Each Item is taken before the next one is read.
 #[test]
 fn each_read_of_a_pull_may_fail(rt: HostRuntime) -> Result<(), Fail> {
-    let alloc = rt.alloc();
-    let sent = stream(alloc, THREE)?;
+    let sent = stream(rt.alloc(), THREE)?;
     for fails_at in 1..6_u32 {
-        let mut puller = begun(&rt, alloc, 3)?;
-        let reader = FakeReader {
-            bytes: &sent,
-            most: 60,
-            fails_at,
-            calls: 0,
-        };
-        let mut channel = Channel::new(reader, io::sink());
-        let answer = pull_on(alloc, &mut puller, &mut channel);
-        let (reader, _) = channel.into_parts();
-        let expected = if fails_at > 4 {
-            came(3, 0)
-        } else {
-            Err(PullFault::Stream(Fault::Read))
-        };
-        let is_held = puller.vector() == vector(&rt, (fails_at - 1).min(3), 0);
-        assert!(rt;
-            answer == expected && is_held && reader.calls == fails_at.min(4),
-            "call {fails_at}"
-        );
+        let is_so = ends_at_read(&rt, rt.alloc(), &sent, fails_at);
+        assert!(rt; is_so, "call {fails_at}");
     }
     Ok(())
 }
 
 /// A writer that takes ten bytes at a call, and fails at this one.
-fn failing(alloc: Global, fails_at: u32) -> FakeWriter {
+pub fn failing(alloc: Global, fails_at: u32) -> FakeWriter {
     FakeWriter {
         bytes: Vec::new(alloc),
         most: 10,
@@ -278,57 +344,75 @@ fn failing(alloc: Global, fails_at: u32) -> FakeWriter {
     }
 }
 
-/// An Offer takes four calls; the last doesn't come to it. Where one fails nothing is read or taken.
+/// How many bytes were written in tens before the call of this number.
+pub const fn tens_before(fails_at: u32) -> usize {
+    (fails_at as usize).saturating_sub(1).saturating_mul(10)
+}
+
+/// Whether a pull, whose writer takes ten bytes at a call and fails at this one, ends there with nothing read or taken.
+fn ends_at_write(rt: &impl Abort, alloc: Global, sent: &[u8], offer: &[u8], fails_at: u32) -> bool {
+    let Ok(mut puller) = begun(rt, alloc, 3) else {
+        return false;
+    };
+    let mut channel = Channel::new(sent, failing(alloc, fails_at));
+    let answer = pull_on(alloc, &mut puller, &mut channel);
+    let (reader, writer) = channel.into_parts();
+    let (expected, held, written, left) = match fails_at {
+        5 => (came(3, 0), 3, 35, 0),
+        _ => (
+            Err(PullFault::Stream(Fault::Write)),
+            0,
+            tens_before(fails_at),
+            187,
+        ),
+    };
+    let is_written = offer.starts_with(&writer.bytes) && writer.bytes.len() == written;
+    let is_held = puller.vector() == vector(rt, held, 0) && reader.len() == left;
+    answer == expected && is_written && is_held
+}
+
+/// An Offer takes four calls; the last doesn't come to it.
 #[test]
 fn each_write_of_a_pull_may_fail(rt: HostRuntime) -> Result<(), Fail> {
     let alloc = rt.alloc();
     let sent = stream(alloc, THREE)?;
     let offer = stream(alloc, "0021 05 <none>")?;
     for fails_at in 1..6_u32 {
-        let mut puller = begun(&rt, alloc, 3)?;
-        let mut channel = Channel::new(sent.as_slice(), failing(alloc, fails_at));
-        let answer = pull_on(alloc, &mut puller, &mut channel);
-        let (reader, writer) = channel.into_parts();
-        let (expected, held, written, left) = match fails_at {
-            5 => (came(3, 0), 3, 35, 0),
-            _ => (
-                Err(PullFault::Stream(Fault::Write)),
-                0,
-                (fails_at as usize - 1) * 10,
-                187,
-            ),
-        };
-        let is_written = offer.starts_with(&writer.bytes) && writer.bytes.len() == written;
-        let is_held = puller.vector() == vector(&rt, held, 0) && reader.len() == left;
-        assert!(rt;
-            answer == expected && is_written && is_held,
-            "call {fails_at}"
-        );
+        let is_so = ends_at_write(&rt, alloc, &sent, &offer, fails_at);
+        assert!(rt; is_so, "call {fails_at}");
     }
     Ok(())
 }
 
-/// Three Items take 18 calls, and the End one; the last doesn't come to it. The front of the answer was written, and no Write is
-/// lost.
+/// Whether an answer, whose writer takes ten bytes at a call and fails at this one, ends there, with the front of it written and no
+/// Write lost.
+fn answers_up_to(
+    rt: &impl Abort,
+    alloc: Global,
+    server: &mut Served,
+    whole: &[u8],
+    fails_at: u32,
+) -> bool {
+    let mut channel = Channel::new((), failing(alloc, fails_at));
+    let answer = answer_offer_on(alloc, server, &Vector::zero(), &mut channel);
+    let written = channel.into_parts().1.bytes;
+    let (expected, count) = match fails_at {
+        20 => (Ok(3), 187),
+        _ => (Err(Fault::Write), tens_before(fails_at)),
+    };
+    let is_written = whole.starts_with(&written) && written.len() == count;
+    answer == expected && is_written && server.vector() == vector(rt, 3, 0)
+}
+
+/// Three Items take 18 calls, and the End one; the last doesn't come to it.
 #[test]
 fn each_write_of_an_answer_may_fail(rt: HostRuntime) -> Result<(), Fail> {
     let alloc = rt.alloc();
     let whole = stream(alloc, THREE)?;
     let mut server = full(&rt, alloc, 2, [3, 0])?;
     for fails_at in 1..21_u32 {
-        let mut channel = Channel::new((), failing(alloc, fails_at));
-        let answer = answer_offer_on(alloc, &mut server, &Vector::zero(), &mut channel);
-        let written = channel.into_parts().1.bytes;
-        let (expected, count) = match fails_at {
-            20 => (Ok(3), 187),
-            _ => (Err(Fault::Write), (fails_at as usize - 1) * 10),
-        };
-        let is_written = whole.starts_with(&written) && written.len() == count;
-        let is_held = server.vector() == vector(&rt, 3, 0);
-        assert!(rt;
-            answer == expected && is_written && is_held,
-            "call {fails_at}"
-        );
+        let is_so = answers_up_to(&rt, alloc, &mut server, &whole, fails_at);
+        assert!(rt; is_so, "call {fails_at}");
     }
     Ok(())
 }
@@ -377,12 +461,17 @@ const CUTS: [(u32, usize); 7] = [
     (u32::MAX, 187),
 ];
 
+/// Whether so much of it is left.
+fn is_cut_to(whole: &[u8], items: u32, left: usize) -> bool {
+    let cut = cut_after(whole, items);
+    whole.starts_with(cut) && cut.len() == left
+}
+
 #[test]
 fn an_answer_is_cut_after_so_many_items(rt: HostRuntime) -> Result<(), Fail> {
     let whole = stream(rt.alloc(), THREE)?;
     for (items, left) in CUTS {
-        let cut = cut_after(&whole, items);
-        assert!(rt; whole.starts_with(cut) && cut.len() == left, "{items}");
+        assert!(rt; is_cut_to(&whole, items, left), "{items}");
     }
     Ok(())
 }
@@ -434,17 +523,27 @@ fn is_want(fault: PullFault) -> bool {
 
 /// Takes the three Writes that are sent, and once more where that was refused; a Write in doubt is settled first. Whether it was
 /// refused for want of memory alone, and what was held by then is kept.
-fn pulled_at_last(alloc: Global, puller: &mut Served, sent: &[u8]) -> Result<bool, Fail> {
+fn pulled_at_last(alloc: Global, puller: &mut Served, sent: &[u8]) -> bool {
     let Err(fault) = pulled(alloc, puller, sent) else {
-        return Ok(true);
+        return true;
     };
     let held = puller.receipts().len() as u64;
-    if puller.is_down() && puller.reopen(alloc).is_err() {
-        puller.reopen(alloc)?;
-    }
-    let again = pulled(alloc, puller, sent)?;
+    let is_up = takes::reopen_at_last(alloc, puller);
+    let Ok(again) = pulled(alloc, puller, sent) else {
+        return false;
+    };
     let count = again.taken.saturating_add(again.had);
-    Ok(is_want(fault) && u64::from(again.had) >= held && count == 3)
+    is_up && is_want(fault) && u64::from(again.had) >= held && count == 3
+}
+
+/// Whether the server, which has the first server's three Writes, is asked for them, and one that has none takes them.
+fn are_handed_on(rt: &impl Abort, alloc: Global, server: &mut Served, puller: &mut Served) -> bool {
+    let is_served = served_at_last(alloc, server) == Ok(3);
+    let Ok((answer, number)) = answered_at_last(alloc, server) else {
+        return false;
+    };
+    let is_kept = pulled_at_last(alloc, puller, &answer);
+    is_served && is_kept && number == 3 && puller.vector() == vector(rt, 3, 0)
 }
 
 /// For runs in which any one allocation is refused: what was refused for it can be done again, and costs no Write that was taken.
@@ -452,14 +551,8 @@ fn pulled_at_last(alloc: Global, puller: &mut Served, sent: &[u8]) -> Result<boo
 fn one_want_of_memory_costs_no_pulled_write(rt: HostRuntime) -> Result<(), Fail> {
     let alloc = rt.alloc();
     let mut server = begun_at_last(&rt, alloc, 2)?;
-    for given in takes::THREE {
-        take_at_last(alloc, &mut server, &write(&rt, given))?;
-    }
+    let are_taken = takes::take_three_at_last(&rt, alloc, &mut server);
     let mut puller = begun_at_last(&rt, alloc, 3)?;
-    let (answer, number) = answered_at_last(alloc, &mut server)?;
-    let is_served = served_at_last(alloc, &mut server) == Ok(3);
-    let is_kept = pulled_at_last(alloc, &mut puller, &answer)?;
-    let is_whole = number == 3 && puller.vector() == vector(&rt, 3, 0);
-    assert!(rt; is_kept && is_whole && is_served);
+    assert!(rt; are_taken && are_handed_on(&rt, alloc, &mut server, &mut puller));
     Ok(())
 }

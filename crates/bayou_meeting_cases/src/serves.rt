@@ -1,8 +1,8 @@
 //! Servers that are asked by an Offer: what is read of a stream and what is written, each call of a reader or a writer failing in turn,
 //! and want of memory.
-use crate::fakes::{EndlessReader, FakeReader, FakeWriter};
-use crate::items::{stream, vector};
-use crate::pulls::{Served, full};
+use crate::fakes::{EndlessReader, FakeReader};
+use crate::items::{is_stream, stream, vector};
+use crate::pulls::{Served, failing, full, tens_before};
 use bayou_peer::{Fault, serve_offer_on};
 use bayou_streams::Channel;
 use std::alloc::Global;
@@ -28,14 +28,19 @@ const STREAMS: &str = "0021 05 <none> => Ok(3) <item-1> <item-2> <item-3> 0005 1
 0022 05 <none> 00 => Err(BadFrame)
 2001 => Err(BadFrame)";
 
+/// Whether that is what is printed of the answer, and then the bytes that were written.
+fn is_told(alloc: Global, answer: Result<u32, Fault>, written: &[u8], expected: &str) -> bool {
+    let Ok(told) = format!(in alloc; "{answer:?}") else {
+        return false;
+    };
+    let Some(rest) = expected.strip_prefix(told.as_str()) else {
+        return false;
+    };
+    is_stream(alloc, rest, written)
+}
+
 /// Whether the server, which is sent this in pieces of at most so many bytes, answers and writes that.
-fn serves(
-    alloc: Global,
-    server: &mut Served,
-    sent: &[u8],
-    most: usize,
-    expected: &str,
-) -> Result<bool, Fail> {
+fn serves(alloc: Global, server: &mut Served, sent: &[u8], most: usize, expected: &str) -> bool {
     let reader = FakeReader {
         bytes: sent,
         most,
@@ -43,16 +48,19 @@ fn serves(
         calls: 0,
     };
     let mut channel = Channel::new(reader, Vec::new(alloc));
-    let told = serve_offer_on(alloc, server, &mut channel);
-    let answer = format!(in alloc; "{told:?}")?;
-    let written = channel.into_parts().1;
-    let Some(rest) = expected.strip_prefix(answer.as_str()) else {
-        return Ok(false);
-    };
-    Ok(written == stream(alloc, rest)?)
+    let answer = serve_offer_on(alloc, server, &mut channel);
+    is_told(alloc, answer, &channel.into_parts().1, expected)
 }
 
 /// Whatever pieces it comes in.
+fn serves_in_any_pieces(alloc: Global, server: &mut Served, sent: &[u8], expected: &str) -> bool {
+    let mut is_so = true;
+    for most in [1, 34, 35, 36, 4096] {
+        is_so &= serves(alloc, server, sent, most, expected);
+    }
+    is_so
+}
+
 #[test]
 fn an_offer_is_read_and_answered(rt: HostRuntime) -> Result<(), Fail> {
     let alloc = rt.alloc();
@@ -60,64 +68,65 @@ fn an_offer_is_read_and_answered(rt: HostRuntime) -> Result<(), Fail> {
     for row in STREAMS.lines() {
         let (text, expected) = row.split_once(" => ").unwrap_or((row, row));
         let sent = stream(alloc, text)?;
-        for most in [1, 34, 35, 36, 4096] {
-            assert!(rt;
-                serves(alloc, &mut server, &sent, most, expected)?,
-                "{row}: {most}"
-            );
-        }
+        let is_so = serves_in_any_pieces(alloc, &mut server, &sent, expected)
+            && server.vector() == vector(&rt, 3, 0);
+        assert!(rt; is_so, "{row}");
     }
-    assert!(rt; server.vector() == vector(&rt, 3, 0));
     Ok(())
+}
+
+/// Whether an Offer, whose reader gives five bytes at a call and fails at this one, is answered only where all of it came.
+fn answers_read(alloc: Global, server: &mut Served, sent: &[u8], fails_at: u32) -> bool {
+    let reader = FakeReader {
+        bytes: sent,
+        most: 5,
+        fails_at,
+        calls: 0,
+    };
+    let mut channel = Channel::new(reader, Vec::new(alloc));
+    let answer = serve_offer_on(alloc, server, &mut channel);
+    let (reader, written) = channel.into_parts();
+    let (expected, count) = match fails_at {
+        8 => (Ok(3), 187),
+        _ => (Err(Fault::Read), 0),
+    };
+    answer == expected && written.len() == count && reader.calls == fails_at.min(7)
 }
 
 /// An Offer of nothing comes in seven calls, and no more are made; the last doesn't come to it.
 #[test]
 fn each_read_of_an_offer_may_fail(rt: HostRuntime) -> Result<(), Fail> {
     let alloc = rt.alloc();
-    let mut server = full(&rt, alloc, 2, [3, 0])?;
     let sent = stream(alloc, "0021 05 <none> <item-1>")?;
+    let mut server = full(&rt, alloc, 2, [3, 0])?;
     for fails_at in 1..9_u32 {
-        let reader = FakeReader {
-            bytes: &sent,
-            most: 5,
-            fails_at,
-            calls: 0,
-        };
-        let mut channel = Channel::new(reader, Vec::new(alloc));
-        let answer = serve_offer_on(alloc, &mut server, &mut channel);
-        let (reader, written) = channel.into_parts();
-        let (expected, count) = match fails_at {
-            8 => (Ok(3), 187),
-            _ => (Err(Fault::Read), 0),
-        };
-        let is_so = written.len() == count && reader.calls == fails_at.min(7);
-        assert!(rt; answer == expected && is_so, "call {fails_at}");
+        let is_so = answers_read(alloc, &mut server, &sent, fails_at);
+        assert!(rt; is_so, "call {fails_at}");
     }
     Ok(())
+}
+
+/// Whether an answer, whose writer takes ten bytes at a call and fails at this one, ends there.
+fn answers_up_to(alloc: Global, server: &mut Served, offer: &[u8], fails_at: u32) -> bool {
+    let mut channel = Channel::new(offer, failing(alloc, fails_at));
+    let answer = serve_offer_on(alloc, server, &mut channel);
+    let written = channel.into_parts().1.bytes.len();
+    let (expected, count) = match fails_at {
+        20 => (Ok(3), 187),
+        _ => (Err(Fault::Write), tens_before(fails_at)),
+    };
+    answer == expected && written == count
 }
 
 /// Three Items take 18 calls, and the End one; the last doesn't come to it.
 #[test]
 fn each_write_behind_an_offer_may_fail(rt: HostRuntime) -> Result<(), Fail> {
     let alloc = rt.alloc();
-    let mut server = full(&rt, alloc, 2, [3, 0])?;
     let offer = stream(alloc, "0021 05 <none>")?;
+    let mut server = full(&rt, alloc, 2, [3, 0])?;
     for fails_at in 1..21_u32 {
-        let writer = FakeWriter {
-            bytes: Vec::new(alloc),
-            most: 10,
-            fails_at,
-            calls: 0,
-        };
-        let mut channel = Channel::new(offer.as_slice(), writer);
-        let answer = serve_offer_on(alloc, &mut server, &mut channel);
-        let written = channel.into_parts().1.bytes.len();
-        let (expected, count) = match fails_at {
-            20 => (Ok(3), 187),
-            _ => (Err(Fault::Write), (fails_at as usize - 1) * 10),
-        };
-        assert!(rt; answer == expected && written == count, "call {fails_at}");
+        let is_so = answers_up_to(alloc, &mut server, &offer, fails_at);
+        assert!(rt; is_so, "call {fails_at}");
     }
     Ok(())
 }

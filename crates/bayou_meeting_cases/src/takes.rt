@@ -45,10 +45,12 @@ fn takes(
     server: &mut Served,
     write: &Write,
     answer: Result<Took, TakeFault>,
-) -> Result<bool, Fail> {
+) -> bool {
+    let Ok(resting) = write.rest(alloc) else {
+        return false;
+    };
     let is_down = server.is_down() || answer == Err(TakeFault::Journal);
-    let told = server.take(alloc, write.rest(alloc)?);
-    Ok(told == answer && server.is_down() == is_down)
+    server.take(alloc, resting) == answer && server.is_down() == is_down
 }
 
 /// Makes a Write that puts the number at `a`: its seq.
@@ -85,28 +87,25 @@ fn has(rt: &impl Abort, server: &Served, value: Option<i64>, held: [u32; 2]) -> 
 }
 
 /// Does the step. Whether the server answers so.
-fn goes(rt: &impl Abort, alloc: Global, server: &mut Served, step: Step) -> Result<bool, Fail> {
+fn goes(rt: &impl Abort, alloc: Global, server: &mut Served, step: Step) -> bool {
     match step {
-        Fuse(call, kept) => server.device().fuse(call.max(1), kept),
-        Take(parts, answer) => return takes(alloc, server, &write(rt, parts), answer),
-        Put(number, answer) => return Ok(puts(rt, alloc, server, number) == answer),
-        Reopen(answer) => return Ok(reopens(alloc, server) == answer),
-        Has(value, held) => return Ok(has(rt, server, value, held)),
+        Fuse(call, kept) => {
+            server.device().fuse(call.max(1), kept);
+            true
+        }
+        Take(parts, answer) => takes(alloc, server, &write(rt, parts), answer),
+        Put(number, answer) => puts(rt, alloc, server, number) == answer,
+        Reopen(answer) => reopens(alloc, server) == answer,
+        Has(value, held) => has(rt, server, value, held),
     }
-    Ok(true)
 }
 
 /// The steps go so, one after another. It gives the server's device back.
-fn all_go(
-    rt: &impl Abort,
-    alloc: Global,
-    mut server: Served,
-    steps: &[Step],
-) -> Result<Memory, Fail> {
+fn all_go(rt: &impl Abort, alloc: Global, mut server: Served, steps: &[Step]) -> Memory {
     for (at, step) in steps.iter().enumerate() {
-        assert!(rt; goes(rt, alloc, &mut server, *step)?, "step {at}");
+        assert!(rt; goes(rt, alloc, &mut server, *step), "step {at}");
     }
-    Ok(server.stop().device)
+    server.stop().device
 }
 
 /// A Write is taken, and each that doesn't go with it is refused; the fourth is of no server.
@@ -148,14 +147,16 @@ fn a_write_is_taken_or_refused(rt: HostRuntime) -> Result<(), Fail> {
     let runs: [&[Step]; 2] = [&MISFITS, &TWO_STAND];
     for steps in runs {
         let server = start(&rt, alloc, 2, MemoryDevice::new(alloc, OpenGate))?;
-        all_go(&rt, alloc, server, steps)?;
+        all_go(&rt, alloc, server, steps);
     }
     Ok(())
 }
 
 /// The device call under a taken Write that fails, how much of its entry of 91 bytes is added, the Write that a reopening adopts, if
 /// any, and what `a` has then, and how many of the first server's Writes are held.
-const FAILING: [(u32, usize, Option<(u8, u32)>, i64, u32); 6] = [
+type Failing = (u32, usize, Option<(u8, u32)>, i64, u32);
+
+const FAILING: [Failing; 6] = [
     (1, 0, None, 1, 1),
     (1, 50, None, 1, 1),
     (1, 91, Some((0, 2)), 2, 2),
@@ -164,24 +165,33 @@ const FAILING: [(u32, usize, Option<(u8, u32)>, i64, u32); 6] = [
     (2, 91, Some((0, 2)), 2, 2),
 ];
 
-/// The Write in doubt is another server's; adopted or forgotten, the next one that this server makes is its first.
+/// Takes a Write, and one more at which the device fails. The Write in doubt is another server's; adopted or forgotten, the next one
+/// that this server makes is its first.
+fn fails_and_goes_on(
+    rt: &impl Abort,
+    alloc: Global,
+    (call, kept, adopted, value, held): Failing,
+) -> Result<(), StartFault> {
+    let steps = [
+        Take((0, 1, 1, [0, 0], 1), Ok(Took::New)),
+        Fuse(call, kept),
+        Take((0, 2, 2, [1, 0], 2), Err(TakeFault::Journal)),
+        Take((0, 2, 2, [1, 0], 2), Err(TakeFault::Down)),
+        Has(Some(1), [1, 0]),
+        Reopen(Ok(adopted)),
+        Has(Some(value), [held, 0]),
+    ];
+    let server = start(rt, alloc, 100, MemoryDevice::new(alloc, OpenGate))?;
+    let device = all_go(rt, alloc, server, &steps);
+    let again = [Has(Some(value), [held, 0]), Put(9, Ok(1))];
+    all_go(rt, alloc, start(rt, alloc, 100, device)?, &again);
+    Ok(())
+}
+
 #[test]
 fn each_device_call_of_a_take_may_fail(rt: HostRuntime) -> Result<(), Fail> {
-    let alloc = rt.alloc();
-    for (call, kept, adopted, value, held) in FAILING {
-        let steps = [
-            Take((0, 1, 1, [0, 0], 1), Ok(Took::New)),
-            Fuse(call, kept),
-            Take((0, 2, 2, [1, 0], 2), Err(TakeFault::Journal)),
-            Take((0, 2, 2, [1, 0], 2), Err(TakeFault::Down)),
-            Has(Some(1), [1, 0]),
-            Reopen(Ok(adopted)),
-            Has(Some(value), [held, 0]),
-        ];
-        let server = start(&rt, alloc, 100, MemoryDevice::new(alloc, OpenGate))?;
-        let device = all_go(&rt, alloc, server, &steps)?;
-        let again = [Has(Some(value), [held, 0]), Put(9, Ok(1))];
-        all_go(&rt, alloc, start(&rt, alloc, 100, device)?, &again)?;
+    for row in FAILING {
+        fails_and_goes_on(&rt, rt.alloc(), row)?;
     }
     Ok(())
 }
@@ -203,30 +213,36 @@ fn first(rt: &impl Abort, origin: u8) -> Write {
     first
 }
 
-/// The first of four servers, once it took the first Writes of the others in this order.
-fn taken(rt: &impl Abort, alloc: Global, order: [u8; 3]) -> Result<Served, Fail> {
+/// The first of four servers.
+fn first_of_four(rt: &impl Abort, alloc: Global) -> Result<Served, StartFault> {
     let id = ServerId::new(0).expect(rt, "no server");
-    let device = MemoryDevice::new(alloc, OpenGate);
-    let mut server = match Server::start(alloc, id, 4, 100, device) {
-        Ok((server, _)) => server,
-        Err(refused) => return Err(refused.fault.into()),
-    };
-    for origin in order {
-        server.take(alloc, first(rt, origin).rest(alloc)?)?;
+    match Server::start(alloc, id, 4, 100, MemoryDevice::new(alloc, OpenGate)) {
+        Ok((server, _)) => Ok(server),
+        Err(refused) => Err(refused.fault),
     }
-    Ok(server)
+}
+
+/// Whether the server takes the first Writes of the others in this order.
+fn takes_in_order(rt: &impl Abort, alloc: Global, server: &mut Served, order: [u8; 3]) -> bool {
+    let mut are_taken = true;
+    for origin in order {
+        are_taken &= takes(alloc, server, &first(rt, origin), Ok(Took::New));
+    }
+    are_taken
 }
 
 /// Whether the server lists one Write of each of the others, by their servers, each of which was applied.
-fn lists_all(alloc: Global, server: &Served) -> Result<bool, Fail> {
-    let listing = server.listing(alloc)?;
+fn lists_all(alloc: Global, server: &Served) -> bool {
+    let Ok(listing) = server.listing(alloc) else {
+        return false;
+    };
     let mut last = 0_u8;
     for listed in &listing {
         if listed.wid.origin.index == last.saturating_add(1) && listed.outcome == Outcome::Updated {
             last = last.saturating_add(1);
         }
     }
-    Ok(last == 3 && listing.len() == 3)
+    last == 3 && listing.len() == 3
 }
 
 const ORDERS: [[u8; 3]; 6] = [
@@ -238,56 +254,72 @@ const ORDERS: [[u8; 3]; 6] = [
     [3, 2, 1],
 ];
 
-#[test]
-fn every_order_of_takes_gives_one_listing(rt: HostRuntime) -> Result<(), Fail> {
-    let alloc = rt.alloc();
-    for order in ORDERS {
-        let server = taken(&rt, alloc, order)?;
-        let seen = server.read(&Vector::zero(), &key(&rt));
-        let is_115 = seen.is_ok_and(|seen| seen.value == Some(Value::Num(115)));
-        assert!(rt; lists_all(alloc, &server)? && is_115, "{order:?}");
+/// Whether `a` has 115 at the server.
+fn has_115(rt: &impl Abort, server: &Served) -> bool {
+    match server.read(&Vector::zero(), &key(rt)) {
+        Ok(seen) => seen.value == Some(Value::Num(115)),
+        Err(_) => false,
     }
-    Ok(())
 }
 
-/// Whether it gives the first two of its three Writes, in stamp order, to a server that has none, and none to one that has all.
-fn gives_what_is_lacking(alloc: Global, server: &Served) -> Result<bool, Fail> {
-    let lacking = server.lacking(alloc, &Vector::zero(), 2)?;
+/// Whether it gives the first two of its three Writes, in stamp order, to a server that has none.
+fn gives_the_first_two(alloc: Global, server: &Served) -> bool {
+    let Ok(lacking) = server.lacking(alloc, &Vector::zero(), 2) else {
+        return false;
+    };
     let mut last = 0_u8;
     for write in &lacking {
         if write.wid().origin.index == last.saturating_add(1) {
             last = last.saturating_add(1);
         }
     }
-    let none = server.lacking(alloc, &server.vector(), 9)?;
-    Ok(last == 2 && lacking.len() == 2 && none.is_empty())
+    last == 2 && lacking.len() == 2
 }
 
+/// Whether it gives nothing to a server that has all.
+fn gives_nothing(alloc: Global, server: &Served) -> bool {
+    let Ok(none) = server.lacking(alloc, &server.vector(), 9) else {
+        return false;
+    };
+    none.is_empty()
+}
+
+/// Every order of takes gives one listing, and what another server lacks.
 #[test]
-fn a_server_gives_what_another_lacks(rt: HostRuntime) -> Result<(), Fail> {
+fn every_order_of_takes_is_one(rt: HostRuntime) -> Result<(), Fail> {
     let alloc = rt.alloc();
     for order in ORDERS {
-        let server = taken(&rt, alloc, order)?;
-        assert!(rt; gives_what_is_lacking(alloc, &server)?, "{order:?}");
+        let mut server = first_of_four(&rt, alloc)?;
+        let are_taken = takes_in_order(&rt, alloc, &mut server, order);
+        let are_listed = lists_all(alloc, &server) && has_115(&rt, &server);
+        let are_given = gives_the_first_two(alloc, &server) && gives_nothing(alloc, &server);
+        assert!(rt; are_taken && are_listed && are_given, "{order:?}");
     }
     Ok(())
 }
 
-/// Gives the Write, again where that was refused; a Write in doubt is settled first. Whether a refused Write wasn't held.
-pub fn take_at_last(alloc: Global, server: &mut Served, write: &Write) -> Result<bool, Fail> {
+/// Whether the server takes the Write.
+pub fn is_given(alloc: Global, server: &mut Served, write: &Write) -> bool {
+    let Ok(resting) = write.rest(alloc) else {
+        return false;
+    };
+    server.take(alloc, resting).is_ok()
+}
+
+/// Reopens the server where it is down, again where that was refused.
+pub fn reopen_at_last(alloc: Global, server: &mut Served) -> bool {
+    !server.is_down() || server.reopen(alloc).is_ok() || server.reopen(alloc).is_ok()
+}
+
+/// Gives the Write, again where that was refused; a Write in doubt is settled first. Whether it is taken, and a refused Write wasn't
+/// held.
+fn take_at_last(alloc: Global, server: &mut Served, write: &Write) -> bool {
     let held = server.receipts().len();
-    if write
-        .rest(alloc)
-        .is_ok_and(|write| server.take(alloc, write).is_ok())
-    {
-        return Ok(true);
+    if is_given(alloc, server, write) {
+        return true;
     }
     let is_held = server.receipts().len() > held;
-    if server.is_down() && server.reopen(alloc).is_err() {
-        server.reopen(alloc)?;
-    }
-    server.take(alloc, write.rest(alloc)?)?;
-    Ok(!is_held)
+    !is_held && reopen_at_last(alloc, server) && is_given(alloc, server, write)
 }
 
 /// Starts a server on the device, again where that was refused.
@@ -300,20 +332,27 @@ fn start_at_last(rt: &impl Abort, alloc: Global, device: Memory) -> Result<Serve
 }
 
 /// The Writes of the first server, which put 1, 2 and 3 at `a`.
-pub const THREE: [Given; 3] = [
+const THREE: [Given; 3] = [
     (0, 1, 1, [0, 0], 1),
     (0, 2, 2, [1, 0], 2),
     (0, 3, 3, [2, 0], 3),
 ];
+
+/// Gives them one after another. Whether each is taken at last, and then held.
+pub fn take_three_at_last(rt: &impl Abort, alloc: Global, server: &mut Served) -> bool {
+    let mut are_kept = true;
+    for given in THREE {
+        let is_taken = take_at_last(alloc, server, &write(rt, given));
+        are_kept &= is_taken && server.vector() == vector(rt, u32::from(given.1), 0);
+    }
+    are_kept
+}
 
 /// For runs in which any one allocation is refused: a Write that was refused for it wasn't held, and can be given again.
 #[test]
 fn one_want_of_memory_costs_no_taken_write(rt: HostRuntime) -> Result<(), Fail> {
     let alloc = rt.alloc();
     let mut server = start_at_last(&rt, alloc, MemoryDevice::new(alloc, OpenGate))?;
-    for parts in THREE {
-        let is_kept = take_at_last(alloc, &mut server, &write(&rt, parts))?;
-        assert!(rt; is_kept && server.vector() == vector(&rt, u32::from(parts.1), 0));
-    }
+    assert!(rt; take_three_at_last(&rt, alloc, &mut server));
     Ok(())
 }

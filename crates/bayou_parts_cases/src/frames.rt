@@ -1,5 +1,6 @@
 //! Frames and Writes, byte for byte. Behind `=>` stands the value as it prints itself, or the fault, which a `!` begins.
 use crate::notation::{AS_PRINTED, bytes_of, expanded, parts, repeated};
+use bayou_lang::{RestingWrite, Write};
 use bayou_wire::{
     Fault, Frame, decode_frame, decode_write, encode_frame, encode_item, encode_resting_write,
     encode_write, frame_len,
@@ -19,28 +20,52 @@ fn frame_of(alloc: Global, bytes: &[u8]) -> Result<(String, Vec<u8>), AllocError
     }
 }
 
-/// As frame_of, of a Write, which has the same bytes at rest, also behind the front of its Item.
+/// Whether the Write at rest has these bytes too, and those of its Item.
+fn is_same(alloc: Global, resting: &RestingWrite, bytes: &[u8], item: &[u8]) -> bool {
+    let is_write = match encode_resting_write(alloc, resting) {
+        Ok(again) => again.as_slice() == bytes,
+        Err(_) => false,
+    };
+    let is_item = match encode_item(alloc, resting) {
+        Ok(again) => again.as_slice() == item,
+        Err(_) => false,
+    };
+    is_write && is_item
+}
+
+/// The bytes of the Write, which it has at rest too, also behind the front of its Item; else none.
+fn spelling_of(alloc: Global, write: Write) -> Result<Vec<u8>, AllocError> {
+    let resting = write.rest(alloc)?;
+    let mut spelling = encode_write(alloc, &write)?;
+    let item = encode_frame(alloc, &Frame::Item(write))?;
+    if !is_same(alloc, &resting, &spelling, &item) {
+        spelling.clear();
+    }
+    Ok(spelling)
+}
+
+/// As frame_of, of a Write.
 fn write_of(alloc: Global, bytes: &[u8]) -> Result<(String, Vec<u8>), AllocError> {
     match decode_write(bytes) {
-        Ok(write) => {
-            let printed = format!(in alloc; "{write:?}")?;
-            let mut spelling = encode_write(alloc, &write)?;
-            let resting = write.rest(alloc)?;
-            let item = encode_item(alloc, &resting)?;
-            let is_same = encode_resting_write(alloc, &resting)? == spelling
-                && item == encode_frame(alloc, &Frame::Item(write))?;
-            if !is_same {
-                spelling.clear();
-            }
-            Ok((printed, spelling))
-        }
+        Ok(write) => Ok((format!(in alloc; "{write:?}")?, spelling_of(alloc, write)?)),
         Err(fault) => Ok((format!(in alloc; "!{fault:?}")?, Vec::new(alloc))),
     }
 }
 
 /// Whether the bytes have the fault that is named behind `!`.
-fn has_fault(alloc: Global, bytes: &[u8], fault: &str) -> Result<bool, AllocError> {
-    Ok(frame_of(alloc, bytes)?.0.as_str() == fault)
+fn has_fault(alloc: Global, bytes: &[u8], fault: &str) -> bool {
+    match frame_of(alloc, bytes) {
+        Ok((told, _)) => told.as_str() == fault,
+        Err(_) => false,
+    }
+}
+
+/// Whether that is the text, with what its marks stand for.
+fn is_printed(alloc: Global, found: &str, text: &str) -> bool {
+    match expanded(alloc, text, &AS_PRINTED) {
+        Ok(printed) => printed.as_str() == found,
+        Err(_) => false,
+    }
 }
 
 /// A frame's length, and what it counts.
@@ -51,25 +76,39 @@ fn counted(alloc: Global, length: u16, content: &[u8]) -> Result<Vec<u8>, AllocE
     Ok(bytes)
 }
 
-/// A byte less is too few and a byte more too many, whether the length counts them so or not.
-fn is_exact(alloc: Global, bytes: &[u8]) -> Result<bool, AllocError> {
-    let mut more = bytes.to_vec(alloc)?;
-    more.push(0)?;
-    let ([high, low, longer @ ..], [less @ .., _]) = (more.as_slice(), bytes) else {
-        return Ok(false);
+/// Whether this length and what it counts have that fault.
+fn is_miscounted(alloc: Global, length: u16, content: &[u8], fault: &str) -> bool {
+    match counted(alloc, length, content) {
+        Ok(bytes) => has_fault(alloc, &bytes, fault),
+        Err(_) => false,
+    }
+}
+
+/// Whether a byte more is too many, whether the length counts it so or not.
+fn is_too_long_with_more(alloc: Global, bytes: &[u8]) -> bool {
+    let Ok(mut more) = bytes.to_vec(alloc) else {
+        return false;
     };
-    let [_, _, shorter @ ..] = less else {
-        return Ok(false);
+    if more.push(0).is_err() {
+        return false;
+    }
+    let [high, low, content @ ..] = more.as_slice() else {
+        return false;
     };
-    let length = u16::from_be_bytes([*high, *low]);
-    let longer = counted(alloc, length.saturating_add(1), longer)?;
-    let shorter = counted(alloc, length.saturating_sub(1), shorter)?;
-    Ok(
-        has_fault(alloc, &more, "!Trailing")?
-            && has_fault(alloc, &longer, "!Trailing")?
-            && has_fault(alloc, less, "!BadBody")?
-            && has_fault(alloc, &shorter, "!BadBody")?,
-    )
+    let length = u16::from_be_bytes([*high, *low]).saturating_add(1);
+    has_fault(alloc, &more, "!Trailing") && is_miscounted(alloc, length, content, "!Trailing")
+}
+
+/// Whether a byte less is too few, whether the length counts it so or not.
+fn is_too_short_with_less(alloc: Global, bytes: &[u8]) -> bool {
+    let [less @ .., _] = bytes else {
+        return false;
+    };
+    let [high, low, content @ ..] = less else {
+        return false;
+    };
+    let length = u16::from_be_bytes([*high, *low]).saturating_sub(1);
+    has_fault(alloc, less, "!BadBody") && is_miscounted(alloc, length, content, "!BadBody")
 }
 
 /// Frames of each kind. The program of the last has each form of condition, term and op.
@@ -96,15 +135,21 @@ const FRAMES: &str = r#"0026 01 <none> 04726f6f6d => Read(<none>, "room")
 0005 16 00000001 => End(1)
 0064 02 <none> 03 010161010000000000000001 020162 030163fffffffffffffffe 04 01016401020178 010165020166 010167030168 0000000000000003 020169 01 01 02016a 01 02016b => Write(<none>, Program { check: [Equals("a", Num(1)), Absent("b"), AtLeast("c", -2)], update: [Put("d", Lit(Text("x"))), Put("e", Copy("f")), Put("g", Plus("h", 3)), Del("i")], merge: [Alt { when: [Absent("j")], ops: [Del("k")] }] })"#;
 
+/// Whether the bytes are read as a frame that prints itself so, and no byte less or more is one.
+fn is_frame(alloc: Global, bytes: &[u8], printed: &str) -> bool {
+    let is_read = match frame_of(alloc, bytes) {
+        Ok((found, again)) => is_printed(alloc, &found, printed) && again.as_slice() == bytes,
+        Err(_) => false,
+    };
+    is_read && is_too_long_with_more(alloc, bytes) && is_too_short_with_less(alloc, bytes)
+}
+
 #[test]
 fn frames_byte_for_byte(rt: HostRuntime) -> Result<(), Fail> {
-    let alloc = rt.alloc();
     for row in FRAMES.lines() {
         let (text, printed) = parts(row);
-        let bytes = bytes_of(alloc, text)?;
-        let (found, again) = frame_of(alloc, &bytes)?;
-        let is_same = found == expanded(alloc, printed, &AS_PRINTED)? && again == bytes;
-        assert!(rt; is_same && is_exact(alloc, &bytes)?, "{row}: {found}");
+        let bytes = bytes_of(rt.alloc(), text)?;
+        assert!(rt; is_frame(rt.alloc(), &bytes, printed), "{row}");
     }
     Ok(())
 }
@@ -118,13 +163,20 @@ const LENGTHS: &str = " => None
 2000 => Some(8194)
 ffff => Some(65537)";
 
+/// Whether that is the length of the frame in front.
+fn has_length(alloc: Global, bytes: &[u8], expected: &str) -> bool {
+    match format!(in alloc; "{:?}", frame_len(bytes)) {
+        Ok(found) => found.as_str() == expected,
+        Err(_) => false,
+    }
+}
+
 #[test]
 fn lengths_of_frames(rt: HostRuntime) -> Result<(), Fail> {
     for row in LENGTHS.lines() {
         let (text, expected) = parts(row);
         let bytes = bytes_of(rt.alloc(), text)?;
-        let found = format!(in rt.alloc(); "{:?}", frame_len(&bytes))?;
-        assert!(rt; found.as_str() == expected, "{row}");
+        assert!(rt; has_length(rt.alloc(), &bytes, expected), "{row}");
     }
     Ok(())
 }
@@ -160,7 +212,7 @@ fn faults_in_a_frames_place(rt: HostRuntime) -> Result<(), Fail> {
     for row in FAULTS.lines() {
         let (text, fault) = parts(row);
         let bytes = bytes_of(rt.alloc(), text)?;
-        assert!(rt; has_fault(rt.alloc(), &bytes, fault)?, "{row}");
+        assert!(rt; has_fault(rt.alloc(), &bytes, fault), "{row}");
     }
     Ok(())
 }
@@ -170,7 +222,7 @@ fn faults_in_a_frames_place(rt: HostRuntime) -> Result<(), Fail> {
 fn frames_of_the_greatest_length(rt: HostRuntime) -> Result<(), Fail> {
     for (count, fault) in [(8190, "!BadBody"), (8191, "!Trailing")] {
         let bytes = repeated(rt.alloc(), &[(b"\x20\x00\x03", 1), (b"\x00", count)])?;
-        assert!(rt; has_fault(rt.alloc(), &bytes, fault)?, "{count}");
+        assert!(rt; has_fault(rt.alloc(), &bytes, fault), "{count}");
     }
     Ok(())
 }
@@ -182,18 +234,21 @@ const WRITES: &str =
  => !BadBody
 <0:1> <stamp> <none> <put> 00 => !Trailing";
 
+/// Whether the bytes are read as a Write that prints itself so, and are its spelling, or have the fault that is named.
+fn is_write(alloc: Global, bytes: &[u8], printed: &str) -> bool {
+    let Ok((found, again)) = write_of(alloc, bytes) else {
+        return false;
+    };
+    let is_spelled = again.as_slice() == bytes || printed.starts_with('!') && again.is_empty();
+    is_spelled && is_printed(alloc, &found, printed)
+}
+
 #[test]
 fn writes_have_one_spelling(rt: HostRuntime) -> Result<(), Fail> {
-    let alloc = rt.alloc();
     for row in WRITES.lines() {
         let (text, printed) = parts(row);
-        let bytes = bytes_of(alloc, text)?;
-        let (found, again) = write_of(alloc, &bytes)?;
-        let is_same = found == expanded(alloc, printed, &AS_PRINTED)?;
-        assert!(rt;
-            is_same && (again.is_empty() || again == bytes),
-            "{row}: {found}"
-        );
+        let bytes = bytes_of(rt.alloc(), text)?;
+        assert!(rt; is_write(rt.alloc(), &bytes, printed), "{row}");
     }
     Ok(())
 }
@@ -237,17 +292,19 @@ static LONGEST: [(&[u8], usize); 23] = [
 ];
 
 /// Whether the bytes are those of a Write.
-fn is_spelling(alloc: Global, bytes: &[u8]) -> Result<bool, AllocError> {
-    match decode_write(bytes) {
-        Ok(write) => Ok(encode_write(alloc, &write)?.as_slice() == bytes),
-        Err(_) => Ok(false),
+fn is_spelling(alloc: Global, bytes: &[u8]) -> bool {
+    let Ok(write) = decode_write(bytes) else {
+        return false;
+    };
+    match encode_write(alloc, &write) {
+        Ok(again) => again.as_slice() == bytes,
+        Err(_) => false,
     }
 }
 
 #[test]
 fn the_longest_write(rt: HostRuntime) -> Result<(), Fail> {
     let bytes = repeated(rt.alloc(), &LONGEST)?;
-    let is_write = is_spelling(rt.alloc(), &bytes)?;
-    assert!(rt; bytes.len() == 5812 && is_write);
+    assert!(rt; bytes.len() == 5812 && is_spelling(rt.alloc(), &bytes));
     Ok(())
 }

@@ -44,35 +44,71 @@ fn are_found(found: &Opened, bodies: &[&[u8]]) -> bool {
     found.len() == bodies.len() && found.dropped() == 0
 }
 
-/// The device of a new journal with these bodies, which are found again.
-fn with_bodies(alloc: Global, server: ServerId, bodies: &[&[u8]]) -> Result<Memory, Fail> {
+/// Whether the journal takes the body.
+fn takes(journal: &mut Journal<Memory>, body: &[u8]) -> bool {
+    !body.is_empty() && body.len() <= MAX_BODY_BYTES && journal.append(body).is_ok()
+}
+
+/// Whether the journal takes these bodies, and they are found again.
+fn keeps(alloc: Global, journal: &mut Journal<Memory>, bodies: &[&[u8]]) -> bool {
+    let mut are_taken = true;
+    for body in bodies {
+        are_taken &= takes(journal, body);
+    }
+    match journal.reopen(alloc) {
+        Ok(found) => are_taken && are_found(&found, bodies),
+        Err(_) => false,
+    }
+}
+
+/// The device of a new journal with these bodies, if they are found again.
+fn with_bodies(alloc: Global, server: ServerId, bodies: &[&[u8]]) -> Option<Memory> {
     let device = MemoryDevice::new(alloc, OpenGate);
     let Ok((mut journal, _)) = Journal::open(alloc, server, device) else {
-        return Err(Fail::new("not opened"));
+        return None;
     };
-    for body in bodies {
-        if body.is_empty() || body.len() > MAX_BODY_BYTES {
-            return Err(Fail::new("no body"));
-        }
-        journal.append(body)?;
+    if !keeps(alloc, &mut journal, bodies) {
+        return None;
     }
-    let found = journal.reopen(alloc)?;
-    if !are_found(&found, bodies) {
-        return Err(Fail::new("other bodies"));
+    Some(journal.close())
+}
+
+/// Whether a new journal with these bodies has those bytes.
+fn has_bytes(alloc: Global, server: ServerId, bodies: &[&[u8]], bytes: &[u8]) -> bool {
+    match with_bodies(alloc, server, bodies) {
+        Some(device) => device.bytes() == bytes,
+        None => false,
     }
-    Ok(journal.close())
 }
 
 #[test]
 fn bodies_are_found_again(rt: HostRuntime) -> Result<(), Fail> {
-    let alloc = rt.alloc();
-    let longest = repeated(alloc, &[(b"\x07", 8192)])?;
-    let page = with_bodies(alloc, server_id(&rt, 2), &[b"\x00", b"\x01\x02"])?;
-    let three = with_bodies(alloc, server_id(&rt, 0), &[&WRITE, &WRITE, &WRITE])?;
-    let long = with_bodies(alloc, server_id(&rt, 7), &[b"\x09", &longest])?;
-    let is_page = page.bytes() == bytes_of(alloc, EXAMPLE)?.as_slice();
-    let are_three = three.bytes() == bytes_of(alloc, THREE)?.as_slice();
-    assert!(rt; is_page && are_three && long.bytes().len() == 8271);
+    let page = bytes_of(rt.alloc(), EXAMPLE)?;
+    let is_page = has_bytes(
+        rt.alloc(),
+        server_id(&rt, 2),
+        &[b"\x00", b"\x01\x02"],
+        &page,
+    );
+    let three = bytes_of(rt.alloc(), THREE)?;
+    let are_three = has_bytes(
+        rt.alloc(),
+        server_id(&rt, 0),
+        &[&WRITE, &WRITE, &WRITE],
+        &three,
+    );
+    assert!(rt; is_page && are_three);
+    Ok(())
+}
+
+#[test]
+fn the_longest_body_is_found_again(rt: HostRuntime) -> Result<(), Fail> {
+    let longest = repeated(rt.alloc(), &[(b"\x07", 8192)])?;
+    let is_found = match with_bodies(rt.alloc(), server_id(&rt, 7), &[b"\x09", &longest]) {
+        Some(device) => device.bytes().len() == 8271,
+        None => false,
+    };
+    assert!(rt; is_found);
     Ok(())
 }
 
@@ -88,15 +124,14 @@ fn opening(alloc: Global, server: ServerId, device: Memory) -> Result<(Found, Me
 }
 
 /// Whether an opening finds this in the bytes, and leaves those.
-fn is_found(
-    alloc: Global,
-    server: ServerId,
-    bytes: &[u8],
-    found: Found,
-    left: &[u8],
-) -> Result<bool, AllocError> {
-    let (answer, device) = opening(alloc, server, device_of(bytes.to_vec(alloc)?))?;
-    Ok(answer == found && device.bytes() == left)
+fn is_found(alloc: Global, server: ServerId, bytes: &[u8], found: Found, left: &[u8]) -> bool {
+    let Ok(copy) = bytes.to_vec(alloc) else {
+        return false;
+    };
+    match opening(alloc, server, device_of(copy)) {
+        Ok((answer, device)) => answer == found && device.bytes() == left,
+        Err(_) => false,
+    }
 }
 
 /// What an opening finds in so many bytes at the front of the journal with three entries, and how many it leaves.
@@ -107,20 +142,25 @@ fn in_front(len: usize) -> (Found, usize) {
     }
 }
 
+/// Whether an opening finds and leaves that in so many of the bytes.
+fn is_journal(alloc: Global, server: ServerId, bytes: &[u8], len: usize) -> bool {
+    let (found, left) = in_front(len);
+    let front = bytes.get(..len).unwrap_or(bytes);
+    is_found(
+        alloc,
+        server,
+        front,
+        found,
+        bytes.get(..left).unwrap_or(bytes),
+    )
+}
+
 #[test]
 fn each_front_is_a_journal(rt: HostRuntime) -> Result<(), Fail> {
     let server = server_id(&rt, 0);
     let bytes = bytes_of(rt.alloc(), THREE)?;
-    assert!(rt; bytes.len() == 292);
     for len in 0..293 {
-        let (found, left) = in_front(len);
-        let is_so = is_found(
-            rt.alloc(),
-            server,
-            &bytes[..len],
-            found,
-            &bytes[..left.min(292)],
-        )?;
+        let is_so = bytes.len() == 292 && is_journal(rt.alloc(), server, &bytes, len);
         assert!(rt; is_so, "{len} bytes");
     }
     Ok(())
@@ -138,20 +178,34 @@ fn changed_at(at: usize) -> (Found, usize) {
     }
 }
 
+/// Changes the byte at this place.
+fn change(bytes: &mut [u8], at: usize) {
+    if let Some(byte) = bytes.get_mut(at) {
+        *byte ^= 1;
+    }
+}
+
+/// Whether an opening finds and leaves that in the bytes, of which the one at this place was changed.
+fn is_ended(alloc: Global, server: ServerId, bytes: &[u8], at: usize) -> bool {
+    let (found, left) = changed_at(at);
+    is_found(
+        alloc,
+        server,
+        bytes,
+        found,
+        bytes.get(..left).unwrap_or(bytes),
+    )
+}
+
 #[test]
 fn a_changed_byte_ends_the_chain_before_it(rt: HostRuntime) -> Result<(), Fail> {
     let server = server_id(&rt, 0);
+    let mut bytes = bytes_of(rt.alloc(), THREE)?;
     for at in 0..292 {
-        let mut bytes = bytes_of(rt.alloc(), THREE)?;
-        if let Some(byte) = bytes.get_mut(at) {
-            *byte ^= 1;
-        }
-        let (found, left) = changed_at(at);
-        let left = bytes.get(..left).unwrap_or(&bytes);
-        assert!(rt;
-            is_found(rt.alloc(), server, &bytes, found, left)?,
-            "byte {at}"
-        );
+        change(&mut bytes, at);
+        let is_so = is_ended(rt.alloc(), server, &bytes, at);
+        assert!(rt; is_so, "byte {at}");
+        change(&mut bytes, at);
     }
     Ok(())
 }
@@ -164,7 +218,7 @@ fn foreign_bytes_are_refused(rt: HostRuntime) -> Result<(), Fail> {
         (1, THREE, OpenFault::OtherServer),
     ] {
         let bytes = bytes_of(alloc, text)?;
-        let is_so = is_found(alloc, server_id(&rt, index), &bytes, Err(fault), &bytes)?;
+        let is_so = is_found(alloc, server_id(&rt, index), &bytes, Err(fault), &bytes);
         assert!(rt; is_so, "{fault:?}");
     }
     Ok(())
@@ -191,24 +245,55 @@ static FAILING: [(usize, u32, Option<usize>); 12] = [
     (5, 4, Some(10)),
 ];
 
+/// Whether an opening finds what so many bytes at the front are, and leaves it.
+fn finds_front(alloc: Global, server: ServerId, bytes: &[u8], left: usize, device: Memory) -> bool {
+    let (wanted, whole) = in_front(left);
+    match opening(alloc, server, device) {
+        Ok((found, device)) => found == wanted && bytes.get(..whole) == Some(device.bytes()),
+        Err(_) => false,
+    }
+}
+
+/// The device of these bytes, which fails at this call with so much of a piece added.
+fn failing_device(alloc: Global, bytes: &[u8], call: u32, kept: usize) -> Option<Memory> {
+    let mut device = device_of(bytes.to_vec(alloc).ok()?);
+    device.fuse(call.max(1), kept);
+    Some(device)
+}
+
 /// Whether the opening fails so, and the next one finds what is left.
 fn fails(
     alloc: Global,
     server: ServerId,
     bytes: &[u8],
-    row: (usize, u32, Option<usize>),
+    (len, call, left): (usize, u32, Option<usize>),
     kept: usize,
-) -> Result<bool, AllocError> {
-    let (len, call, left) = row;
+) -> bool {
     let left = left.unwrap_or(kept.min(10));
-    let mut device = device_of(bytes.get(..len).unwrap_or(bytes).to_vec(alloc)?);
-    device.fuse(call.max(1), kept);
-    let (refused, device) = opening(alloc, server, device)?;
+    let front = bytes.get(..len).unwrap_or(bytes);
+    let Some(device) = failing_device(alloc, front, call, kept) else {
+        return false;
+    };
+    let Ok((refused, device)) = opening(alloc, server, device) else {
+        return false;
+    };
     let is_left = bytes.get(..left) == Some(device.bytes());
-    let (found, device) = opening(alloc, server, device)?;
-    let (wanted, whole) = in_front(left);
-    let is_whole = bytes.get(..whole) == Some(device.bytes());
-    Ok(refused == Err(OpenFault::Device) && is_left && found == wanted && is_whole)
+    let is_refused = refused == Err(OpenFault::Device);
+    is_left && is_refused && finds_front(alloc, server, bytes, left, device)
+}
+
+/// Whatever is kept of a header.
+fn fails_however_much_is_kept(
+    alloc: Global,
+    server: ServerId,
+    bytes: &[u8],
+    row: (usize, u32, Option<usize>),
+) -> bool {
+    let mut is_so = true;
+    for kept in 0..12 {
+        is_so &= fails(alloc, server, bytes, row, kept);
+    }
+    is_so
 }
 
 #[test]
@@ -216,10 +301,8 @@ fn each_device_call_of_an_opening_may_fail(rt: HostRuntime) -> Result<(), Fail> 
     let server = server_id(&rt, 0);
     let bytes = bytes_of(rt.alloc(), THREE)?;
     for row in FAILING.iter() {
-        for kept in 0..12 {
-            let is_so = fails(rt.alloc(), server, &bytes, *row, kept)?;
-            assert!(rt; is_so, "{row:?}, {kept}");
-        }
+        let is_so = fails_however_much_is_kept(rt.alloc(), server, &bytes, *row);
+        assert!(rt; is_so, "{row:?}");
     }
     Ok(())
 }
@@ -235,25 +318,34 @@ enum Step {
 
 use Step::{Append, Fuse, Lose, Reopen};
 
+/// What a reopening finds.
+fn reopening(alloc: Global, journal: &mut Journal<Memory>) -> Found {
+    match journal.reopen(alloc) {
+        Ok(found) => Ok((found.len(), found.dropped())),
+        Err(fault) => Err(fault),
+    }
+}
+
 /// Does the step. Whether the journal answers so, and is down where it refused.
-fn goes(alloc: Global, journal: &mut Journal<Memory>, step: Step) -> Result<bool, AllocError> {
+fn goes(alloc: Global, journal: &mut Journal<Memory>, step: Step) -> bool {
     match step {
-        Fuse(call, kept) => journal.device().fuse(call.max(1), kept),
-        Lose(count) => journal.device().lose(count),
+        Fuse(call, kept) => {
+            journal.device().fuse(call.max(1), kept);
+            true
+        }
+        Lose(count) => {
+            journal.device().lose(count);
+            true
+        }
         Append(answer) => {
             let given = journal.append(&WRITE);
-            return Ok(given == answer && journal.is_down() == answer.is_err());
+            given == answer && journal.is_down() == answer.is_err()
         }
         Reopen(answer) => {
-            let given = match journal.reopen(alloc) {
-                Ok(found) => Ok((found.len(), found.dropped())),
-                Err(OpenFault::OutOfMemory) => return Err(AllocError),
-                Err(fault) => Err(fault),
-            };
-            return Ok(given == answer && journal.is_down() == answer.is_err());
+            let given = reopening(alloc, journal);
+            given == answer && journal.is_down() == answer.is_err()
         }
     }
-    Ok(true)
 }
 
 /// The steps go so, one after another, over the journal of the first bytes of that with three entries.
@@ -264,13 +356,14 @@ fn all_go(
     fuse: u32,
     steps: &[Step],
 ) -> Result<(), AllocError> {
-    let mut device = device_of(front.to_vec(alloc)?);
-    device.fuse(fuse.max(1), 0);
-    let (mut journal, _) = Journal::open(alloc, server_id(rt, 0), device)
-        .ok()
-        .ok_or(AllocError)?;
+    let Some(device) = failing_device(alloc, front, fuse, 0) else {
+        return Err(AllocError);
+    };
+    let Ok((mut journal, _)) = Journal::open(alloc, server_id(rt, 0), device) else {
+        return Err(AllocError);
+    };
     for (at, step) in steps.iter().enumerate() {
-        assert!(rt; goes(alloc, &mut journal, *step)?, "step {at}");
+        assert!(rt; goes(alloc, &mut journal, *step), "step {at}");
     }
     Ok(())
 }

@@ -31,26 +31,31 @@ fn is_named(fault: LineFault, name: &str) -> bool {
     write!(told, "{fault:?}").is_ok() && told.as_str() == name
 }
 
+/// Whether that is the line's spelling.
+fn is_spelled(alloc: Global, line: &Line, expected: &str) -> bool {
+    match spelling(alloc, line) {
+        Ok(text) => text.as_str() == expected,
+        Err(_) => false,
+    }
+}
+
 /// Whether the bytes are read as a line of this spelling, or have the fault that is named behind `!`.
-pub fn agrees(alloc: Global, bytes: &[u8], expected: &str) -> Result<bool, AllocError> {
+pub fn agrees(alloc: Global, bytes: &[u8], expected: &str) -> bool {
     match read(alloc, bytes) {
-        Ok(line) => Ok(spelling(alloc, &line)?.as_str() == expected),
-        Err(LineFault::OutOfMemory) => Err(AllocError),
-        Err(fault) => Ok(
-            expected
-                .strip_prefix('!')
-                .is_some_and(|name| is_named(fault, name)),
-        ),
+        Ok(line) => is_spelled(alloc, &line, expected),
+        Err(fault) => match expected.strip_prefix('!') {
+            Some(name) => is_named(fault, name),
+            None => false,
+        },
     }
 }
 
 /// Each row of the table is read as it says.
-fn all_agree(rt: &impl Abort, alloc: Global, table: &str) -> Result<(), AllocError> {
+fn all_agree(rt: &impl Abort, alloc: Global, table: &str) {
     for row in table.lines() {
         let (text, expected) = parts(row);
-        assert!(rt; agrees(alloc, text.as_bytes(), expected)?, "{row}");
+        assert!(rt; agrees(alloc, text.as_bytes(), expected), "{row}");
     }
-    Ok(())
 }
 
 /// Commands.
@@ -109,9 +114,8 @@ const COMMANDS: &str = r#"["servers",1]
 null => !BadShape(Line)"#;
 
 #[test]
-fn commands(rt: HostRuntime) -> Result<(), Fail> {
-    all_agree(&rt, rt.alloc(), COMMANDS)?;
-    Ok(())
+fn commands(rt: HostRuntime) {
+    all_agree(&rt, rt.alloc(), COMMANDS);
 }
 
 /// Commands that try one server.
@@ -141,9 +145,8 @@ const TRIALS: &str = r#"["fuse",7,1,0]
 ["restart",0,0] => !BadShape(Arity)"#;
 
 #[test]
-fn trials(rt: HostRuntime) -> Result<(), Fail> {
-    all_agree(&rt, rt.alloc(), TRIALS)?;
-    Ok(())
+fn trials(rt: HostRuntime) {
+    all_agree(&rt, rt.alloc(), TRIALS);
 }
 
 /// Commands that have a server send its Writes to another.
@@ -168,9 +171,8 @@ const EXCHANGES: &str = r#"["pull",1,0]
 ["offer",1,0] => !BadShape(Command)"#;
 
 #[test]
-fn exchanges(rt: HostRuntime) -> Result<(), Fail> {
-    all_agree(&rt, rt.alloc(), EXCHANGES)?;
-    Ok(())
+fn exchanges(rt: HostRuntime) {
+    all_agree(&rt, rt.alloc(), EXCHANGES);
 }
 
 /// Texts that are no JSON.
@@ -185,9 +187,8 @@ const NO_JSON: &str = r#"["servers",1 => !NotJson
 ['servers',1] => !NotJson"#;
 
 #[test]
-fn texts_that_are_no_json(rt: HostRuntime) -> Result<(), Fail> {
-    all_agree(&rt, rt.alloc(), NO_JSON)?;
-    Ok(())
+fn texts_that_are_no_json(rt: HostRuntime) {
+    all_agree(&rt, rt.alloc(), NO_JSON);
 }
 
 /// Lines that no row of a table can have.
@@ -202,11 +203,10 @@ static ODD: [(&[u8], &str); 7] = [
 ];
 
 #[test]
-fn odd_bytes(rt: HostRuntime) -> Result<(), Fail> {
+fn odd_bytes(rt: HostRuntime) {
     for (bytes, expected) in ODD.iter() {
-        assert!(rt; agrees(rt.alloc(), bytes, expected)?, "{bytes:?}");
+        assert!(rt; agrees(rt.alloc(), bytes, expected), "{bytes:?}");
     }
-    Ok(())
 }
 
 /// Lines of pieces that stand so many times, one behind the other.
@@ -241,7 +241,7 @@ static LONG: [(&[(&[u8], usize)], &str); 6] = [
 fn depths_and_lengths(rt: HostRuntime) -> Result<(), Fail> {
     for (pieces, expected) in LONG.iter() {
         let bytes = repeated(rt.alloc(), pieces)?;
-        assert!(rt; agrees(rt.alloc(), &bytes, expected)?, "{expected}");
+        assert!(rt; agrees(rt.alloc(), &bytes, expected), "{expected}");
     }
     Ok(())
 }
@@ -274,7 +274,6 @@ const FORMS: &str = r#"["servers",1]
 
 /// It takes no memory of its own but what reading and writing take, for runs in which one allocation is refused.
 #[test]
-fn want_of_memory_changes_no_answer(rt: HostRuntime) -> Result<(), Fail> {
-    all_agree(&rt, rt.alloc(), FORMS)?;
-    Ok(())
+fn want_of_memory_changes_no_answer(rt: HostRuntime) {
+    all_agree(&rt, rt.alloc(), FORMS);
 }

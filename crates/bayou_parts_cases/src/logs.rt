@@ -2,8 +2,8 @@
 use crate::fixtures::{key, plus, put, vector, wid, write};
 use crate::notation::bytes_of;
 use arrayvec::ArrayVec;
-use bayou_base::{Key, Value};
-use bayou_lang::{Outcome, RestingWrite, Write};
+use bayou_base::{Key, Value, Vector};
+use bayou_lang::{Outcome, RestingProgram, RestingWrite, Write};
 use bayou_log::plain::replayed;
 use bayou_log::{Db, Misfit, WriteLog};
 use bayou_wire::decode_write;
@@ -42,34 +42,27 @@ fn told(log: &WriteLog, a: &Key) -> (usize, i64) {
     }
 }
 
-/// Adds that Write. Where a growth is refused, the log is as it was, and the Write is added then.
-fn grows(
-    rt: &impl Abort,
-    alloc: Global,
-    log: &mut WriteLog,
-    server: u8,
-    a: &Key,
-) -> Result<bool, AllocError> {
+/// Whether the Write is added. Where a growth is refused, the log is as it was, and the Write is added then.
+fn grows(alloc: Global, log: &mut WriteLog, write: &Write, a: &Key) -> bool {
     let before = told(log, a);
-    match add(alloc, log, &first(rt, server)) {
-        Ok(is_added) => Ok(is_added),
-        Err(_) => {
-            let is_same = told(log, a) == before;
-            Ok(add(alloc, log, &first(rt, server))? && is_same)
-        }
+    match add(alloc, log, write) {
+        Ok(is_added) => is_added,
+        Err(_) => told(log, a) == before && add(alloc, log, write) == Ok(true),
     }
 }
 
 /// Whether the listing has so many Writes, the next one of the next server, each of which was applied.
-fn lists_all(alloc: Global, log: &WriteLog, servers: u8) -> Result<bool, AllocError> {
-    let listing = log.listing(alloc)?;
+fn lists_all(alloc: Global, log: &WriteLog, servers: u8) -> bool {
+    let Ok(listing) = log.listing(alloc) else {
+        return false;
+    };
     let mut count = 0_u8;
     for listed in &listing {
         if listed.wid.origin.index == count && listed.outcome == Outcome::Updated {
             count = count.saturating_add(1);
         }
     }
-    Ok(count == servers && listing.len() == usize::from(servers))
+    count == servers && listing.len() == usize::from(servers)
 }
 
 /// How many orders of five things there are.
@@ -93,85 +86,100 @@ fn order_of(number: usize) -> ArrayVec<u8, 5> {
 }
 
 /// Whether the plain replay has the same at the key.
-fn is_plain(alloc: Global, log: &WriteLog, a: &Key) -> Result<bool, AllocError> {
-    let plain = replayed(alloc, log.receipts())?;
-    Ok(plain.get(a) == log.get(a))
+fn is_plain(alloc: Global, log: &WriteLog, a: &Key) -> bool {
+    match replayed(alloc, log.receipts()) {
+        Ok(plain) => plain.get(a) == log.get(a),
+        Err(_) => false,
+    }
 }
 
 /// Adds the five Writes in this order. Whether each is added.
-fn takes(
-    rt: &impl Abort,
-    alloc: Global,
-    log: &mut WriteLog,
-    order: &[u8],
-    a: &Key,
-) -> Result<bool, AllocError> {
+fn takes(rt: &impl Abort, alloc: Global, log: &mut WriteLog, order: &[u8], a: &Key) -> bool {
     let mut are_added = true;
     for server in order {
-        are_added &= grows(rt, alloc, log, *server, a)?;
+        are_added &= grows(alloc, log, &first(rt, *server), a);
     }
-    Ok(are_added)
+    are_added
+}
+
+/// Whether a log that takes the five Writes in this order then has their listing and their database.
+fn makes_one_database(rt: &impl Abort, alloc: Global, order: &[u8], a: &Key) -> bool {
+    let mut log = WriteLog::new(alloc, 5, 5);
+    let are_taken = takes(rt, alloc, &mut log, order, a);
+    let is_so = are_taken && lists_all(alloc, &log, 5) && is_plain(alloc, &log, a);
+    let is_told = log.clock() == 1 && told(&log, a) == (5, 1115);
+    is_so && is_told && log.is_full()
 }
 
 #[test]
-fn every_order_of_receipt_makes_one_database(rt: HostRuntime) -> Result<(), Fail> {
-    let alloc = rt.alloc();
+fn every_order_of_receipt_makes_one_database(rt: HostRuntime) {
     let a = key(&rt, "a");
     for number in 0..ORDERS {
-        let mut log = WriteLog::new(alloc, 5, 5);
-        let is_so = takes(&rt, alloc, &mut log, order_of(number).as_slice(), &a)?
-            && lists_all(alloc, &log, 5)?
-            && is_plain(alloc, &log, &a)?;
-        let is_told = log.clock() == 1 && told(&log, &a) == (5, 1115);
-        assert!(rt; is_so && is_told && log.is_full(), "{number}");
+        let is_so = makes_one_database(&rt, rt.alloc(), order_of(number).as_slice(), &a);
+        assert!(rt; is_so, "{number}");
     }
-    Ok(())
 }
 
 /// How many Writes server 0 made while server 1 was away.
 const MADE_APART: u32 = 200;
 
-/// The log of these Writes, each of which adds 1.
-fn made_apart(rt: &impl Abort, alloc: Global) -> Result<WriteLog, AllocError> {
-    let mut log = WriteLog::new(alloc, 2, 300);
+/// One of these Writes, which adds 1.
+fn made(rt: &impl Abort, seq: u32) -> Write {
+    write(rt, 0, seq, seq, [seq.saturating_sub(1), 0], plus(rt, 1))
+}
+
+/// Adds them. Whether each is added.
+fn takes_apart(rt: &impl Abort, alloc: Global, log: &mut WriteLog) -> bool {
+    let mut are_added = true;
     for seq in 1..=MADE_APART {
-        let next = write(rt, 0, seq, seq, [seq - 1, 0], plus(rt, 1));
-        add(alloc, &mut log, &next)?;
+        are_added &= add(alloc, log, &made(rt, seq)) == Ok(true);
     }
-    Ok(log)
+    are_added
+}
+
+/// How many Writes of the log were applied.
+fn updated(alloc: Global, log: &WriteLog) -> usize {
+    let Ok(listing) = log.listing(alloc) else {
+        return 0;
+    };
+    let mut count: usize = 0;
+    for listed in &listing {
+        if listed.outcome == Outcome::Updated {
+            count = count.saturating_add(1);
+        }
+    }
+    count
+}
+
+/// Whether the log finds the last of them, and no second one of the other server.
+fn finds_the_last(rt: &impl Abort, log: &WriteLog) -> bool {
+    log.find(wid(rt, 0, 200)).is_some() && log.find(wid(rt, 1, 2)).is_none()
 }
 
 /// The first of the Writes has nothing to add to; the late one, of the same clock and a later server, puts 5 before all others.
 #[test]
-fn a_late_write_goes_below_two_hundred(rt: HostRuntime) -> Result<(), Fail> {
+fn a_late_write_goes_below_two_hundred(rt: HostRuntime) {
     let alloc = rt.alloc();
     let a = key(&rt, "a");
-    let mut log = made_apart(&rt, alloc)?;
-    let was_empty = told(&log, &a) == (200, 0);
-    let is_added = add(alloc, &mut log, &first(&rt, 1))?;
-    let updated = log
-        .listing(alloc)?
-        .iter()
-        .filter(|listed| listed.outcome == Outcome::Updated)
-        .count();
-    let is_told = told(&log, &a) == (201, 204) && updated == 200;
-    let is_found = log.find(wid(&rt, 0, 200)).is_some() && log.find(wid(&rt, 1, 2)).is_none();
-    assert!(rt; was_empty && is_added && is_told && is_found && is_plain(alloc, &log, &a)?);
-    Ok(())
+    let mut log = WriteLog::new(alloc, 2, 300);
+    let was_empty = takes_apart(&rt, alloc, &mut log) && told(&log, &a) == (200, 0);
+    let is_added = add(alloc, &mut log, &first(&rt, 1)) == Ok(true);
+    let is_told = told(&log, &a) == (201, 204) && updated(alloc, &log) == 200;
+    let is_so = finds_the_last(&rt, &log) && is_plain(alloc, &log, &a);
+    assert!(rt; was_empty && is_added && is_told && is_so);
 }
 
 #[test]
-fn a_full_log_takes_no_write(rt: HostRuntime) -> Result<(), Fail> {
+fn a_full_log_takes_no_write(rt: HostRuntime) {
     let alloc = rt.alloc();
+    let (held, other) = (wid(&rt, 0, 1), wid(&rt, 1, 1));
     let mut log = WriteLog::new(alloc, 2, 1);
-    let (held, other) = (first(&rt, 0).wid, first(&rt, 1).wid);
     let was_empty = !log.is_full() && log.find(held).is_none();
-    let is_added = add(alloc, &mut log, &first(&rt, 0))?;
-    let is_other_added = add(alloc, &mut log, &first(&rt, 1))?;
+    let is_added = add(alloc, &mut log, &first(&rt, 0)) == Ok(true);
+    let is_refused = add(alloc, &mut log, &first(&rt, 1)) == Ok(false);
     let is_full = log.is_full() && log.receipts().len() == 1;
     let are_found = log.find(held).is_some() && log.find(other).is_none();
-    assert!(rt; was_empty && is_added && !is_other_added && is_full && are_found);
-    Ok(())
+    assert!(rt; was_empty && is_added && is_refused && is_full && are_found);
 }
 
 /// A Write by its origin, its seq, its clock and what its server held, and what a log says of it.
@@ -189,33 +197,42 @@ const OFFERS: [Offer; 8] = [
     (2, 1, 1, [0, 0], Err(Misfit::Gap)),
 ];
 
+/// Whether the log says that of the Write.
+fn is_told(rt: &impl Abort, log: &WriteLog, (origin, seq, clock, deps, answer): Offer) -> bool {
+    log.fits(&write(rt, origin, seq, clock, deps, put(rt, 1))) == answer
+}
+
 #[test]
-fn a_log_tells_which_writes_fit(rt: HostRuntime) -> Result<(), Fail> {
+fn a_log_tells_which_writes_fit(rt: HostRuntime) {
     let mut log = WriteLog::new(rt.alloc(), 2, 3);
-    add(rt.alloc(), &mut log, &first(&rt, 0))?;
-    for (origin, seq, clock, deps, answer) in OFFERS {
-        let offered = write(&rt, origin, seq, clock, deps, put(&rt, 1));
-        assert!(rt; log.fits(&offered) == answer, "{origin}:{seq} {clock}");
+    let is_added = add(rt.alloc(), &mut log, &first(&rt, 0)) == Ok(true);
+    for offer in OFFERS {
+        assert!(rt; is_added && is_told(&rt, &log, offer), "{offer:?}");
     }
-    Ok(())
 }
 
 /// A Write of a program that puts 1 at `a` where nothing is there, and else takes it away.
 const TURNS: &str = "<0:1> <stamp> <none> 01 020161 01 01016101010000000000000001 01 00 01 020161";
 
+/// Whether the program, which is applied twice, puts and takes away.
+fn puts_and_takes(alloc: Global, program: &RestingProgram, a: &Key) -> bool {
+    let mut db = Db::new(alloc);
+    if db.prepare(program).is_err() {
+        return false;
+    }
+    let had_nothing = db.get(a).is_none();
+    let (first, _) = db.apply(program);
+    let is_put = first == Outcome::Updated && db.get(a) == Some(Value::Num(1));
+    let (second, _) = db.apply(program);
+    let is_taken = second == Outcome::Merged(0) && db.get(a).is_none();
+    had_nothing && is_put && is_taken
+}
+
 #[test]
 fn a_database_keeps_its_room(rt: HostRuntime) -> Result<(), Fail> {
-    let a = key(&rt, "a");
     let Write { program, .. } = decode_write(&bytes_of(rt.alloc(), TURNS)?)?;
     let program = program.rest(rt.alloc())?;
-    let mut db = Db::new(rt.alloc());
-    db.prepare(&program)?;
-    let had_nothing = db.get(&a).is_none();
-    let (first, _) = db.apply(&program);
-    let is_put = first == Outcome::Updated && db.get(&a) == Some(Value::Num(1));
-    let (second, _) = db.apply(&program);
-    let is_taken = second == Outcome::Merged(0) && db.get(&a).is_none();
-    assert!(rt; had_nothing && is_put && is_taken);
+    assert!(rt; puts_and_takes(rt.alloc(), &program, &key(&rt, "a")));
     Ok(())
 }
 
@@ -249,17 +266,31 @@ fn are_named(writes: &[RestingWrite], names: &[(u8, u32)]) -> bool {
     are_so
 }
 
-#[test]
-fn what_is_lacking_comes_in_stamp_order(rt: HostRuntime) -> Result<(), Fail> {
-    let alloc = rt.alloc();
-    let mut log = WriteLog::new(alloc, 8, 6);
+/// Adds the Writes. Whether each is added.
+fn receives_all(rt: &impl Abort, alloc: Global, log: &mut WriteLog) -> bool {
+    let mut are_added = true;
     for (origin, seq, clock, deps) in RECEIVED {
-        let received = write(&rt, origin, seq, clock, deps, put(&rt, 1));
-        add(alloc, &mut log, &received)?;
+        let received = write(rt, origin, seq, clock, deps, put(rt, 1));
+        are_added &= add(alloc, log, &received) == Ok(true);
     }
+    are_added
+}
+
+/// Whether a server with these counts lacks the Writes of these names, that many at the most.
+fn lacks(alloc: Global, log: &WriteLog, counts: &Vector, max: usize, names: &[(u8, u32)]) -> bool {
+    match log.lacking(alloc, counts, max) {
+        Ok(lacking) => are_named(&lacking, names),
+        Err(_) => false,
+    }
+}
+
+#[test]
+fn what_is_lacking_comes_in_stamp_order(rt: HostRuntime) {
+    let mut log = WriteLog::new(rt.alloc(), 8, 6);
+    let are_held = receives_all(&rt, rt.alloc(), &mut log);
     for ([first, second], max, names) in LACKED {
-        let lacking = log.lacking(alloc, &vector(&rt, first, second), max)?;
-        assert!(rt; are_named(&lacking, names), "{first} {second} {max}");
+        let counts = vector(&rt, first, second);
+        let is_so = are_held && lacks(rt.alloc(), &log, &counts, max, names);
+        assert!(rt; is_so, "{first} {second} {max}");
     }
-    Ok(())
 }

@@ -5,7 +5,7 @@ use bayou_base::{MAX_WRITES, ServerId, Value, Vector, Wid};
 use bayou_device::{MemoryDevice, OpenGate};
 use bayou_lang::RestingWrite;
 use bayou_server::{JournalFault, ReopenFault, Server, StartFault, WriteFault};
-use std::alloc::{AllocError, Global};
+use std::alloc::Global;
 use std::process::Abort;
 use std::test::Fail;
 
@@ -58,13 +58,30 @@ fn puts(
     Ok(accepted.wid.seq)
 }
 
-/// The device of a server that has put 1, 2 and so on.
-fn with_writes(rt: &impl Abort, alloc: Global, count: u8) -> Result<Memory, Fail> {
-    let mut server = start(rt, alloc, 100, MemoryDevice::new(alloc, OpenGate))?;
+/// Whether it puts 1, 2 and so on.
+fn puts_all(rt: &impl Abort, alloc: Global, server: &mut Served, count: u8) -> bool {
+    let mut are_put = true;
     for number in 0..count {
-        puts(rt, alloc, &mut server, i64::from(number) + 1)?;
+        are_put &= puts(rt, alloc, server, i64::from(number) + 1).is_ok();
     }
+    are_put
+}
+
+/// The device of a server that has put 1, 2 and so on.
+fn with_writes(rt: &impl Abort, alloc: Global, count: u8) -> Result<Memory, StartFault> {
+    let mut server = start(rt, alloc, 100, MemoryDevice::new(alloc, OpenGate))?;
+    let are_put = puts_all(rt, alloc, &mut server, count);
+    assert!(rt; are_put);
     Ok(server.stop().device)
+}
+
+/// Replaces the server's device by that of one that has put 1, 2 and so on.
+fn replaces(rt: &impl Abort, alloc: Global, server: &mut Served, count: u8) -> bool {
+    let Ok(device) = with_writes(rt, alloc, count) else {
+        return false;
+    };
+    *server.device() = device;
+    true
 }
 
 /// Whether `a` has that, and so many Writes are held.
@@ -93,16 +110,21 @@ fn reopens(alloc: Global, server: &mut Served, answer: Result<Option<u32>, Reope
 }
 
 /// Does the step. Whether the server answers so.
-fn goes(rt: &impl Abort, alloc: Global, server: &mut Served, step: Step) -> Result<bool, Fail> {
+fn goes(rt: &impl Abort, alloc: Global, server: &mut Served, step: Step) -> bool {
     match step {
-        Fuse(call, kept) => server.device().fuse(call.max(1), kept),
-        Lose(count) => server.device().lose(count),
-        Replace(count) => *server.device() = with_writes(rt, alloc, count)?,
-        Put(number, answer) => return Ok(puts(rt, alloc, server, number) == answer),
-        Reopen(answer) => return Ok(reopens(alloc, server, answer)),
-        Has(value, held) => return Ok(has(rt, server, value, held)),
+        Fuse(call, kept) => {
+            server.device().fuse(call.max(1), kept);
+            true
+        }
+        Lose(count) => {
+            server.device().lose(count);
+            true
+        }
+        Replace(count) => replaces(rt, alloc, server, count),
+        Put(number, answer) => puts(rt, alloc, server, number) == answer,
+        Reopen(answer) => reopens(alloc, server, answer),
+        Has(value, held) => has(rt, server, value, held),
     }
-    Ok(true)
 }
 
 /// The steps go so, one after another, at a server that may hold so many Writes. It gives the device back.
@@ -112,10 +134,10 @@ fn all_go(
     limit: u32,
     device: Memory,
     steps: &[Step],
-) -> Result<Memory, Fail> {
+) -> Result<Memory, StartFault> {
     let mut server = start(rt, alloc, limit, device)?;
     for (at, step) in steps.iter().enumerate() {
-        assert!(rt; goes(rt, alloc, &mut server, *step)?, "step {at}");
+        assert!(rt; goes(rt, alloc, &mut server, *step), "step {at}");
     }
     Ok(server.stop().device)
 }
@@ -170,7 +192,9 @@ fn a_write_in_doubt_is_forgotten_or_adopted(rt: HostRuntime) -> Result<(), Fail>
 
 /// The device call of a Write that fails, how much of its entry of 91 bytes is added, the seq of the Write that a reopening adopts,
 /// if any, and what the server has then.
-const FAILING: [(u32, usize, Option<u32>, Step); 10] = [
+type Failing = (u32, usize, Option<u32>, Step);
+
+const FAILING: [Failing; 10] = [
     (1, 0, None, Has(Some(1), 1)),
     (1, 1, None, Has(Some(1), 1)),
     (1, 50, None, Has(Some(1), 1)),
@@ -183,20 +207,29 @@ const FAILING: [(u32, usize, Option<u32>, Step); 10] = [
     (2, 200, Some(2), Has(Some(2), 2)),
 ];
 
+/// The steps go so where the device fails at a Write, and the last again after a start.
+fn fails_and_goes_on(
+    rt: &impl Abort,
+    alloc: Global,
+    (call, kept, adopted, left): Failing,
+) -> Result<(), StartFault> {
+    let steps = [
+        Fuse(call, kept),
+        Put(2, Err(WriteFault::Journal)),
+        Put(3, Err(WriteFault::Down)),
+        Has(Some(1), 1),
+        Reopen(Ok(adopted)),
+        left,
+    ];
+    let device = all_go(rt, alloc, 100, with_writes(rt, alloc, 1)?, &steps)?;
+    all_go(rt, alloc, 100, device, &[left])?;
+    Ok(())
+}
+
 #[test]
 fn each_device_call_of_a_write_may_fail(rt: HostRuntime) -> Result<(), Fail> {
-    let alloc = rt.alloc();
-    for (call, kept, adopted, left) in FAILING {
-        let steps = [
-            Fuse(call, kept),
-            Put(2, Err(WriteFault::Journal)),
-            Put(3, Err(WriteFault::Down)),
-            Has(Some(1), 1),
-            Reopen(Ok(adopted)),
-            left,
-        ];
-        let device = all_go(&rt, alloc, 100, with_writes(&rt, alloc, 1)?, &steps)?;
-        all_go(&rt, alloc, 100, device, &[left])?;
+    for row in FAILING {
+        fails_and_goes_on(&rt, rt.alloc(), row)?;
     }
     Ok(())
 }
@@ -264,13 +297,27 @@ static REFUSED: [(&str, u32, StartFault); 9] = [
     ("4241594f55", 4, StartFault::Journal(JournalFault::Device)),
 ];
 
+/// Whether no server starts on a device of these bytes, which fails at this call, and for that fault.
+fn is_refused(
+    rt: &impl Abort,
+    alloc: Global,
+    bytes: Vec<u8>,
+    call: u32,
+    fault: StartFault,
+) -> bool {
+    let mut device = MemoryDevice::with_bytes(bytes, OpenGate);
+    device.fuse(call.max(1), 3);
+    match start(rt, alloc, 2, device) {
+        Ok(_) => false,
+        Err(told) => told == fault,
+    }
+}
+
 #[test]
 fn what_no_server_stored_is_refused(rt: HostRuntime) -> Result<(), Fail> {
-    let alloc = rt.alloc();
     for (text, call, fault) in REFUSED.iter() {
-        let mut device = MemoryDevice::with_bytes(bytes_of(alloc, text)?, OpenGate);
-        device.fuse((*call).max(1), 3);
-        let is_so = start(&rt, alloc, 2, device).err() == Some(*fault);
+        let bytes = bytes_of(rt.alloc(), text)?;
+        let is_so = is_refused(&rt, rt.alloc(), bytes, *call, *fault);
         assert!(rt; is_so, "{fault:?}");
     }
     Ok(())
@@ -293,11 +340,20 @@ fn are_same(some: &[RestingWrite], others: &[RestingWrite]) -> bool {
             .all(|(one, other)| one.unfold() == other.unfold())
 }
 
-/// Whether it dumps, lists and finds the two Writes that it holds, of which the last has this name.
-fn tells_both(alloc: Global, server: &Served, last: Wid) -> Result<bool, AllocError> {
-    let is_dumped = are_same(&server.dump(alloc)?, server.receipts());
-    let listed = server.listing(alloc)?.len();
-    Ok(is_dumped && listed == 2 && server.find(last).is_some())
+/// Whether it dumps what it holds.
+fn dumps_all(alloc: Global, server: &Served) -> bool {
+    match server.dump(alloc) {
+        Ok(dump) => are_same(&dump, server.receipts()),
+        Err(_) => false,
+    }
+}
+
+/// Whether it lists and finds the two Writes that it holds, of which the last has this name.
+fn lists_both(alloc: Global, server: &Served, last: Wid) -> bool {
+    match server.listing(alloc) {
+        Ok(listing) => listing.len() == 2 && server.find(last).is_some(),
+        Err(_) => false,
+    }
 }
 
 #[test]
@@ -306,10 +362,11 @@ fn a_server_tells_what_it_holds(rt: HostRuntime) -> Result<(), Fail> {
     let steps = [Has(Some(2), 2), Put(3, Err(WriteFault::LogFull))];
     let device = all_go(&rt, alloc, 2, with_writes(&rt, alloc, 2)?, &steps)?;
     let server = start(&rt, alloc, 2, device)?;
-    let are_told = tells_both(alloc, &server, wid(&rt, 0, 2))? && is_behind(&rt, &server, 2);
+    let are_told = dumps_all(alloc, &server) && lists_both(alloc, &server, wid(&rt, 0, 2));
+    let is_told = is_behind(&rt, &server, 2);
     let stopped = server.stop();
     let (held, stored) = (stopped.log.receipts().len(), stopped.device.bytes().len());
-    assert!(rt; are_told && held == 2 && stored == 192);
+    assert!(rt; are_told && is_told && held == 2 && stored == 192);
     Ok(())
 }
 
@@ -323,62 +380,72 @@ fn start_at_last(rt: &impl Abort, alloc: Global, device: Memory) -> Result<Serve
 }
 
 /// Reopens the server where it is down, again where that was refused.
-fn reopen_at_last(alloc: Global, server: &mut Served) -> Result<(), Fail> {
-    if server.is_down() && server.reopen(alloc).is_err() {
-        server.reopen(alloc)?;
-    }
-    Ok(())
+fn reopen_at_last(alloc: Global, server: &mut Served) -> bool {
+    !server.is_down() || server.reopen(alloc).is_ok() || server.reopen(alloc).is_ok()
 }
 
-/// Puts the number, again where that was refused; a Write in doubt is settled first. Whether a refused Write wasn't held.
-fn put_at_last(
-    rt: &impl Abort,
-    alloc: Global,
-    server: &mut Served,
-    number: i64,
-) -> Result<bool, Fail> {
+/// Puts the number, again where that was refused; a Write in doubt is settled first. Whether it is put, and a refused Write wasn't held.
+fn put_at_last(rt: &impl Abort, alloc: Global, server: &mut Served, number: i64) -> bool {
     let held = server.receipts().len();
     if puts(rt, alloc, server, number).is_ok() {
-        return Ok(true);
+        return true;
     }
     let is_held = server.receipts().len() > held;
-    reopen_at_last(alloc, server)?;
-    puts(rt, alloc, server, number)?;
-    Ok(!is_held)
+    !is_held && reopen_at_last(alloc, server) && puts(rt, alloc, server, number).is_ok()
 }
 
-/// How many Writes the server dumps and lists, again where that was refused.
-fn tells(alloc: Global, server: &Served) -> Result<(usize, usize), Fail> {
-    let dumped = match server.dump(alloc) {
-        Ok(dump) => dump.len(),
-        Err(_) => server.dump(alloc)?.len(),
-    };
-    let listed = match server.listing(alloc) {
-        Ok(listing) => listing.len(),
-        Err(_) => server.listing(alloc)?.len(),
-    };
-    Ok((dumped, listed))
+/// Puts three numbers so, one after another.
+fn put_three_at_last(rt: &impl Abort, alloc: Global, server: &mut Served) -> bool {
+    let mut are_put = true;
+    for number in 0..3 {
+        are_put &= put_at_last(rt, alloc, server, number);
+    }
+    are_put
 }
 
-/// For runs in which any one allocation is refused: what a server acknowledged it keeps, and what was refused can be done again. The
-/// last Write is added and not synced; it, or the one before it, may be refused for memory before the device is called.
+/// How many Writes the server dumps, if there is memory for it.
+fn dumped(alloc: Global, server: &Served) -> Option<usize> {
+    match server.dump(alloc) {
+        Ok(dump) => Some(dump.len()),
+        Err(_) => None,
+    }
+}
+
+/// How many Writes the server lists, if there is memory for it.
+fn listed(alloc: Global, server: &Served) -> Option<usize> {
+    match server.listing(alloc) {
+        Ok(listing) => Some(listing.len()),
+        Err(_) => None,
+    }
+}
+
+/// Whether the server dumps and lists so many Writes, again where that was refused.
+fn tells_at_last(alloc: Global, server: &Served, held: usize) -> bool {
+    let is_dumped = dumped(alloc, server) == Some(held) || dumped(alloc, server) == Some(held);
+    let is_listed = listed(alloc, server) == Some(held) || listed(alloc, server) == Some(held);
+    is_dumped && is_listed
+}
+
+/// The last Write is added and not synced; it, or the one before it, may be refused for memory before the device is called. Whether no
+/// fewer than three are held then, and told.
+fn doubts_at_last(rt: &impl Abort, alloc: Global, server: &mut Served) -> bool {
+    server.device().fuse(2, 0);
+    let _ = puts(rt, alloc, server, 9);
+    let _ = puts(rt, alloc, server, 9);
+    let is_up = reopen_at_last(alloc, server);
+    let held = server.receipts().len();
+    is_up && held >= 3 && tells_at_last(alloc, server, held)
+}
+
+/// For runs in which any one allocation is refused: what a server acknowledged it keeps, and what was refused can be done again.
 #[test]
 fn one_want_of_memory_costs_no_write(rt: HostRuntime) -> Result<(), Fail> {
     let alloc = rt.alloc();
     let mut server = start_at_last(&rt, alloc, MemoryDevice::new(alloc, OpenGate))?;
-    for number in 0..3 {
-        assert!(rt;
-            put_at_last(&rt, alloc, &mut server, number)?,
-            "a refused Write is held"
-        );
-    }
-    server.device().fuse(2, 0);
-    let _ = puts(&rt, alloc, &mut server, 9);
-    let _ = puts(&rt, alloc, &mut server, 9);
-    reopen_at_last(alloc, &mut server)?;
+    let are_put = put_three_at_last(&rt, alloc, &mut server);
+    let are_told = doubts_at_last(&rt, alloc, &mut server);
     let held = server.receipts().len();
-    let told = tells(alloc, &server)?;
     let server = start_at_last(&rt, alloc, server.stop().device)?;
-    assert!(rt; held >= 3 && told == (held, held) && server.receipts().len() == held);
+    assert!(rt; are_put && are_told && server.receipts().len() == held);
     Ok(())
 }

@@ -45,19 +45,20 @@ fn told(rt: &impl Abort, asks: Asks, vector: Vector, wid: Wid) -> Session {
 /// of server 1 was made.
 static HELD: [(u32, u32); 4] = [(1, 3), (2, 2), (1, 2), (2, 3)];
 
+/// Whether such a server serves the session as it asks.
+fn serves_as_asked(rt: &impl Abort, asks: Asks, (first, second): (u32, u32)) -> bool {
+    let session = told(rt, asks, vector(rt, 2, 0), wid(rt, 1, 3));
+    let server = vector(rt, first, second);
+    let may_read = server.dominates(&session.need_read());
+    let may_write = server.dominates(&session.need_write());
+    (may_read, may_write) == may_be_served(asks, first < 2, second < 3)
+}
+
 #[test]
 fn a_server_behind_may_serve_what_is_not_asked(rt: HostRuntime) {
     for number in 0..64_u8 {
-        let asks = asks_of(number % 16);
-        let session = told(&rt, asks, vector(&rt, 2, 0), wid(&rt, 1, 3));
-        let (first, second) = HELD[usize::from(number / 16)];
-        let server = vector(&rt, first, second);
-        let found = (
-            server.dominates(&session.need_read()),
-            server.dominates(&session.need_write()),
-        );
-        let wanted = may_be_served(asks, first < 2, second < 3);
-        assert!(rt; found == wanted, "{asks:?} at {first}, {second}");
+        let (asks, held) = (asks_of(number % 16), HELD[usize::from(number / 16)]);
+        assert!(rt; serves_as_asked(&rt, asks, held), "{number}");
     }
 }
 
@@ -97,23 +98,38 @@ fn served(
     }
 }
 
-/// The first of two servers, which holds Writes of its own, and sessions that read one Write of either and made the first of either.
+/// Whether the server takes a Write of its own.
+fn holds_one(rt: &impl Abort, alloc: Global, server: &mut Server<MemoryDevice<OpenGate>>) -> bool {
+    let Ok(program) = put(rt, 1).rest(alloc) else {
+        return false;
+    };
+    server.write(alloc, &Vector::zero(), program).is_ok()
+}
+
+/// Whether the server serves as it asks the session of this number: of sixteen combinations of asks, one that read a Write of either
+/// server and made the first of either.
+fn checks(
+    rt: &impl Abort,
+    alloc: Global,
+    server: &mut Server<MemoryDevice<OpenGate>>,
+    number: u8,
+) -> bool {
+    let (asks, read, wrote) = (asks_of(number % 16), number / 16 % 2, number / 32);
+    let seen = vector(rt, u32::from(1 - read), u32::from(read));
+    let session = told(rt, asks, seen, wid(rt, wrote, 1));
+    let wanted = may_be_served(asks, read > 0, wrote > 0);
+    served(rt, alloc, server, &session) == Some(wanted)
+}
+
+/// The first of two servers, which holds Writes of its own.
 #[test]
 fn a_server_checks_what_is_asked(rt: HostRuntime) -> Result<(), Fail> {
     let alloc = rt.alloc();
     let mut server = start(&rt, alloc, 99, MemoryDevice::new(alloc, OpenGate))?;
-    server.write(alloc, &Vector::zero(), put(&rt, 1).rest(alloc)?)?;
+    let is_held = holds_one(&rt, alloc, &mut server);
     for number in 0..64_u8 {
-        let (asks, read, wrote) = (asks_of(number % 16), number / 16 % 2, number / 32);
-        let seen = if read > 0 {
-            vector(&rt, 0, 1)
-        } else {
-            vector(&rt, 1, 0)
-        };
-        let session = told(&rt, asks, seen, wid(&rt, wrote, 1));
-        let wanted = may_be_served(asks, read > 0, wrote > 0);
-        let found = served(&rt, alloc, &mut server, &session);
-        assert!(rt; found == Some(wanted), "{asks:?}, {read}, {wrote}");
+        let is_so = is_held && checks(&rt, alloc, &mut server, number);
+        assert!(rt; is_so, "{number}");
     }
     Ok(())
 }

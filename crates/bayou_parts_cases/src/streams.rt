@@ -1,58 +1,67 @@
 //! Frames from streams that come in pieces.
 use crate::notation::{bytes_of, parts};
-use bayou_wire::{Frames, encode_frame};
-use std::alloc::{AllocError, Global};
+use bayou_wire::{FeedFault, Frame, Frames, encode_frame};
+use std::alloc::Global;
 use std::test::Fail;
 
-/// Feeds the piece: how many frames came, or the fault behind `!`. The bytes of the frames are added to those given.
-fn told(
+/// Adds the bytes of the frames to those given. Whether there was memory for it.
+fn adds_all(alloc: Global, frames: &[Frame], given: &mut Vec<u8>) -> bool {
+    let mut are_added = true;
+    for frame in frames {
+        are_added &= match encode_frame(alloc, frame) {
+            Ok(bytes) => given.extend_from_slice(&bytes).is_ok(),
+            Err(_) => false,
+        };
+    }
+    are_added
+}
+
+/// Feeds the piece: how many frames came, or the fault. The bytes of the frames are added to those given.
+fn fed(
     alloc: Global,
     frames: &mut Frames,
     piece: &[u8],
     given: &mut Vec<u8>,
-) -> Result<String, AllocError> {
-    match frames.feed(piece) {
-        Ok(list) => {
-            for frame in &list {
-                given.extend_from_slice(&encode_frame(alloc, frame)?)?;
-            }
-            let count = list.len();
-            format!(in alloc; "{count}")
-        }
-        Err(fault) => format!(in alloc; "!{fault:?}"),
+) -> Result<usize, FeedFault> {
+    let list = frames.feed(piece)?;
+    if !adds_all(alloc, &list, given) {
+        return Err(FeedFault::OutOfMemory);
     }
+    Ok(list.len())
 }
 
 /// An Item, which has 63 bytes, and the end behind it.
 const STREAM: &str = "003d 15 <0:1> <stamp> <none> <put> 0005 16 00000001";
 
 /// Whether the frames come whole from the two pieces, and none is begun between them only where one ends there.
-fn comes_in_two(alloc: Global, bytes: &[u8], cut: usize) -> Result<bool, AllocError> {
+fn comes_in_two(alloc: Global, bytes: &[u8], cut: usize) -> bool {
     let (front, back) = bytes.split_at(cut.min(bytes.len()));
     let mut frames = Frames::new(alloc);
     let mut given = Vec::new(alloc);
-    told(alloc, &mut frames, front, &mut given)?;
+    let is_front_fed = fed(alloc, &mut frames, front, &mut given).is_ok();
     let is_between = frames.is_between() == matches!(cut, 0 | 63 | 70);
-    told(alloc, &mut frames, back, &mut given)?;
-    Ok(is_between && frames.is_between() && given.as_slice() == bytes)
+    let is_back_fed = fed(alloc, &mut frames, back, &mut given).is_ok();
+    let is_whole = frames.is_between() && given.as_slice() == bytes;
+    is_front_fed && is_between && is_back_fed && is_whole
 }
 
 /// Whether the frames come whole from pieces of this size.
-fn comes_in_pieces(alloc: Global, bytes: &[u8], size: usize) -> Result<bool, AllocError> {
+fn comes_in_pieces(alloc: Global, bytes: &[u8], size: usize) -> bool {
     let mut frames = Frames::new(alloc);
     let mut given = Vec::new(alloc);
+    let mut are_fed = true;
     for piece in bytes.chunks(size.max(1)) {
-        told(alloc, &mut frames, piece, &mut given)?;
+        are_fed &= fed(alloc, &mut frames, piece, &mut given).is_ok();
     }
-    Ok(frames.is_between() && given.as_slice() == bytes)
+    are_fed && frames.is_between() && given.as_slice() == bytes
 }
 
 #[test]
 fn a_stream_in_any_pieces(rt: HostRuntime) -> Result<(), Fail> {
-    let alloc = rt.alloc();
-    let bytes = bytes_of(alloc, STREAM)?;
+    let bytes = bytes_of(rt.alloc(), STREAM)?;
     for cut in 0..71 {
-        let is_whole = comes_in_two(alloc, &bytes, cut)? && comes_in_pieces(alloc, &bytes, cut)?;
+        let is_whole = comes_in_two(rt.alloc(), &bytes, cut)
+            && comes_in_pieces(rt.alloc(), &bytes, cut);
         assert!(rt; is_whole && bytes.len() == 70, "{cut}");
     }
     Ok(())
@@ -72,27 +81,37 @@ const FAULTY: [&str; 2] = [
  => !Failed",
 ];
 
-/// Whether the pieces give what the table says.
-fn is_told(alloc: Global, table: &str, given: &mut Vec<u8>) -> Result<bool, Fail> {
-    let mut frames = Frames::new(alloc);
-    for row in table.lines() {
-        let (piece, expected) = parts(row);
-        if told(alloc, &mut frames, &bytes_of(alloc, piece)?, given)?.as_str() != expected {
-            return Ok(false);
-        }
+/// Whether that is what is told: how many frames came, or the fault behind `!`.
+fn is_told(alloc: Global, answer: Result<usize, FeedFault>, expected: &str) -> bool {
+    let told = match answer {
+        Ok(count) => format!(in alloc; "{count}"),
+        Err(fault) => format!(in alloc; "!{fault:?}"),
+    };
+    match told {
+        Ok(text) => text.as_str() == expected,
+        Err(_) => false,
     }
-    Ok(!frames.is_between())
+}
+
+/// Whether the pieces give what the table says, and then these bytes of frames.
+fn are_told(alloc: Global, table: &str, bytes: &[u8]) -> Result<bool, Fail> {
+    let mut frames = Frames::new(alloc);
+    let mut given = Vec::new(alloc);
+    let mut are_so = true;
+    for row in table.lines() {
+        let (text, expected) = parts(row);
+        let piece = bytes_of(alloc, text)?;
+        are_so &= is_told(alloc, fed(alloc, &mut frames, &piece, &mut given), expected);
+    }
+    Ok(are_so && !frames.is_between() && given.as_slice() == bytes)
 }
 
 #[test]
 fn a_fault_is_told_behind_its_frames(rt: HostRuntime) -> Result<(), Fail> {
     for table in FAULTY {
-        let mut given = Vec::new(rt.alloc());
-        let is_so = is_told(rt.alloc(), table, &mut given)?;
-        assert!(rt;
-            is_so && given.as_slice() == b"\x00\x01\x03\x00\x01\x04".as_slice(),
-            "{table}"
-        );
+        let bytes = b"\x00\x01\x03\x00\x01\x04".as_slice();
+        let is_so = are_told(rt.alloc(), table, bytes)?;
+        assert!(rt; is_so, "{table}");
     }
     Ok(())
 }
