@@ -5,3 +5,8 @@ pub mod Growing
 pub mod Given
 pub mod Delivering
 pub mod Stepping
+pub mod Starting
+pub mod Keeping
+pub mod Consistent
+pub mod Collecting
+pub mod Possible

@@ -1,10 +1,17 @@
 -- What is true of all servers together, over every run.
-use Rattle.std.specs.Prelude.{◌≡◌, ℕ, ◌==◌, ◌↔◌, ◌⊎◌, List, ◌++◌, Some, Contains, filter}
+use Rattle.std.specs.Prelude.{◌≡◌, ℕ, ◌+◌, ◌<◌, ◌==◌, ◌↔◌, ◌⊎◌, List, ◌++◌, Some, Err, Contains, filter, length}
+use Rattle.std.specs.List.{slice_get}
 use Rattle.bayou_base.specs.declared.wid.Wid.{Wid}
 use Rattle.bayou_base.specs.Vector.{Covers, Dominates}
 use Rattle.bayou_lang.specs.declared.write.Write.{Write}
 use Rattle.bayou_lang.specs.Writes.{IsPrefixClosed, IsSound, count_of}
-use Rattle.bayou_world.specs.Machine.{IsWithin, Machine, Made, names, writes}
+use Rattle.bayou_server.specs.declared.fault.TakeFault.TheVariants as taking
+use Rattle.bayou_world.specs.declared.event.Event.{Event}
+use Rattle.bayou_world.specs.declared.reply.Reply.{Reply}
+use Rattle.bayou_world.specs.declared.reply.Reply.TheVariants as replies
+use Rattle.bayou_world.specs.Machine.{IsWithin, Machine, Made, Offered, names, writes}
+use Rattle.bayou_world.specs.Runs.{Run}
+use Rattle.bayou_world.specs.Steps.{Collects, Holds}
 
 -- the Write stands somewhere: it is held by a server, or in doubt at one, or an item in flight
 abbrev pub Stands : Machine → Made → Type 0
@@ -35,3 +42,25 @@ pub record IsVectorOf (vector : List ℕ) (set : List Wid) : Type 0 where
 abbrev pub TestsAgree : Machine → Type 0
 TestsAgree machine = (server : ℕ) (vector : List ℕ) (set : List Wid) → IsVectorOf vector set
     → IsWithin set (names (writes (machine.servers server).held)) ↔ Dominates (count_of (writes (machine.servers server).held)) vector
+
+-- the server refuses the item because it holds another Write of that name, because it made it itself and doesn't hold it, or because its
+-- stamp is wrong
+abbrev pub IsImpossible : Reply → Type 0
+IsImpossible (replies.Took (Err taking.Conflict)) = Unit {0}
+IsImpossible (replies.Took (Err taking.OwnLost)) = Unit {0}
+IsImpossible (replies.Took (Err taking.BadStamp)) = Unit {0}
+IsImpossible _ = ⊥
+
+-- By a Collect of an offer that this server made, so many items went in flight, and behind other events the server holds those of them
+-- that come before one.
+pub record IsTakenUpTo (old now : Machine) (server offer number at : ℕ) : Type 0 where
+  pub database : List Write
+  pub offered : slice_get old.offers offer ≡ Some (record { server = server; database = database })
+  pub from : ℕ
+  pub next : Machine
+  pub collects : Collects old from offer (replies.Flown (length old.items) number) next
+  pub events : List Event
+  pub replies_are : List Reply
+  pub run : Run next events replies_are now
+  pub among : at < number
+  pub taken : (earlier : ℕ) (made : Made) → earlier < at → slice_get now.items (length old.items + earlier) ≡ Some made → Holds (now.servers server) made
