@@ -11,7 +11,7 @@ use Rattle.bayou_judge.specs.Guarantees.{Keeps, Precedes}
 use Rattle.bayou_judge.specs.History.{IsFrontOf}
 use Rattle.bayou_world.specs.Inner.Good.{IsGood, IsHome, IsMadeAt, IsTrue, IsTrueAnswer}
 use Rattle.bayou_world.specs.Machine.{Answered, Machine, Made, SessionSets, names, writes}
-use Rattle.bayou_world.specs.Runs.{IsRead, IsReadAt, IsWriteAt, history_of}
+use Rattle.bayou_world.specs.Runs.{IsRead, IsReadAt, IsWriteAt, history_of_run}
 use Rattle.bayou_world.proofs.Homes.{home_of_had, home_of_past, one_write, past_is_before, past_is_had}
 use Rattle.bayou_world.proofs.Lists.{Contains-map, Contains-map_from}
 
@@ -63,7 +63,7 @@ has_named machine good place database front made write home is named =
 
 -- The Write's past has the other: so that precedes it everywhere.
 past_precedes : (machine : Machine) → IsGood machine → (made earlier : Made) (write other : Write) → IsHome machine.servers made → IsHome machine.servers earlier
-    → made.write ≡ write → earlier.write ≡ other → Contains (names made.past) other.wid → Precedes (history_of machine) other write
+    → made.write ≡ write → earlier.write ≡ other → Contains (names made.past) other.wid → Precedes (history_of_run machine) other write
 past_precedes machine good made earlier write other home earlier_home is_write is_other named server database had has =
     let servers = machine.servers in
     let at = Contains-map_from (λ (w : Write). w.wid) made.past other.wid named in
@@ -76,7 +76,7 @@ past_precedes machine good made earlier write other home earlier_home is_write i
       subst (λ (w : Write). is_before other.stamp w.stamp ≡ true) is_write (past_is_before machine.count machine.limit servers good.servers made home other in_past),
     )
 
-pub keeps : (machine : Machine) → IsGood machine → (who : ℕ) (session : SessionSets) → machine.sessions who ≡ Some session → Keeps (history_of machine) session.asks who
+pub keeps : (machine : Machine) → IsGood machine → (who : ℕ) (session : SessionSets) → machine.sessions who ≡ Some session → Keeps (history_of_run machine) session.asks who
 keeps machine good who session there =
     let mine = good.sessions who session there in
     record {

@@ -6,7 +6,7 @@ use Rattle.bayou_base.specs.declared.answer.Seen.{Seen}
 use Rattle.bayou_base.specs.declared.entry.Entry.{Entry}
 use Rattle.bayou_base.specs.declared.entry.What.{What}
 use Rattle.bayou_base.specs.declared.entry.What.TheVariants as whats
-use Rattle.bayou_base.specs.declared.limits.TheConstants.{MAX_PLACES}
+use Rattle.bayou_base.specs.declared.limits.TheConstants.{MAX_NUMBER, MAX_PLACES}
 use Rattle.bayou_base.specs.Order.{is_before}
 use Rattle.bayou_lang.specs.declared.program.Program.{Program}
 use Rattle.bayou_lang.specs.declared.write.Write.{Write}
@@ -18,7 +18,6 @@ use Rattle.bayou_server.specs.declared.fault.TakeFault.{TakeFault}
 use Rattle.bayou_server.specs.declared.fault.TakeFault.TheVariants as taking
 use Rattle.bayou_server.specs.declared.fault.WriteFault.{WriteFault}
 use Rattle.bayou_server.specs.declared.fault.WriteFault.TheVariants as writing
-use Rattle.bayou_world.specs.declared.limits.TheConstants.{MAX_NUMBER}
 use Rattle.bayou_world.specs.declared.event.Event.{Event}
 use Rattle.bayou_world.specs.declared.event.Event.TheVariants as events
 use Rattle.bayou_world.specs.declared.reply.Reply.{Reply}

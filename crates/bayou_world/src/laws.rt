@@ -8,7 +8,7 @@ ghost use Rattle.bayou_world.specs.declared.reply.Reply.{Reply};
 ghost use Rattle.bayou_world.specs.declared.reply.Reply.TheVariants.{Took};
 ghost use Rattle.bayou_world.specs.Invariant.{IsConsistent, IsImpossible, IsTakenUpTo, TestsAgree};
 ghost use Rattle.bayou_world.specs.Machine.{Machine};
-ghost use Rattle.bayou_world.specs.Runs.{Run, first_machine, history_of};
+ghost use Rattle.bayou_world.specs.Runs.{Run, first_machine, history_of_run};
 ghost use Rattle.bayou_world.specs.Steps.{Takes};
 
 use bayou_lang::laws::count_is_the_number_of_writes;
@@ -16,7 +16,7 @@ use bayou_lang::laws::count_is_the_number_of_writes;
 /// Over every run each served operation of a session has every guarantee that the session asked for (Terry et al. 1994).
 pub fn every_run_keeps_what_was_asked_for()
     ensures { (count limit places : ℕ) (asks : ℕ → Option Asks) (events : List Event) (replies : List Reply) (last : Machine) → Run (first_machine count limit places asks) events replies last
-        → (session : ℕ) (wants : Asks) → asks session ≡ Some wants → Keeps (history_of last) wants session }
+        → (session : ℕ) (wants : Asks) → asks session ≡ Some wants → Keeps (history_of_run last) wants session }
 {}
 
 /// Over every run a name is of one Write, what each server holds is sound and prefix-closed, of another server's Writes it holds the

@@ -11,7 +11,6 @@
 
 pub mod event;
 pub mod laws;
-pub mod limits;
 pub mod reply;
 
 pub use event::Event;
