@@ -68,3 +68,6 @@ pub const ITEMS_AT_ONCE: usize = 16;
 
 /// How many entries a book of what was served has places for at the most, and how many an audit file has.
 pub const MAX_ENTRIES: usize = 65_536;
+
+/// The greatest number that an offer, or a Write in flight between servers, has where all servers are one machine.
+pub const MAX_NUMBER: u32 = u32::MAX;

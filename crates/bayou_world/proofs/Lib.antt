@@ -1,0 +1,12 @@
+pub mod Lists
+pub mod Vectors
+pub mod Homes
+pub mod Growing
+pub mod Given
+pub mod Delivering
+pub mod Stepping
+pub mod Starting
+pub mod Keeping
+pub mod Consistent
+pub mod Collecting
+pub mod Possible

@@ -1,0 +1,84 @@
+-- What no item is refused for.
+use Rattle.std.proofs.Common.{◌≡◌, ℕ, List, [], ◌∷◌, Result, Ok, Err, All, sym, refl, subst}
+use Rattle.std.proofs.lemmas.List.Elements.{All-cons, All-nil}
+use Rattle.bayou_lang.specs.declared.program.Program.{Program}
+use Rattle.bayou_server.specs.declared.fault.TakeFault.{TakeFault}
+use Rattle.bayou_server.specs.declared.fault.TakeFault.TheVariants as taking
+use Rattle.bayou_world.specs.declared.event.Event.{Event}
+use Rattle.bayou_world.specs.declared.event.Event.TheVariants as events
+use Rattle.bayou_world.specs.declared.reply.Reply.{Reply}
+use Rattle.bayou_world.specs.declared.reply.Reply.TheVariants as replies
+use Rattle.bayou_world.specs.Invariant.{IsImpossible}
+use Rattle.bayou_world.specs.Machine.{Machine, Made, ServerSets}
+use Rattle.bayou_world.specs.Runs.{Run}
+use Rattle.bayou_world.specs.Steps.{Collects, Delivers, Files, Loses, Offers, Reads, RefusesItem, Step, Takes, Writes}
+
+-- a reply that isn't of that kind
+is : (reply other : Reply) → reply ≡ other → (¬ IsImpossible other) → ¬ IsImpossible reply
+is reply other same possible = subst (λ r. ¬ IsImpossible r) (sym same) possible
+
+refused_possible : (limit : ℕ) (server : ServerSets) (made : Made) (fault : TakeFault) → RefusesItem limit server made fault → ¬ IsImpossible (replies.Took (Err fault))
+refused_possible limit server made taking.Conflict refused = absurd refused
+refused_possible limit server made taking.Down refused = λ no. no
+refused_possible limit server made taking.OwnLost refused = absurd refused
+refused_possible limit server made taking.Gap refused = λ no. no
+refused_possible limit server made taking.BadStamp refused = absurd refused
+refused_possible limit server made taking.LogFull refused = λ no. no
+refused_possible limit server made taking.OutOfMemory refused = λ no. no
+refused_possible limit server made taking.Journal refused = absurd refused
+
+read_possible : (old : Machine) (who place : ℕ) (key : List ℕ) (reply : Reply) (new : Machine) → Reads old who place key reply new → ¬ IsImpossible reply
+read_possible old who place key reply new (Reads.skipped cannot told_is same) = is reply _ told_is (λ no. no)
+read_possible old who place key reply new (Reads.behind session entry may not_may told_is entry_is same) = is reply _ told_is (λ no. no)
+read_possible old who place key reply new (Reads.served session entry seen may covered value vector told_is entry_is same) = is reply _ told_is (λ no. no)
+
+write_possible : (old : Machine) (who place : ℕ) (program : Program) (reply : Reply) (new : Machine) → Writes old who place program reply new → ¬ IsImpossible reply
+write_possible old who place program reply new (Writes.skipped cannot told_is same) = is reply _ told_is (λ no. no)
+write_possible old who place program reply new (Writes.refused session entry fault may refused told_is entry_is same) = is reply _ told_is (λ no. no)
+write_possible old who place program reply new (Writes.doubted session entry made may makes told_is entry_is same) = is reply _ told_is (λ no. no)
+write_possible old who place program reply new (Writes.accepted session entry made accepted may makes accepted_is told_is entry_is same) = is reply _ told_is (λ no. no)
+
+deliver_possible : (old : Machine) (who : ℕ) (reply : Reply) (new : Machine) → Delivers old who reply new → ¬ IsImpossible reply
+deliver_possible old who reply new (Delivers.skipped none told_is same) = is reply _ told_is (λ no. no)
+deliver_possible old who reply new (Delivers.delivered session answered flies told_is same) = is reply _ told_is (λ no. no)
+
+lose_possible : (old : Machine) (who : ℕ) (reply : Reply) (new : Machine) → Loses old who reply new → ¬ IsImpossible reply
+lose_possible old who reply new (Loses.skipped none told_is same) = is reply _ told_is (λ no. no)
+lose_possible old who reply new (Loses.dropped session answered flies told_is same) = is reply _ told_is (λ no. no)
+
+offer_possible : (old : Machine) (place : ℕ) (reply : Reply) (new : Machine) → Offers old place reply new → ¬ IsImpossible reply
+offer_possible old place reply new (Offers.skipped none told_is same) = is reply _ told_is (λ no. no)
+offer_possible old place reply new (Offers.kept known few told_is same) = is reply _ told_is (λ no. no)
+
+collect_possible : (old : Machine) (place offer : ℕ) (reply : Reply) (new : Machine) → Collects old place offer reply new → ¬ IsImpossible reply
+collect_possible old place offer reply new (Collects.skipped none told_is same) = is reply _ told_is (λ no. no)
+collect_possible old place offer reply new (Collects.no_memory known there told_is same) = is reply _ told_is (λ no. no)
+collect_possible old place offer reply new (Collects.flown offered lacking may told_is same) = is reply _ told_is (λ no. no)
+
+take_possible : (old : Machine) (place item : ℕ) (reply : Reply) (new : Machine) → Takes old place item reply new → ¬ IsImpossible reply
+take_possible old place item reply new (Takes.skipped none told_is same) = is reply _ told_is (λ no. no)
+take_possible old place item reply new (Takes.had made given holds told_is same) = is reply _ told_is (λ no. no)
+take_possible old place item reply new (Takes.refused made fault given refused told_is same) = is reply _ told_is (refused_possible old.limit (old.servers place) made fault refused)
+take_possible old place item reply new (Takes.doubted made given next room told_is same) = is reply _ told_is (λ no. no)
+take_possible old place item reply new (Takes.taken made given next room told_is same) = is reply _ told_is (λ no. no)
+
+file_possible : (old : Machine) (who : ℕ) (reply : Reply) (new : Machine) → Files old who reply new → ¬ IsImpossible reply
+file_possible old who reply new (Files.skipped none told_is same) = is reply _ told_is (λ no. no)
+file_possible old who reply new (Files.filed session entry later may told_is same) = is reply _ told_is (λ no. no)
+
+step_possible : (old : Machine) (event : Event) (reply : Reply) (new : Machine) → Step old event reply new → ¬ IsImpossible reply
+step_possible old (events.Read session server key) reply new step = read_possible old session.index server.index key reply new step
+step_possible old (events.Write session server program) reply new step = write_possible old session.index server.index program reply new step
+step_possible old (events.Deliver session) reply new step = deliver_possible old session.index reply new step
+step_possible old (events.Lose session) reply new step = lose_possible old session.index reply new step
+step_possible old (events.Offer server) reply new step = offer_possible old server.index reply new step
+step_possible old (events.Collect server offer) reply new step = collect_possible old server.index offer reply new step
+step_possible old (events.Take server item) reply new step = take_possible old server.index item reply new step
+step_possible old (events.File session) reply new step = file_possible old session.index reply new step
+
+pub run_possible : (old : Machine) (events : List Event) (replies : List Reply) (new : Machine) → Run old events replies new → All (λ reply. ¬ IsImpossible reply) replies
+run_possible old [] [] new run = All-nil (λ reply. ¬ IsImpossible reply)
+run_possible old [] (reply ∷ replies) new run = absurd run
+run_possible old (event ∷ events) [] new run = absurd run
+run_possible old (event ∷ events) (reply ∷ replies) new (mid, step, rest) =
+    All-cons (λ told. ¬ IsImpossible told) reply replies (step_possible old event reply mid step) (run_possible mid events replies new rest)

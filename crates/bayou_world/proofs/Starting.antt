@@ -1,0 +1,157 @@
+-- A run begins with what is good, and goes on with it. What its sessions ask for stays.
+use Rattle.std.proofs.Common.{◌≡◌, ◌≢◌, ℕ, ◌<◌, ◌≤◌, List, [], ◌∷◌, ◌++◌, Option, None, Some, IfSome, Contains, All, length, length-append, ap, sym, ◌∙◌, refl, subst, arith}
+use Rattle.std.specs.Option.{option_map}
+use Rattle.std.proofs.lemmas.List.Elements.{All-cons, All-nil}
+use Rattle.bayou_base.specs.declared.asks.Asks.{Asks}
+use Rattle.bayou_base.specs.declared.entry.What.{What}
+use Rattle.bayou_base.specs.declared.entry.What.TheVariants as whats
+use Rattle.bayou_lang.specs.declared.program.Program.{Program}
+use Rattle.bayou_lang.specs.Laws.Fitting.{IsSound-empty}
+use Rattle.bayou_judge.specs.History.{IsFrontOf}
+use Rattle.bayou_world.specs.declared.event.Event.{Event}
+use Rattle.bayou_world.specs.declared.event.Event.TheVariants as events
+use Rattle.bayou_world.specs.declared.reply.Reply.{Reply}
+use Rattle.bayou_world.specs.Inner.Good.{IsGood, IsGoodSession, IsHome, IsTrueAnswer}
+use Rattle.bayou_world.specs.Machine.{Answered, Machine, Made, Offered, SessionSets, changed, writes}
+use Rattle.bayou_world.specs.Runs.{Run, first_machine, new_server, new_session}
+use Rattle.bayou_world.specs.Steps.{Collects, Delivers, Files, Loses, Offers, Reads, Step, Takes, Writes, told}
+use Rattle.bayou_world.proofs.Lists.{Contains-none, at_changed}
+use Rattle.bayou_world.proofs.Stepping.{run_good}
+
+new_good : (who : ℕ) (asks : Option Asks) (session : SessionSets) → option_map new_session asks ≡ Some session → IsGoodSession [] who session
+new_good who None session is = let both : None ≡ Some session = is in absurd (cc)
+new_good who (Some asks) session is =
+    let one : new_session asks ≡ session = cc in
+    subst (IsGoodSession [] who) one (record {
+      begun = All-nil (λ (o : Answered). o.entry.session.index ≡ who → o.entry.place ≤ 0);
+      reads = λ place server database at. absurd (Contains-none at.answered at.among);
+      writes = λ place made at. absurd (Contains-none at.answered at.among);
+      ryw = λ asked first second server made database less one two. absurd (Contains-none one.answered one.among);
+      mr = λ asked first second other server earlier later less one two. absurd (Contains-none one.answered one.among);
+      wfr = λ asked first second server database made less one two. absurd (Contains-none one.answered one.among);
+      mw = λ asked first second earlier later less one two. absurd (Contains-none one.answered one.among);
+      flight = tt;
+    })
+
+no_flight : (asks : Option Asks) (session : SessionSets) (answered : Answered) → option_map new_session asks ≡ Some session → session.flight ≡ Some answered → ⊥
+no_flight None session answered is flies = let both : None ≡ Some session = is in absurd (cc)
+no_flight (Some asks) session answered is flies =
+    let one : new_session asks ≡ session = cc in
+    let none : None ≡ Some answered = ap (λ (s : SessionSets). s.flight) one ∙ flies in absurd (cc)
+
+pub first_good : (count limit places : ℕ) (asks : ℕ → Option Asks) → IsGood (first_machine count limit places asks)
+first_good count limit places asks =
+    let servers = λ (place : ℕ). new_server in
+    record {
+      servers = λ place. record {
+        sound = IsSound-empty place count;
+        within = omega arith;
+        home = All-nil (IsHome servers);
+        pasts = λ before made after same. absurd (omega (arith, ap length same, length-append before (made ∷ after)));
+        had = All-cons (IsFrontOf []) [] [] ([], refl) (All-nil (IsFrontOf []));
+        doubt = λ made is. let both : None ≡ Some made = is in absurd (cc);
+      };
+      offers = All-nil (λ (offer : Offered). IsFrontOf (writes (servers offer.server).held) offer.database);
+      items = All-nil (IsHome servers);
+      served = All-nil (IsTrueAnswer servers);
+      sessions = λ who session is. new_good who (asks who) session is;
+      flights = λ who session answered is flies. absurd (no_flight (asks who) session answered is flies);
+    }
+
+pub run_is_good : (count limit places : ℕ) (asks : ℕ → Option Asks) (events : List Event) (replies : List Reply) (last : Machine)
+    → Run (first_machine count limit places asks) events replies last → IsGood last
+run_is_good count limit places asks events replies last run = run_good (first_machine count limit places asks) events replies last (first_good count limit places asks) run
+
+-- ---- what sessions ask for
+
+-- the session is there, and asks for this
+abbrev pub AsksFor : (ℕ → Option SessionSets) → ℕ → Asks → Type 0
+AsksFor sessions who asks = (session : SessionSets) × (sessions who ≡ Some session) × (session.asks ≡ asks)
+
+-- whoever asked for something still does
+abbrev KeepAsking : (ℕ → Option SessionSets) → (ℕ → Option SessionSets) → Type 0
+KeepAsking old new = (who : ℕ) (asks : Asks) → AsksFor old who asks → AsksFor new who asks
+
+changed_asks : (old : ℕ → Option SessionSets) (who : ℕ) (session new : SessionSets) → old who ≡ Some session → new.asks ≡ session.asks → KeepAsking old (changed old who (Some new))
+changed_asks old who session new there same =
+    at_changed (λ other (o : Option SessionSets). (asks : Asks) → AsksFor old other asks → (s : SessionSets) × (o ≡ Some s) × (s.asks ≡ asks)) old who (Some new)
+    (λ asks found.
+    let one : Some found.0 ≡ Some session = sym found.1 ∙ there in
+    let is : found.0 ≡ session = cc in
+    (new, refl, same ∙ ap (λ (s : SessionSets). s.asks) (sym is) ∙ found.2))
+    (λ other asks found. found)
+
+same_asks : (old new : Machine) → new ≡ old → KeepAsking old.sessions new.sessions
+same_asks old new same who asks found = subst (λ (m : Machine). AsksFor m.sessions who asks) (sym same) found
+
+told_asks : (what : What) (answered : Answered) (session : SessionSets) → (told what answered session).asks ≡ session.asks
+told_asks (whats.Read key vector) answered session = refl
+told_asks (whats.Write wid stamp deps) answered session = refl
+told_asks whats.Refused answered session = refl
+
+-- the same, of a machine of which an equation is known
+becomes : (old new is : Machine) → new ≡ is → KeepAsking old.sessions is.sessions → KeepAsking old.sessions new.sessions
+becomes old new is same keep = subst (λ (m : Machine). KeepAsking old.sessions m.sessions) (sym same) keep
+
+read_asks : (old : Machine) (who place : ℕ) (key : List ℕ) (reply : Reply) (new : Machine) → Reads old who place key reply new → KeepAsking old.sessions new.sessions
+read_asks old who place key reply new (Reads.skipped cannot is same) = same_asks old new same
+read_asks old who place key reply new (Reads.behind session entry may not_may is entry_is same) = becomes old new _ same (changed_asks old.sessions who session _ may.there refl)
+read_asks old who place key reply new (Reads.served session entry seen may covered value vector is entry_is same) = becomes old new _ same (changed_asks old.sessions who session _ may.there refl)
+
+write_asks : (old : Machine) (who place : ℕ) (program : Program) (reply : Reply) (new : Machine) → Writes old who place program reply new → KeepAsking old.sessions new.sessions
+write_asks old who place program reply new (Writes.skipped cannot is same) = same_asks old new same
+write_asks old who place program reply new (Writes.refused session entry fault may refused is entry_is same) = becomes old new _ same (changed_asks old.sessions who session _ may.there refl)
+write_asks old who place program reply new (Writes.doubted session entry made may makes is entry_is same) = becomes old new _ same (changed_asks old.sessions who session _ may.there refl)
+write_asks old who place program reply new (Writes.accepted session entry made accepted may makes told_is is entry_is same) = becomes old new _ same (changed_asks old.sessions who session _ may.there refl)
+
+deliver_asks : (old : Machine) (who : ℕ) (reply : Reply) (new : Machine) → Delivers old who reply new → KeepAsking old.sessions new.sessions
+deliver_asks old who reply new (Delivers.skipped none is same) = same_asks old new same
+deliver_asks old who reply new (Delivers.delivered session answered flies is same) =
+    becomes old new _ same (changed_asks old.sessions who session _ flies.there (told_asks answered.entry.what answered session))
+
+lose_asks : (old : Machine) (who : ℕ) (reply : Reply) (new : Machine) → Loses old who reply new → KeepAsking old.sessions new.sessions
+lose_asks old who reply new (Loses.skipped none is same) = same_asks old new same
+lose_asks old who reply new (Loses.dropped session answered flies is same) = becomes old new _ same (changed_asks old.sessions who session _ flies.there refl)
+
+offer_asks : (old : Machine) (place : ℕ) (reply : Reply) (new : Machine) → Offers old place reply new → KeepAsking old.sessions new.sessions
+offer_asks old place reply new (Offers.skipped none is same) = same_asks old new same
+offer_asks old place reply new (Offers.kept known few is same) = becomes old new _ same (λ who asks found. found)
+
+collect_asks : (old : Machine) (place offer : ℕ) (reply : Reply) (new : Machine) → Collects old place offer reply new → KeepAsking old.sessions new.sessions
+collect_asks old place offer reply new (Collects.skipped none is same) = same_asks old new same
+collect_asks old place offer reply new (Collects.no_memory known there is same) = same_asks old new same
+collect_asks old place offer reply new (Collects.flown offered lacking may is same) = becomes old new _ same (λ who asks found. found)
+
+take_asks : (old : Machine) (place item : ℕ) (reply : Reply) (new : Machine) → Takes old place item reply new → KeepAsking old.sessions new.sessions
+take_asks old place item reply new (Takes.skipped none is same) = same_asks old new same
+take_asks old place item reply new (Takes.had made given holds is same) = same_asks old new same
+take_asks old place item reply new (Takes.refused made fault given refused is same) = same_asks old new same
+take_asks old place item reply new (Takes.doubted made given next room is same) = becomes old new _ same (λ who asks found. found)
+take_asks old place item reply new (Takes.taken made given next room is same) = becomes old new _ same (λ who asks found. found)
+
+file_asks : (old : Machine) (who : ℕ) (reply : Reply) (new : Machine) → Files old who reply new → KeepAsking old.sessions new.sessions
+file_asks old who reply new (Files.skipped none is same) = same_asks old new same
+file_asks old who reply new (Files.filed session entry later may is same) = becomes old new _ same (changed_asks old.sessions who session _ may.there refl)
+
+step_asks : (old : Machine) (event : Event) (reply : Reply) (new : Machine) → Step old event reply new → KeepAsking old.sessions new.sessions
+step_asks old (events.Read session server key) reply new step = read_asks old session.index server.index key reply new step
+step_asks old (events.Write session server program) reply new step = write_asks old session.index server.index program reply new step
+step_asks old (events.Deliver session) reply new step = deliver_asks old session.index reply new step
+step_asks old (events.Lose session) reply new step = lose_asks old session.index reply new step
+step_asks old (events.Offer server) reply new step = offer_asks old server.index reply new step
+step_asks old (events.Collect server offer) reply new step = collect_asks old server.index offer reply new step
+step_asks old (events.Take server item) reply new step = take_asks old server.index item reply new step
+step_asks old (events.File session) reply new step = file_asks old session.index reply new step
+
+run_asks : (old : Machine) (events : List Event) (replies : List Reply) (new : Machine) → Run old events replies new → KeepAsking old.sessions new.sessions
+run_asks old [] [] new run = same_asks old new run
+run_asks old [] (reply ∷ replies) new run = absurd run
+run_asks old (event ∷ events) [] new run = absurd run
+run_asks old (event ∷ events) (reply ∷ replies) new (mid, step, rest) =
+    λ who asks found. run_asks mid events replies new rest who asks (step_asks old event reply mid step who asks found)
+
+-- a session that asked for something as the run began asks for it in the end
+pub still_asks : (count limit places : ℕ) (asks : ℕ → Option Asks) (events : List Event) (replies : List Reply) (last : Machine)
+    → Run (first_machine count limit places asks) events replies last → (who : ℕ) (wants : Asks) → asks who ≡ Some wants → AsksFor last.sessions who wants
+still_asks count limit places asks events replies last run who wants is =
+    run_asks (first_machine count limit places asks) events replies last run who wants (new_session wants, ap (option_map new_session) is, refl)

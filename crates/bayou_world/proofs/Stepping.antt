@@ -1,0 +1,365 @@
+-- What is good stays so over each event.
+use Rattle.std.proofs.Common.{◌≡◌, ◌≢◌, inl, inr, ◌⊎◌, ℕ, zero, suc, ◌+◌, ◌<◌, ◌≤◌, true, List, [], ◌∷◌, ◌++◌, Option, None, Some, IfSome, Contains, All, length, ap, sym, ◌∙◌, refl, subst, arith}
+use Rattle.std.specs.List.{slice_get}
+use Rattle.std.proofs.lemmas.List.{append-nil, get_or_default}
+use Rattle.std.proofs.lemmas.List.Elements.{All-append, All-contains, All-push, All-weaker, Contains-push}
+use Rattle.std.proofs.lemmas.Option.{get_or_from_slice_get, slice_get_within}
+use Rattle.bayou_base.specs.declared.entry.Entry.{Entry}
+use Rattle.bayou_base.specs.declared.entry.What.{What}
+use Rattle.bayou_base.specs.declared.entry.What.TheVariants as whats
+use Rattle.bayou_lang.specs.declared.program.Program.{Program}
+use Rattle.bayou_lang.specs.declared.write.Write.{Write}
+use Rattle.bayou_lang.specs.Laws.Fitting.{next_fits}
+use Rattle.bayou_lang.specs.Writes.{IsNextWrite}
+use Rattle.bayou_judge.specs.History.{IsFrontOf}
+use Rattle.bayou_world.specs.declared.event.Event.{Event}
+use Rattle.bayou_world.specs.declared.event.Event.TheVariants as events
+use Rattle.bayou_world.specs.declared.reply.Reply.{Reply}
+use Rattle.bayou_world.specs.Inner.Good.{AreGood, AreOffers, IsCovered, IsCoveredRead, IsCoveredWrite, IsGood, IsGoodFlight, IsGoodSession, IsHome, IsTrue, IsTrueAnswer, MayBeDoubted}
+use Rattle.bayou_world.specs.Machine.{Answered, IsWithin, Machine, Made, Offered, ServerSets, SessionSets, changed, names, with_server, with_session, writes}
+use Rattle.bayou_world.specs.Runs.{IsRead, Run}
+use Rattle.bayou_world.specs.Steps.{Collects, Delivers, Files, Holds, IsEntry, IsGiven, IsInFlight, IsNext, Loses, Makes, MayBegin, MayFile, Offers, Reads, Step, Takes, Writes, heard, landed, refusal, served_by, told, with_answer, with_doubt, with_write}
+use Rattle.bayou_world.proofs.Delivering.{heard_read, heard_write, more_of_other}
+use Rattle.bayou_world.proofs.Given.{given_fits}
+use Rattle.bayou_world.proofs.Growing.{HaveGrown, add_doubt, add_write, answer_grows, grown_by_doubt, grown_by_write, home_grows, offers_grow}
+use Rattle.bayou_world.proofs.Homes.{fitting_at, home_of_held}
+use Rattle.bayou_world.proofs.Lists.{Contains-map, at_changed, changed-other, changed-same, same_number}
+
+-- ---- small things
+
+some_is : {X : Type 0} (a b : X) → Some a ≡ Some b → a ≡ b
+some_is a b same = cc
+
+-- what is true of one session, and of each other as it was
+pub sessions_changed : (P : ℕ → SessionSets → Type 0) (sessions : ℕ → Option SessionSets) (who : ℕ) (session : SessionSets) → P who session
+    → ((other : ℕ) (found : SessionSets) → sessions other ≡ Some found → P other found)
+    → (other : ℕ) (found : SessionSets) → changed sessions who (Some session) other ≡ Some found → P other found
+sessions_changed P sessions who session here others =
+    at_changed (λ other (o : Option SessionSets). (found : SessionSets) → o ≡ Some found → P other found) sessions who (Some session)
+    (λ found is. subst (P who) (some_is session found is) here) others
+
+whole_front : (list : List Write) → IsFrontOf list list
+whole_front list = ([], sym (append-nil list))
+
+no_growth : (servers : ℕ → ServerSets) → HaveGrown servers servers
+no_growth servers place = ([], sym (append-nil (servers place).held))
+
+all_of_contained : {X : Type 0} (P : X → Type 0) (xs : List X) → ((x : X) → Contains xs x → P x) → All P xs
+all_of_contained P xs each k d within = each _ (k, within, get_or_default xs k _ d within)
+
+item_at : (items : List Made) (item : ℕ) (made : Made) → slice_get items item ≡ Some made → Contains items made
+item_at items item made got = (item, slice_get_within items item made got, get_or_from_slice_get items item made made got)
+
+-- ---- an operation begins
+
+-- the answer goes in flight, over servers that may hold more
+begin_good : (old : Machine) → IsGood old → (servers : ℕ → ServerSets) → HaveGrown old.servers servers → AreGood old.count old.limit servers
+    → (who place : ℕ) (session : SessionSets) (what : What) (answered : Answered) → MayBegin old who place session → IsEntry who place session what answered.entry
+    → IsTrue servers what place answered → IsCovered session what answered
+    → IsGood (with_answer (record old { servers = servers }) who session answered)
+begin_good old good servers grown are_good who place session what answered may entry is_true covered =
+    let new = record session { begun = session.begun + 1; flight = Some answered } in
+    let mine = good.sessions who session may.there in
+    let true_answer : IsTrueAnswer servers answered =
+    subst (λ w. IsTrue servers w answered.entry.server.index answered) (sym entry.what_is) (subst (λ n. IsTrue servers what n answered) (sym entry.server_is) is_true) in
+    let still : IsCovered new answered.entry.what answered = subst (λ w. IsCovered new w answered) (sym entry.what_is) (covers what covered) in
+    record {
+      servers = are_good;
+      offers = offers_grow old.servers servers grown old.offers good.offers;
+      items = All-weaker (IsHome old.servers) (IsHome servers) (λ made home. home_grows old.servers servers grown made home) old.items good.items;
+      served = All-weaker (IsTrueAnswer old.servers) (IsTrueAnswer servers) (λ a is. answer_grows old.servers servers grown a is) old.served good.served;
+      sessions = sessions_changed (IsGoodSession old.served) old.sessions who new
+          (record {
+            begun = All-weaker (λ (o : Answered). o.entry.session.index ≡ who → o.entry.place ≤ session.begun) (λ (o : Answered). o.entry.session.index ≡ who → o.entry.place ≤ session.begun + 1)
+                (λ o early is. omega (arith, early is)) old.served mine.begun;
+            reads = mine.reads;
+            writes = mine.writes;
+            ryw = mine.ryw;
+            mr = mine.mr;
+            wfr = mine.wfr;
+            mw = mine.mw;
+            flight = record {
+              session_is = entry.session_is;
+              last = entry.place_is;
+              behind = All-weaker (λ (o : Answered). o.entry.session.index ≡ who → o.entry.place ≤ session.begun) (λ (o : Answered). o.entry.session.index ≡ who → o.entry.place < session.begun + 1)
+                  (λ o early is. omega (arith, early is)) old.served mine.begun;
+              covered = still;
+            };
+          })
+          good.sessions;
+      flights = λ other found flying there in_flight.
+          sessions_changed (λ _ (s : SessionSets). (a : Answered) → s.flight ≡ Some a → IsTrueAnswer servers a) old.sessions who new
+          (λ a is. subst (IsTrueAnswer servers) (some_is answered a is) true_answer)
+          (λ o s is a flies. answer_grows old.servers servers grown a (good.flights o s a is flies)) other found there flying in_flight;
+    }
+  where
+    covers : (what : What) → IsCovered session what answered → IsCovered (record session { begun = session.begun + 1; flight = Some answered }) what answered
+    covers (whats.Read key vector) c = record { ryw = c.ryw; mr = c.mr }
+    covers (whats.Write wid stamp deps) c = λ made is. let d = c made is in record { wfr = d.wfr; mw = d.mw }
+    covers whats.Refused c = tt
+
+-- what the server makes may be held next
+pub made_may : (old : Machine) → IsGood old → (place : ℕ) (session : SessionSets) (program : Program) (made : Made) → place < old.count
+    → Makes old.limit place session (old.servers place) program made → MayBeDoubted old.count old.servers place (old.servers place) made
+made_may old good place session program made known makes = record {
+  fits = next_fits old.count (writes (old.servers place).held) place program made.write (fitting_at old.count old.limit old.servers good.servers place) known makes.next;
+  deps = λ own. makes.next.deps;
+  past = λ own. makes.past;
+  home = λ foreign. absurd (foreign makes.next.origin);
+}
+
+-- and what was added is at home there
+added_home : (servers : ℕ → ServerSets) (place : ℕ) (made : Made) → made.write.wid.origin.index ≡ place → IsHome (changed servers place (with_write (servers place) made)) made
+added_home servers place made own =
+    let after = with_write (servers place) made in
+    let new = changed servers place after in
+    let has : Contains ((servers place).held ++ made ∷ []) made = Contains-push (servers place).held made in
+    let here : (new place).held ≡ (servers place).held ++ made ∷ [] = ap (λ (s : ServerSets). s.held) (changed-same servers place after) in
+    subst (λ n. Contains (new n).held made) (sym own) (subst (λ list. Contains list made) (sym here) has)
+
+read_good : (old : Machine) (who place : ℕ) (key : List ℕ) (reply : Reply) (new : Machine) → IsGood old → Reads old who place key reply new → IsGood new
+read_good old who place key reply new good (Reads.skipped cannot is same) = subst IsGood (sym same) good
+read_good old who place key reply new good (Reads.behind session entry may not_may is entry_is same) =
+    subst IsGood (sym same) (begin_good old good old.servers (no_growth old.servers) good.servers who place session whats.Refused (refusal entry) may entry_is refl tt)
+read_good old who place key reply new good (Reads.served session entry seen may covered value vector is entry_is same) =
+    let database = writes (old.servers place).held in
+    subst IsGood (sym same)
+    (begin_good old good old.servers (no_growth old.servers) good.servers who place session (whats.Read key seen.vector) (record { entry = entry; database = database; made = None }) may entry_is
+    (refl, whole_front database) (record { ryw = covered.ryw; mr = covered.mr }))
+
+write_good : (old : Machine) (who place : ℕ) (program : Program) (reply : Reply) (new : Machine) → IsGood old → Writes old who place program reply new → IsGood new
+write_good old who place program reply new good (Writes.skipped cannot is same) = subst IsGood (sym same) good
+write_good old who place program reply new good (Writes.refused session entry fault may refused is entry_is same) =
+    subst IsGood (sym same) (begin_good old good old.servers (no_growth old.servers) good.servers who place session whats.Refused (refusal entry) may entry_is refl tt)
+write_good old who place program reply new good (Writes.doubted session entry made may makes is entry_is same) =
+    let may_be = made_may old good place session program made may.server makes in
+    subst IsGood (sym same)
+    (begin_good old good (changed old.servers place (with_doubt (old.servers place) made)) (grown_by_doubt old.servers place made)
+    (add_doubt old.count old.limit old.servers good.servers place made may_be) who place session whats.Refused (refusal entry) may entry_is refl tt)
+write_good old who place program reply new good (Writes.accepted session entry made accepted may makes told_is is entry_is same) =
+    let may_be = made_may old good place session program made may.server makes in
+    let covered = makes.ready.covered in
+    subst IsGood (sym same)
+    (begin_good old good (changed old.servers place (with_write (old.servers place) made)) (grown_by_write old.servers place made)
+    (add_write old.count old.limit old.servers good.servers place made makes.ready.up makes.room may_be) who place session (whats.Write accepted.wid accepted.stamp accepted.deps)
+    (record { entry = entry; database = made.past; made = Some made }) may entry_is
+    (made, refl, added_home old.servers place made makes.next.origin, sym told_is.wid)
+    (λ other is_it. subst (λ (m : Made). IsCoveredWrite session m.past) (some_is made other is_it)
+    (subst (IsCoveredWrite session) (sym makes.past) (record { wfr = covered.wfr; mw = covered.mw }))))
+
+-- ---- the answer in flight
+
+-- of the other sessions what was good stays so
+others_hear : (old : Machine) → IsGood old → (who : ℕ) (session : SessionSets) (answered : Answered) → IsInFlight old who session answered → (other : ℕ) (found : SessionSets)
+    → other ≢ who → old.sessions other ≡ Some found → IsGoodSession (old.served ++ answered ∷ []) other found
+others_hear old good who session answered flies other found differs there =
+    let flight = subst (λ f. IfSome f (IsGoodFlight old.served who session)) flies.flight (good.sessions who session flies.there).flight in
+    more_of_other old.served answered other found (λ is. differs (sym is ∙ flight.session_is)) (good.sessions other found there)
+
+hear_good : (old : Machine) → IsGood old → (who : ℕ) (session new : SessionSets) (answered : Answered) → IsInFlight old who session answered
+    → IsGoodSession (old.served ++ answered ∷ []) who new → new.flight ≡ None
+    → IsGood (record (with_session old who new) { served = old.served ++ answered ∷ [] })
+hear_good old good who session new answered flies mine none = record {
+  servers = good.servers;
+  offers = good.offers;
+  items = good.items;
+  served = All-push (IsTrueAnswer old.servers) old.served answered good.served (good.flights who session answered flies.there flies.flight);
+  sessions = λ other found there. elim (same_number other who) as (λ _. IsGoodSession (old.served ++ answered ∷ []) other found) [
+    | inl same ↦
+        let here : Some new ≡ Some found = sym (changed-same old.sessions who (Some new)) ∙ ap (changed old.sessions who (Some new)) (sym same) ∙ there in
+        subst (λ n. IsGoodSession (old.served ++ answered ∷ []) n found) (sym same) (subst (IsGoodSession (old.served ++ answered ∷ []) who) (some_is new found here) mine)
+    | inr differs ↦ others_hear old good who session answered flies other found differs
+        (sym (changed-other old.sessions who (Some new) other differs) ∙ there)
+  ];
+  flights = λ other found flying there in_flight.
+      sessions_changed (λ _ (s : SessionSets). (a : Answered) → s.flight ≡ Some a → IsTrueAnswer old.servers a) old.sessions who new
+      (λ a is. let both : None ≡ Some a = sym none ∙ is in absurd (cc))
+      (λ o s is a flies_too. good.flights o s a is flies_too) other found there flying in_flight;
+}
+
+-- nothing is served: the session's flight ends
+land_good : (old : Machine) → IsGood old → (who : ℕ) (session new : SessionSets) → old.sessions who ≡ Some session
+    → new.asks ≡ session.asks → new.begun ≡ session.begun → new.reads ≡ session.reads → new.writes ≡ session.writes → new.flight ≡ None
+    → IsGood (with_session old who new)
+land_good old good who session new there asks begun reads same_writes none =
+    let mine = good.sessions who session there in
+    record {
+      servers = good.servers;
+      offers = good.offers;
+      items = good.items;
+      served = good.served;
+      sessions = sessions_changed (IsGoodSession old.served) old.sessions who new
+          (record {
+            begun = subst (λ n. All (λ (o : Answered). o.entry.session.index ≡ who → o.entry.place ≤ n) old.served) (sym begun) mine.begun;
+            reads = λ place server database is. subst (IsWithin (names database)) (sym reads) (mine.reads place server database is);
+            writes = λ place made is. subst (λ list. Contains list made.write.wid) (sym same_writes) (mine.writes place made is);
+            ryw = λ asked. mine.ryw (ap (λ (a : _). a.ryw) (sym asks) ∙ asked);
+            mr = λ asked. mine.mr (ap (λ (a : _). a.mr) (sym asks) ∙ asked);
+            wfr = λ asked. mine.wfr (ap (λ (a : _). a.wfr) (sym asks) ∙ asked);
+            mw = λ asked. mine.mw (ap (λ (a : _). a.mw) (sym asks) ∙ asked);
+            flight = subst (λ f. IfSome f (IsGoodFlight old.served who new)) (sym none) tt;
+          })
+          good.sessions;
+      flights = λ other found flying is in_flight.
+          sessions_changed (λ _ (s : SessionSets). (a : Answered) → s.flight ≡ Some a → IsTrueAnswer old.servers a) old.sessions who new
+          (λ a flies. let both : None ≡ Some a = sym none ∙ flies in absurd (cc))
+          (λ o s found_is a flies. good.flights o s a found_is flies) other found is flying in_flight;
+    }
+
+deliver_as : (old : Machine) → IsGood old → (who : ℕ) (session : SessionSets) (answered : Answered) → IsInFlight old who session answered → (what : What) → answered.entry.what ≡ what
+    → IsGood (record (with_session old who (record (told what answered session) { flight = None; waiting = session.waiting ++ answered.entry ∷ [] })) { served = old.served ++ served_by what answered })
+deliver_as old good who session answered flies (whats.Read key vector) is =
+    let flight = subst (λ f. IfSome f (IsGoodFlight old.served who session)) flies.flight (good.sessions who session flies.there).flight in
+    let is_true = subst (λ w. IsTrue old.servers w answered.entry.server.index answered) is (good.flights who session answered flies.there flies.flight) in
+    let covered = subst (λ w. IsCovered session w answered) is flight.covered in
+    let new = record (told (whats.Read key vector) answered session) { flight = None; waiting = session.waiting ++ answered.entry ∷ [] } in
+    hear_good old good who session new answered flies
+    (heard_read old.served who session new answered (good.sessions who session flies.there) flight is_true.0 covered refl refl refl refl refl) refl
+deliver_as old good who session answered flies (whats.Write wid stamp deps) is =
+    let flight = subst (λ f. IfSome f (IsGoodFlight old.served who session)) flies.flight (good.sessions who session flies.there).flight in
+    let is_true = subst (λ w. IsTrue old.servers w answered.entry.server.index answered) is (good.flights who session answered flies.there flies.flight) in
+    let covered = subst (λ w. IsCovered session w answered) is flight.covered in
+    let new = record (told (whats.Write wid stamp deps) answered session) { flight = None; waiting = session.waiting ++ answered.entry ∷ [] } in
+    hear_good old good who session new answered flies
+    (heard_write old.served who session new answered wid (good.sessions who session flies.there) flight (λ read. subst IsRead is read)
+    (λ made accepted.
+    let one : is_true.0 ≡ made = some_is is_true.0 made (sym is_true.1 ∙ accepted) in
+    (ap (λ (m : Made). m.write.wid) (sym one) ∙ is_true.3, covered made accepted)) refl refl refl refl refl) refl
+deliver_as old good who session answered flies whats.Refused is =
+    let new = record (told whats.Refused answered session) { flight = None; waiting = session.waiting ++ answered.entry ∷ [] } in
+    subst (λ list. IsGood (record (with_session old who new) { served = list })) (sym (append-nil old.served))
+    (land_good old good who session new flies.there refl refl refl refl refl)
+
+deliver_good : (old : Machine) (who : ℕ) (reply : Reply) (new : Machine) → IsGood old → Delivers old who reply new → IsGood new
+deliver_good old who reply new good (Delivers.skipped none is same) = subst IsGood (sym same) good
+deliver_good old who reply new good (Delivers.delivered session answered flies is same) =
+    subst IsGood (sym same) (deliver_as old good who session answered flies answered.entry.what refl)
+
+lose_good : (old : Machine) (who : ℕ) (reply : Reply) (new : Machine) → IsGood old → Loses old who reply new → IsGood new
+lose_good old who reply new good (Loses.skipped none is same) = subst IsGood (sym same) good
+lose_good old who reply new good (Loses.dropped session answered flies is same) =
+    subst IsGood (sym same) (land_good old good who session (landed session) flies.there refl refl refl refl refl)
+
+-- ---- anti-entropy
+
+offer_good : (old : Machine) (place : ℕ) (reply : Reply) (new : Machine) → IsGood old → Offers old place reply new → IsGood new
+offer_good old place reply new good (Offers.skipped none is same) = subst IsGood (sym same) good
+offer_good old place reply new good (Offers.kept known few is same) =
+    subst IsGood (sym same) (record {
+      servers = good.servers;
+      offers = All-push (λ (offer : Offered). IsFrontOf (writes (old.servers offer.server).held) offer.database) old.offers
+          (record { server = place; database = writes (old.servers place).held }) good.offers (whole_front (writes (old.servers place).held));
+      items = good.items;
+      served = good.served;
+      sessions = good.sessions;
+      flights = good.flights;
+    })
+
+collect_good : (old : Machine) (place offer : ℕ) (reply : Reply) (new : Machine) → IsGood old → Collects old place offer reply new → IsGood new
+collect_good old place offer reply new good (Collects.skipped none is same) = subst IsGood (sym same) good
+collect_good old place offer reply new good (Collects.no_memory known there is same) = subst IsGood (sym same) good
+collect_good old place offer reply new good (Collects.flown offered lacking may is same) =
+    subst IsGood (sym same) (record {
+      servers = good.servers;
+      offers = good.offers;
+      items = All-append (IsHome old.servers) old.items lacking good.items
+          (all_of_contained (IsHome old.servers) lacking (λ made has. home_of_held old.count old.limit old.servers good.servers place made ((may.those.those made).0 has).0));
+      served = good.served;
+      sessions = good.sessions;
+      flights = good.flights;
+    })
+
+-- an item that is the server's next may be held next
+pub given_may : (old : Machine) → IsGood old → (place item : ℕ) (made : Made) → IsGiven old place item made → IsNext (old.servers place) made
+    → MayBeDoubted old.count old.servers place (old.servers place) made
+given_may old good place item made given next =
+    let home = All-contains (IsHome old.servers) old.items made good.items (item_at old.items item made given.there) in
+    let no_own : made.write.wid.origin.index ≢ place = λ own.
+    next.fresh.missing (Contains-map (λ (w : Write). w.wid) (writes (old.servers place).held) made.write
+    (Contains-map (λ (m : Made). m.write) (old.servers place).held made (subst (λ n. Contains (old.servers n).held made) own home))) in
+    record {
+      fits = given_fits old.count old.limit old.servers good.servers place made home next.fresh.missing next.past;
+      deps = λ own. absurd (no_own own);
+      past = λ own. absurd (no_own own);
+      home = λ foreign. home;
+    }
+
+-- a server holds more, or is down
+server_good : (old : Machine) → IsGood old → (servers : ℕ → ServerSets) → HaveGrown old.servers servers → AreGood old.count old.limit servers → IsGood (record old { servers = servers })
+server_good old good servers grown are_good = record {
+  servers = are_good;
+  offers = offers_grow old.servers servers grown old.offers good.offers;
+  items = All-weaker (IsHome old.servers) (IsHome servers) (λ made home. home_grows old.servers servers grown made home) old.items good.items;
+  served = All-weaker (IsTrueAnswer old.servers) (IsTrueAnswer servers) (λ a is. answer_grows old.servers servers grown a is) old.served good.served;
+  sessions = good.sessions;
+  flights = λ who session answered there flies. answer_grows old.servers servers grown answered (good.flights who session answered there flies);
+}
+
+take_good : (old : Machine) (place item : ℕ) (reply : Reply) (new : Machine) → IsGood old → Takes old place item reply new → IsGood new
+take_good old place item reply new good (Takes.skipped none is same) = subst IsGood (sym same) good
+take_good old place item reply new good (Takes.had made given holds is same) = subst IsGood (sym same) good
+take_good old place item reply new good (Takes.refused made fault given refused is same) = subst IsGood (sym same) good
+take_good old place item reply new good (Takes.doubted made given next room is same) =
+    subst IsGood (sym same) (server_good old good (changed old.servers place (with_doubt (old.servers place) made)) (grown_by_doubt old.servers place made)
+    (add_doubt old.count old.limit old.servers good.servers place made (given_may old good place item made given next)))
+take_good old place item reply new good (Takes.taken made given next room is same) =
+    subst IsGood (sym same) (server_good old good (changed old.servers place (with_write (old.servers place) made)) (grown_by_write old.servers place made)
+    (add_write old.count old.limit old.servers good.servers place made next.fresh.up room (given_may old good place item made given next)))
+
+-- ---- the book
+
+flight_waits : (served : List Answered) (who : ℕ) (session : SessionSets) (later : List Entry) (flight : Option Answered) → IfSome flight (IsGoodFlight served who session)
+    → IfSome flight (IsGoodFlight served who (record session { waiting = later }))
+flight_waits served who session later None good = tt
+flight_waits served who session later (Some answered) good = record { session_is = good.session_is; last = good.last; behind = good.behind; covered = covers answered.entry.what good.covered }
+  where
+    covers : (what : What) → IsCovered session what answered → IsCovered (record session { waiting = later }) what answered
+    covers (whats.Read key vector) c = record { ryw = c.ryw; mr = c.mr }
+    covers (whats.Write wid stamp deps) c = λ made is. let d = c made is in record { wfr = d.wfr; mw = d.mw }
+    covers whats.Refused c = tt
+
+file_good : (old : Machine) (who : ℕ) (reply : Reply) (new : Machine) → IsGood old → Files old who reply new → IsGood new
+file_good old who reply new good (Files.skipped none is same) = subst IsGood (sym same) good
+file_good old who reply new good (Files.filed session entry later may is same) =
+    let mine = good.sessions who session may.there in
+    let waits = record session { waiting = later } in
+    subst IsGood (sym same) (record {
+      servers = good.servers;
+      offers = good.offers;
+      items = good.items;
+      served = good.served;
+      sessions = sessions_changed (IsGoodSession old.served) old.sessions who waits
+          (record {
+            begun = mine.begun;
+            reads = mine.reads;
+            writes = mine.writes;
+            ryw = mine.ryw;
+            mr = mine.mr;
+            wfr = mine.wfr;
+            mw = mine.mw;
+            flight = flight_waits old.served who session later session.flight mine.flight;
+          })
+          good.sessions;
+      flights = λ other found flying there in_flight.
+          sessions_changed (λ _ (s : SessionSets). (a : Answered) → s.flight ≡ Some a → IsTrueAnswer old.servers a) old.sessions who waits
+          (λ a flies. good.flights who session a may.there flies)
+          (λ o s is a flies. good.flights o s a is flies) other found there flying in_flight;
+    })
+
+-- ---- an event, and a run
+
+pub step_good : (old : Machine) (event : Event) (reply : Reply) (new : Machine) → IsGood old → Step old event reply new → IsGood new
+step_good old (events.Read session server key) reply new good step = read_good old session.index server.index key reply new good step
+step_good old (events.Write session server program) reply new good step = write_good old session.index server.index program reply new good step
+step_good old (events.Deliver session) reply new good step = deliver_good old session.index reply new good step
+step_good old (events.Lose session) reply new good step = lose_good old session.index reply new good step
+step_good old (events.Offer server) reply new good step = offer_good old server.index reply new good step
+step_good old (events.Collect server offer) reply new good step = collect_good old server.index offer reply new good step
+step_good old (events.Take server item) reply new good step = take_good old server.index item reply new good step
+step_good old (events.File session) reply new good step = file_good old session.index reply new good step
+
+pub run_good : (old : Machine) (events : List Event) (replies : List Reply) (new : Machine) → IsGood old → Run old events replies new → IsGood new
+run_good old [] [] new good run = subst IsGood (sym run) good
+run_good old [] (reply ∷ replies) new good run = absurd run
+run_good old (event ∷ events) [] new good run = absurd run
+run_good old (event ∷ events) (reply ∷ replies) new good (mid, step, rest) = run_good mid events replies new (step_good old event reply mid good step) rest

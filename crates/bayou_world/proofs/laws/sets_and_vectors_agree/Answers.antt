@@ -1,0 +1,6 @@
+use Rattle.bayou_world.proofs.Consistent.{agree}
+use Rattle.bayou_world.proofs.Starting.{run_is_good}
+use Rattle.bayou_world.proofs.laws.sets_and_vectors_agree.Goals as goal
+
+pub returns : goal.returns
+returns c count limit places asks events replies last run = agree last (run_is_good count limit places asks events replies last run)

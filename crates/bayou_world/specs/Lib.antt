@@ -1,0 +1,5 @@
+pub mod Machine
+pub mod Steps
+pub mod Runs
+pub mod Invariant
+pub mod Inner

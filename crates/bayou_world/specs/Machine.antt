@@ -1,0 +1,74 @@
+-- All servers and all sessions as one machine (Terry et al. 1994, 1995). It speaks of lists and sets of Writes, and counts none.
+use Rattle.std.specs.Prelude.{◌≡◌, ℕ, ◌==◌, List, Option, None, Some, Contains, map, if◌then◌else◌}
+use Rattle.bayou_base.specs.declared.asks.Asks.{Asks}
+use Rattle.bayou_base.specs.declared.entry.Entry.{Entry}
+use Rattle.bayou_base.specs.declared.wid.Wid.{Wid}
+use Rattle.bayou_lang.specs.declared.write.Write.{Write}
+
+-- A Write with its past: what its own server held as it made it.
+pub record Made : Type 0 where
+  pub write : Write
+  pub past : List Write
+
+-- without their pasts
+abbrev pub writes : List Made → List Write
+writes list = map (λ (made : Made). made.write) list
+
+-- the names of Writes (WID, Terry et al. 1994)
+abbrev pub names : List Write → List Wid
+names list = map (λ (write : Write). write.wid) list
+
+-- each name of the one set is in the other
+abbrev pub IsWithin : List Wid → List Wid → Type 0
+IsWithin set other = (name : Wid) → Contains set name → Contains other name
+
+-- A server: the Writes that it holds, in order of receipt; the Write in doubt, where it is down; and every database that it ever had.
+pub record ServerSets : Type 0 where
+  pub held : List Made
+  pub doubt : Option Made
+  pub had : List (List Write)
+
+-- What a session's operation was answered: the entry that tells of it, the database that it was answered from, and the Write that
+-- was accepted, if one was.
+pub record Answered : Type 0 where
+  pub entry : Entry
+  pub database : List Write
+  pub made : Option Made
+
+-- A session: what it asks for; how many places it has begun; its read-set and its write-set (Terry et al. 1994); the answer in flight
+-- to it; and the entries of its delivered operations that aren't in the book yet, the oldest first.
+pub record SessionSets : Type 0 where
+  pub asks : Asks
+  pub begun : ℕ
+  pub reads : List Wid
+  pub writes : List Wid
+  pub flight : Option Answered
+  pub waiting : List Entry
+
+-- An offer: which server made it, and what that server held.
+pub record Offered : Type 0 where
+  pub server : ℕ
+  pub database : List Write
+
+-- The machine: how many servers there are, how many Writes each may hold, and how many places the book has; each server and each
+-- session; the offers, and the items in flight, by their numbers; what was served, in order of delivery; and the entries of the book.
+pub record Machine : Type 0 where
+  pub count : ℕ
+  pub limit : ℕ
+  pub places : ℕ
+  pub servers : ℕ → ServerSets
+  pub sessions : ℕ → Option SessionSets
+  pub offers : List Offered
+  pub items : List Made
+  pub served : List Answered
+  pub filed : List Entry
+
+-- the same, but for one number
+abbrev pub changed : {A : Type 0} → (ℕ → A) → ℕ → A → ℕ → A
+changed each number new other = if other == number then new else each other
+
+abbrev pub with_server : Machine → ℕ → ServerSets → Machine
+with_server machine place server = record machine { servers = changed machine.servers place server }
+
+abbrev pub with_session : Machine → ℕ → SessionSets → Machine
+with_session machine who session = record machine { sessions = changed machine.sessions who (Some session) }

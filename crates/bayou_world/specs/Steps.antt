@@ -1,0 +1,260 @@
+-- What each event does to the machine, with each answer that it may have (Terry et al. 1994, 1995; Petersen et al. 1997).
+use Rattle.std.specs.Prelude.{◌≡◌, ℕ, ◌+◌, ◌<◌, ◌≤◌, ◌⊎◌, ◌↔◌, true, List, [], ◌∷◌, ◌++◌, Option, None, Some, Ok, Err, IsSome, AllPairs, Contains, length, max}
+use Rattle.std.specs.List.{slice_get}
+use Rattle.bayou_base.specs.declared.answer.Accepted.{Accepted}
+use Rattle.bayou_base.specs.declared.answer.Seen.{Seen}
+use Rattle.bayou_base.specs.declared.entry.Entry.{Entry}
+use Rattle.bayou_base.specs.declared.entry.What.{What}
+use Rattle.bayou_base.specs.declared.entry.What.TheVariants as whats
+use Rattle.bayou_base.specs.declared.limits.TheConstants.{MAX_NUMBER, MAX_PLACES}
+use Rattle.bayou_base.specs.Order.{is_before}
+use Rattle.bayou_lang.specs.declared.program.Program.{Program}
+use Rattle.bayou_lang.specs.declared.write.Write.{Write}
+use Rattle.bayou_lang.specs.Places.{value_at}
+use Rattle.bayou_lang.specs.Writes.{IsNextWrite, count_of}
+use Rattle.bayou_log.specs.Replay.{replay}
+use Rattle.bayou_server.specs.declared.answer.Took.TheVariants.{New, Had}
+use Rattle.bayou_server.specs.declared.fault.TakeFault.{TakeFault}
+use Rattle.bayou_server.specs.declared.fault.TakeFault.TheVariants as taking
+use Rattle.bayou_server.specs.declared.fault.WriteFault.{WriteFault}
+use Rattle.bayou_server.specs.declared.fault.WriteFault.TheVariants as writing
+use Rattle.bayou_world.specs.declared.event.Event.{Event}
+use Rattle.bayou_world.specs.declared.event.Event.TheVariants as events
+use Rattle.bayou_world.specs.declared.reply.Reply.{Reply}
+use Rattle.bayou_world.specs.declared.reply.Reply.TheVariants as replies
+use Rattle.bayou_world.specs.Machine.{Answered, IsWithin, Machine, Made, ServerSets, SessionSets, changed, names, with_server, with_session, writes}
+
+-- ---- an operation of a session
+
+-- The session may begin an operation at the server: both are there, no answer is in flight to it, and it has a place left.
+pub record MayBegin (old : Machine) (who place : ℕ) (session : SessionSets) : Type 0 where
+  pub there : old.sessions who ≡ Some session
+  pub server : place < old.count
+  pub idle : session.flight ≡ None
+  pub left : session.begun < MAX_PLACES
+
+abbrev pub CannotBegin : Machine → (who place : ℕ) → Type 0
+CannotBegin old who place = (session : SessionSets) → ¬ MayBegin old who place session
+
+-- The server holds what a read of the session needs: its Writes where it asks for Read Your Writes, and what its reads saw where it
+-- asks for Monotonic Reads.
+pub record MayRead (session : SessionSets) (held : List Made) : Type 0 where
+  pub ryw : session.asks.ryw ≡ true → IsWithin session.writes (names (writes held))
+  pub mr : session.asks.mr ≡ true → IsWithin session.reads (names (writes held))
+
+-- The server holds what a Write of the session needs: what its reads saw where it asks for Writes Follow Reads, and its Writes where it
+-- asks for Monotonic Writes.
+pub record MayWrite (session : SessionSets) (held : List Made) : Type 0 where
+  pub wfr : session.asks.wfr ≡ true → IsWithin session.reads (names (writes held))
+  pub mw : session.asks.mw ≡ true → IsWithin session.writes (names (writes held))
+
+-- the entry of what the session is answered by the server at its next place
+pub record IsEntry (who place : ℕ) (session : SessionSets) (what : What) (entry : Entry) : Type 0 where
+  pub session_is : entry.session.index ≡ who
+  pub place_is : entry.place ≡ session.begun + 1
+  pub asks_are : entry.asks ≡ session.asks
+  pub server_is : entry.server.index ≡ place
+  pub what_is : entry.what ≡ what
+
+-- it begins the place, and the answer goes in flight to it
+abbrev pub with_answer : Machine → ℕ → SessionSets → Answered → Machine
+with_answer machine who session answered = with_session machine who (record session { begun = session.begun + 1; flight = Some answered })
+
+-- a refusal: nothing was read, and nothing made
+abbrev pub refusal : Entry → Answered
+refusal entry = record { entry = entry; database = []; made = None }
+
+-- ---- a read
+
+pub data Reads (old : Machine) (who place : ℕ) (key : List ℕ) (reply : Reply) (new : Machine) : Type 0 where
+  skipped : CannotBegin old who place → reply ≡ replies.Skipped → new ≡ old → Reads old who place key reply new
+  behind : (session : SessionSets) (entry : Entry) → MayBegin old who place session → (¬ MayRead session (old.servers place).held)
+      → reply ≡ replies.Read (Err (record { vector = count_of (writes (old.servers place).held) }))
+      → IsEntry who place session whats.Refused entry → new ≡ with_answer old who session (refusal entry) → Reads old who place key reply new
+  served : (session : SessionSets) (entry : Entry) (seen : Seen) → MayBegin old who place session → MayRead session (old.servers place).held
+      → seen.value ≡ value_at (replay (writes (old.servers place).held)) key → seen.vector ≡ count_of (writes (old.servers place).held) → reply ≡ replies.Read (Ok seen)
+      → IsEntry who place session (whats.Read key seen.vector) entry
+      → new ≡ with_answer old who session (record { entry = entry; database = writes (old.servers place).held; made = None }) → Reads old who place key reply new
+
+-- ---- a Write
+
+-- no Write is in doubt, and what the session needs is held
+pub record IsReady (session : SessionSets) (server : ServerSets) : Type 0 where
+  pub up : server.doubt ≡ None
+  pub covered : MayWrite session server.held
+
+-- Why a program is made no Write of. The cases stand in their order: each says that those before it don't hold.
+abbrev pub RefusesWrite : ℕ → SessionSets → ServerSets → WriteFault → Type 0
+RefusesWrite limit session server writing.Down = IsSome server.doubt
+RefusesWrite limit session server (writing.Behind vector) = (server.doubt ≡ None) × (¬ MayWrite session server.held) × (vector ≡ count_of (writes server.held))
+RefusesWrite limit session server writing.LogFull = IsReady session server × (length server.held ≡ limit)
+RefusesWrite limit session server writing.OutOfMemory = IsReady session server × (length server.held < limit)
+RefusesWrite limit session server writing.Journal = ⊥
+
+-- the Write that the server makes of the program: the next of its own, whose past is what it holds
+pub record Makes (limit place : ℕ) (session : SessionSets) (server : ServerSets) (program : Program) (made : Made) : Type 0 where
+  pub ready : IsReady session server
+  pub room : length server.held < limit
+  pub next : IsNextWrite (writes server.held) place program made.write
+  pub past : made.past ≡ writes server.held
+
+-- what is accepted is told by the Write's name and stamp, and what was held just before
+pub record IsAccepted (made : Made) (accepted : Accepted) : Type 0 where
+  pub wid : accepted.wid ≡ made.write.wid
+  pub stamp : accepted.stamp ≡ made.write.stamp
+  pub deps : accepted.deps ≡ count_of made.past
+
+-- the Write is held behind the others, and so there is one database more
+abbrev pub with_write : ServerSets → Made → ServerSets
+with_write server made = record server { held = server.held ++ made ∷ []; had = server.had ++ writes (server.held ++ made ∷ []) ∷ [] }
+
+-- a device call failed as the Write was to be stored: it is in doubt, and the server is down
+abbrev pub with_doubt : ServerSets → Made → ServerSets
+with_doubt server made = record server { doubt = Some made }
+
+pub data Writes (old : Machine) (who place : ℕ) (program : Program) (reply : Reply) (new : Machine) : Type 0 where
+  skipped : CannotBegin old who place → reply ≡ replies.Skipped → new ≡ old → Writes old who place program reply new
+  refused : (session : SessionSets) (entry : Entry) (fault : WriteFault) → MayBegin old who place session → RefusesWrite old.limit session (old.servers place) fault
+      → reply ≡ replies.Wrote (Err fault) → IsEntry who place session whats.Refused entry → new ≡ with_answer old who session (refusal entry) → Writes old who place program reply new
+  doubted : (session : SessionSets) (entry : Entry) (made : Made) → MayBegin old who place session → Makes old.limit place session (old.servers place) program made
+      → reply ≡ replies.Wrote (Err writing.Journal) → IsEntry who place session whats.Refused entry
+      → new ≡ with_answer (with_server old place (with_doubt (old.servers place) made)) who session (refusal entry) → Writes old who place program reply new
+  accepted : (session : SessionSets) (entry : Entry) (made : Made) (accepted : Accepted) → MayBegin old who place session → Makes old.limit place session (old.servers place) program made
+      → IsAccepted made accepted → reply ≡ replies.Wrote (Ok accepted) → IsEntry who place session (whats.Write accepted.wid accepted.stamp accepted.deps) entry
+      → new ≡ with_answer (with_server old place (with_write (old.servers place) made)) who session (record { entry = entry; database = made.past; made = Some made })
+      → Writes old who place program reply new
+
+-- ---- the answer in flight
+
+-- what the session is told: a read adds what it was served from to the read-set, and an accepted Write its name to the write-set
+abbrev pub told : What → Answered → SessionSets → SessionSets
+told (whats.Read key vector) answered session = record session { reads = session.reads ++ names answered.database }
+told (whats.Write wid stamp deps) answered session = record session { writes = session.writes ++ wid ∷ [] }
+told whats.Refused answered session = session
+
+-- an operation is served when an answer that is no refusal reached its session
+abbrev pub served_by : What → Answered → List Answered
+served_by (whats.Read key vector) answered = answered ∷ []
+served_by (whats.Write wid stamp deps) answered = answered ∷ []
+served_by whats.Refused answered = []
+
+-- nothing is in flight to the session any more
+abbrev pub landed : SessionSets → SessionSets
+landed session = record session { flight = None }
+
+-- and its entry waits to be entered in the book
+abbrev pub heard : Answered → SessionSets → SessionSets
+heard answered session = record (told answered.entry.what answered session) { flight = None; waiting = session.waiting ++ answered.entry ∷ [] }
+
+-- the answer is in flight to the session
+pub record IsInFlight (old : Machine) (who : ℕ) (session : SessionSets) (answered : Answered) : Type 0 where
+  pub there : old.sessions who ≡ Some session
+  pub flight : session.flight ≡ Some answered
+
+abbrev pub NothingIsInFlight : Machine → ℕ → Type 0
+NothingIsInFlight old who = (session : SessionSets) (answered : Answered) → ¬ IsInFlight old who session answered
+
+pub data Delivers (old : Machine) (who : ℕ) (reply : Reply) (new : Machine) : Type 0 where
+  skipped : NothingIsInFlight old who → reply ≡ replies.Skipped → new ≡ old → Delivers old who reply new
+  delivered : (session : SessionSets) (answered : Answered) → IsInFlight old who session answered → reply ≡ replies.Delivered
+      → new ≡ record (with_session old who (heard answered session)) { served = old.served ++ served_by answered.entry.what answered } → Delivers old who reply new
+
+pub data Loses (old : Machine) (who : ℕ) (reply : Reply) (new : Machine) : Type 0 where
+  skipped : NothingIsInFlight old who → reply ≡ replies.Skipped → new ≡ old → Loses old who reply new
+  dropped : (session : SessionSets) (answered : Answered) → IsInFlight old who session answered → reply ≡ replies.Dropped
+      → new ≡ with_session old who (landed session) → Loses old who reply new
+
+-- ---- anti-entropy
+
+pub data Offers (old : Machine) (place : ℕ) (reply : Reply) (new : Machine) : Type 0 where
+  skipped : (old.count ≤ place) ⊎ (MAX_NUMBER < length old.offers) → reply ≡ replies.Skipped → new ≡ old → Offers old place reply new
+  kept : place < old.count → length old.offers ≤ MAX_NUMBER → reply ≡ replies.Kept (length old.offers)
+      → new ≡ record old { offers = old.offers ++ record { server = place; database = writes (old.servers place).held } ∷ [] } → Offers old place reply new
+
+-- just those that the server holds and the offer hasn't, in stamp order
+pub record AreLacking (offered : List Write) (held lacking : List Made) : Type 0 where
+  pub those : (made : Made) → Contains lacking made ↔ (Contains held made × (¬ Contains (names offered) made.write.wid))
+  pub in_order : AllPairs (λ a b. is_before a.write.stamp b.write.stamp ≡ true) lacking
+
+-- the server and the offer are there, and the last of so many items, or the next where there are none, has a number
+pub record MayCollect (old : Machine) (place offer : ℕ) (offered : List Write) (lacking : List Made) : Type 0 where
+  pub server : place < old.count
+  pub by : ℕ
+  pub there : slice_get old.offers offer ≡ Some (record { server = by; database = offered })
+  pub those : AreLacking offered (old.servers place).held lacking
+  pub numbered : length old.items + max (length lacking) 1 ≤ MAX_NUMBER + 1
+
+abbrev pub CannotCollect : Machine → (place offer : ℕ) → Type 0
+CannotCollect old place offer = (offered : List Write) (lacking : List Made) → ¬ MayCollect old place offer offered lacking
+
+pub data Collects (old : Machine) (place offer : ℕ) (reply : Reply) (new : Machine) : Type 0 where
+  skipped : CannotCollect old place offer → reply ≡ replies.Skipped → new ≡ old → Collects old place offer reply new
+  no_memory : place < old.count → offer < length old.offers → reply ≡ replies.NoMemory → new ≡ old → Collects old place offer reply new
+  flown : (offered : List Write) (lacking : List Made) → MayCollect old place offer offered lacking → reply ≡ replies.Flown (length old.items) (length lacking)
+      → new ≡ record old { items = old.items ++ lacking } → Collects old place offer reply new
+
+-- a Write of its name is held
+abbrev pub Holds : ServerSets → Made → Type 0
+Holds server made = Contains (names (writes server.held)) made.write.wid
+
+-- the server is up, and the Write is new to it
+pub record IsNew (server : ServerSets) (made : Made) : Type 0 where
+  pub missing : ¬ Holds server made
+  pub up : server.doubt ≡ None
+
+-- and all of its past is held (the prefix property, Petersen et al. 1997)
+pub record IsNext (server : ServerSets) (made : Made) : Type 0 where
+  pub fresh : IsNew server made
+  pub past : IsWithin (names made.past) (names (writes server.held))
+
+-- Why an item isn't taken. The cases stand in their order: each says that those before it don't hold.
+abbrev pub RefusesItem : ℕ → ServerSets → Made → TakeFault → Type 0
+RefusesItem limit server made taking.Conflict = ⊥
+RefusesItem limit server made taking.Down = (¬ Holds server made) × IsSome server.doubt
+RefusesItem limit server made taking.OwnLost = ⊥
+RefusesItem limit server made taking.Gap = IsNew server made × (¬ IsWithin (names made.past) (names (writes server.held)))
+RefusesItem limit server made taking.BadStamp = ⊥
+RefusesItem limit server made taking.LogFull = IsNext server made × (length server.held ≡ limit)
+RefusesItem limit server made taking.OutOfMemory = IsNext server made × (length server.held < limit)
+RefusesItem limit server made taking.Journal = ⊥
+
+-- the server and the item are there
+pub record IsGiven (old : Machine) (place item : ℕ) (made : Made) : Type 0 where
+  pub server : place < old.count
+  pub there : slice_get old.items item ≡ Some made
+
+pub data Takes (old : Machine) (place item : ℕ) (reply : Reply) (new : Machine) : Type 0 where
+  skipped : ((made : Made) → ¬ IsGiven old place item made) → reply ≡ replies.Skipped → new ≡ old → Takes old place item reply new
+  had : (made : Made) → IsGiven old place item made → Holds (old.servers place) made → reply ≡ replies.Took (Ok Had) → new ≡ old → Takes old place item reply new
+  refused : (made : Made) (fault : TakeFault) → IsGiven old place item made → RefusesItem old.limit (old.servers place) made fault
+      → reply ≡ replies.Took (Err fault) → new ≡ old → Takes old place item reply new
+  doubted : (made : Made) → IsGiven old place item made → IsNext (old.servers place) made → length (old.servers place).held < old.limit
+      → reply ≡ replies.Took (Err taking.Journal) → new ≡ with_server old place (with_doubt (old.servers place) made) → Takes old place item reply new
+  taken : (made : Made) → IsGiven old place item made → IsNext (old.servers place) made → length (old.servers place).held < old.limit
+      → reply ≡ replies.Took (Ok New) → new ≡ with_server old place (with_write (old.servers place) made) → Takes old place item reply new
+
+-- ---- the book
+
+-- the session's oldest delivered operation that isn't in the book yet, where the book has a place for it
+pub record MayFile (old : Machine) (who : ℕ) (session : SessionSets) (entry : Entry) (later : List Entry) : Type 0 where
+  pub there : old.sessions who ≡ Some session
+  pub waits : session.waiting ≡ entry ∷ later
+  pub room : length old.filed < old.places
+
+pub data Files (old : Machine) (who : ℕ) (reply : Reply) (new : Machine) : Type 0 where
+  skipped : ((session : SessionSets) (entry : Entry) (later : List Entry) → ¬ MayFile old who session entry later) → reply ≡ replies.Skipped → new ≡ old → Files old who reply new
+  filed : (session : SessionSets) (entry : Entry) (later : List Entry) → MayFile old who session entry later → reply ≡ replies.Filed
+      → new ≡ record (with_session old who (record session { waiting = later })) { filed = old.filed ++ entry ∷ [] } → Files old who reply new
+
+-- ---- an event
+
+-- From old, the event may get this reply and leave new.
+abbrev pub Step : Machine → Event → Reply → Machine → Type 0
+Step old (events.Read session server key) reply new = Reads old session.index server.index key reply new
+Step old (events.Write session server program) reply new = Writes old session.index server.index program reply new
+Step old (events.Deliver session) reply new = Delivers old session.index reply new
+Step old (events.Lose session) reply new = Loses old session.index reply new
+Step old (events.Offer server) reply new = Offers old server.index reply new
+Step old (events.Collect server offer) reply new = Collects old server.index offer reply new
+Step old (events.Take server item) reply new = Takes old server.index item reply new
+Step old (events.File session) reply new = Files old session.index reply new

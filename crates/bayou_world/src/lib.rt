@@ -1,0 +1,17 @@
+//! All servers and all sessions as one machine (Terry et al. 1994, 1995; Petersen et al. 1997), and the four session guarantees
+//! over every run of it.
+//!
+//! Callers see a machine of sets (`specs/Machine`): what each server holds and ever had, each session's read-set and write-set, what
+//! is in flight, and what was served. An event does to it what `specs/Steps` says, with each answer that it may have; nothing there
+//! counts Writes. The laws say what is true of every run: a name is of one Write, what each server holds is prefix-closed, a vector
+//! stands for a set, and each served operation has every guarantee that its session asked for.
+//!
+//! Nothing stands on this crate. It isn't promised that servers become equal, nor that a session is ever served.
+#![tactic(auto)]
+
+pub mod event;
+pub mod laws;
+pub mod reply;
+
+pub use event::Event;
+pub use reply::Reply;

@@ -1,0 +1,27 @@
+use bayou_base::{Accepted, Seen};
+use bayou_server::{Behind, TakeFault, Took, WriteFault};
+
+/// What an event came to.
+#[derive(Debug, Drop)]
+pub enum Reply {
+    /// The server's answer to a read, which is in flight.
+    Read(Result<Seen, Behind>),
+    /// The server's answer to a program, which is in flight.
+    Wrote(Result<Accepted, WriteFault>),
+    /// The server's answer to an item.
+    Took(Result<Took, TakeFault>),
+    /// The offer has this number.
+    Kept(u32),
+    /// So many items went in flight, numbered from the first on.
+    Flown { first: u32, number: u32 },
+    /// The reply reached its session.
+    Delivered,
+    /// It was lost.
+    Dropped,
+    /// The operation was entered in the book.
+    Filed,
+    /// Nothing went in flight, as memory was refused.
+    NoMemory,
+    /// The event named nothing that is there, or a number above the greatest, or a session that can begin nothing now.
+    Skipped,
+}
