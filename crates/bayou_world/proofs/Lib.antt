@@ -10,3 +10,4 @@ pub mod Keeping
 pub mod Consistent
 pub mod Collecting
 pub mod Possible
+pub mod Tied
