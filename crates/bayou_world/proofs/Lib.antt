@@ -11,3 +11,6 @@ pub mod Consistent
 pub mod Collecting
 pub mod Possible
 pub mod Tied
+pub mod TiedWrites
+pub mod TiedFlights
+pub mod TiedItems

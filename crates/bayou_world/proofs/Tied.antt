@@ -105,6 +105,27 @@ module _ {D : Type 0} (servers : List (ServerState D)) (clients : List (Option C
     served_are = tied.served_are;
   }
 
+  -- a server that runs is another of which the same is known
+  pub same_place : (machine : Machine) → IsTied servers clients offers items told machine → (place : ℕ) (new : ServerState D) → place < machine.count
+      → IsServerOf machine.count machine.limit place new.core (machine.servers place) → IsTied (set servers place new) clients offers items told machine
+  same_place machine tied place new inside is = record {
+    many = length-set servers place new ∙ tied.many;
+    servers_are = λ other d within. elim (same_number other place) as (λ _. IsServerOf machine.count machine.limit other (get_or (set servers place new) other d).core (machine.servers other)) [
+      | inl same ↦
+          let here : get_or (set servers place new) place d ≡ new = get_or-set_same servers place new d (omega (arith, inside, tied.many)) in
+          subst (λ n. IsServerOf machine.count machine.limit n (get_or (set servers place new) n d).core (machine.servers n)) (sym same)
+          (subst (λ (x : ServerState D). IsServerOf machine.count machine.limit place x.core (machine.servers place)) (sym here) is)
+      | inr differs ↦
+          let there : get_or (set servers place new) other d ≡ get_or servers other d = get_or-set_other servers place other new d (λ same. differs (same)) in
+          subst (λ (x : ServerState D). IsServerOf machine.count machine.limit other x.core (machine.servers other)) (sym there) (tied.servers_are other d within)
+    ];
+    seats = tied.seats;
+    clients_are = tied.clients_are;
+    offers_are = tied.offers_are;
+    items_are = tied.items_are;
+    served_are = tied.served_are;
+  }
+
   -- who may begin has a seat and may begin there
   pub begins_there : (machine : Machine) → IsTied servers clients offers items told machine → (who place : ℕ) (session : SessionSets) → who < SESSIONS → MayBegin machine who place session
       → (client : Client) × (seat clients who ≡ Some client) × (client.flight ≡ None) × (client.session.begun < MAX_PLACES) × (place < length servers)
@@ -125,13 +146,14 @@ idle (Some flight) a is none = let both : Some flight ≡ None = none in absurd 
 -- ---- an operation begins
 
 -- the client begins as its session does
-began : (who place : ℕ) (client new : Client) (session : SessionSets) (what : What) (accepted : Option Accepted) (answered : Answered) → IsClientOf who client session
+pub began : (who place : ℕ) (client new : Client) (session : SessionSets) (what : What) (accepted : Option Accepted) (answered : Answered) → IsClientOf who client session
     → (begins : Begins client place what accepted new) → answered.entry ≡ begins.entry → IsAcceptedIn what accepted
     → IsClientOf who new (record session { begun = session.begun + 1; flight = Some answered })
 began who place client new session what accepted answered is begins entry_is tells = record {
   name = ap (λ (t : Told). t.id.index) begins.session ∙ is.name;
   asks = ap (λ (t : Told). t.asks) begins.session ∙ is.asks;
   begun = ap (λ (t : Told). t.begun) begins.session ∙ ap (λ n. n + 1) is.begun;
+  long = subst (λ (t : Told). (length t.reads ≡ SERVERS) × (length t.writes ≡ SERVERS)) (sym begins.session) is.long;
   reads = subst (λ (t : Told). IsVectorOf t.reads session.reads) (sym begins.session) is.reads;
   writes = subst (λ (t : Told). IsVectorOf t.writes session.writes) (sym begins.session) is.writes;
   flight = subst (λ f. IsFlightOf f (Some answered)) (sym begins.flight)
@@ -140,7 +162,7 @@ began who place client new session what accepted answered is begins entry_is tel
   own = is.own;
 }
 
-entry_of : (who place : ℕ) (client new : Client) (session : SessionSets) (what : What) (accepted : Option Accepted) → IsClientOf who client session
+pub entry_of : (who place : ℕ) (client new : Client) (session : SessionSets) (what : What) (accepted : Option Accepted) → IsClientOf who client session
     → (begins : Begins client place what accepted new) → IsEntry who place session what begins.entry
 entry_of who place client new session what accepted is begins = record {
   session_is = ap (λ (id : _). id.index) begins.session_is ∙ is.name;
@@ -150,7 +172,7 @@ entry_of who place client new session what accepted is begins = record {
   what_is = begins.what_is;
 }
 
-may_begin : (machine : Machine) (who place : ℕ) (client : Client) (session : SessionSets) → machine.sessions who ≡ Some session → IsClientOf who client session
+pub may_begin : (machine : Machine) (who place : ℕ) (client : Client) (session : SessionSets) → machine.sessions who ≡ Some session → IsClientOf who client session
     → client.flight ≡ None → client.session.begun < MAX_PLACES → place < machine.count → MayBegin machine who place session
 may_begin machine who place client session there is none left known = record {
   there = there;

@@ -1,5 +1,6 @@
 //! The servers and the sessions as they run.
-ghost use Rattle.std.specs.Prelude.{◌<◌, IfOk};
+ghost use Rattle.std.specs.Prelude.{◌≡◌, ◌++◌, IfOk, OnOk};
+ghost use Rattle.bayou_world.specs.Inner.Clients.{served_entries};
 ghost use Rattle.bayou_world.specs.Inner.Tie.{Follows};
 ghost use Rattle.bayou_world.specs.Steps.{Collects, Delivers, Loses, Offers, Reads, Takes, Writes};
 
@@ -22,6 +23,17 @@ pub struct State {
     pub offers: Vec<Vector>,
     pub items: Vec<RestingWrite>,
     pub served: Vec<Entry>,
+}
+
+/// Keeps the entry, if it is of a read or a Write.
+fn keep_served(served: &mut Vec<Entry>, entry: Entry) -> Result<(), AllocError>
+    ensures { OnOk result (served.new.items ≡ served.old.items ++ served_entries entry.what entry) }
+{
+    if let What::Refused = entry.what {
+        return Ok(());
+    }
+    served.push(entry)?;
+    Ok(())
 }
 
 impl State {
@@ -65,5 +77,101 @@ impl State {
             return Reply::Skipped;
         }
         Reply::Wrote(client.write(alloc, &mut self.servers[at], program))
+    }
+
+    /// The answer on its way reaches the session. Want of memory leaves it half told.
+    pub fn deliver(&mut self, who: SessionId) -> Result<Reply, AllocError>
+        ensures { IfOk result (λ reply. Follows self.old (λ machine next. Delivers machine who.index reply next) self.new) }
+    {
+        let seat = usize::from(who.index);
+        if seat >= self.clients.len() {
+            return Ok(Reply::Skipped);
+        }
+        let Some(client) = &mut self.clients[seat] else {
+            return Ok(Reply::Skipped);
+        };
+        let Some(entry) = client.hear()? else {
+            return Ok(Reply::Skipped);
+        };
+        keep_served(&mut self.served, entry)?;
+        Ok(Reply::Delivered)
+    }
+
+    /// The answer on its way is lost.
+    pub fn lose(&mut self, who: SessionId) -> Reply
+        ensures { Follows self.old (λ machine next. Loses machine who.index result next) self.new }
+    {
+        let seat = usize::from(who.index);
+        if seat >= self.clients.len() {
+            return Reply::Skipped;
+        }
+        let Some(client) = &mut self.clients[seat] else {
+            return Reply::Skipped;
+        };
+        if client.lose() {
+            Reply::Dropped
+        } else {
+            Reply::Skipped
+        }
+    }
+
+    /// What the server holds is kept as an offer.
+    pub fn offer(&mut self, place: ServerId) -> Result<Reply, AllocError>
+        ensures { IfOk result (λ reply. Follows self.old (λ machine next. Offers machine place.index reply next) self.new) }
+    {
+        let at = usize::from(place.index);
+        let number = self.offers.len();
+        if at >= self.servers.len() || number > MAX_NUMBER as usize {
+            return Ok(Reply::Skipped);
+        }
+        self.offers.push(self.servers[at].vector())?;
+        Ok(Reply::Kept(number as u32))
+    }
+
+    /// What the server holds and the offer hasn't goes in flight.
+    pub fn collect(
+        &mut self,
+        alloc: Global,
+        place: ServerId,
+        offer: u32,
+    ) -> Result<Reply, AllocError>
+        ensures { IfOk result (λ reply. Follows self.old (λ machine next. Collects machine place.index offer reply next) self.new) }
+    {
+        let (at, offer) = (usize::from(place.index), offer as usize);
+        if at >= self.servers.len() || offer >= self.offers.len() {
+            return Ok(Reply::Skipped);
+        }
+        let server = &self.servers[at];
+        let most = server.limit() as usize;
+        let Ok(mut lacking) = server.lacking(alloc, &self.offers[offer], most) else {
+            return Ok(Reply::NoMemory);
+        };
+        let first = self.items.len();
+        let number = lacking.len();
+        if first as u64 + number.max(1) as u64 > MAX_NUMBER as u64 + 1 {
+            return Ok(Reply::Skipped);
+        }
+        self.items.append(&mut lacking)?;
+        Ok(Reply::Flown {
+            first: first as u32,
+            number: number as u32,
+        })
+    }
+
+    /// The server is given the item, a copy of which is made first.
+    pub fn take(
+        &mut self,
+        alloc: Global,
+        place: ServerId,
+        item: u32,
+    ) -> Result<Reply, AllocError>
+        ensures { IfOk result (λ reply. Follows self.old (λ machine next. Takes machine place.index item reply next) self.new) }
+    {
+        let (at, item) = (usize::from(place.index), item as usize);
+        if at >= self.servers.len() || item >= self.items.len() {
+            return Ok(Reply::Skipped);
+        }
+        let write = self.items[item].copy(alloc)?;
+        Ok(Reply::Took(self.servers[at].take(alloc, write)))
     }
 }

@@ -60,3 +60,9 @@ pub record Pops (old : Client) (popped : Option Entry) (new : Client) : Type 0 w
   pub items : old.waiting.items ≡ option_to_list popped ++ new.waiting.items
   pub session : new.session ≡ old.session
   pub flight : new.flight ≡ old.flight
+
+-- what of an answer is served
+abbrev pub served_entries : What → Entry → List Entry
+served_entries (whats.Read key vector) entry = entry ∷ []
+served_entries (whats.Write wid stamp deps) entry = entry ∷ []
+served_entries whats.Refused entry = []

@@ -6,7 +6,7 @@ use Rattle.bayou_base.specs.declared.answer.Accepted.{Accepted}
 use Rattle.bayou_base.specs.declared.entry.Entry.{Entry}
 use Rattle.bayou_base.specs.declared.entry.What.{What}
 use Rattle.bayou_base.specs.declared.entry.What.TheVariants as whats
-use Rattle.bayou_base.specs.declared.limits.TheConstants.{SESSIONS}
+use Rattle.bayou_base.specs.declared.limits.TheConstants.{SERVERS, SESSIONS}
 use Rattle.bayou_lang.specs.declared.write.Write.{Write}
 use Rattle.bayou_lang.specs.Writes.{count_of}
 use Rattle.bayou_server.specs.Server.{Core, ServerState}
@@ -42,6 +42,7 @@ pub record IsClientOf (who : ℕ) (client : Client) (session : SessionSets) : Ty
   pub name : client.session.id.index ≡ who
   pub asks : client.session.asks ≡ session.asks
   pub begun : client.session.begun ≡ session.begun
+  pub long : (length client.session.reads ≡ SERVERS) × (length client.session.writes ≡ SERVERS)
   pub reads : IsVectorOf client.session.reads session.reads
   pub writes : IsVectorOf client.session.writes session.writes
   pub flight : IsFlightOf client.flight session.flight
