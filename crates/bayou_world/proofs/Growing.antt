@@ -35,7 +35,7 @@ offers_grow old new grown offers all =
     (λ offer front. front_grows old new grown offer.server offer.database front) offers all
 
 true_grows : (old new : ℕ → ServerSets) → HaveGrown old new → (what : What) (place : ℕ) (answered : Answered) → IsTrue old what place answered → IsTrue new what place answered
-true_grows old new grown (whats.Read key vector) place answered (none, front) = (none, front_grows old new grown place answered.database front)
+true_grows old new grown (whats.Read key vector) place answered (none, front, counts) = (none, front_grows old new grown place answered.database front, counts)
 true_grows old new grown (whats.Write wid stamp deps) place answered (made, is, home, name) = (made, is, home_grows old new grown made home, name)
 true_grows old new grown whats.Refused place answered none = none
 

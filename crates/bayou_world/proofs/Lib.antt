@@ -10,3 +10,7 @@ pub mod Keeping
 pub mod Consistent
 pub mod Collecting
 pub mod Possible
+pub mod Tied
+pub mod TiedWrites
+pub mod TiedFlights
+pub mod TiedItems

@@ -125,7 +125,7 @@ read_good old who place key reply new good (Reads.served session entry seen may 
     let database = writes (old.servers place).held in
     subst IsGood (sym same)
     (begin_good old good old.servers (no_growth old.servers) good.servers who place session (whats.Read key seen.vector) (record { entry = entry; database = database; made = None }) may entry_is
-    (refl, whole_front database) (record { ryw = covered.ryw; mr = covered.mr }))
+    (refl, whole_front database, vector) (record { ryw = covered.ryw; mr = covered.mr }))
 
 write_good : (old : Machine) (who place : ℕ) (program : Program) (reply : Reply) (new : Machine) → IsGood old → Writes old who place program reply new → IsGood new
 write_good old who place program reply new good (Writes.skipped cannot is same) = subst IsGood (sym same) good

@@ -1,1 +1,3 @@
 pub mod Good
+pub mod Clients
+pub mod Tie

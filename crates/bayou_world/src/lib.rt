@@ -9,9 +9,11 @@
 //! Nothing stands on this crate. It isn't promised that servers become equal, nor that a session is ever served.
 #![tactic(auto)]
 
+mod client;
 pub mod event;
 pub mod laws;
 pub mod reply;
+mod state;
 
 pub use event::Event;
 pub use reply::Reply;

@@ -44,7 +44,7 @@ AreOffers servers offers = All (λ (offer : Offered). IsFrontOf (writes (servers
 
 -- what an answer tells was so
 abbrev pub IsTrue : (ℕ → ServerSets) → What → ℕ → Answered → Type 0
-IsTrue servers (whats.Read key vector) place answered = (answered.made ≡ None) × IsFrontOf (writes (servers place).held) answered.database
+IsTrue servers (whats.Read key vector) place answered = (answered.made ≡ None) × IsFrontOf (writes (servers place).held) answered.database × (vector ≡ count_of answered.database)
 IsTrue servers (whats.Write wid stamp deps) place answered = (made : Made) × (answered.made ≡ Some made) × IsHome servers made × (made.write.wid ≡ wid)
 IsTrue servers whats.Refused place answered = answered.made ≡ None
 

@@ -1,0 +1,243 @@
+-- What the servers and sessions that run do, the machine does.
+use Rattle.std.proofs.Common.{◌≡◌, ◌≢◌, ◌↔◌, inl, inr, ◌⊎◌, ℕ, ◌+◌, ◌<◌, ◌≤◌, true, List, [], ◌∷◌, ◌++◌, Option, None, Some, Result, Ok, Err, IsSome, map, length, get_or, set, Contains, All, ap, sym, ◌∙◌, refl, subst, arith}
+use Rattle.std.specs.Option.{option_map}
+use Rattle.std.proofs.lemmas.Bool.{cases_lt}
+use Rattle.std.proofs.lemmas.List.{get_or-set_other, get_or-set_same, length-set}
+use Rattle.bayou_base.specs.declared.answer.Accepted.{Accepted}
+use Rattle.bayou_base.specs.declared.answer.Seen.{Seen}
+use Rattle.bayou_base.specs.declared.entry.Entry.{Entry}
+use Rattle.bayou_base.specs.declared.entry.What.{What}
+use Rattle.bayou_base.specs.declared.entry.What.TheVariants as whats
+use Rattle.bayou_base.specs.declared.limits.TheConstants.{MAX_PLACES, SERVERS, SESSIONS}
+use Rattle.bayou_base.specs.Vector.{Dominates}
+use Rattle.bayou_lang.specs.declared.write.Write.{Write}
+use Rattle.bayou_lang.specs.declared.program.Program.{Program}
+use Rattle.bayou_lang.specs.Places.{value_at}
+use Rattle.bayou_lang.specs.Writes.{count_of}
+use Rattle.bayou_log.specs.Replay.{replay}
+use Rattle.bayou_world.specs.Invariant.{IsVectorOf}
+use Rattle.bayou_server.specs.declared.fault.Behind.{Behind}
+use Rattle.bayou_server.specs.declared.fault.WriteFault.{WriteFault}
+use Rattle.bayou_server.specs.declared.fault.WriteFault.TheVariants as writing
+use Rattle.bayou_server.specs.Reads as served
+use Rattle.bayou_server.specs.Writes as accepts
+use Rattle.bayou_server.specs.Server.{Core, ServerState}
+use Rattle.bayou_session.specs.Needs.{HasCounts, Told, one_place_more, read_need, write_need}
+use Rattle.bayou_world.specs.declared.client.Client.{Client}
+use Rattle.bayou_world.specs.declared.client.Flight.{Flight}
+use Rattle.bayou_world.specs.declared.reply.Reply.{Reply}
+use Rattle.bayou_world.specs.declared.reply.Reply.TheVariants as replies
+use Rattle.bayou_world.specs.Inner.Clients.{Begins, accepted_as, accepted_of, seen_as}
+use Rattle.bayou_world.specs.Inner.Good.{IsGood}
+use Rattle.bayou_world.specs.Inner.Tie.{IsAcceptedIn, IsClientOf, IsFlightOf, IsSeatOf, IsServerOf, IsTied, seat, write_of}
+use Rattle.bayou_world.specs.Machine.{Answered, IsWithin, Machine, Made, ServerSets, SessionSets, changed, names, with_server, with_session, writes}
+use Rattle.bayou_world.specs.Steps.{CannotBegin, IsEntry, MayBegin, MayRead, MayWrite, Reads, Writes, refusal, with_answer, with_doubt, with_write}
+use Rattle.bayou_world.proofs.Homes.{fitting_at}
+use Rattle.bayou_world.proofs.Lists.{at_changed, changed-other, changed-same, same_number}
+use Rattle.bayou_world.proofs.Vectors.{tests_agree}
+
+-- what a law of the session says
+abbrev pub ReadLaw : Type 0
+ReadLaw = (session : Told) (held : List ℕ) → length session.reads ≡ SERVERS → length session.writes ≡ SERVERS
+    → Dominates held (read_need session) ↔ ((session.asks.ryw ≡ true → Dominates held session.writes) × (session.asks.mr ≡ true → Dominates held session.reads))
+
+abbrev pub WriteLaw : Type 0
+WriteLaw = (session : Told) (held : List ℕ) → length session.reads ≡ SERVERS → length session.writes ≡ SERVERS
+    → Dominates held (write_need session) ↔ ((session.asks.wfr ≡ true → Dominates held session.reads) × (session.asks.mw ≡ true → Dominates held session.writes))
+
+-- ---- seats
+
+pub session_of_seat : (who : ℕ) (o : Option Client) (s : Option SessionSets) (client : Client) → IsSeatOf who o s → o ≡ Some client → (session : SessionSets) × (s ≡ Some session) × IsClientOf who client session
+session_of_seat who None s client is at = let both : None ≡ Some client = at in absurd (cc)
+session_of_seat who (Some other) None client is at = absurd is
+session_of_seat who (Some other) (Some session) client is at = let one : other ≡ client = cc in (session, refl, subst (λ c. IsClientOf who c session) one is)
+
+pub seat_of_session : (who : ℕ) (o : Option Client) (s : Option SessionSets) (session : SessionSets) → IsSeatOf who o s → s ≡ Some session → (client : Client) × (o ≡ Some client) × IsClientOf who client session
+seat_of_session who o None session is at = let both : None ≡ Some session = at in absurd (cc)
+seat_of_session who None (Some other) session is at = absurd is
+seat_of_session who (Some client) (Some other) session is at = let one : other ≡ session = cc in (client, refl, subst (IsClientOf who client) one is)
+
+module _ {D : Type 0} (servers : List (ServerState D)) (clients : List (Option Client)) (offers : List (List ℕ)) (items : List Write) (told : List Entry) where
+  -- a seat and its session change together
+  pub with_seat : (machine : Machine) → IsTied servers clients offers items told machine → (who : ℕ) (client : Client) (session : SessionSets) → who < SESSIONS → IsClientOf who client session
+      → IsTied servers (set clients who (Some client)) offers items told (with_session machine who session)
+  with_seat machine tied who client session inside is = record {
+    many = tied.many;
+    servers_are = tied.servers_are;
+    seats = length-set clients who (Some client) ∙ tied.seats;
+    clients_are = λ other within. elim (same_number other who) as (λ _. IsSeatOf other (seat (set clients who (Some client)) other) (changed machine.sessions who (Some session) other)) [
+      | inl same ↦
+          let here : seat (set clients who (Some client)) who ≡ Some client = get_or-set_same clients who (Some client) None (omega (arith, inside, tied.seats)) in
+          subst (λ n. IsSeatOf n (seat (set clients who (Some client)) n) (changed machine.sessions who (Some session) n)) (sym same)
+          (subst (λ o. IsSeatOf who o (changed machine.sessions who (Some session) who)) (sym here)
+          (subst (IsSeatOf who (Some client)) (sym (changed-same machine.sessions who (Some session))) is))
+      | inr differs ↦
+          let there : seat (set clients who (Some client)) other ≡ seat clients other = get_or-set_other clients who other (Some client) None (λ same. differs (same)) in
+          subst (λ o. IsSeatOf other o (changed machine.sessions who (Some session) other)) (sym there)
+          (subst (IsSeatOf other (seat clients other)) (sym (changed-other machine.sessions who (Some session) other differs)) (tied.clients_are other within))
+    ];
+    offers_are = tied.offers_are;
+    items_are = tied.items_are;
+    served_are = tied.served_are;
+  }
+
+  -- and so do a server that runs and the machine's
+  pub with_place : (machine : Machine) → IsTied servers clients offers items told machine → (place : ℕ) (new : ServerState D) (server : ServerSets) → place < machine.count
+      → IsServerOf machine.count machine.limit place new.core server
+      → IsTied (set servers place new) clients offers items told (with_server machine place server)
+  with_place machine tied place new server inside is = record {
+    many = length-set servers place new ∙ tied.many;
+    servers_are = λ other d within. elim (same_number other place) as (λ _. IsServerOf machine.count machine.limit other (get_or (set servers place new) other d).core (changed machine.servers place server other)) [
+      | inl same ↦
+          let here : get_or (set servers place new) place d ≡ new = get_or-set_same servers place new d (omega (arith, inside, tied.many)) in
+          subst (λ n. IsServerOf machine.count machine.limit n (get_or (set servers place new) n d).core (changed machine.servers place server n)) (sym same)
+          (subst (λ (x : ServerState D). IsServerOf machine.count machine.limit place x.core (changed machine.servers place server place)) (sym here)
+          (subst (IsServerOf machine.count machine.limit place new.core) (sym (changed-same machine.servers place server)) is))
+      | inr differs ↦
+          let there : get_or (set servers place new) other d ≡ get_or servers other d = get_or-set_other servers place other new d (λ same. differs (same)) in
+          subst (λ (x : ServerState D). IsServerOf machine.count machine.limit other x.core (changed machine.servers place server other)) (sym there)
+          (subst (IsServerOf machine.count machine.limit other (get_or servers other d).core) (sym (changed-other machine.servers place server other differs)) (tied.servers_are other d within))
+    ];
+    seats = tied.seats;
+    clients_are = tied.clients_are;
+    offers_are = tied.offers_are;
+    items_are = tied.items_are;
+    served_are = tied.served_are;
+  }
+
+  -- a server that runs is another of which the same is known
+  pub same_place : (machine : Machine) → IsTied servers clients offers items told machine → (place : ℕ) (new : ServerState D) → place < machine.count
+      → IsServerOf machine.count machine.limit place new.core (machine.servers place) → IsTied (set servers place new) clients offers items told machine
+  same_place machine tied place new inside is = record {
+    many = length-set servers place new ∙ tied.many;
+    servers_are = λ other d within. elim (same_number other place) as (λ _. IsServerOf machine.count machine.limit other (get_or (set servers place new) other d).core (machine.servers other)) [
+      | inl same ↦
+          let here : get_or (set servers place new) place d ≡ new = get_or-set_same servers place new d (omega (arith, inside, tied.many)) in
+          subst (λ n. IsServerOf machine.count machine.limit n (get_or (set servers place new) n d).core (machine.servers n)) (sym same)
+          (subst (λ (x : ServerState D). IsServerOf machine.count machine.limit place x.core (machine.servers place)) (sym here) is)
+      | inr differs ↦
+          let there : get_or (set servers place new) other d ≡ get_or servers other d = get_or-set_other servers place other new d (λ same. differs (same)) in
+          subst (λ (x : ServerState D). IsServerOf machine.count machine.limit other x.core (machine.servers other)) (sym there) (tied.servers_are other d within)
+    ];
+    seats = tied.seats;
+    clients_are = tied.clients_are;
+    offers_are = tied.offers_are;
+    items_are = tied.items_are;
+    served_are = tied.served_are;
+  }
+
+  -- who may begin has a seat and may begin there
+  pub begins_there : (machine : Machine) → IsTied servers clients offers items told machine → (who place : ℕ) (session : SessionSets) → who < SESSIONS → MayBegin machine who place session
+      → (client : Client) × (seat clients who ≡ Some client) × (client.flight ≡ None) × (client.session.begun < MAX_PLACES) × (place < length servers)
+  begins_there machine tied who place session inside may =
+      let at = seat_of_session who (seat clients who) (machine.sessions who) session (tied.clients_are who inside) may.there in
+      (at.0, at.1, no_flight at.0.flight session.flight at.2.flight may.idle, omega (arith, at.2.begun, may.left), omega (arith, may.server, tied.many))
+    where
+      no_flight : (f : Option Flight) (a : Option Answered) → IsFlightOf f a → a ≡ None → f ≡ None
+      no_flight None a is none = refl
+      no_flight (Some flight) None is none = absurd is
+      no_flight (Some flight) (Some answered) is none = let both : Some answered ≡ None = none in absurd (cc)
+
+pub idle : (f : Option Flight) (a : Option Answered) → IsFlightOf f a → f ≡ None → a ≡ None
+idle None None is none = refl
+idle None (Some answered) is none = absurd is
+idle (Some flight) a is none = let both : Some flight ≡ None = none in absurd (cc)
+
+-- ---- an operation begins
+
+-- the client begins as its session does
+pub began : (who place : ℕ) (client new : Client) (session : SessionSets) (what : What) (accepted : Option Accepted) (answered : Answered) → IsClientOf who client session
+    → (begins : Begins client place what accepted new) → answered.entry ≡ begins.entry → IsAcceptedIn what accepted
+    → IsClientOf who new (record session { begun = session.begun + 1; flight = Some answered })
+began who place client new session what accepted answered is begins entry_is tells = record {
+  name = ap (λ (t : Told). t.id.index) begins.session ∙ is.name;
+  asks = ap (λ (t : Told). t.asks) begins.session ∙ is.asks;
+  begun = ap (λ (t : Told). t.begun) begins.session ∙ ap (λ n. n + 1) is.begun;
+  long = subst (λ (t : Told). (length t.reads ≡ SERVERS) × (length t.writes ≡ SERVERS)) (sym begins.session) is.long;
+  reads = subst (λ (t : Told). IsVectorOf t.reads session.reads) (sym begins.session) is.reads;
+  writes = subst (λ (t : Told). IsVectorOf t.writes session.writes) (sym begins.session) is.writes;
+  flight = subst (λ f. IsFlightOf f (Some answered)) (sym begins.flight)
+      (sym entry_is, subst (λ (e : Entry). IsAcceptedIn e.what accepted) (sym entry_is) (subst (λ w. IsAcceptedIn w accepted) (sym begins.what_is) tells));
+  waiting = ap (λ w. w.items) begins.waiting ∙ is.waiting;
+  own = is.own;
+}
+
+pub entry_of : (who place : ℕ) (client new : Client) (session : SessionSets) (what : What) (accepted : Option Accepted) → IsClientOf who client session
+    → (begins : Begins client place what accepted new) → IsEntry who place session what begins.entry
+entry_of who place client new session what accepted is begins = record {
+  session_is = ap (λ (id : _). id.index) begins.session_is ∙ is.name;
+  place_is = begins.place_is ∙ ap (λ n. n + 1) is.begun;
+  asks_are = begins.asks_are ∙ is.asks;
+  server_is = begins.server_is;
+  what_is = begins.what_is;
+}
+
+pub may_begin : (machine : Machine) (who place : ℕ) (client : Client) (session : SessionSets) → machine.sessions who ≡ Some session → IsClientOf who client session
+    → client.flight ≡ None → client.session.begun < MAX_PLACES → place < machine.count → MayBegin machine who place session
+may_begin machine who place client session there is none left known = record {
+  there = there;
+  server = known;
+  idle = idle client.flight session.flight is.flight none;
+  left = omega (arith, left, is.begun);
+}
+
+-- ---- a read
+
+-- what the session needs is held exactly where the vector dominates the need
+read_covered : ReadLaw → (machine : Machine) → IsGood machine → (who place : ℕ) (client : Client) (session : SessionSets) → IsClientOf who client session → HasCounts client.session
+    → Dominates (count_of (writes (machine.servers place).held)) (read_need client.session) ↔ MayRead session (machine.servers place).held
+read_covered law machine good who place client session is counts =
+    let held = writes (machine.servers place).held in
+    let fitting = fitting_at machine.count machine.limit machine.servers good.servers place in
+    let all = law client.session (count_of held) counts.0.one_each counts.1.one_each in
+    let reads = tests_agree machine.count held client.session.reads session.reads fitting is.reads in
+    let wrote = tests_agree machine.count held client.session.writes session.writes fitting is.writes in (
+      λ dominates. record {
+        ryw = λ asked. wrote.1 ((all.0 dominates).0 (ap (λ (a : _). a.ryw) is.asks ∙ asked));
+        mr = λ asked. reads.1 ((all.0 dominates).1 (ap (λ (a : _). a.mr) is.asks ∙ asked));
+      },
+      λ may. all.1 (
+        (λ asked. wrote.0 (may.ryw (ap (λ (a : _). a.ryw) (sym is.asks) ∙ asked))),
+        (λ asked. reads.0 (may.mr (ap (λ (a : _). a.mr) (sym is.asks) ∙ asked))),
+      ),
+    )
+
+pub read_tied : ReadLaw → {D : Type 0} (servers : List (ServerState D)) (clients : List (Option Client)) (offers : List (List ℕ)) (items : List Write) (told : List Entry) (machine : Machine) → IsGood machine
+    → IsTied servers clients offers items told machine → (who place : ℕ) (key : List ℕ) (client new : Client) (d : ServerState D) (answer : Result Seen Behind) → who < SESSIONS → seat clients who ≡ Some client
+    → client.flight ≡ None → client.session.begun < MAX_PLACES → place < length servers → HasCounts client.session → served.Reads (get_or servers place d).core (read_need client.session) key answer
+    → Begins client (get_or servers place d).core.id (seen_as key answer) None new
+    → (next : Machine) × Reads machine who place key (replies.Read answer) next × IsTied servers (set clients who (Some new)) offers items told next
+read_tied law servers clients offers items told machine good tied who place key client new d (Ok seen) inside at none left known counts serves begins =
+    let seat_is = session_of_seat who (seat clients who) (machine.sessions who) client (tied.clients_are who inside) at in
+    let session = seat_is.0 in
+    let is = seat_is.2 in
+    let in_count : place < machine.count = omega (arith, known, tied.many) in
+    let core = tied.servers_are place d in_count in
+    let held_is : (get_or servers place d).core.held ≡ writes (machine.servers place).held = ap (λ (c : Core). c.held) core.is in
+    let begins_at = subst (λ n. Begins client n (whats.Read key seen.vector) None new) (ap (λ (c : Core). c.id) core.is) begins in
+    let may = may_begin machine who place client session seat_is.1 is none left in_count in
+    let answered : Answered = record { entry = begins_at.entry; database = writes (machine.servers place).held; made = None } in
+    let covered = (read_covered law machine good who place client session is counts).0 (subst (λ h. Dominates (count_of h) (read_need client.session)) held_is serves.covered) in (
+      with_answer machine who session answered,
+      Reads.served session begins_at.entry seen may covered (serves.value ∙ ap (λ h. value_at (replay h) key) held_is) (serves.vector ∙ ap count_of held_is) refl
+          (entry_of who place client new session (whats.Read key seen.vector) None is begins_at) refl,
+      with_seat servers clients offers items told machine tied who new (record session { begun = session.begun + 1; flight = Some answered }) inside
+          (began who place client new session (whats.Read key seen.vector) None answered is begins_at refl refl),
+    )
+read_tied law servers clients offers items told machine good tied who place key client new d (Err behind) inside at none left known counts serves begins =
+    let seat_is = session_of_seat who (seat clients who) (machine.sessions who) client (tied.clients_are who inside) at in
+    let session = seat_is.0 in
+    let is = seat_is.2 in
+    let in_count : place < machine.count = omega (arith, known, tied.many) in
+    let core = tied.servers_are place d in_count in
+    let held_is : (get_or servers place d).core.held ≡ writes (machine.servers place).held = ap (λ (c : Core). c.held) core.is in
+    let begins_at = subst (λ n. Begins client n whats.Refused None new) (ap (λ (c : Core). c.id) core.is) begins in
+    let may = may_begin machine who place client session seat_is.1 is none left in_count in
+    let vector : behind.vector ≡ count_of (writes (machine.servers place).held) = serves.held ∙ ap count_of held_is in (
+      with_answer machine who session (refusal begins_at.entry),
+      Reads.behind session begins_at.entry may
+          (λ covered. serves.not_covered (subst (λ h. Dominates (count_of h) (read_need client.session)) (sym held_is) ((read_covered law machine good who place client session is counts).1 covered)))
+          (ap (λ v. replies.Read (Err (record { vector = v }))) vector) (entry_of who place client new session whats.Refused None is begins_at) refl,
+      with_seat servers clients offers items told machine tied who new (record session { begun = session.begun + 1; flight = Some (refusal begins_at.entry) }) inside
+          (began who place client new session whats.Refused None (refusal begins_at.entry) is begins_at refl refl),
+    )

@@ -1,0 +1,204 @@
+-- A Write that the servers and sessions that run make, the machine makes.
+use Rattle.std.proofs.Common.{◌≡◌, ◌≢◌, ◌↔◌, inl, inr, ◌⊎◌, ℕ, ◌+◌, ◌<◌, ◌≤◌, true, List, [], ◌∷◌, ◌++◌, Option, None, Some, Result, Ok, Err, IsSome, map, length, get_or, set, Contains, All, ap, sym, ◌∙◌, refl, subst, arith}
+use Rattle.std.specs.Option.{option_map}
+use Rattle.std.proofs.lemmas.List.{length-map, map-append}
+use Rattle.bayou_base.specs.declared.answer.Accepted.{Accepted}
+use Rattle.bayou_base.specs.declared.entry.Entry.{Entry}
+use Rattle.bayou_base.specs.declared.entry.What.{What}
+use Rattle.bayou_base.specs.declared.entry.What.TheVariants as whats
+use Rattle.bayou_base.specs.declared.limits.TheConstants.{MAX_PLACES, SERVERS, SESSIONS}
+use Rattle.bayou_base.specs.Vector.{Dominates}
+use Rattle.bayou_lang.specs.declared.write.Write.{Write}
+use Rattle.bayou_lang.specs.declared.program.Program.{Program}
+use Rattle.bayou_lang.specs.Writes.{IsNextWrite, count_of}
+use Rattle.bayou_server.specs.declared.fault.WriteFault.{WriteFault}
+use Rattle.bayou_server.specs.declared.fault.WriteFault.TheVariants as writing
+use Rattle.bayou_server.specs.Writes as accepts
+use Rattle.bayou_server.specs.Server.{Core, ServerState}
+use Rattle.bayou_session.specs.Needs.{HasCounts, write_need}
+use Rattle.bayou_world.specs.declared.client.Client.{Client}
+use Rattle.bayou_world.specs.declared.reply.Reply.{Reply}
+use Rattle.bayou_world.specs.declared.reply.Reply.TheVariants as replies
+use Rattle.bayou_world.specs.Inner.Clients.{Begins, accepted_as, accepted_of}
+use Rattle.bayou_world.specs.Inner.Good.{IsGood}
+use Rattle.bayou_world.specs.Inner.Tie.{IsClientOf, IsServerOf, IsTied, seat, write_of}
+use Rattle.bayou_world.specs.Machine.{Answered, IsWithin, Machine, Made, ServerSets, SessionSets, changed, with_server, writes}
+use Rattle.bayou_world.specs.Steps.{IsAccepted, IsReady, Makes, MayBegin, MayWrite, RefusesWrite, Writes, refusal, with_answer, with_doubt, with_write}
+use Rattle.bayou_world.proofs.Homes.{fitting_at}
+use Rattle.bayou_world.proofs.Tied.{WriteLaw, began, entry_of, may_begin, same_place, session_of_seat, with_place, with_seat}
+use Rattle.bayou_world.proofs.Vectors.{tests_agree}
+
+write_covered : WriteLaw → (machine : Machine) → IsGood machine → (who place : ℕ) (client : Client) (session : SessionSets) → IsClientOf who client session → HasCounts client.session
+    → Dominates (count_of (writes (machine.servers place).held)) (write_need client.session) ↔ MayWrite session (machine.servers place).held
+write_covered law machine good who place client session is counts =
+    let held = writes (machine.servers place).held in
+    let fitting = fitting_at machine.count machine.limit machine.servers good.servers place in
+    let all = law client.session (count_of held) counts.0.one_each counts.1.one_each in
+    let reads = tests_agree machine.count held client.session.reads session.reads fitting is.reads in
+    let wrote = tests_agree machine.count held client.session.writes session.writes fitting is.writes in (
+      λ dominates. record {
+        wfr = λ asked. reads.1 ((all.0 dominates).0 (ap (λ (a : _). a.wfr) is.asks ∙ asked));
+        mw = λ asked. wrote.1 ((all.0 dominates).1 (ap (λ (a : _). a.mw) is.asks ∙ asked));
+      },
+      λ may. all.1 (
+        (λ asked. reads.0 (may.wfr (ap (λ (a : _). a.wfr) (sym is.asks) ∙ asked))),
+        (λ asked. wrote.0 (may.mw (ap (λ (a : _). a.mw) (sym is.asks) ∙ asked))),
+      ),
+    )
+
+-- ---- what the server's core says of the machine's server
+
+pub no_doubt : (doubt : Option Made) → option_map write_of doubt ≡ None → doubt ≡ None
+no_doubt None is = refl
+no_doubt (Some made) is = let both : Some made.write ≡ None = is in absurd (cc)
+
+pub some_doubt : (doubt : Option Made) → IsSome (option_map write_of doubt) → IsSome doubt
+some_doubt None is = is
+some_doubt (Some made) is = refl
+
+-- no Write is in doubt there, and what the session needs is held
+ready_there : WriteLaw → (machine : Machine) → IsGood machine → (who place : ℕ) (client : Client) (session : SessionSets) → IsClientOf who client session → HasCounts client.session
+    → (core : Core) → IsServerOf machine.count machine.limit place core (machine.servers place) → accepts.IsReady core (write_need client.session) → IsReady session (machine.servers place)
+ready_there law machine good who place client session is counts core at ready = record {
+  up = no_doubt (machine.servers place).doubt (sym (ap (λ (c : Core). c.doubt) at.is) ∙ ready.up);
+  covered = (write_covered law machine good who place client session is counts).0
+      (subst (λ h. Dominates (count_of h) (write_need client.session)) (ap (λ (c : Core). c.held) at.is) ready.covered);
+}
+
+-- what is refused is refused there
+refuses : WriteLaw → (machine : Machine) → IsGood machine → (who place : ℕ) (client : Client) (session : SessionSets) → IsClientOf who client session → HasCounts client.session
+    → (program : Program) (core new : Core) (fault : WriteFault) → IsServerOf machine.count machine.limit place core (machine.servers place)
+    → fault ≢ writing.Journal → accepts.Writes core (write_need client.session) program (Err fault) new → RefusesWrite machine.limit session (machine.servers place) fault × (new ≡ core)
+refuses law machine good who place client session is counts program core new writing.Down at no_fault (down, same) =
+    (some_doubt (machine.servers place).doubt (subst IsSome (ap (λ (c : Core). c.doubt) at.is) down), same)
+refuses law machine good who place client session is counts program core new (writing.Behind vector) at no_fault (up, behind, same) =
+    let held_is = ap (λ (c : Core). c.held) at.is in (
+      (no_doubt (machine.servers place).doubt (sym (ap (λ (c : Core). c.doubt) at.is) ∙ up),
+      (λ may. behind.not_covered (subst (λ h. Dominates (count_of h) (write_need client.session)) (sym held_is) ((write_covered law machine good who place client session is counts).1 may))),
+      behind.held ∙ ap count_of held_is),
+      same,
+    )
+refuses law machine good who place client session is counts program core new writing.LogFull at no_fault (ready, full, same) =
+    (((ready_there law machine good who place client session is counts core at ready), (
+      sym (length-map (machine.servers place).held write_of) ∙ ap length (sym (ap (λ (c : Core). c.held) at.is)) ∙ full ∙ ap (λ (c : Core). c.limit) at.is)), same)
+refuses law machine good who place client session is counts program core new writing.OutOfMemory at no_fault (ready, room, same) =
+    (((ready_there law machine good who place client session is counts core at ready),
+      omega (arith, room, length-map (machine.servers place).held write_of, ap length (ap (λ (c : Core). c.held) at.is), ap (λ (c : Core). c.limit) at.is)), same)
+refuses law machine good who place client session is counts program core new writing.Journal at no_fault doubts = absurd (no_fault refl)
+
+-- the Write that is made is made there
+makes_there : WriteLaw → (machine : Machine) → IsGood machine → (who place : ℕ) (client : Client) (session : SessionSets) → IsClientOf who client session → HasCounts client.session
+    → (program : Program) (core : Core) (write : Write) → IsServerOf machine.count machine.limit place core (machine.servers place)
+    → accepts.Makes core (write_need client.session) program write → Makes machine.limit place session (machine.servers place) program (record { write = write; past = writes (machine.servers place).held })
+makes_there law machine good who place client session is counts program core write at makes =
+    let next : IsNextWrite (writes (machine.servers place).held) place program write =
+    subst (λ (c : Core). IsNextWrite c.held c.id program write) at.is makes.next in
+    record {
+      ready = ready_there law machine good who place client session is counts core at makes.ready;
+      room = omega (arith, makes.room, length-map (machine.servers place).held write_of, ap length (ap (λ (c : Core). c.held) at.is), ap (λ (c : Core). c.limit) at.is);
+      next = next;
+      past = refl;
+    }
+
+pub held_more : (count limit place : ℕ) (core : Core) (server : ServerSets) (made : Made) → IsServerOf count limit place core server
+    → IsServerOf count limit place (record core { held = core.held ++ made.write ∷ [] }) (with_write server made)
+held_more count limit place core server made at = record {
+  is = ap (λ (c : Core). record c { held = c.held ++ made.write ∷ [] }) at.is
+      ∙ ap (λ h. record { id = place; count = count; limit = limit; held = h; doubt = option_map write_of server.doubt }) (sym (map-append write_of server.held (made ∷ [])));
+}
+
+pub doubted_there : (count limit place : ℕ) (core : Core) (server : ServerSets) (made : Made) → IsServerOf count limit place core server
+    → IsServerOf count limit place (record core { doubt = Some made.write }) (with_doubt server made)
+doubted_there count limit place core server made at = record { is = ap (λ (c : Core). record c { doubt = Some made.write }) at.is }
+
+refused_entry : {D : Type 0} (servers : List (ServerState D)) (clients : List (Option Client)) (offers : List (List ℕ)) (items : List Write) (told : List Entry) → WriteLaw → (machine : Machine) → IsGood machine
+    → IsTied servers clients offers items told machine → (who place : ℕ) (program : Program) (client new : Client) (old_server new_server : ServerState D) (fault : WriteFault) → who < SESSIONS → seat clients who ≡ Some client
+    → client.flight ≡ None → client.session.begun < MAX_PLACES → place < machine.count → HasCounts client.session → IsServerOf machine.count machine.limit place old_server.core (machine.servers place)
+    → fault ≢ writing.Journal → accepts.Writes old_server.core (write_need client.session) program (Err fault) new_server.core → Begins client place whats.Refused None new
+    → (next : Machine) × Writes machine who place program (replies.Wrote (Err fault)) next × IsTied (set servers place new_server) (set clients who (Some new)) offers items told next
+refused_entry servers clients offers items told law machine good tied who place program client new old_server new_server fault inside at none left known counts core no_fault refused begins =
+    let seat_is = session_of_seat who (seat clients who) (machine.sessions who) client (tied.clients_are who inside) at in
+    let session = seat_is.0 in
+    let is = seat_is.2 in
+    let may = may_begin machine who place client session seat_is.1 is none left known in
+    let both = refuses law machine good who place client session is counts program old_server.core new_server.core fault core no_fault refused in
+    let same_server : IsServerOf machine.count machine.limit place new_server.core (machine.servers place) = subst (λ (c : Core). IsServerOf machine.count machine.limit place c (machine.servers place)) (sym both.1) core in
+    (
+      with_answer machine who session (refusal begins.entry),
+      Writes.refused session begins.entry fault may both.0 refl (entry_of who place client new session whats.Refused None is begins) refl,
+      with_seat (set servers place new_server) clients offers items told machine (same_place servers clients offers items told machine tied place new_server known same_server) who new
+          (record session { begun = session.begun + 1; flight = Some (refusal begins.entry) }) inside
+          (began who place client new session whats.Refused None (refusal begins.entry) is begins refl refl),
+    )
+
+pub write_tied : WriteLaw → {D : Type 0} (servers : List (ServerState D)) (clients : List (Option Client)) (offers : List (List ℕ)) (items : List Write) (told : List Entry) (machine : Machine) → IsGood machine
+    → IsTied servers clients offers items told machine → (who place : ℕ) (program : Program) (client new : Client) (d new_server : ServerState D) (answer : Result Accepted WriteFault) → who < SESSIONS → seat clients who ≡ Some client
+    → client.flight ≡ None → client.session.begun < MAX_PLACES → place < length servers → HasCounts client.session
+    → accepts.Writes (get_or servers place d).core (write_need client.session) program answer new_server.core
+    → Begins client (get_or servers place d).core.id (accepted_as answer) (accepted_of answer) new
+    → (next : Machine) × Writes machine who place program (replies.Wrote answer) next × IsTied (set servers place new_server) (set clients who (Some new)) offers items told next
+write_tied law servers clients offers items told machine good tied who place program client new d new_server (Ok accepted) inside at none left known counts accepts_it begins =
+    let seat_is = session_of_seat who (seat clients who) (machine.sessions who) client (tied.clients_are who inside) at in
+    let session = seat_is.0 in
+    let is = seat_is.2 in
+    let in_count : place < machine.count = omega (arith, known, tied.many) in
+    let core = tied.servers_are place d in_count in
+    let what = whats.Write accepted.wid accepted.stamp accepted.deps in
+    let begins_at = subst (λ n. Begins client n what (Some accepted) new) (ap (λ (c : Core). c.id) core.is) begins in
+    let may = may_begin machine who place client session seat_is.1 is none left in_count in
+    let made : Made = record { write = accepts_it.made; past = writes (machine.servers place).held } in
+    let makes = makes_there law machine good who place client session is counts program (get_or servers place d).core accepts_it.made core accepts_it.makes in
+    let answered : Answered = record { entry = begins_at.entry; database = made.past; made = Some made } in
+    let server_is = subst (λ (c : Core). IsServerOf machine.count machine.limit place c (with_write (machine.servers place) made)) (sym accepts_it.is)
+    (held_more machine.count machine.limit place (get_or servers place d).core (machine.servers place) made core) in
+    let machine_then = with_server machine place (with_write (machine.servers place) made) in
+    (
+      with_answer machine_then who session answered,
+      Writes.accepted session begins_at.entry made accepted may makes (record { wid = accepts_it.wid; stamp = accepts_it.stamp; deps = accepts_it.deps ∙ makes.next.deps }) refl
+          (entry_of who place client new session what (Some accepted) is begins_at) refl,
+      with_seat (set servers place new_server) clients offers items told machine_then
+          (with_place servers clients offers items told machine tied place new_server (with_write (machine.servers place) made) in_count server_is) who new
+          (record session { begun = session.begun + 1; flight = Some answered }) inside
+          (began who place client new session what (Some accepted) answered is begins_at refl (accepted, refl, refl)),
+    )
+write_tied law servers clients offers items told machine good tied who place program client new d new_server (Err writing.Journal) inside at none left known counts doubts begins =
+    let seat_is = session_of_seat who (seat clients who) (machine.sessions who) client (tied.clients_are who inside) at in
+    let session = seat_is.0 in
+    let is = seat_is.2 in
+    let in_count : place < machine.count = omega (arith, known, tied.many) in
+    let core = tied.servers_are place d in_count in
+    let begins_at = subst (λ n. Begins client n whats.Refused None new) (ap (λ (c : Core). c.id) core.is) begins in
+    let may = may_begin machine who place client session seat_is.1 is none left in_count in
+    let made : Made = record { write = doubts.made; past = writes (machine.servers place).held } in
+    let makes = makes_there law machine good who place client session is counts program (get_or servers place d).core doubts.made core doubts.makes in
+    let server_is = subst (λ (c : Core). IsServerOf machine.count machine.limit place c (with_doubt (machine.servers place) made)) (sym doubts.is)
+    (doubted_there machine.count machine.limit place (get_or servers place d).core (machine.servers place) made core) in
+    let machine_then = with_server machine place (with_doubt (machine.servers place) made) in
+    (
+      with_answer machine_then who session (refusal begins_at.entry),
+      Writes.doubted session begins_at.entry made may makes refl (entry_of who place client new session whats.Refused None is begins_at) refl,
+      with_seat (set servers place new_server) clients offers items told machine_then
+          (with_place servers clients offers items told machine tied place new_server (with_doubt (machine.servers place) made) in_count server_is) who new
+          (record session { begun = session.begun + 1; flight = Some (refusal begins_at.entry) }) inside
+          (began who place client new session whats.Refused None (refusal begins_at.entry) is begins_at refl refl),
+    )
+write_tied law servers clients offers items told machine good tied who place program client new d new_server (Err writing.Down) inside at none left known counts refused begins =
+    let in_count : place < machine.count = omega (arith, known, tied.many) in
+    let core = tied.servers_are place d in_count in
+    refused_entry servers clients offers items told law machine good tied who place program client new (get_or servers place d) new_server writing.Down inside at none left in_count counts core (λ same. absurd (cc)) refused
+    (subst (λ n. Begins client n whats.Refused None new) (ap (λ (c : Core). c.id) core.is) begins)
+write_tied law servers clients offers items told machine good tied who place program client new d new_server (Err (writing.Behind vector)) inside at none left known counts refused begins =
+    let in_count : place < machine.count = omega (arith, known, tied.many) in
+    let core = tied.servers_are place d in_count in
+    refused_entry servers clients offers items told law machine good tied who place program client new (get_or servers place d) new_server (writing.Behind vector) inside at none left in_count counts core (λ same. absurd (cc)) refused
+    (subst (λ n. Begins client n whats.Refused None new) (ap (λ (c : Core). c.id) core.is) begins)
+write_tied law servers clients offers items told machine good tied who place program client new d new_server (Err writing.LogFull) inside at none left known counts refused begins =
+    let in_count : place < machine.count = omega (arith, known, tied.many) in
+    let core = tied.servers_are place d in_count in
+    refused_entry servers clients offers items told law machine good tied who place program client new (get_or servers place d) new_server writing.LogFull inside at none left in_count counts core (λ same. absurd (cc)) refused
+    (subst (λ n. Begins client n whats.Refused None new) (ap (λ (c : Core). c.id) core.is) begins)
+write_tied law servers clients offers items told machine good tied who place program client new d new_server (Err writing.OutOfMemory) inside at none left known counts refused begins =
+    let in_count : place < machine.count = omega (arith, known, tied.many) in
+    let core = tied.servers_are place d in_count in
+    refused_entry servers clients offers items told law machine good tied who place program client new (get_or servers place d) new_server writing.OutOfMemory inside at none left in_count counts core (λ same. absurd (cc)) refused
+    (subst (λ n. Begins client n whats.Refused None new) (ap (λ (c : Core). c.id) core.is) begins)

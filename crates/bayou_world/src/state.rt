@@ -1,0 +1,177 @@
+//! The servers and the sessions as they run.
+ghost use Rattle.std.specs.Prelude.{◌≡◌, ◌++◌, IfOk, OnOk};
+ghost use Rattle.bayou_world.specs.Inner.Clients.{served_entries};
+ghost use Rattle.bayou_world.specs.Inner.Tie.{Follows};
+ghost use Rattle.bayou_world.specs.Steps.{Collects, Delivers, Loses, Offers, Reads, Takes, Writes};
+
+use crate::client::Client;
+use crate::limits::MAX_NUMBER;
+use crate::reply::Reply;
+use bayou_base::{Entry, Key, ServerId, SessionId, Vector, What};
+use bayou_device::{MemoryDevice, OpenGate};
+use bayou_lang::{RestingProgram, RestingWrite};
+use bayou_server::Server;
+use bayou_session::laws::{read_need_is_what_is_asked, write_need_is_what_is_asked};
+use std::alloc::{AllocError, Global};
+
+/// Servers on devices in memory, sessions, and what is in flight between them.
+#[derive(Drop)]
+pub struct State {
+    pub servers: Vec<Server<MemoryDevice<OpenGate>>>,
+    // One place for each session that there may be.
+    pub clients: Vec<Option<Client>>,
+    pub offers: Vec<Vector>,
+    pub items: Vec<RestingWrite>,
+    pub served: Vec<Entry>,
+}
+
+/// Keeps the entry, if it is of a read or a Write.
+fn keep_served(served: &mut Vec<Entry>, entry: Entry) -> Result<(), AllocError>
+    ensures { OnOk result (served.new.items ≡ served.old.items ++ served_entries entry.what entry) }
+{
+    if let What::Refused = entry.what {
+        return Ok(());
+    }
+    served.push(entry)?;
+    Ok(())
+}
+
+impl State {
+    /// The session asks the server what the key has.
+    pub fn read(&mut self, who: SessionId, place: ServerId, key: &Key) -> Reply
+        ensures { Follows self.old (λ machine next. Reads machine who.index place.index key.now result next) self.new }
+    {
+        read_need_is_what_is_asked();
+        let (seat, at) = (usize::from(who.index), usize::from(place.index));
+        if seat >= self.clients.len() || at >= self.servers.len() {
+            return Reply::Skipped;
+        }
+        let Some(client) = &mut self.clients[seat] else {
+            return Reply::Skipped;
+        };
+        if !client.may_begin() {
+            return Reply::Skipped;
+        }
+        Reply::Read(client.read(&self.servers[at], key))
+    }
+
+    /// The session asks the server to make a Write of the program.
+    pub fn write(
+        &mut self,
+        alloc: Global,
+        who: SessionId,
+        place: ServerId,
+        program: RestingProgram,
+    ) -> Reply
+        ensures { Follows self.old (λ machine next. Writes machine who.index place.index program result next) self.new }
+    {
+        write_need_is_what_is_asked();
+        let (seat, at) = (usize::from(who.index), usize::from(place.index));
+        if seat >= self.clients.len() || at >= self.servers.len() {
+            return Reply::Skipped;
+        }
+        let Some(client) = &mut self.clients[seat] else {
+            return Reply::Skipped;
+        };
+        if !client.may_begin() {
+            return Reply::Skipped;
+        }
+        Reply::Wrote(client.write(alloc, &mut self.servers[at], program))
+    }
+
+    /// The answer on its way reaches the session. Want of memory leaves it half told.
+    pub fn deliver(&mut self, who: SessionId) -> Result<Reply, AllocError>
+        ensures { IfOk result (λ reply. Follows self.old (λ machine next. Delivers machine who.index reply next) self.new) }
+    {
+        let seat = usize::from(who.index);
+        if seat >= self.clients.len() {
+            return Ok(Reply::Skipped);
+        }
+        let Some(client) = &mut self.clients[seat] else {
+            return Ok(Reply::Skipped);
+        };
+        let Some(entry) = client.hear()? else {
+            return Ok(Reply::Skipped);
+        };
+        keep_served(&mut self.served, entry)?;
+        Ok(Reply::Delivered)
+    }
+
+    /// The answer on its way is lost.
+    pub fn lose(&mut self, who: SessionId) -> Reply
+        ensures { Follows self.old (λ machine next. Loses machine who.index result next) self.new }
+    {
+        let seat = usize::from(who.index);
+        if seat >= self.clients.len() {
+            return Reply::Skipped;
+        }
+        let Some(client) = &mut self.clients[seat] else {
+            return Reply::Skipped;
+        };
+        if client.lose() {
+            Reply::Dropped
+        } else {
+            Reply::Skipped
+        }
+    }
+
+    /// What the server holds is kept as an offer.
+    pub fn offer(&mut self, place: ServerId) -> Result<Reply, AllocError>
+        ensures { IfOk result (λ reply. Follows self.old (λ machine next. Offers machine place.index reply next) self.new) }
+    {
+        let at = usize::from(place.index);
+        let number = self.offers.len();
+        if at >= self.servers.len() || number > MAX_NUMBER as usize {
+            return Ok(Reply::Skipped);
+        }
+        self.offers.push(self.servers[at].vector())?;
+        Ok(Reply::Kept(number as u32))
+    }
+
+    /// What the server holds and the offer hasn't goes in flight.
+    pub fn collect(
+        &mut self,
+        alloc: Global,
+        place: ServerId,
+        offer: u32,
+    ) -> Result<Reply, AllocError>
+        ensures { IfOk result (λ reply. Follows self.old (λ machine next. Collects machine place.index offer reply next) self.new) }
+    {
+        let (at, offer) = (usize::from(place.index), offer as usize);
+        if at >= self.servers.len() || offer >= self.offers.len() {
+            return Ok(Reply::Skipped);
+        }
+        let server = &self.servers[at];
+        let most = server.limit() as usize;
+        let Ok(mut lacking) = server.lacking(alloc, &self.offers[offer], most) else {
+            return Ok(Reply::NoMemory);
+        };
+        let first = self.items.len();
+        let number = lacking.len();
+        if first as u64 + number.max(1) as u64 > MAX_NUMBER as u64 + 1 {
+            return Ok(Reply::Skipped);
+        }
+        self.items.append(&mut lacking)?;
+        Ok(Reply::Flown {
+            first: first as u32,
+            number: number as u32,
+        })
+    }
+
+    /// The server is given the item, a copy of which is made first.
+    pub fn take(
+        &mut self,
+        alloc: Global,
+        place: ServerId,
+        item: u32,
+    ) -> Result<Reply, AllocError>
+        ensures { IfOk result (λ reply. Follows self.old (λ machine next. Takes machine place.index item reply next) self.new) }
+    {
+        let (at, item) = (usize::from(place.index), item as usize);
+        if at >= self.servers.len() || item >= self.items.len() {
+            return Ok(Reply::Skipped);
+        }
+        let write = self.items[item].copy(alloc)?;
+        Ok(Reply::Took(self.servers[at].take(alloc, write)))
+    }
+}
