@@ -30,7 +30,7 @@ use Rattle.bayou_world.specs.Inner.Good.{IsGood, IsHome}
 use Rattle.bayou_world.specs.Inner.Tie.{IsServerOf, IsTied, write_of}
 use Rattle.bayou_world.specs.Machine.{IsWithin, Machine, Made, Offered, ServerSets, names, with_server, writes}
 use Rattle.bayou_world.specs.Steps.{AreLacking, Collects, Holds, IsGiven, IsNew, IsNext, Offers, RefusesItem, Takes, with_doubt, with_write}
-use Rattle.bayou_world.specs.declared.limits.TheConstants.{MAX_NUMBER}
+use Rattle.bayou_base.specs.declared.limits.TheConstants.{MAX_NUMBER}
 use Rattle.bayou_world.proofs.Given.{given_fits, no_gap_within}
 use Rattle.bayou_world.proofs.Homes.{fitting_at, home_of_held, one_home, one_write}
 use Rattle.bayou_world.proofs.Lists.{AllPairs-map, Contains-filter, Contains-from_filter, Contains-here, Contains-later, Contains-map, Contains-map_from, Contains-none}

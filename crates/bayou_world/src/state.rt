@@ -5,9 +5,8 @@ ghost use Rattle.bayou_world.specs.Inner.Tie.{Follows};
 ghost use Rattle.bayou_world.specs.Steps.{Collects, Delivers, Loses, Offers, Reads, Takes, Writes};
 
 use crate::client::Client;
-use crate::limits::MAX_NUMBER;
 use crate::reply::Reply;
-use bayou_base::{Entry, Key, ServerId, SessionId, Vector, What};
+use bayou_base::{Entry, Key, MAX_NUMBER, ServerId, SessionId, Vector, What};
 use bayou_device::{MemoryDevice, OpenGate};
 use bayou_lang::{RestingProgram, RestingWrite};
 use bayou_server::Server;

@@ -1,7 +1,7 @@
 use Rattle.std.proofs.Common.{◌≡◌, ◌<◌, ◌≤◌, ◌+◌, ◌++◌, ℕ, max, ap, sym, ◌∙◌, arith, length, get_or, take, refl, subst}
 use Rattle.std.proofs.lemmas.List.{get_or_default}
 use Rattle.bayou_lang.specs.Writes.{lacking_of}
-use Rattle.bayou_world.specs.declared.limits.TheConstants.{MAX_NUMBER}
+use Rattle.bayou_base.specs.declared.limits.TheConstants.{MAX_NUMBER}
 use Rattle.bayou_world.specs.Inner.Good.{IsGood}
 use Rattle.bayou_world.specs.Inner.Tie.{IsOf, IsTied}
 use Rattle.bayou_world.specs.Machine.{Machine}

@@ -1,7 +1,7 @@
 use Rattle.std.proofs.Common.{◌≡◌, ◌<◌, ◌≤◌, ◌∷◌, [], ◌++◌, ap, sym, ◌∙◌, arith, length, get_or, refl, subst}
 use Rattle.bayou_base.specs.declared.limits.TheConstants.{MAX_PLACES}
 use Rattle.bayou_lang.specs.Writes.{count_of}
-use Rattle.bayou_world.specs.declared.limits.TheConstants.{MAX_NUMBER}
+use Rattle.bayou_base.specs.declared.limits.TheConstants.{MAX_NUMBER}
 use Rattle.bayou_world.specs.Inner.Tie.{IsTied}
 use Rattle.bayou_world.specs.Machine.{Machine}
 use Rattle.bayou_world.specs.Steps.{Offers}
