@@ -247,4 +247,3 @@ no_gap old next now good place offer number by offered there (Collects.flown sam
         let here : slice_get lacking at ≡ Some (get_or lacking at made) = slice_get-get_or lacking at made within in
         let both : Some (get_or lacking at made) ≡ Some made = sym (item at (get_or lacking at made) here) ∙ got in
         here ∙ both
-

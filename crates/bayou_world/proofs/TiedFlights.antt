@@ -110,8 +110,7 @@ deliver_tied servers clients offers items told_so_far machine good tied who clie
     let waits_then : new.waiting.items ≡ client.waiting.items ++ answered.entry ∷ [] = waits ∙ ap (λ e. client.waiting.items ++ e ∷ []) entry_is in
     let client_is : IsClientOf who new (heard answered session) =
     hears_same machine good who answered.entry.server.index client new session answered accepted is answered.entry.what refl true_answer flying.3 own session_then none waits_then in
-    let tied_then = with_seat servers clients offers items told_so_far machine tied who new (heard answered session) inside client_is in
-    (
+    let tied_then = with_seat servers clients offers items told_so_far machine tied who new (heard answered session) inside client_is in (
       record (with_session machine who (heard answered session)) { served = machine.served ++ served_by answered.entry.what answered },
       Delivers.delivered session answered in_flight refl refl,
       record {
@@ -139,8 +138,7 @@ lose_tied servers clients offers items told_so_far machine good tied who client 
     let session = seat_is.0 in
     let is = seat_is.2 in
     let flying = flies client.flight flight session.flight is.flight some in
-    let new : Client = record client { flight = None } in
-    (
+    let new : Client = record client { flight = None } in (
       with_session machine who (landed session),
       Loses.dropped session flying.0 (record { there = seat_is.1; flight = flying.1 }) refl refl,
       with_seat servers clients offers items told_so_far machine tied who new (landed session) inside (record {

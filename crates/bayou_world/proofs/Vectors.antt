@@ -77,8 +77,12 @@ IsVectorOf-joined xs ys set other same one two = record {
         | inr there ↦ omega (arith, two.each name there, at)
       ];
   least = λ vector covers server inside.
-      omega (arith, one.least vector (λ name has. covers name (Contains-append_left set other name has)) server inside,
-      two.least vector (λ name has. covers name (Contains-append_right set other name has)) server inside, joined_at xs ys server same);
+      omega (
+        arith,
+        one.least vector (λ name has. covers name (Contains-append_left set other name has)) server inside,
+        two.least vector (λ name has. covers name (Contains-append_right set other name has)) server inside,
+        joined_at xs ys server same,
+      );
 }
 
 -- of a set and a name more

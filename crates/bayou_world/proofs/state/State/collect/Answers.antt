@@ -53,9 +53,9 @@ returns c machine good tied =
     let number : c.len-number.result ≡ length lacking = omega (arith, c.len-number.ensures) in
     let few : length items + max (length lacking) 1 ≤ MAX_NUMBER + 1 = omega (arith, c.if-first-max.false, first, number, c.max.ensures) in
     subst (λ list. (next : Machine) × Collects machine place c.args.offer (replies.Flown c.len-first.result c.len-number.result) next
-        × IsTied servers clients offers list c.args.self.now.served.items next) (sym c.in_ok-append.ensures.items)
+    × IsTied servers clients offers list c.args.self.now.served.items next) (sym c.in_ok-append.ensures.items)
     (subst (λ n. (next : Machine) × Collects machine place c.args.offer (replies.Flown n c.len-number.result) next
-        × IsTied servers clients offers (items ++ lacking) c.args.self.now.served.items next) (sym first)
+    × IsTied servers clients offers (items ++ lacking) c.args.self.now.served.items next) (sym first)
     (subst (λ n. (next : Machine) × Collects machine place c.args.offer (replies.Flown (length items) n) next
-        × IsTied servers clients offers (items ++ lacking) c.args.self.now.served.items next) (sym number)
+    × IsTied servers clients offers (items ++ lacking) c.args.self.now.served.items next) (sym number)
     (collect_flown servers clients offers items c.args.self.now.served.items machine tied place c.args.offer lacking known lacks few)))
