@@ -126,6 +126,27 @@ module _ {D : Type 0} (servers : List (ServerState D)) (clients : List (Option C
     served_are = tied.served_are;
   }
 
+  -- a seat is another's of whom the same is known
+  pub same_seat : (machine : Machine) → IsTied servers clients offers items told machine → (who : ℕ) (client : Client) (session : SessionSets) → who < SESSIONS → machine.sessions who ≡ Some session
+      → IsClientOf who client session → IsTied servers (set clients who (Some client)) offers items told machine
+  same_seat machine tied who client session inside there is = record {
+    many = tied.many;
+    servers_are = tied.servers_are;
+    seats = length-set clients who (Some client) ∙ tied.seats;
+    clients_are = λ other within. elim (same_number other who) as (λ _. IsSeatOf other (seat (set clients who (Some client)) other) (machine.sessions other)) [
+      | inl same ↦
+          let here : seat (set clients who (Some client)) who ≡ Some client = get_or-set_same clients who (Some client) None (omega (arith, inside, tied.seats)) in
+          subst (λ n. IsSeatOf n (seat (set clients who (Some client)) n) (machine.sessions n)) (sym same)
+          (subst (λ o. IsSeatOf who o (machine.sessions who)) (sym here) (subst (IsSeatOf who (Some client)) (sym there) is))
+      | inr differs ↦
+          let elsewhere : seat (set clients who (Some client)) other ≡ seat clients other = get_or-set_other clients who other (Some client) None (λ same. differs (same)) in
+          subst (λ o. IsSeatOf other o (machine.sessions other)) (sym elsewhere) (tied.clients_are other within)
+    ];
+    offers_are = tied.offers_are;
+    items_are = tied.items_are;
+    served_are = tied.served_are;
+  }
+
   -- who may begin has a seat and may begin there
   pub begins_there : (machine : Machine) → IsTied servers clients offers items told machine → (who place : ℕ) (session : SessionSets) → who < SESSIONS → MayBegin machine who place session
       → (client : Client) × (seat clients who ≡ Some client) × (client.flight ≡ None) × (client.session.begun < MAX_PLACES) × (place < length servers)

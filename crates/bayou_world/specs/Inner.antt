@@ -1,3 +1,4 @@
 pub mod Good
 pub mod Clients
 pub mod Tie
+pub mod Booking

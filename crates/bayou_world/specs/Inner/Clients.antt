@@ -58,6 +58,7 @@ Hears old (Some entry) new = (accepted : Option Accepted) × (old.flight ≡ Som
 -- the oldest entry that waited is taken off, if one did
 pub record Pops (old : Client) (popped : Option Entry) (new : Client) : Type 0 where
   pub items : old.waiting.items ≡ option_to_list popped ++ new.waiting.items
+  pub none : popped ≡ None → new.waiting.items ≡ []
   pub session : new.session ≡ old.session
   pub flight : new.flight ≡ old.flight
 
