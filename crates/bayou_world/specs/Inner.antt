@@ -2,3 +2,4 @@ pub mod Good
 pub mod Clients
 pub mod Tie
 pub mod Booking
+pub mod Beginning

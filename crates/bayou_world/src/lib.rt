@@ -17,6 +17,7 @@ pub mod laws;
 pub mod limits;
 pub mod reply;
 mod state;
+pub mod world;
 
 pub use event::Event;
 pub use history::History;
