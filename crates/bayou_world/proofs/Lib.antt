@@ -14,3 +14,6 @@ pub mod Tied
 pub mod TiedWrites
 pub mod TiedFlights
 pub mod TiedItems
+pub mod Oldest
+pub mod Shares
+pub mod Played

@@ -1,7 +1,5 @@
 -- What the servers and sessions that run do, the machine does.
-use Rattle.std.proofs.Common.{◌≡◌, ◌≢◌, ◌↔◌, inl, inr, ◌⊎◌, ℕ, ◌+◌, ◌<◌, ◌≤◌, true, List, [], ◌∷◌, ◌++◌, Option, None, Some, Result, Ok, Err, IsSome, map, length, get_or, set, Contains, All, ap, sym, ◌∙◌, refl, subst, arith}
-use Rattle.std.specs.Option.{option_map}
-use Rattle.std.proofs.lemmas.Bool.{cases_lt}
+use Rattle.std.proofs.Common.{◌≡◌, ◌↔◌, inl, inr, ℕ, ◌+◌, ◌<◌, true, List, Option, None, Some, Result, Ok, Err, length, get_or, set, ap, sym, ◌∙◌, refl, subst, arith}
 use Rattle.std.proofs.lemmas.List.{get_or-set_other, get_or-set_same, length-set}
 use Rattle.bayou_base.specs.declared.answer.Accepted.{Accepted}
 use Rattle.bayou_base.specs.declared.answer.Seen.{Seen}
@@ -11,29 +9,24 @@ use Rattle.bayou_base.specs.declared.entry.What.TheVariants as whats
 use Rattle.bayou_base.specs.declared.limits.TheConstants.{MAX_PLACES, SERVERS, SESSIONS}
 use Rattle.bayou_base.specs.Vector.{Dominates}
 use Rattle.bayou_lang.specs.declared.write.Write.{Write}
-use Rattle.bayou_lang.specs.declared.program.Program.{Program}
 use Rattle.bayou_lang.specs.Places.{value_at}
 use Rattle.bayou_lang.specs.Writes.{count_of}
 use Rattle.bayou_log.specs.Replay.{replay}
 use Rattle.bayou_world.specs.Invariant.{IsVectorOf}
 use Rattle.bayou_server.specs.declared.fault.Behind.{Behind}
-use Rattle.bayou_server.specs.declared.fault.WriteFault.{WriteFault}
-use Rattle.bayou_server.specs.declared.fault.WriteFault.TheVariants as writing
 use Rattle.bayou_server.specs.Reads as served
-use Rattle.bayou_server.specs.Writes as accepts
 use Rattle.bayou_server.specs.Server.{Core, ServerState}
-use Rattle.bayou_session.specs.Needs.{HasCounts, Told, one_place_more, read_need, write_need}
+use Rattle.bayou_session.specs.Needs.{HasCounts, Told, read_need, write_need}
 use Rattle.bayou_world.specs.declared.client.Client.{Client}
 use Rattle.bayou_world.specs.declared.client.Flight.{Flight}
-use Rattle.bayou_world.specs.declared.reply.Reply.{Reply}
 use Rattle.bayou_world.specs.declared.reply.Reply.TheVariants as replies
-use Rattle.bayou_world.specs.Inner.Clients.{Begins, accepted_as, accepted_of, seen_as}
+use Rattle.bayou_world.specs.Inner.Clients.{Begins, seen_as}
 use Rattle.bayou_world.specs.Inner.Good.{IsGood}
-use Rattle.bayou_world.specs.Inner.Tie.{IsAcceptedIn, IsClientOf, IsFlightOf, IsSeatOf, IsServerOf, IsTied, seat, write_of}
-use Rattle.bayou_world.specs.Machine.{Answered, IsWithin, Machine, Made, ServerSets, SessionSets, changed, names, with_server, with_session, writes}
-use Rattle.bayou_world.specs.Steps.{CannotBegin, IsEntry, MayBegin, MayRead, MayWrite, Reads, Writes, refusal, with_answer, with_doubt, with_write}
+use Rattle.bayou_world.specs.Inner.Tie.{IsAcceptedIn, IsClientOf, IsFlightOf, IsSeatOf, IsServerOf, IsTied, seat}
+use Rattle.bayou_world.specs.Machine.{Answered, Machine, ServerSets, SessionSets, changed, with_server, with_session, writes}
+use Rattle.bayou_world.specs.Steps.{IsEntry, MayBegin, MayRead, Reads, refusal, with_answer}
 use Rattle.bayou_world.proofs.Homes.{fitting_at}
-use Rattle.bayou_world.proofs.Lists.{at_changed, changed-other, changed-same, same_number}
+use Rattle.bayou_world.proofs.Lists.{changed-other, changed-same, same_number}
 use Rattle.bayou_world.proofs.Vectors.{tests_agree}
 
 -- what a law of the session says
@@ -121,6 +114,27 @@ module _ {D : Type 0} (servers : List (ServerState D)) (clients : List (Option C
     ];
     seats = tied.seats;
     clients_are = tied.clients_are;
+    offers_are = tied.offers_are;
+    items_are = tied.items_are;
+    served_are = tied.served_are;
+  }
+
+  -- a seat is another's of whom the same is known
+  pub same_seat : (machine : Machine) → IsTied servers clients offers items told machine → (who : ℕ) (client : Client) (session : SessionSets) → who < SESSIONS → machine.sessions who ≡ Some session
+      → IsClientOf who client session → IsTied servers (set clients who (Some client)) offers items told machine
+  same_seat machine tied who client session inside there is = record {
+    many = tied.many;
+    servers_are = tied.servers_are;
+    seats = length-set clients who (Some client) ∙ tied.seats;
+    clients_are = λ other within. elim (same_number other who) as (λ _. IsSeatOf other (seat (set clients who (Some client)) other) (machine.sessions other)) [
+      | inl same ↦
+          let here : seat (set clients who (Some client)) who ≡ Some client = get_or-set_same clients who (Some client) None (omega (arith, inside, tied.seats)) in
+          subst (λ n. IsSeatOf n (seat (set clients who (Some client)) n) (machine.sessions n)) (sym same)
+          (subst (λ o. IsSeatOf who o (machine.sessions who)) (sym here) (subst (IsSeatOf who (Some client)) (sym there) is))
+      | inr differs ↦
+          let elsewhere : seat (set clients who (Some client)) other ≡ seat clients other = get_or-set_other clients who other (Some client) None (λ same. differs (same)) in
+          subst (λ o. IsSeatOf other o (machine.sessions other)) (sym elsewhere) (tied.clients_are other within)
+    ];
     offers_are = tied.offers_are;
     items_are = tied.items_are;
     served_are = tied.served_are;

@@ -1,7 +1,7 @@
 -- What is heard, lost, offered and taken by the servers and sessions that run, is so in the machine.
-use Rattle.std.proofs.Common.{◌≡◌, ◌≢◌, ◌↔◌, inl, inr, ◌⊎◌, ℕ, ◌+◌, ◌<◌, ◌≤◌, true, List, [], ◌∷◌, ◌++◌, Option, None, Some, Result, Ok, Err, IsSome, map, length, get_or, set, Contains, All, IfSome, ap, sym, ◌∙◌, refl, subst, arith}
-use Rattle.std.proofs.lemmas.List.{append-nil, length-set, map-append}
-use Rattle.std.proofs.lemmas.List.Elements.{All-push}
+use Rattle.std.proofs.Common.{◌≡◌, ℕ, ◌<◌, true, List, [], ◌∷◌, ◌++◌, Option, None, Some, IsSome, map, length, set, All, IfSome, ap, sym, ◌∙◌, refl, subst}
+use Rattle.std.proofs.lemmas.List.{length-set, map-append}
+use Rattle.std.proofs.lemmas.List.Elements.{All-head, All-push, All-tail}
 use Rattle.bayou_base.specs.declared.answer.Accepted.{Accepted}
 use Rattle.bayou_base.specs.declared.entry.Entry.{Entry}
 use Rattle.bayou_base.specs.declared.entry.What.{What}
@@ -10,22 +10,20 @@ use Rattle.bayou_base.specs.declared.limits.TheConstants.{SERVERS, SESSIONS}
 use Rattle.bayou_base.specs.Vector.{joined}
 use Rattle.bayou_lang.specs.declared.write.Write.{Write}
 use Rattle.bayou_lang.specs.Laws.Fitting.{fitting-front, length-count_of}
-use Rattle.bayou_lang.specs.Writes.{AreFitting, count_of}
-use Rattle.bayou_judge.specs.History.{IsFrontOf}
+use Rattle.bayou_lang.specs.Writes.{AreFitting}
 use Rattle.bayou_server.specs.Server.{ServerState}
 use Rattle.bayou_session.specs.Needs.{Told, after_write}
 use Rattle.bayou_world.specs.declared.client.Client.{Client}
 use Rattle.bayou_world.specs.declared.client.Flight.{Flight}
-use Rattle.bayou_world.specs.declared.reply.Reply.{Reply}
 use Rattle.bayou_world.specs.declared.reply.Reply.TheVariants as replies
 use Rattle.bayou_world.specs.Inner.Clients.{Hears, after_accepted, after_read, served_entries}
-use Rattle.bayou_world.specs.Inner.Good.{IsGood, IsGoodFlight, IsTrue, IsTrueAnswer}
+use Rattle.bayou_world.specs.Inner.Good.{IsGood, IsGoodFlight, IsTrue}
 use Rattle.bayou_world.specs.Inner.Tie.{IsAcceptedIn, IsClientOf, IsFlightOf, IsTied, seat}
 use Rattle.bayou_world.specs.Invariant.{IsVectorOf}
-use Rattle.bayou_world.specs.Machine.{Answered, Machine, SessionSets, names, with_session, writes}
+use Rattle.bayou_world.specs.Machine.{Answered, Machine, SessionSets, names, with_session}
 use Rattle.bayou_world.specs.Steps.{Delivers, IsInFlight, Loses, heard, landed, served_by, told}
 use Rattle.bayou_world.proofs.Homes.{fitting_at}
-use Rattle.bayou_world.proofs.Tied.{session_of_seat, with_seat}
+use Rattle.bayou_world.proofs.Tied.{same_seat, session_of_seat, with_seat}
 use Rattle.bayou_world.proofs.Vectors.{IsVectorOf-counts, IsVectorOf-joined, IsVectorOf-raised, length-joined}
 
 -- what is on the way to the client is in flight to the session
@@ -153,3 +151,66 @@ lose_tied servers clients offers items told_so_far machine good tied who client 
         own = is.own;
       }),
     )
+
+-- ---- the book
+
+-- the oldest entry that waits is the session's
+pub oldest_some : {D : Type 0} (servers : List (ServerState D)) (clients : List (Option Client)) (offers : List (List ℕ)) (items : List Write) (told_so_far : List Entry) (machine : Machine)
+    → IsTied servers clients offers items told_so_far machine → (who : ℕ) (client new : Client) (entry : Entry) → who < SESSIONS → seat clients who ≡ Some client
+    → client.waiting.items ≡ entry ∷ new.waiting.items → new.session ≡ client.session → new.flight ≡ client.flight
+    → (session : SessionSets) × (later : List Entry) × (machine.sessions who ≡ Some session) × (session.waiting ≡ entry ∷ later) × (entry.session.index ≡ who)
+    × IsTied servers (set clients who (Some new)) offers items told_so_far (with_session machine who (record session { waiting = later }))
+oldest_some servers clients offers items told_so_far machine tied who client new entry inside at waits same_session same_flight =
+    let seat_is = session_of_seat who (seat clients who) (machine.sessions who) client (tied.clients_are who inside) at in
+    let session = seat_is.0 in
+    let is = seat_is.2 in
+    let later = new.waiting.items in
+    let waiting : session.waiting ≡ entry ∷ later = sym is.waiting ∙ waits in
+    let own = subst (All (λ (e : Entry). e.session.index ≡ who)) waiting is.own in (
+      session,
+      later,
+      seat_is.1,
+      waiting,
+      All-head (λ (e : Entry). e.session.index ≡ who) entry later own,
+      with_seat servers clients offers items told_so_far machine tied who new (record session { waiting = later }) inside (record {
+        name = ap (λ (t : Told). t.id.index) same_session ∙ is.name;
+        asks = ap (λ (t : Told). t.asks) same_session ∙ is.asks;
+        begun = ap (λ (t : Told). t.begun) same_session ∙ is.begun;
+        long = subst (λ (t : Told). (length t.reads ≡ SERVERS) × (length t.writes ≡ SERVERS)) (sym same_session) is.long;
+        reads = subst (λ (t : Told). IsVectorOf t.reads session.reads) (sym same_session) is.reads;
+        writes = subst (λ (t : Told). IsVectorOf t.writes session.writes) (sym same_session) is.writes;
+        flight = subst (λ f. IsFlightOf f session.flight) (sym same_flight) is.flight;
+        waiting = refl;
+        own = All-tail (λ (e : Entry). e.session.index ≡ who) entry later own;
+      }),
+    )
+
+-- where none waits nothing changes
+pub oldest_none : {D : Type 0} (servers : List (ServerState D)) (clients : List (Option Client)) (offers : List (List ℕ)) (items : List Write) (told_so_far : List Entry) (machine : Machine)
+    → IsTied servers clients offers items told_so_far machine → (who : ℕ) (client new : Client) → who < SESSIONS → seat clients who ≡ Some client
+    → client.waiting.items ≡ new.waiting.items → new.waiting.items ≡ [] → new.session ≡ client.session → new.flight ≡ client.flight
+    → ((session : SessionSets) (entry : Entry) (later : List Entry) → machine.sessions who ≡ Some session → ¬ (session.waiting ≡ entry ∷ later))
+    × IsTied servers (set clients who (Some new)) offers items told_so_far machine
+oldest_none servers clients offers items told_so_far machine tied who client new inside at same none same_session same_flight =
+    let seat_is = session_of_seat who (seat clients who) (machine.sessions who) client (tied.clients_are who inside) at in
+    let session = seat_is.0 in
+    let is = seat_is.2 in (
+      (λ other entry later there waits.
+          let one : other ≡ session = one_session other session (sym there ∙ seat_is.1) in
+          let empty : [] ≡ entry ∷ later = sym none ∙ sym same ∙ is.waiting ∙ ap (λ (s : SessionSets). s.waiting) (sym one) ∙ waits in
+          absurd (cc)),
+      same_seat servers clients offers items told_so_far machine tied who new session inside seat_is.1 (record {
+        name = ap (λ (t : Told). t.id.index) same_session ∙ is.name;
+        asks = ap (λ (t : Told). t.asks) same_session ∙ is.asks;
+        begun = ap (λ (t : Told). t.begun) same_session ∙ is.begun;
+        long = subst (λ (t : Told). (length t.reads ≡ SERVERS) × (length t.writes ≡ SERVERS)) (sym same_session) is.long;
+        reads = subst (λ (t : Told). IsVectorOf t.reads session.reads) (sym same_session) is.reads;
+        writes = subst (λ (t : Told). IsVectorOf t.writes session.writes) (sym same_session) is.writes;
+        flight = subst (λ f. IsFlightOf f session.flight) (sym same_flight) is.flight;
+        waiting = sym same ∙ is.waiting;
+        own = is.own;
+      }),
+    )
+  where
+    one_session : (a b : SessionSets) → Some a ≡ Some b → a ≡ b
+    one_session a b both = cc

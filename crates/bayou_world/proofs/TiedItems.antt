@@ -1,21 +1,19 @@
 -- What is offered, collected and taken by the servers that run, is so in the machine.
-use Rattle.std.proofs.Common.{◌≡◌, ◌≢◌, ◌↔◌, inl, inr, ◌⊎◌, ℕ, zero, suc, ◌+◌, ◌<◌, ◌≤◌, Bool, cond, true, false, nat_lt, max, List, [], ◌∷◌, ◌++◌, Option, None, Some, Result, Ok, Err, IsSome, map, length, get_or, set, filter, take, Contains, All, AllPairs, slice_index, ap, sym, ◌∙◌, refl, subst, arith}
+use Rattle.std.proofs.Common.{◌≡◌, ◌≢◌, ◌↔◌, inl, inr, ◌⊎◌, ℕ, zero, suc, ◌+◌, ◌<◌, ◌≤◌, Bool, cond, true, false, nat_lt, max, List, [], ◌∷◌, ◌++◌, Option, Some, Result, Ok, Err, IsSome, map, length, get_or, set, filter, take, Contains, AllPairs, slice_index, ap, sym, ◌∙◌, refl, subst, arith}
 use Rattle.std.specs.List.{slice_get}
 use Rattle.std.proofs.lemmas.Bool.{cases_lt}
 use Rattle.std.proofs.lemmas.Bool.Decides.{nat_tests}
-use Rattle.std.proofs.lemmas.List.{get_or-map, length-map, map-append, take_all}
-use Rattle.std.proofs.lemmas.List.Elements.{All-contains, All-map, All-weaker}
+use Rattle.std.proofs.lemmas.List.{length-map, map-append, take_all}
+use Rattle.std.proofs.lemmas.List.Elements.{All-contains, All-map}
 use Rattle.std.proofs.lemmas.List.Kept.{AllPairs-cons, AllPairs-filter}
-use Rattle.std.proofs.lemmas.Option.{get_or_from_slice_get, slice_get-get_or, slice_get_within}
+use Rattle.std.proofs.lemmas.Option.{get_or_from_slice_get, slice_get_within}
 use Rattle.bayou_base.specs.declared.entry.Entry.{Entry}
-use Rattle.bayou_base.specs.declared.limits.TheConstants.{SERVERS}
 use Rattle.bayou_base.specs.Order.{is_before}
-use Rattle.bayou_base.specs.Vector.{Covers}
 use Rattle.bayou_lang.specs.declared.write.Write.{Write}
 use Rattle.bayou_lang.specs.Laws.Fitting.{fitting-front, fitting_distinct_stamps}
 use Rattle.bayou_lang.specs.Laws.SetOfWrites.{IsStrict, IsStrict-in_stamp_order, in_stamp_order-same, in_stamp_order-same_writes}
 use Rattle.bayou_lang.specs.Laws.StampOrder.{is_before-asym, length-in_stamp_order}
-use Rattle.bayou_lang.specs.Writes.{AreFitting, HasNoGap, IsWellStamped, count_of, in_stamp_order, lacking_of, missed_by}
+use Rattle.bayou_lang.specs.Writes.{AreFitting, HasNoGap, IsWellStamped, count_of, in_stamp_order, lacking_of}
 use Rattle.bayou_judge.specs.History.{IsFrontOf}
 use Rattle.bayou_server.specs.declared.answer.Took.{Took}
 use Rattle.bayou_server.specs.declared.answer.Took.TheVariants.{New, Had}
@@ -24,12 +22,11 @@ use Rattle.bayou_server.specs.declared.fault.TakeFault.TheVariants as taking
 use Rattle.bayou_server.specs.Server.{Core, ServerState}
 use Rattle.bayou_server.specs.Takes as takes
 use Rattle.bayou_world.specs.declared.client.Client.{Client}
-use Rattle.bayou_world.specs.declared.reply.Reply.{Reply}
 use Rattle.bayou_world.specs.declared.reply.Reply.TheVariants as replies
 use Rattle.bayou_world.specs.Inner.Good.{IsGood, IsHome}
 use Rattle.bayou_world.specs.Inner.Tie.{IsServerOf, IsTied, write_of}
-use Rattle.bayou_world.specs.Machine.{IsWithin, Machine, Made, Offered, ServerSets, names, with_server, writes}
-use Rattle.bayou_world.specs.Steps.{AreLacking, Collects, Holds, IsGiven, IsNew, IsNext, Offers, RefusesItem, Takes, with_doubt, with_write}
+use Rattle.bayou_world.specs.Machine.{Machine, Made, Offered, ServerSets, with_server, writes}
+use Rattle.bayou_world.specs.Steps.{AreLacking, Collects, Holds, IsGiven, IsNext, Offers, Takes, with_doubt, with_write}
 use Rattle.bayou_base.specs.declared.limits.TheConstants.{MAX_NUMBER}
 use Rattle.bayou_world.proofs.Given.{given_fits, no_gap_within}
 use Rattle.bayou_world.proofs.Homes.{fitting_at, home_of_held, one_home, one_write}

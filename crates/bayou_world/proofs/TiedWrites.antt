@@ -1,12 +1,11 @@
 -- A Write that the servers and sessions that run make, the machine makes.
-use Rattle.std.proofs.Common.{◌≡◌, ◌≢◌, ◌↔◌, inl, inr, ◌⊎◌, ℕ, ◌+◌, ◌<◌, ◌≤◌, true, List, [], ◌∷◌, ◌++◌, Option, None, Some, Result, Ok, Err, IsSome, map, length, get_or, set, Contains, All, ap, sym, ◌∙◌, refl, subst, arith}
+use Rattle.std.proofs.Common.{◌≡◌, ◌≢◌, ◌↔◌, ℕ, ◌+◌, ◌<◌, List, [], ◌∷◌, ◌++◌, Option, None, Some, Result, Ok, Err, IsSome, length, get_or, set, ap, sym, ◌∙◌, refl, subst, arith}
 use Rattle.std.specs.Option.{option_map}
 use Rattle.std.proofs.lemmas.List.{length-map, map-append}
 use Rattle.bayou_base.specs.declared.answer.Accepted.{Accepted}
 use Rattle.bayou_base.specs.declared.entry.Entry.{Entry}
-use Rattle.bayou_base.specs.declared.entry.What.{What}
 use Rattle.bayou_base.specs.declared.entry.What.TheVariants as whats
-use Rattle.bayou_base.specs.declared.limits.TheConstants.{MAX_PLACES, SERVERS, SESSIONS}
+use Rattle.bayou_base.specs.declared.limits.TheConstants.{MAX_PLACES, SESSIONS}
 use Rattle.bayou_base.specs.Vector.{Dominates}
 use Rattle.bayou_lang.specs.declared.write.Write.{Write}
 use Rattle.bayou_lang.specs.declared.program.Program.{Program}
@@ -17,13 +16,12 @@ use Rattle.bayou_server.specs.Writes as accepts
 use Rattle.bayou_server.specs.Server.{Core, ServerState}
 use Rattle.bayou_session.specs.Needs.{HasCounts, write_need}
 use Rattle.bayou_world.specs.declared.client.Client.{Client}
-use Rattle.bayou_world.specs.declared.reply.Reply.{Reply}
 use Rattle.bayou_world.specs.declared.reply.Reply.TheVariants as replies
 use Rattle.bayou_world.specs.Inner.Clients.{Begins, accepted_as, accepted_of}
 use Rattle.bayou_world.specs.Inner.Good.{IsGood}
 use Rattle.bayou_world.specs.Inner.Tie.{IsClientOf, IsServerOf, IsTied, seat, write_of}
-use Rattle.bayou_world.specs.Machine.{Answered, IsWithin, Machine, Made, ServerSets, SessionSets, changed, with_server, writes}
-use Rattle.bayou_world.specs.Steps.{IsAccepted, IsReady, Makes, MayBegin, MayWrite, RefusesWrite, Writes, refusal, with_answer, with_doubt, with_write}
+use Rattle.bayou_world.specs.Machine.{Answered, Machine, Made, ServerSets, SessionSets, with_server, writes}
+use Rattle.bayou_world.specs.Steps.{IsReady, Makes, MayWrite, RefusesWrite, Writes, refusal, with_answer, with_doubt, with_write}
 use Rattle.bayou_world.proofs.Homes.{fitting_at}
 use Rattle.bayou_world.proofs.Tied.{WriteLaw, began, entry_of, may_begin, same_place, session_of_seat, with_place, with_seat}
 use Rattle.bayou_world.proofs.Vectors.{tests_agree}

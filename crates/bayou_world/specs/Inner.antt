@@ -1,3 +1,5 @@
 pub mod Good
 pub mod Clients
 pub mod Tie
+pub mod Booking
+pub mod Beginning

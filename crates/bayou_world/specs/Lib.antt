@@ -1,5 +1,6 @@
 pub mod Machine
 pub mod Steps
 pub mod Runs
+pub mod Histories
 pub mod Invariant
 pub mod Inner

@@ -11,9 +11,13 @@
 
 mod client;
 pub mod event;
+mod filing;
+pub mod history;
 pub mod laws;
 pub mod reply;
 mod state;
+pub mod world;
 
 pub use event::Event;
+pub use history::History;
 pub use reply::Reply;

@@ -1,6 +1,7 @@
 //! The servers and the sessions as they run.
 ghost use Rattle.std.specs.Prelude.{◌≡◌, ◌++◌, IfOk, OnOk};
 ghost use Rattle.bayou_world.specs.Inner.Clients.{served_entries};
+ghost use Rattle.bayou_world.specs.Inner.Booking.{TakesOldest};
 ghost use Rattle.bayou_world.specs.Inner.Tie.{Follows};
 ghost use Rattle.bayou_world.specs.Steps.{Collects, Delivers, Loses, Offers, Reads, Takes, Writes};
 
@@ -167,5 +168,19 @@ impl State {
         }
         let write = self.items[item].copy(alloc)?;
         Ok(Reply::Took(self.servers[at].take(alloc, write)))
+    }
+
+    /// Takes the session's oldest entry that waits for the book.
+    pub fn oldest(&mut self, who: SessionId) -> Option<Entry>
+        ensures { TakesOldest self.old who.index result self.new }
+    {
+        let seat = usize::from(who.index);
+        if seat >= self.clients.len() {
+            return None;
+        }
+        let Some(client) = &mut self.clients[seat] else {
+            return None;
+        };
+        client.oldest()
     }
 }

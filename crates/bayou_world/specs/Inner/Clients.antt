@@ -11,7 +11,6 @@ use Rattle.bayou_server.specs.declared.fault.Behind.{Behind}
 use Rattle.bayou_server.specs.declared.fault.WriteFault.{WriteFault}
 use Rattle.bayou_session.specs.Needs.{Told, after_write, one_place_more}
 use Rattle.bayou_world.specs.declared.client.Client.{Client}
-use Rattle.bayou_world.specs.declared.client.Flight.{Flight}
 
 -- what an answer to a read tells
 abbrev pub seen_as : List ℕ → Result Seen Behind → What
@@ -58,6 +57,7 @@ Hears old (Some entry) new = (accepted : Option Accepted) × (old.flight ≡ Som
 -- the oldest entry that waited is taken off, if one did
 pub record Pops (old : Client) (popped : Option Entry) (new : Client) : Type 0 where
   pub items : old.waiting.items ≡ option_to_list popped ++ new.waiting.items
+  pub none : popped ≡ None → new.waiting.items ≡ []
   pub session : new.session ≡ old.session
   pub flight : new.flight ≡ old.flight
 

@@ -1,13 +1,12 @@
-use Rattle.std.proofs.Common.{◌≡◌, ◌<◌, ◌≤◌, ◌+◌, ◌++◌, ℕ, max, ap, sym, ◌∙◌, arith, length, get_or, take, refl, subst}
+use Rattle.std.proofs.Common.{◌≡◌, ◌<◌, ◌≤◌, ◌+◌, ◌++◌, max, ap, sym, ◌∙◌, arith, length, get_or, take, subst}
 use Rattle.std.proofs.lemmas.List.{get_or_default}
 use Rattle.bayou_lang.specs.Writes.{lacking_of}
 use Rattle.bayou_base.specs.declared.limits.TheConstants.{MAX_NUMBER}
-use Rattle.bayou_world.specs.Inner.Good.{IsGood}
-use Rattle.bayou_world.specs.Inner.Tie.{IsOf, IsTied}
+use Rattle.bayou_world.specs.Inner.Tie.{IsTied}
 use Rattle.bayou_world.specs.Machine.{Machine}
 use Rattle.bayou_world.specs.Steps.{Collects}
 use Rattle.bayou_world.specs.declared.reply.Reply.TheVariants as replies
-use Rattle.bayou_world.proofs.TiedItems.{Lacks, collect_beyond, collect_flown, collect_lacks}
+use Rattle.bayou_world.proofs.TiedItems.{collect_beyond, collect_flown, collect_lacks}
 use Rattle.bayou_world.proofs.state.State.collect.Goals as goal
 
 pub returns-then-first-max : goal.returns-then-first-max

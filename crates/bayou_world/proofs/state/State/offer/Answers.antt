@@ -1,5 +1,4 @@
-use Rattle.std.proofs.Common.{◌≡◌, ◌<◌, ◌≤◌, ◌∷◌, [], ◌++◌, ap, sym, ◌∙◌, arith, length, get_or, refl, subst}
-use Rattle.bayou_base.specs.declared.limits.TheConstants.{MAX_PLACES}
+use Rattle.std.proofs.Common.{◌≡◌, ◌<◌, ◌≤◌, ◌∷◌, [], ◌++◌, ap, sym, ◌∙◌, arith, length, get_or, subst}
 use Rattle.bayou_lang.specs.Writes.{count_of}
 use Rattle.bayou_base.specs.declared.limits.TheConstants.{MAX_NUMBER}
 use Rattle.bayou_world.specs.Inner.Tie.{IsTied}

@@ -1,4 +1,4 @@
-use Rattle.std.proofs.Common.{◌≡◌, ◌<◌, Some, None, ap, sym, ◌∙◌, arith, length, get_or, set, refl, subst, true}
+use Rattle.std.proofs.Common.{◌≡◌, ◌<◌, Some, None, ap, sym, ◌∙◌, arith, length, get_or, set, refl, subst}
 use Rattle.std.proofs.lemmas.List.{get_or_default}
 use Rattle.bayou_server.specs.Reads as served
 use Rattle.bayou_session.specs.Needs.{read_need}

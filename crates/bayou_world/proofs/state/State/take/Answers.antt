@@ -1,4 +1,4 @@
-use Rattle.std.proofs.Common.{◌≡◌, ◌<◌, ap, sym, ◌∙◌, arith, length, get_or, set, refl, subst}
+use Rattle.std.proofs.Common.{◌≡◌, ◌<◌, ap, sym, ◌∙◌, arith, length, get_or, set, subst}
 use Rattle.std.proofs.lemmas.List.{get_or_default}
 use Rattle.bayou_server.specs.Takes as takes
 use Rattle.bayou_world.specs.Inner.Tie.{IsTied}

@@ -1,0 +1,42 @@
+use Rattle.std.proofs.Common.{◌≡◌, ◌∙◌, ap, arith}
+use Rattle.bayou_audit.specs.Totals.{Booked, Shared, without_slip}
+use Rattle.bayou_base.specs.declared.session.SessionId.{SessionId}
+use Rattle.bayou_world.proofs.Shares.{counted_slips, files, never, none_files, of_session, put_back}
+use Rattle.bayou_world.proofs.filing.Filing.file.Goals as goal
+
+pub invariant_of-self-in_default-oldest : goal.invariant_of-self-in_default-oldest
+invariant_of-self-in_default-oldest g c = (
+  omega (arith, ap (λ (book : Booked). book.totals.slips) c.void.ensures.voided.0, ap (λ (book : Booked). book.totals.slips) c.in-Ok.ensures.claimed.1, c.self.invariant.0),
+  put_back c.self.inside.shares.items c.from.result c.index_mut-share.result.now c.void.new.share c.self.invariant.1 (omega (arith, c.from.ensures, c.args.who.in_range)) c.index_mut-share.ensures.value
+      (ap (λ (share : Shared). share.session) c.void.ensures.voided.1 ∙ ap (λ (share : Shared). share.session) c.in-Ok.ensures.claimed.2),
+)
+
+pub returns-in_default-oldest : goal.returns-in_default-oldest
+returns-in_default-oldest g c =
+    none_files c.args.state.now c.oldest.new.self c.args.who.index c.args.self.now c.self.inside.book c.claim.new.self c.void.new.self c.in_default-oldest.ensures c.self.view_is c.in-Ok.ensures.claimed.1 c.void.ensures.voided.0
+
+pub invariant_of-self-then-ne : goal.invariant_of-self-then-ne
+invariant_of-self-then-ne g c = (
+  omega (arith, ap (λ (book : Booked). book.totals.slips) c.void-then-ne.ensures.voided.0, ap (λ (book : Booked). book.totals.slips) c.in-Ok.ensures.claimed.1, c.self.invariant.0),
+  put_back c.self.inside.shares.items c.from.result c.index_mut-share.result.now c.void-then-ne.new.share c.self.invariant.1 (omega (arith, c.from.ensures, c.args.who.in_range)) c.index_mut-share.ensures.value
+      (ap (λ (share : Shared). share.session) c.void-then-ne.ensures.voided.1 ∙ ap (λ (share : Shared). share.session) c.in-Ok.ensures.claimed.2),
+)
+
+pub returns-then-ne : goal.returns-then-ne
+returns-then-ne g c machine good tied book =
+    let named : c.session.result.index ≡ c.args.who.index =
+    ap (λ (id : SessionId). id.index) c.session.ensures ∙ ap (λ (share : Shared). share.session.index) c.in-Ok.ensures.claimed.2
+    ∙ of_session c.self.inside.shares.items c.from.result c.index_mut-share.result.now c.self.invariant.1 (omega (arith, c.from.ensures, c.args.who.in_range)) c.index_mut-share.ensures.value ∙ c.from.ensures in
+    absurd (never c.args.state.now c.oldest.new.self c.args.who.index c.in-Some.entry c.session.result c.in-Some.ensures named c.if-ne.ensures machine good tied)
+
+pub invariant_of-self-2 : goal.invariant_of-self-2
+invariant_of-self-2 g c = (
+  omega (arith, ap (λ (book : Booked). book.totals.slips) c.file.ensures.filed.0 ∙ counted_slips c.in-Some.entry.what (without_slip c.claim.new.self.totals), ap (λ (book : Booked). book.totals.slips) c.in-Ok.ensures.claimed.1, c.self.invariant.0),
+  put_back c.self.inside.shares.items c.from.result c.index_mut-share.result.now c.file.new.share c.self.invariant.1 (omega (arith, c.from.ensures, c.args.who.in_range)) c.index_mut-share.ensures.value
+      (ap (λ (share : Shared). share.session) c.file.ensures.filed.1 ∙ ap (λ (share : Shared). share.session) c.in-Ok.ensures.claimed.2),
+)
+
+pub returns : goal.returns
+returns g c =
+    files c.args.state.now c.oldest.new.self c.args.who.index c.in-Some.entry c.args.self.now c.self.inside.book c.claim.new.self c.file.new.self c.in-Some.ensures c.self.view_is c.self.invariant.0 c.in-Ok.ensures.exact.0
+    (λ same. let both = c.in-Ok.ensures.full.1 same in absurd (cc)) c.in-Ok.ensures.claimed.1 c.file.ensures.filed.0

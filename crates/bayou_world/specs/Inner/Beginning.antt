@@ -1,0 +1,64 @@
+-- Servers and sessions as a run begins: callers don't see it.
+use Rattle.std.specs.Prelude.{◌≡◌, ℕ, ◌<◌, List, [], Option, None, Some, length, map}
+use Rattle.std.specs.List.{slice_index_or}
+use Rattle.bayou_base.specs.declared.asks.Asks.{Asks}
+use Rattle.bayou_server.specs.Server.{Core, ServerState}
+use Rattle.bayou_session.specs.Needs.{Told, new_session}
+use Rattle.std.specs.Global.{Vec}
+use Rattle.bayou_audit.specs.Totals.{is_read, is_refusal, is_write, number_of, totals_of}
+use Rattle.bayou_lang.specs.declared.write.Write.{Write}
+use Rattle.bayou_world.specs.declared.client.Client.{Client}
+use Rattle.bayou_world.specs.declared.event.Event.{Event}
+use Rattle.bayou_world.specs.declared.history.History.{History}
+use Rattle.bayou_world.specs.declared.reply.Reply.{Reply}
+use Rattle.bayou_world.specs.declared.state.State.{State}
+use Rattle.bayou_world.specs.Inner.Booking.{Booking, IsBookOf}
+use Rattle.bayou_world.specs.Inner.Good.{IsGood}
+use Rattle.bayou_world.specs.Inner.Tie.{IsOf}
+use Rattle.bayou_world.specs.Machine.{Answered, Machine, writes}
+use Rattle.bayou_world.specs.Runs.{Run, asks_of}
+
+-- a server that is up, and holds nothing
+abbrev pub fresh_core : (place count limit : ℕ) → Core
+fresh_core place count limit = record { id = place; count = count; limit = limit; held = []; doubt = None }
+
+-- one such server for each of the first so many places
+pub record AreStarted {D : Type 0} (done count limit : ℕ) (servers : List (ServerState D)) : Type 0 where
+  pub many : length servers ≡ done
+  pub fresh : (place : ℕ) (d : ServerState D) → place < done → (slice_index_or servers place d).core ≡ fresh_core place count limit
+
+-- a client to which nothing has happened
+pub record IsNewClient (who : ℕ) (asks : Asks) (client : Client) : Type 0 where
+  pub name : client.session.id.index ≡ who
+  pub session : client.session ≡ new_session client.session.id asks
+  pub flight : client.flight ≡ None
+  pub waiting : client.waiting.items ≡ []
+
+-- the seat of this number: taken where one of the sessions has it
+abbrev pub IsFirstSeat : ℕ → Option Asks → Option Client → Type 0
+IsFirstSeat who None None = Unit {0}
+IsFirstSeat who (Some asks) (Some client) = IsNewClient who asks client
+IsFirstSeat who None (Some client) = ⊥
+IsFirstSeat who (Some asks) None = ⊥
+
+pub record AreFirstSeats (done : ℕ) (sessions : List Told) (clients : List (Option Client)) : Type 0 where
+  pub many : length clients ≡ done
+  pub each : (who : ℕ) → who < done → IsFirstSeat who (asks_of sessions who) (slice_index_or clients who None)
+
+-- what events leave behind a machine
+pub record Leaves (first : Machine) (events : List Event) (history : History) : Type 0 where
+  pub last : Machine
+  pub run : Run first events history.replies.items last
+  pub served : history.served.items ≡ map (λ (answered : Answered). answered.entry) last.served
+  pub one_each : length history.dumps.items ≡ first.count
+  pub dumps : (place : ℕ) (d : Vec Write) → place < first.count → (slice_index_or history.dumps.items place d).items ≡ writes (last.servers place).held
+  pub totals : history.totals ≡ totals_of 0 (number_of is_read last.filed) (number_of is_write last.filed) (number_of is_refusal last.filed)
+
+-- so far the events had these replies, and the state and the book are the machine's
+pub record SoFar (first : Machine) (events : List Event) (replies : List Reply) (state : State) (booking : Booking) : Type 0 where
+  pub now : Machine
+  pub run : Run first events replies now
+  pub good : IsGood now
+  pub count : now.count ≡ first.count
+  pub tied : IsOf state now
+  pub book : IsBookOf booking now

@@ -1,0 +1,275 @@
+//! Servers and sessions to which nothing has happened, and a run of them.
+ghost use Rattle.std.specs.Prelude.{◌≡◌, ◌<◌, ◌≤◌, [], IfOk, List, map};
+ghost use Rattle.bayou_audit.specs.Blanks.{AreBlanksOf, named};
+ghost use Rattle.bayou_base.specs.declared.limits.TheConstants.{MAX_WRITES, SERVERS as SERVERS_NUMBER, SESSIONS as SESSIONS_NUMBER};
+ghost use Rattle.bayou_world.specs.Histories.{IsHistory};
+ghost use Rattle.bayou_world.specs.Inner.Beginning.{AreFirstSeats, AreStarted, IsFirstSeat, Leaves, fresh_core};
+ghost use Rattle.bayou_world.specs.Inner.Booking.{FollowsInBook, IsBookOf};
+ghost use Rattle.bayou_world.specs.Inner.Good.{IsGood};
+ghost use Rattle.bayou_world.specs.Inner.Tie.{IsOf};
+ghost use Rattle.bayou_world.specs.Machine.{Machine};
+ghost use Rattle.bayou_world.specs.Runs.{asks_of, is_file as is_file_said, places_for as places_of};
+ghost use Rattle.bayou_world.specs.Steps.{Step};
+
+use crate::client::Client;
+use crate::event::Event;
+use crate::filing::Filing;
+use crate::history::History;
+use crate::reply::Reply;
+use crate::state::State;
+use bayou_audit::{Blanks, Four, Ledgers};
+use bayou_base::{MAX_ENTRIES, SESSIONS, ServerId};
+use bayou_device::{MemoryDevice, OpenGate};
+use bayou_lang::RestingWrite;
+use bayou_server::Server;
+use bayou_server::laws::a_start_on_an_empty_device_holds_nothing;
+use bayou_session::Session;
+use std::alloc::{AllocError, Global};
+use std::marker::{Brand, Model};
+use std::sync::ledger::{Blank, Ledger};
+
+/// Servers on devices in memory, and sessions, to which nothing has happened yet.
+#[derive(Drop)]
+pub struct World {
+    count: u8,
+    limit: u32,
+    servers: Vec<Server<MemoryDevice<OpenGate>>>,
+    sessions: Vec<Session>,
+}
+
+impl Model for World {
+    ghost use Rattle.bayou_world.specs.Histories.{Begun};
+    ghost use Rattle.bayou_world.specs.Inner.Beginning.{AreStarted};
+
+    ghost Value = { Begun };
+
+    ghost view = { λ w. record { count = w.count; limit = w.limit; sessions = w.sessions.items } };
+
+    ghost invariant = { λ w. AreStarted w.count w.count w.limit w.servers.items };
+}
+
+/// A server that is started first, on an empty device, which refuses nothing but for memory.
+fn begin_server(
+    alloc: Global,
+    id: ServerId,
+    count: u8,
+    limit: u32,
+) -> Result<Server<MemoryDevice<OpenGate>>, AllocError>
+    requires known { id.index < count }
+    requires count { count ≤ SERVERS_NUMBER }
+    requires limit { limit ≤ MAX_WRITES }
+    ensures { IfOk result (λ server. server.core ≡ fresh_core id.index count limit) }
+{
+    a_start_on_an_empty_device_holds_nothing::<MemoryDevice<OpenGate>>();
+    let device = MemoryDevice::new(alloc, OpenGate);
+    match Server::start(alloc, id, count, limit, device) {
+        Ok((server, _)) => Ok(server),
+        Err(_) => Err(AllocError),
+    }
+}
+
+/// The client of the first session of this number, if there is one.
+fn client_of(alloc: Global, sessions: &[Session], who: usize) -> Option<Client>
+    ensures { IsFirstSeat who (asks_of sessions.now who) result }
+{
+    for session in sessions {
+        let id = session.id();
+        if usize::from(id.index) == who {
+            return Some(Client::new(alloc, Session::new(id, session.asks())));
+        }
+    }
+    None
+}
+
+/// A seat for each session that there may be.
+fn seats(alloc: Global, sessions: &[Session]) -> Result<Vec<Option<Client>>, AllocError>
+    ensures { IfOk result (λ clients. AreFirstSeats SESSIONS_NUMBER sessions.now clients.items) }
+{
+    let mut clients = Vec::new(alloc);
+    for who in 0..SESSIONS {
+        clients.push(client_of(alloc, sessions, who))?;
+    }
+    Ok(clients)
+}
+
+fn is_file(event: &Event) -> bool
+    ensures { result ≡ is_file_said event.now }
+{
+    match event {
+        Event::File(_) => true,
+        Event::Read { .. }
+        | Event::Write { .. }
+        | Event::Deliver(_)
+        | Event::Lose(_)
+        | Event::Offer(_)
+        | Event::Collect { .. }
+        | Event::Take { .. } => false,
+    }
+}
+
+/// How many places the book of these events has.
+fn places_for(events: &[Event]) -> usize
+    ensures { result ≡ places_of events.now }
+{
+    let mut files: usize = 0;
+    for event in events {
+        if is_file(event) {
+            files += 1;
+        }
+    }
+    files.min(MAX_ENTRIES).max(1)
+}
+
+/// What each server holds.
+fn dumps_of(
+    alloc: Global,
+    servers: &[Server<MemoryDevice<OpenGate>>],
+) -> Result<Vec<Vec<RestingWrite>>, AllocError>
+    ensures { IfOk result (λ dumps. map (λ (dump : _). dump.items) dumps.items ≡ map (λ (server : _). server.core.held) servers.now) }
+{
+    let mut dumps = Vec::new(alloc);
+    for server in servers {
+        dumps.push(server.dump(alloc)?)?;
+    }
+    Ok(dumps)
+}
+
+/// What the event does to servers, sessions and book. A program is copied first.
+fn step<K: Ledgers>(
+    alloc: Global,
+    state: &mut State,
+    filing: &mut Filing<K>,
+    event: &Event,
+) -> Result<Reply, AllocError>
+    ensures { IfOk result (λ reply. FollowsInBook state.old filing.old (λ machine next. Step machine event.now reply next) state.new filing.new) }
+{
+    match event {
+        Event::Read {
+            session,
+            server,
+            key,
+        } => Ok(state.read(*session, *server, key)),
+        Event::Write {
+            session,
+            server,
+            program,
+        } => {
+            let program = program.copy(alloc)?;
+            Ok(state.write(alloc, *session, *server, program))
+        }
+        Event::Deliver(session) => state.deliver(*session),
+        Event::Lose(session) => Ok(state.lose(*session)),
+        Event::Offer(server) => state.offer(*server),
+        Event::Collect { server, offer } => state.collect(alloc, *server, *offer),
+        Event::Take { server, item } => state.take(alloc, *server, *item),
+        Event::File(session) => Ok(filing.file(state, *session)),
+    }
+}
+
+/// The events one after another, and what they leave.
+fn play<K: Ledgers>(
+    alloc: Global,
+    state: State,
+    filing: Filing<K>,
+    events: &[Event],
+) -> Result<History, AllocError>
+    ensures { IfOk result (λ history. (first : Machine) → IsGood first → IsOf state first → IsBookOf filing first → Leaves first events.now history) }
+{
+    let mut state = state;
+    let mut filing = filing;
+    let mut replies = Vec::new(alloc);
+    for event in events {
+        replies.push(step(alloc, &mut state, &mut filing, event)?)?;
+    }
+    let dumps = dumps_of(alloc, &state.servers)?;
+    Ok(History {
+        replies,
+        served: state.served,
+        dumps,
+        totals: filing.totals(),
+    })
+}
+
+/// A run whose book counts in these ledgers.
+fn run_with<K: Ledgers>(
+    alloc: Global,
+    blanks: Blanks,
+    world: World,
+    events: &[Event],
+) -> Result<History, AllocError>
+    requires blanks { AreBlanksOf blanks (named K.Slips.name K.Slips.parts) (named K.Reads.name K.Reads.parts) (named K.Writes.name K.Writes.parts) (named K.Refusals.name K.Refusals.parts) SESSIONS_NUMBER }
+    ensures { IfOk result (IsHistory world events.now) }
+{
+    let World {
+        servers,
+        sessions,
+        ..
+    } = world;
+    let state = State {
+        servers,
+        clients: seats(alloc, &sessions)?,
+        offers: Vec::new(alloc),
+        items: Vec::new(alloc),
+        served: Vec::new(alloc),
+    };
+    let filing = Filing::<K>::new(alloc, blanks, places_for(events))?;
+    play(alloc, state, filing, events)
+}
+
+/// The same, with a ledger for each of the four totals.
+fn run_over<S, T, U, V>(
+    alloc: Global,
+    blanks: Blanks,
+    world: World,
+    events: &[Event],
+) -> Result<History, AllocError>
+where
+    S: Ledger + Send + Sync,
+    T: Ledger + Send + Sync,
+    U: Ledger + Send + Sync,
+    V: Ledger + Send + Sync,
+    requires blanks { AreBlanksOf blanks (named S.name S.parts) (named T.name T.parts) (named U.name U.parts) (named V.name V.parts) SESSIONS_NUMBER }
+    ensures { IfOk result (IsHistory world events.now) }
+{
+    run_with::<Four<S, T, U, V>>(alloc, blanks, world, events)
+}
+
+impl World {
+    /// So many servers, each of which may hold so many Writes, and these sessions, as new ones: of two with one name the first
+    /// counts.
+    pub fn new(
+        alloc: Global,
+        count: u8,
+        limit: u32,
+        sessions: &[Session],
+    ) -> Result<Self, AllocError>
+        requires count { count ≤ SERVERS_NUMBER }
+        requires limit { limit ≤ MAX_WRITES }
+        ensures { IfOk result (λ world. world ≡ record { count = count; limit = limit; sessions = sessions.now }) }
+    {
+        let mut servers = Vec::new(alloc);
+        for index in 0..count {
+            servers.push(begin_server(alloc, ServerId { index }, count, limit)?)?;
+        }
+        Ok(World {
+            count,
+            limit,
+            servers,
+            sessions: Vec::from_slice(alloc, sessions)?,
+        })
+    }
+
+    /// Runs the events, and gives what they leave. Where memory is refused, the world is gone; that of an operation, an item or a
+    /// Collect is a reply.
+    pub fn run(self, alloc: Global, events: &[Event]) -> Result<History, AllocError>
+        ensures { IfOk result (IsHistory self events.now) }
+    {
+        let blanks = Blanks {
+            slips: Blank::new(SESSIONS as u64),
+            reads: Blank::new(SESSIONS as u64),
+            writes: Blank::new(SESSIONS as u64),
+            refusals: Blank::new(SESSIONS as u64),
+        };
+        run_over::<Brand, Brand, Brand, Brand>(alloc, blanks, self, events)
+    }
+}
