@@ -1,31 +1,27 @@
 -- What servers hold and what is in flight only grows, and so the items of one Collect can be taken in their order.
-use Rattle.std.proofs.Common.{◌≡◌, ◌≢◌, ◌↔◌, inl, inr, ◌⊎◌, ℕ, zero, suc, ◌+◌, ◌<◌, ◌≤◌, true, false, List, [], ◌∷◌, ◌++◌, Option, None, Some, Result, Ok, Err, map, length, get_or, Contains, All, AllPairs, slice_index, ap, sym, ◌∙◌, refl, subst, arith, length-append}
+use Rattle.std.proofs.Common.{◌≡◌, ◌≢◌, inl, inr, ◌⊎◌, ℕ, zero, suc, ◌+◌, ◌<◌, true, false, List, [], ◌∷◌, ◌++◌, None, Some, Err, length, get_or, Contains, AllPairs, slice_index, ap, sym, ◌∙◌, refl, subst, arith}
 use Rattle.std.specs.List.{slice_get}
 use Rattle.std.proofs.lemmas.Bool.{cases_lt}
-use Rattle.std.proofs.lemmas.List.{append-nil, append_assoc, get_or_default}
+use Rattle.std.proofs.lemmas.List.{append-nil, append_assoc}
 use Rattle.std.proofs.lemmas.List.Elements.{All-contains, Contains-append_left}
 use Rattle.std.proofs.lemmas.Option.{get_or_from_slice_get, slice_get-get_or, slice_get_within}
 use Rattle.bayou_base.specs.declared.wid.Wid.{Wid}
 use Rattle.bayou_base.specs.Order.{is_before}
-use Rattle.bayou_base.specs.Vector.{Covers}
 use Rattle.bayou_lang.specs.declared.program.Program.{Program}
 use Rattle.bayou_lang.specs.declared.write.Write.{Write}
 use Rattle.bayou_lang.specs.Laws.StampOrder.{is_before-asym}
 use Rattle.bayou_lang.specs.Laws.Fitting.{fitting-front}
 use Rattle.bayou_lang.specs.Writes.{AreFitting, count_of}
 use Rattle.bayou_judge.specs.History.{IsFrontOf}
-use Rattle.bayou_server.specs.declared.answer.Took.{Took}
-use Rattle.bayou_server.specs.declared.answer.Took.TheVariants.{New, Had}
-use Rattle.bayou_server.specs.declared.fault.TakeFault.{TakeFault}
 use Rattle.bayou_server.specs.declared.fault.TakeFault.TheVariants as taking
 use Rattle.bayou_world.specs.declared.event.Event.{Event}
 use Rattle.bayou_world.specs.declared.event.Event.TheVariants as events
 use Rattle.bayou_world.specs.declared.reply.Reply.{Reply}
 use Rattle.bayou_world.specs.declared.reply.Reply.TheVariants as replies
-use Rattle.bayou_world.specs.Inner.Good.{AreOffers, IsGood, IsHome}
+use Rattle.bayou_world.specs.Inner.Good.{IsGood}
 use Rattle.bayou_world.specs.Machine.{IsWithin, Machine, Made, Offered, ServerSets, names, writes}
 use Rattle.bayou_world.specs.Runs.{Run}
-use Rattle.bayou_world.specs.Steps.{AreLacking, Collects, Delivers, Files, Holds, Loses, MayCollect, Offers, Reads, RefusesItem, Step, Takes, Writes}
+use Rattle.bayou_world.specs.Steps.{AreLacking, Collects, Delivers, Files, Holds, Loses, Offers, Reads, RefusesItem, Step, Takes, Writes}
 use Rattle.bayou_world.proofs.Growing.{HaveGrown, grown_by_doubt, grown_by_write}
 use Rattle.bayou_world.proofs.Homes.{fitting_at, home_of_held, past_is_before, past_is_had}
 use Rattle.bayou_world.proofs.Lists.{Contains-map, Contains-map_from}
@@ -247,4 +243,3 @@ no_gap old next now good place offer number by offered there (Collects.flown sam
         let here : slice_get lacking at ≡ Some (get_or lacking at made) = slice_get-get_or lacking at made within in
         let both : Some (get_or lacking at made) ≡ Some made = sym (item at (get_or lacking at made) here) ∙ got in
         here ∙ both
-

@@ -1,21 +1,20 @@
 -- What is good is consistent.
-use Rattle.std.proofs.Common.{◌≡◌, ◌≢◌, ◌↔◌, inl, inr, ◌⊎◌, ℕ, zero, suc, ◌+◌, ◌<◌, ◌≤◌, Bool, true, false, cond, ◌==◌, List, [], ◌∷◌, ◌++◌, Option, None, Some, map, length, filter, Contains, All, slice_index, ap, sym, ◌∙◌, refl, subst, arith, length-append}
+use Rattle.std.proofs.Common.{◌≡◌, ◌↔◌, inl, inr, ◌⊎◌, ℕ, zero, suc, ◌+◌, ◌<◌, Bool, true, false, cond, ◌==◌, List, [], ◌∷◌, ◌++◌, None, Some, length, filter, Contains, slice_index, ap, sym, ◌∙◌, refl, subst, arith}
 use Rattle.std.specs.List.{slice_get}
 use Rattle.std.proofs.lemmas.Bool.Decides.{nat_tests}
-use Rattle.std.proofs.lemmas.List.{append_assoc}
-use Rattle.std.proofs.lemmas.List.Elements.{All-contains, Contains-append_left}
+use Rattle.std.proofs.lemmas.List.Elements.{All-contains}
 use Rattle.std.proofs.lemmas.Option.{get_or_from_slice_get, slice_get-get_or, slice_get_within}
 use Rattle.bayou_base.specs.declared.limits.TheConstants.{SERVERS}
 use Rattle.bayou_base.specs.declared.wid.Wid.{Wid}
 use Rattle.bayou_base.specs.Vector.{Covers}
 use Rattle.bayou_lang.specs.declared.write.Write.{Write}
 use Rattle.bayou_lang.specs.Laws.Fitting.{fitting_is_prefix_closed}
-use Rattle.bayou_lang.specs.Writes.{AreFitting, Fits, count_of}
+use Rattle.bayou_lang.specs.Writes.{AreFitting, count_of}
 use Rattle.bayou_world.specs.Inner.Good.{IsGood, IsHome}
 use Rattle.bayou_world.specs.Invariant.{IsConsistent, Stands, TestsAgree, made_by}
-use Rattle.bayou_world.specs.Machine.{Machine, Made, ServerSets, names, writes}
-use Rattle.bayou_world.proofs.Homes.{StandsBehind, fitting_at, home_of_held, one_home, one_write, stands_behind}
-use Rattle.bayou_world.proofs.Lists.{Contains-filter, Contains-from_filter, Contains-later, Contains-map, Contains-map_from, same_number}
+use Rattle.bayou_world.specs.Machine.{Machine, Made, names, writes}
+use Rattle.bayou_world.proofs.Homes.{fitting_at, home_of_held, one_home, stands_behind}
+use Rattle.bayou_world.proofs.Lists.{Contains-filter, Contains-from_filter, Contains-map, Contains-map_from, same_number}
 use Rattle.bayou_world.proofs.Vectors.{named, tests_agree}
 
 -- what a count is, as a law of the crate below says it

@@ -1,15 +1,11 @@
 -- A session that is told of an operation more.
-use Rattle.std.proofs.Common.{◌≡◌, ◌≢◌, inl, inr, ◌⊎◌, ℕ, zero, suc, ◌+◌, ◌<◌, ◌≤◌, true, List, [], ◌∷◌, ◌++◌, Option, None, Some, IfSome, Contains, All, ap, sym, ◌∙◌, refl, subst, arith}
-use Rattle.std.proofs.lemmas.List.{append-nil}
-use Rattle.std.proofs.lemmas.List.Elements.{All-contains, All-push, All-weaker, Contains-append_left, Contains-append_right, Contains-push, Contains-push_cases}
-use Rattle.bayou_base.specs.declared.entry.What.{What}
-use Rattle.bayou_base.specs.declared.entry.What.TheVariants as whats
+use Rattle.std.proofs.Common.{◌≡◌, ◌≢◌, inl, inr, ◌⊎◌, ℕ, ◌<◌, ◌≤◌, List, [], ◌∷◌, ◌++◌, Option, None, Some, IfSome, Contains, All, ap, sym, ◌∙◌, subst, arith}
+use Rattle.std.proofs.lemmas.List.Elements.{All-contains, All-push, Contains-append_left, Contains-append_right, Contains-push, Contains-push_cases}
 use Rattle.bayou_base.specs.declared.wid.Wid.{Wid}
 use Rattle.bayou_lang.specs.declared.write.Write.{Write}
-use Rattle.bayou_world.specs.Inner.Good.{IsCovered, IsCoveredRead, IsCoveredWrite, IsGoodFlight, IsGoodSession, IsMadeAt}
-use Rattle.bayou_world.specs.Machine.{Answered, IsWithin, Made, ServerSets, SessionSets, names, writes}
+use Rattle.bayou_world.specs.Inner.Good.{IsCoveredRead, IsCoveredWrite, IsGoodFlight, IsGoodSession, IsMadeAt}
+use Rattle.bayou_world.specs.Machine.{Answered, IsWithin, Made, SessionSets, names}
 use Rattle.bayou_world.specs.Runs.{IsAt, IsRead, IsReadAt}
-use Rattle.bayou_world.specs.Steps.{served_by, told}
 
 -- ---- one served operation more
 

@@ -1,17 +1,16 @@
 -- An item that a server is given: it fits what is held exactly where its past is held.
-use Rattle.std.proofs.Common.{◌≡◌, ◌≢◌, inl, inr, ◌⊎◌, ℕ, zero, suc, ◌+◌, ◌<◌, ◌≤◌, ◌↔◌, true, false, nat_le, max, List, [], ◌∷◌, ◌++◌, map, length, filter, Contains, All, None, Some, slice_index, ap, sym, ◌∙◌, refl, subst, arith}
+use Rattle.std.proofs.Common.{◌≡◌, inl, inr, ℕ, suc, ◌+◌, ◌<◌, ◌≤◌, true, nat_le, List, [], ◌∷◌, Contains, slice_index, ap, sym, ◌∙◌, refl, subst, arith}
 use Rattle.std.proofs.lemmas.Bool.{cases_lt}
 use Rattle.std.proofs.lemmas.Bool.Decides.{nat_tests}
-use Rattle.std.proofs.lemmas.List.Elements.{All-contains, All-head, All-tail}
+use Rattle.std.proofs.lemmas.List.Elements.{All-contains}
 use Rattle.bayou_base.specs.Vector.{Covers, Dominates}
 use Rattle.bayou_lang.specs.declared.write.Write.{Write}
-use Rattle.bayou_lang.specs.Laws.Fitting.{covered_by-fitting, fitting_is_prefix_closed, greatest_clock-least}
-use Rattle.bayou_lang.specs.Writes.{AreFitting, Fits, HasNoGap, IsWellStamped, covered_by, count_of, greatest_clock}
-use Rattle.bayou_judge.specs.History.{IsFrontOf}
+use Rattle.bayou_lang.specs.Laws.Fitting.{covered_by-fitting, greatest_clock-least}
+use Rattle.bayou_lang.specs.Writes.{Fits, HasNoGap, covered_by, count_of, greatest_clock}
 use Rattle.bayou_world.specs.Inner.Good.{AreGood, IsHome}
 use Rattle.bayou_world.specs.Machine.{IsWithin, Made, ServerSets, names, writes}
 use Rattle.bayou_world.specs.Steps.{Holds}
-use Rattle.bayou_world.proofs.Homes.{StandsBehind, fitting_at, home_of_held, home_of_past, one_write, stands_behind}
+use Rattle.bayou_world.proofs.Homes.{fitting_at, home_of_held, home_of_past, one_write, stands_behind}
 use Rattle.bayou_world.proofs.Lists.{Contains-filter, Contains-from_filter, Contains-map, Contains-map_from}
 use Rattle.bayou_world.proofs.Vectors.{named, within_dominates}
 

@@ -1,17 +1,17 @@
 -- Servers that hold more: what was true stays true, and what is added may be.
-use Rattle.std.proofs.Common.{◌≡◌, ◌≢◌, inl, inr, ◌⊎◌, ℕ, zero, suc, ◌+◌, ◌<◌, ◌≤◌, ◌↔◌, List, [], ◌∷◌, ◌++◌, map, length, Contains, All, None, Some, slice_index, ap, sym, ◌∙◌, refl, subst, arith, length-append}
-use Rattle.std.proofs.lemmas.List.{append_assoc, append-nil, map-append, length-map}
-use Rattle.std.proofs.lemmas.List.Elements.{All-contains, All-push, All-weaker, Contains-append_left, Contains-push}
+use Rattle.std.proofs.Common.{◌≡◌, inl, inr, ◌⊎◌, ℕ, ◌<◌, List, [], ◌∷◌, ◌++◌, length, Contains, None, Some, ap, sym, ◌∙◌, refl, subst, arith, length-append}
+use Rattle.std.proofs.lemmas.List.{append_assoc, append-nil, map-append}
+use Rattle.std.proofs.lemmas.List.Elements.{All-push, All-weaker, Contains-append_left, Contains-push}
 use Rattle.bayou_lang.specs.declared.write.Write.{Write}
 use Rattle.bayou_lang.specs.Laws.Fitting.{IsSound-push}
-use Rattle.bayou_lang.specs.Writes.{Fits, IsSound, count_of}
+use Rattle.bayou_lang.specs.Writes.{IsSound}
 use Rattle.bayou_judge.specs.History.{IsFrontOf}
 use Rattle.bayou_world.specs.Inner.Good.{AreGood, AreOffers, HavePasts, IsGoodServer, IsHome, IsTrue, IsTrueAnswer, MayBeDoubted}
 use Rattle.bayou_world.specs.Machine.{Answered, Made, Offered, ServerSets, changed, writes}
 use Rattle.bayou_world.specs.Steps.{with_doubt, with_write}
 use Rattle.bayou_base.specs.declared.entry.What.{What}
 use Rattle.bayou_base.specs.declared.entry.What.TheVariants as whats
-use Rattle.bayou_world.proofs.Lists.{at_changed, changed-other, changed-same, same_number}
+use Rattle.bayou_world.proofs.Lists.{at_changed, changed-same, same_number}
 
 -- each server holds what it held, and may hold more behind that
 abbrev pub HaveGrown : (ℕ → ServerSets) → (ℕ → ServerSets) → Type 0

@@ -1,19 +1,19 @@
 -- Writes at home: a name is of one Write, and a Write's past stands before it wherever it is held.
-use Rattle.std.proofs.Common.{◌≡◌, ◌≢◌, ℕ, zero, suc, ◌+◌, ◌<◌, ◌≤◌, ◌↔◌, true, Bool, nat_lt, ◌==◌, ◌&&◌, ◌||◌, List, [], ◌∷◌, ◌++◌, map, length, Contains, All, AllPairs, slice_index, ap, sym, ◌∙◌, refl, subst, arith}
+use Rattle.std.proofs.Common.{◌≡◌, ◌≢◌, ℕ, ◌+◌, ◌<◌, ◌≤◌, true, nat_lt, List, ◌∷◌, ◌++◌, Contains, ap, sym, ◌∙◌, refl, subst, arith}
 use Rattle.std.proofs.lemmas.Bool.Decides.{nat_tests}
 use Rattle.std.proofs.lemmas.List.{append_assoc, map-append}
 use Rattle.std.proofs.lemmas.List.Elements.{All-contains, Contains-append_left}
 use Rattle.bayou_base.specs.declared.stamp.Stamp.{Stamp}
 use Rattle.bayou_base.specs.declared.wid.Wid.{Wid}
 use Rattle.bayou_base.specs.Order.{is_before}
-use Rattle.bayou_base.specs.Vector.{Covers, Dominates}
+use Rattle.bayou_base.specs.Vector.{Dominates}
 use Rattle.bayou_lang.specs.declared.write.Write.{Write}
 use Rattle.bayou_lang.specs.Laws.Fitting.{covered_by-fitting, fitting-front, fitting_distinct_wids, greatest_clock-least}
 use Rattle.bayou_lang.specs.Writes.{AreFitting, Fits, covered_by, count_of, greatest_clock}
 use Rattle.bayou_judge.specs.History.{IsFrontOf}
-use Rattle.bayou_world.specs.Inner.Good.{AreGood, IsGoodServer, IsHome}
+use Rattle.bayou_world.specs.Inner.Good.{AreGood, IsHome}
 use Rattle.bayou_world.specs.Machine.{IsWithin, Made, ServerSets, names, writes}
-use Rattle.bayou_world.proofs.Lists.{AllPairs-map, Contains-map, Contains-map_from, Contains-middle, one_of_name, split_at}
+use Rattle.bayou_world.proofs.Lists.{AllPairs-map, Contains-map, Contains-map_from, one_of_name, split_at}
 use Rattle.bayou_world.proofs.Vectors.{within_dominates}
 
 abbrev write_of : Made → Write

@@ -16,3 +16,4 @@ pub mod TiedFlights
 pub mod TiedItems
 pub mod Oldest
 pub mod Shares
+pub mod Played

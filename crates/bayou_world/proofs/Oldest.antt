@@ -1,14 +1,13 @@
 -- The oldest entry that waits.
-use Rattle.std.proofs.Common.{◌≡◌, ℕ, ◌<◌, List, [], ◌∷◌, ◌++◌, Option, None, Some, set, ap, sym, ◌∙◌, refl, subst}
+use Rattle.std.proofs.Common.{◌≡◌, ℕ, ◌<◌, List, Option, None, Some, set, ap, sym, ◌∙◌, refl, subst}
 use Rattle.bayou_base.specs.declared.entry.Entry.{Entry}
 use Rattle.bayou_base.specs.declared.limits.TheConstants.{SESSIONS}
 use Rattle.bayou_world.specs.declared.client.Client.{Client}
 use Rattle.bayou_world.specs.declared.state.State.{State}
 use Rattle.bayou_world.specs.Inner.Booking.{TakesOldest}
 use Rattle.bayou_world.specs.Inner.Clients.{Pops}
-use Rattle.bayou_world.specs.Inner.Good.{IsGood}
 use Rattle.bayou_world.specs.Inner.Tie.{IsOf, IsTied, seat}
-use Rattle.bayou_world.specs.Machine.{Machine, SessionSets, with_session}
+use Rattle.bayou_world.specs.Machine.{Machine, with_session}
 use Rattle.bayou_world.proofs.TiedFlights.{oldest_none, oldest_some}
 
 -- a state with these lists is tied as the lists are

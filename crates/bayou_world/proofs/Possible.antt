@@ -1,5 +1,5 @@
 -- What no item is refused for.
-use Rattle.std.proofs.Common.{◌≡◌, ℕ, List, [], ◌∷◌, Result, Ok, Err, All, sym, refl, subst}
+use Rattle.std.proofs.Common.{◌≡◌, ℕ, List, [], ◌∷◌, Err, All, sym, subst}
 use Rattle.std.proofs.lemmas.List.Elements.{All-cons, All-nil}
 use Rattle.bayou_lang.specs.declared.program.Program.{Program}
 use Rattle.bayou_server.specs.declared.fault.TakeFault.{TakeFault}

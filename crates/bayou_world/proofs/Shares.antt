@@ -1,6 +1,5 @@
 -- The shares of a book, and what is entered.
-use Rattle.std.proofs.Common.{◌≡◌, ◌≢◌, ◌⊎◌, inl, inr, true, false, not, ◌==◌, ℕ, ◌+◌, ◌<◌, ◌≤◌, List, [], ◌∷◌, ◌++◌, Option, None, Some, set, length, get_or, refl, sym, ap, subst, ◌∙◌, arith}
-use Rattle.std.specs.List.{slice_get}
+use Rattle.std.proofs.Common.{◌≡◌, ◌≢◌, inl, inr, true, false, not, ◌==◌, ℕ, ◌+◌, ◌<◌, ◌≤◌, List, [], ◌∷◌, ◌++◌, None, Some, set, length, get_or, refl, sym, ap, subst, ◌∙◌, arith}
 use Rattle.std.proofs.lemmas.Bool.{cases_lt}
 use Rattle.std.proofs.lemmas.Bool.Decides.{nat_tests}
 use Rattle.std.proofs.lemmas.List.{get_or-set_other, get_or-set_same, length-set}
@@ -17,8 +16,8 @@ use Rattle.bayou_world.specs.declared.state.State.{State}
 use Rattle.bayou_world.specs.Inner.Booking.{AreOfSessions, Booking, IsBookOf, TakesOldest}
 use Rattle.bayou_world.specs.Inner.Good.{IsGood}
 use Rattle.bayou_world.specs.Inner.Tie.{IsOf}
-use Rattle.bayou_world.specs.Machine.{Machine, SessionSets, with_session}
-use Rattle.bayou_world.specs.Steps.{Files, MayFile}
+use Rattle.bayou_world.specs.Machine.{Machine, with_session}
+use Rattle.bayou_world.specs.Steps.{Files}
 use Rattle.bayou_world.proofs.Lists.{same_number}
 
 -- the share that is found at its place is of the session of that number
@@ -55,8 +54,7 @@ files old new who entry booking inside claimed filed takes view none exact not_f
     let places : inside.places ≡ machine.places = ap (λ (b : Booking). b.places) view ∙ book.places in
     let entries : inside.entries ≡ machine.filed = ap (λ (b : Booking). b.entries) view ∙ book.entries in
     let less : length inside.entries < inside.places = less_than (length inside.entries) inside.places (omega (arith, exact.room, none)) (λ same. not_full (omega (arith, same, none))) in
-    let room : length machine.filed < machine.places = omega (arith, less, places, ap length entries) in
-    (
+    let room : length machine.filed < machine.places = omega (arith, less, places, ap length entries) in (
       record (with_session machine who (record session { waiting = later })) { filed = machine.filed ++ entry ∷ [] },
       Files.filed session entry later (record { there = there.2; waits = there.3; room = room }) refl refl,
       of_filed (with_session machine who (record session { waiting = later })) there.5,

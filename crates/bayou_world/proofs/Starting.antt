@@ -1,5 +1,5 @@
 -- A run begins with what is good, and goes on with it. What its sessions ask for stays.
-use Rattle.std.proofs.Common.{◌≡◌, ◌≢◌, ℕ, ◌<◌, ◌≤◌, List, [], ◌∷◌, ◌++◌, Option, None, Some, IfSome, Contains, All, length, length-append, ap, sym, ◌∙◌, refl, subst, arith}
+use Rattle.std.proofs.Common.{◌≡◌, ℕ, ◌≤◌, List, [], ◌∷◌, Option, None, Some, length, length-append, ap, sym, ◌∙◌, refl, subst, arith}
 use Rattle.std.specs.Option.{option_map}
 use Rattle.std.proofs.lemmas.List.Elements.{All-cons, All-nil}
 use Rattle.bayou_base.specs.declared.asks.Asks.{Asks}
@@ -12,7 +12,7 @@ use Rattle.bayou_world.specs.declared.event.Event.{Event}
 use Rattle.bayou_world.specs.declared.event.Event.TheVariants as events
 use Rattle.bayou_world.specs.declared.reply.Reply.{Reply}
 use Rattle.bayou_world.specs.Inner.Good.{IsGood, IsGoodSession, IsHome, IsTrueAnswer}
-use Rattle.bayou_world.specs.Machine.{Answered, Machine, Made, Offered, SessionSets, changed, writes}
+use Rattle.bayou_world.specs.Machine.{Answered, Machine, Offered, SessionSets, changed, writes}
 use Rattle.bayou_world.specs.Runs.{Run, first_machine, new_server, new_session}
 use Rattle.bayou_world.specs.Steps.{Collects, Delivers, Files, Loses, Offers, Reads, Step, Takes, Writes, told}
 use Rattle.bayou_world.proofs.Lists.{Contains-none, at_changed}

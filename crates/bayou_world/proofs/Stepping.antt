@@ -1,5 +1,5 @@
 -- What is good stays so over each event.
-use Rattle.std.proofs.Common.{◌≡◌, ◌≢◌, inl, inr, ◌⊎◌, ℕ, zero, suc, ◌+◌, ◌<◌, ◌≤◌, true, List, [], ◌∷◌, ◌++◌, Option, None, Some, IfSome, Contains, All, length, ap, sym, ◌∙◌, refl, subst, arith}
+use Rattle.std.proofs.Common.{◌≡◌, ◌≢◌, inl, inr, ℕ, ◌+◌, ◌<◌, ◌≤◌, List, [], ◌∷◌, ◌++◌, Option, None, Some, IfSome, Contains, All, ap, sym, ◌∙◌, refl, subst, arith}
 use Rattle.std.specs.List.{slice_get}
 use Rattle.std.proofs.lemmas.List.{append-nil, get_or_default}
 use Rattle.std.proofs.lemmas.List.Elements.{All-append, All-contains, All-push, All-weaker, Contains-push}
@@ -10,15 +10,14 @@ use Rattle.bayou_base.specs.declared.entry.What.TheVariants as whats
 use Rattle.bayou_lang.specs.declared.program.Program.{Program}
 use Rattle.bayou_lang.specs.declared.write.Write.{Write}
 use Rattle.bayou_lang.specs.Laws.Fitting.{next_fits}
-use Rattle.bayou_lang.specs.Writes.{IsNextWrite}
 use Rattle.bayou_judge.specs.History.{IsFrontOf}
 use Rattle.bayou_world.specs.declared.event.Event.{Event}
 use Rattle.bayou_world.specs.declared.event.Event.TheVariants as events
 use Rattle.bayou_world.specs.declared.reply.Reply.{Reply}
-use Rattle.bayou_world.specs.Inner.Good.{AreGood, AreOffers, IsCovered, IsCoveredRead, IsCoveredWrite, IsGood, IsGoodFlight, IsGoodSession, IsHome, IsTrue, IsTrueAnswer, MayBeDoubted}
-use Rattle.bayou_world.specs.Machine.{Answered, IsWithin, Machine, Made, Offered, ServerSets, SessionSets, changed, names, with_server, with_session, writes}
+use Rattle.bayou_world.specs.Inner.Good.{AreGood, IsCovered, IsCoveredWrite, IsGood, IsGoodFlight, IsGoodSession, IsHome, IsTrue, IsTrueAnswer, MayBeDoubted}
+use Rattle.bayou_world.specs.Machine.{Answered, IsWithin, Machine, Made, Offered, ServerSets, SessionSets, changed, names, with_session, writes}
 use Rattle.bayou_world.specs.Runs.{IsRead, Run}
-use Rattle.bayou_world.specs.Steps.{Collects, Delivers, Files, Holds, IsEntry, IsGiven, IsInFlight, IsNext, Loses, Makes, MayBegin, MayFile, Offers, Reads, Step, Takes, Writes, heard, landed, refusal, served_by, told, with_answer, with_doubt, with_write}
+use Rattle.bayou_world.specs.Steps.{Collects, Delivers, Files, IsEntry, IsGiven, IsInFlight, IsNext, Loses, Makes, MayBegin, Offers, Reads, Step, Takes, Writes, landed, refusal, served_by, told, with_answer, with_doubt, with_write}
 use Rattle.bayou_world.proofs.Delivering.{heard_read, heard_write, more_of_other}
 use Rattle.bayou_world.proofs.Given.{given_fits}
 use Rattle.bayou_world.proofs.Growing.{HaveGrown, add_doubt, add_write, answer_grows, grown_by_doubt, grown_by_write, home_grows, offers_grow}

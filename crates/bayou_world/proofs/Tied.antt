@@ -1,7 +1,5 @@
 -- What the servers and sessions that run do, the machine does.
-use Rattle.std.proofs.Common.{◌≡◌, ◌≢◌, ◌↔◌, inl, inr, ◌⊎◌, ℕ, ◌+◌, ◌<◌, ◌≤◌, true, List, [], ◌∷◌, ◌++◌, Option, None, Some, Result, Ok, Err, IsSome, map, length, get_or, set, Contains, All, ap, sym, ◌∙◌, refl, subst, arith}
-use Rattle.std.specs.Option.{option_map}
-use Rattle.std.proofs.lemmas.Bool.{cases_lt}
+use Rattle.std.proofs.Common.{◌≡◌, ◌↔◌, inl, inr, ℕ, ◌+◌, ◌<◌, true, List, Option, None, Some, Result, Ok, Err, length, get_or, set, ap, sym, ◌∙◌, refl, subst, arith}
 use Rattle.std.proofs.lemmas.List.{get_or-set_other, get_or-set_same, length-set}
 use Rattle.bayou_base.specs.declared.answer.Accepted.{Accepted}
 use Rattle.bayou_base.specs.declared.answer.Seen.{Seen}
@@ -11,29 +9,24 @@ use Rattle.bayou_base.specs.declared.entry.What.TheVariants as whats
 use Rattle.bayou_base.specs.declared.limits.TheConstants.{MAX_PLACES, SERVERS, SESSIONS}
 use Rattle.bayou_base.specs.Vector.{Dominates}
 use Rattle.bayou_lang.specs.declared.write.Write.{Write}
-use Rattle.bayou_lang.specs.declared.program.Program.{Program}
 use Rattle.bayou_lang.specs.Places.{value_at}
 use Rattle.bayou_lang.specs.Writes.{count_of}
 use Rattle.bayou_log.specs.Replay.{replay}
 use Rattle.bayou_world.specs.Invariant.{IsVectorOf}
 use Rattle.bayou_server.specs.declared.fault.Behind.{Behind}
-use Rattle.bayou_server.specs.declared.fault.WriteFault.{WriteFault}
-use Rattle.bayou_server.specs.declared.fault.WriteFault.TheVariants as writing
 use Rattle.bayou_server.specs.Reads as served
-use Rattle.bayou_server.specs.Writes as accepts
 use Rattle.bayou_server.specs.Server.{Core, ServerState}
-use Rattle.bayou_session.specs.Needs.{HasCounts, Told, one_place_more, read_need, write_need}
+use Rattle.bayou_session.specs.Needs.{HasCounts, Told, read_need, write_need}
 use Rattle.bayou_world.specs.declared.client.Client.{Client}
 use Rattle.bayou_world.specs.declared.client.Flight.{Flight}
-use Rattle.bayou_world.specs.declared.reply.Reply.{Reply}
 use Rattle.bayou_world.specs.declared.reply.Reply.TheVariants as replies
-use Rattle.bayou_world.specs.Inner.Clients.{Begins, accepted_as, accepted_of, seen_as}
+use Rattle.bayou_world.specs.Inner.Clients.{Begins, seen_as}
 use Rattle.bayou_world.specs.Inner.Good.{IsGood}
-use Rattle.bayou_world.specs.Inner.Tie.{IsAcceptedIn, IsClientOf, IsFlightOf, IsSeatOf, IsServerOf, IsTied, seat, write_of}
-use Rattle.bayou_world.specs.Machine.{Answered, IsWithin, Machine, Made, ServerSets, SessionSets, changed, names, with_server, with_session, writes}
-use Rattle.bayou_world.specs.Steps.{CannotBegin, IsEntry, MayBegin, MayRead, MayWrite, Reads, Writes, refusal, with_answer, with_doubt, with_write}
+use Rattle.bayou_world.specs.Inner.Tie.{IsAcceptedIn, IsClientOf, IsFlightOf, IsSeatOf, IsServerOf, IsTied, seat}
+use Rattle.bayou_world.specs.Machine.{Answered, Machine, ServerSets, SessionSets, changed, with_server, with_session, writes}
+use Rattle.bayou_world.specs.Steps.{IsEntry, MayBegin, MayRead, Reads, refusal, with_answer}
 use Rattle.bayou_world.proofs.Homes.{fitting_at}
-use Rattle.bayou_world.proofs.Lists.{at_changed, changed-other, changed-same, same_number}
+use Rattle.bayou_world.proofs.Lists.{changed-other, changed-same, same_number}
 use Rattle.bayou_world.proofs.Vectors.{tests_agree}
 
 -- what a law of the session says

@@ -1,6 +1,6 @@
 -- What is heard, lost, offered and taken by the servers and sessions that run, is so in the machine.
-use Rattle.std.proofs.Common.{◌≡◌, ◌≢◌, ◌↔◌, inl, inr, ◌⊎◌, ℕ, ◌+◌, ◌<◌, ◌≤◌, true, List, [], ◌∷◌, ◌++◌, Option, None, Some, Result, Ok, Err, IsSome, map, length, get_or, set, Contains, All, IfSome, ap, sym, ◌∙◌, refl, subst, arith}
-use Rattle.std.proofs.lemmas.List.{append-nil, length-set, map-append}
+use Rattle.std.proofs.Common.{◌≡◌, ℕ, ◌<◌, true, List, [], ◌∷◌, ◌++◌, Option, None, Some, IsSome, map, length, set, All, IfSome, ap, sym, ◌∙◌, refl, subst}
+use Rattle.std.proofs.lemmas.List.{length-set, map-append}
 use Rattle.std.proofs.lemmas.List.Elements.{All-head, All-push, All-tail}
 use Rattle.bayou_base.specs.declared.answer.Accepted.{Accepted}
 use Rattle.bayou_base.specs.declared.entry.Entry.{Entry}
@@ -10,19 +10,17 @@ use Rattle.bayou_base.specs.declared.limits.TheConstants.{SERVERS, SESSIONS}
 use Rattle.bayou_base.specs.Vector.{joined}
 use Rattle.bayou_lang.specs.declared.write.Write.{Write}
 use Rattle.bayou_lang.specs.Laws.Fitting.{fitting-front, length-count_of}
-use Rattle.bayou_lang.specs.Writes.{AreFitting, count_of}
-use Rattle.bayou_judge.specs.History.{IsFrontOf}
+use Rattle.bayou_lang.specs.Writes.{AreFitting}
 use Rattle.bayou_server.specs.Server.{ServerState}
 use Rattle.bayou_session.specs.Needs.{Told, after_write}
 use Rattle.bayou_world.specs.declared.client.Client.{Client}
 use Rattle.bayou_world.specs.declared.client.Flight.{Flight}
-use Rattle.bayou_world.specs.declared.reply.Reply.{Reply}
 use Rattle.bayou_world.specs.declared.reply.Reply.TheVariants as replies
 use Rattle.bayou_world.specs.Inner.Clients.{Hears, after_accepted, after_read, served_entries}
-use Rattle.bayou_world.specs.Inner.Good.{IsGood, IsGoodFlight, IsTrue, IsTrueAnswer}
+use Rattle.bayou_world.specs.Inner.Good.{IsGood, IsGoodFlight, IsTrue}
 use Rattle.bayou_world.specs.Inner.Tie.{IsAcceptedIn, IsClientOf, IsFlightOf, IsTied, seat}
 use Rattle.bayou_world.specs.Invariant.{IsVectorOf}
-use Rattle.bayou_world.specs.Machine.{Answered, Machine, SessionSets, names, with_session, writes}
+use Rattle.bayou_world.specs.Machine.{Answered, Machine, SessionSets, names, with_session}
 use Rattle.bayou_world.specs.Steps.{Delivers, IsInFlight, Loses, heard, landed, served_by, told}
 use Rattle.bayou_world.proofs.Homes.{fitting_at}
 use Rattle.bayou_world.proofs.Tied.{same_seat, session_of_seat, with_seat}
@@ -110,8 +108,7 @@ deliver_tied servers clients offers items told_so_far machine good tied who clie
     let waits_then : new.waiting.items ≡ client.waiting.items ++ answered.entry ∷ [] = waits ∙ ap (λ e. client.waiting.items ++ e ∷ []) entry_is in
     let client_is : IsClientOf who new (heard answered session) =
     hears_same machine good who answered.entry.server.index client new session answered accepted is answered.entry.what refl true_answer flying.3 own session_then none waits_then in
-    let tied_then = with_seat servers clients offers items told_so_far machine tied who new (heard answered session) inside client_is in
-    (
+    let tied_then = with_seat servers clients offers items told_so_far machine tied who new (heard answered session) inside client_is in (
       record (with_session machine who (heard answered session)) { served = machine.served ++ served_by answered.entry.what answered },
       Delivers.delivered session answered in_flight refl refl,
       record {
@@ -139,8 +136,7 @@ lose_tied servers clients offers items told_so_far machine good tied who client 
     let session = seat_is.0 in
     let is = seat_is.2 in
     let flying = flies client.flight flight session.flight is.flight some in
-    let new : Client = record client { flight = None } in
-    (
+    let new : Client = record client { flight = None } in (
       with_session machine who (landed session),
       Loses.dropped session flying.0 (record { there = seat_is.1; flight = flying.1 }) refl refl,
       with_seat servers clients offers items told_so_far machine tied who new (landed session) inside (record {
@@ -170,8 +166,7 @@ oldest_some servers clients offers items told_so_far machine tied who client new
     let is = seat_is.2 in
     let later = new.waiting.items in
     let waiting : session.waiting ≡ entry ∷ later = sym is.waiting ∙ waits in
-    let own = subst (All (λ (e : Entry). e.session.index ≡ who)) waiting is.own in
-    (
+    let own = subst (All (λ (e : Entry). e.session.index ≡ who)) waiting is.own in (
       session,
       later,
       seat_is.1,
@@ -199,8 +194,7 @@ pub oldest_none : {D : Type 0} (servers : List (ServerState D)) (clients : List 
 oldest_none servers clients offers items told_so_far machine tied who client new inside at same none same_session same_flight =
     let seat_is = session_of_seat who (seat clients who) (machine.sessions who) client (tied.clients_are who inside) at in
     let session = seat_is.0 in
-    let is = seat_is.2 in
-    (
+    let is = seat_is.2 in (
       (λ other entry later there waits.
           let one : other ≡ session = one_session other session (sym there ∙ seat_is.1) in
           let empty : [] ≡ entry ∷ later = sym none ∙ sym same ∙ is.waiting ∙ ap (λ (s : SessionSets). s.waiting) (sym one) ∙ waits in

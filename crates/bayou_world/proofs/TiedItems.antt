@@ -1,21 +1,19 @@
 -- What is offered, collected and taken by the servers that run, is so in the machine.
-use Rattle.std.proofs.Common.{◌≡◌, ◌≢◌, ◌↔◌, inl, inr, ◌⊎◌, ℕ, zero, suc, ◌+◌, ◌<◌, ◌≤◌, Bool, cond, true, false, nat_lt, max, List, [], ◌∷◌, ◌++◌, Option, None, Some, Result, Ok, Err, IsSome, map, length, get_or, set, filter, take, Contains, All, AllPairs, slice_index, ap, sym, ◌∙◌, refl, subst, arith}
+use Rattle.std.proofs.Common.{◌≡◌, ◌≢◌, ◌↔◌, inl, inr, ◌⊎◌, ℕ, zero, suc, ◌+◌, ◌<◌, ◌≤◌, Bool, cond, true, false, nat_lt, max, List, [], ◌∷◌, ◌++◌, Option, Some, Result, Ok, Err, IsSome, map, length, get_or, set, filter, take, Contains, AllPairs, slice_index, ap, sym, ◌∙◌, refl, subst, arith}
 use Rattle.std.specs.List.{slice_get}
 use Rattle.std.proofs.lemmas.Bool.{cases_lt}
 use Rattle.std.proofs.lemmas.Bool.Decides.{nat_tests}
-use Rattle.std.proofs.lemmas.List.{get_or-map, length-map, map-append, take_all}
-use Rattle.std.proofs.lemmas.List.Elements.{All-contains, All-map, All-weaker}
+use Rattle.std.proofs.lemmas.List.{length-map, map-append, take_all}
+use Rattle.std.proofs.lemmas.List.Elements.{All-contains, All-map}
 use Rattle.std.proofs.lemmas.List.Kept.{AllPairs-cons, AllPairs-filter}
-use Rattle.std.proofs.lemmas.Option.{get_or_from_slice_get, slice_get-get_or, slice_get_within}
+use Rattle.std.proofs.lemmas.Option.{get_or_from_slice_get, slice_get_within}
 use Rattle.bayou_base.specs.declared.entry.Entry.{Entry}
-use Rattle.bayou_base.specs.declared.limits.TheConstants.{SERVERS}
 use Rattle.bayou_base.specs.Order.{is_before}
-use Rattle.bayou_base.specs.Vector.{Covers}
 use Rattle.bayou_lang.specs.declared.write.Write.{Write}
 use Rattle.bayou_lang.specs.Laws.Fitting.{fitting-front, fitting_distinct_stamps}
 use Rattle.bayou_lang.specs.Laws.SetOfWrites.{IsStrict, IsStrict-in_stamp_order, in_stamp_order-same, in_stamp_order-same_writes}
 use Rattle.bayou_lang.specs.Laws.StampOrder.{is_before-asym, length-in_stamp_order}
-use Rattle.bayou_lang.specs.Writes.{AreFitting, HasNoGap, IsWellStamped, count_of, in_stamp_order, lacking_of, missed_by}
+use Rattle.bayou_lang.specs.Writes.{AreFitting, HasNoGap, IsWellStamped, count_of, in_stamp_order, lacking_of}
 use Rattle.bayou_judge.specs.History.{IsFrontOf}
 use Rattle.bayou_server.specs.declared.answer.Took.{Took}
 use Rattle.bayou_server.specs.declared.answer.Took.TheVariants.{New, Had}
@@ -24,12 +22,11 @@ use Rattle.bayou_server.specs.declared.fault.TakeFault.TheVariants as taking
 use Rattle.bayou_server.specs.Server.{Core, ServerState}
 use Rattle.bayou_server.specs.Takes as takes
 use Rattle.bayou_world.specs.declared.client.Client.{Client}
-use Rattle.bayou_world.specs.declared.reply.Reply.{Reply}
 use Rattle.bayou_world.specs.declared.reply.Reply.TheVariants as replies
 use Rattle.bayou_world.specs.Inner.Good.{IsGood, IsHome}
 use Rattle.bayou_world.specs.Inner.Tie.{IsServerOf, IsTied, write_of}
-use Rattle.bayou_world.specs.Machine.{IsWithin, Machine, Made, Offered, ServerSets, names, with_server, writes}
-use Rattle.bayou_world.specs.Steps.{AreLacking, Collects, Holds, IsGiven, IsNew, IsNext, Offers, RefusesItem, Takes, with_doubt, with_write}
+use Rattle.bayou_world.specs.Machine.{Machine, Made, Offered, ServerSets, with_server, writes}
+use Rattle.bayou_world.specs.Steps.{AreLacking, Collects, Holds, IsGiven, IsNext, Offers, Takes, with_doubt, with_write}
 use Rattle.bayou_world.specs.declared.limits.TheConstants.{MAX_NUMBER}
 use Rattle.bayou_world.proofs.Given.{given_fits, no_gap_within}
 use Rattle.bayou_world.proofs.Homes.{fitting_at, home_of_held, one_home, one_write}
@@ -50,8 +47,7 @@ offer_tied servers clients offers items told machine tied place d vector known f
     let held_is : (get_or servers place d).core.held ≡ writes (machine.servers place).held = ap (λ (c : Core). c.held) core.is in
     let offered : Offered = record { server = place; database = writes (machine.servers place).held } in
     let count_offer : Offered → List ℕ = λ offer. count_of offer.database in
-    let as_many : length offers ≡ length machine.offers = ap length tied.offers_are ∙ length-map machine.offers count_offer in
-    (
+    let as_many : length offers ≡ length machine.offers = ap length tied.offers_are ∙ length-map machine.offers count_offer in (
       record machine { offers = machine.offers ++ offered ∷ [] },
       Offers.kept in_count (omega (arith, few, as_many)) (ap replies.Kept as_many) refl,
       record {
@@ -112,52 +108,70 @@ took machine good place item made given home core new (Err taking.Conflict) at (
     let as_made = Contains-map_from (λ (m : Made). m.write) (machine.servers place).held another.other held in
     let other_home = home_of_held machine.count machine.limit machine.servers good.servers place as_made.0 as_made.1 in
     absurd (another.differs (one_write machine.count machine.limit machine.servers good.servers as_made.0 made another.other made.write other_home home as_made.2 refl another.name))
-took machine good place item made given home core new (Err taking.Down) at (missing, down, same) =
-    (machine, Takes.refused made taking.Down given (
-      is_missing (machine.servers place) made (subst (λ (c : Core). takes.IsMissing c.held made.write) at.is missing),
-      some_doubt (machine.servers place).doubt (subst IsSome (ap (λ (c : Core). c.doubt) at.is) down),
-    ) refl refl, inl (refl, same))
+took machine good place item made given home core new (Err taking.Down) at (missing, down, same) = (
+  machine,
+  Takes.refused made taking.Down given (
+    is_missing (machine.servers place) made (subst (λ (c : Core). takes.IsMissing c.held made.write) at.is missing),
+    some_doubt (machine.servers place).doubt (subst IsSome (ap (λ (c : Core). c.doubt) at.is) down),
+  ) refl refl,
+  inl (refl, same),
+)
 took machine good place item made given home core new (Err taking.OwnLost) at (missing, up, own, same) =
     absurd (is_missing (machine.servers place) made (subst (λ (c : Core). takes.IsMissing c.held made.write) at.is missing)
     (own_held machine place made home (own ∙ ap (λ (c : Core). c.id) at.is)))
 took machine good place item made given home core new (Err taking.Gap) at (comes, gap, same) =
     let there = subst (λ (c : Core). takes.ComesFromAnother c made.write) at.is comes in
     let no_gap = subst (λ (c : Core). ¬ HasNoGap c.count c.held made.write) at.is gap in
-    let missing = is_missing (machine.servers place) made there.missing in
-    (machine, Takes.refused made taking.Gap given (
-      record { missing = missing; up = no_doubt (machine.servers place).doubt there.up },
-      (λ within. no_gap (given_fits machine.count machine.limit machine.servers good.servers place made home missing within).0),
-    ) refl refl, inl (refl, same))
+    let missing = is_missing (machine.servers place) made there.missing in (
+      machine,
+      Takes.refused made taking.Gap given (
+        record { missing = missing; up = no_doubt (machine.servers place).doubt there.up },
+        (λ within. no_gap (given_fits machine.count machine.limit machine.servers good.servers place made home missing within).0),
+      ) refl refl,
+      inl (refl, same),
+    )
 took machine good place item made given home core new (Err taking.BadStamp) at (comes, none, wrong, same) =
     let there = subst (λ (c : Core). takes.ComesFromAnother c made.write) at.is comes in
     let no_gap = subst (λ (c : Core). HasNoGap c.count c.held made.write) at.is none in
     let missing = is_missing (machine.servers place) made there.missing in
     let within = no_gap_within machine.count machine.limit machine.servers good.servers place made home no_gap in
     absurd (subst (λ (c : Core). ¬ IsWellStamped c.held made.write) at.is wrong (given_fits machine.count machine.limit machine.servers good.servers place made home missing within).1)
-took machine good place item made given home core new (Err taking.LogFull) at (fit, full, same) =
-    (machine, Takes.refused made taking.LogFull given (
-      next_there machine good place made home core at fit,
-      sym (length-map (machine.servers place).held write_of) ∙ ap length (sym (ap (λ (c : Core). c.held) at.is)) ∙ full ∙ ap (λ (c : Core). c.limit) at.is,
-    ) refl refl, inl (refl, same))
-took machine good place item made given home core new (Err taking.OutOfMemory) at (takable, same) =
-    (machine, Takes.refused made taking.OutOfMemory given (
-      next_there machine good place made home core at takable.fit,
-      room_there machine place core at takable.room,
-    ) refl refl, inl (refl, same))
-took machine good place item made given home core new (Err taking.Journal) at (takable, spelled, same) =
-    (
-      with_server machine place (with_doubt (machine.servers place) made),
-      Takes.doubted made given (next_there machine good place made home core at takable.fit) (room_there machine place core at takable.room) refl refl,
-      inr (with_doubt (machine.servers place) made, refl, subst (λ (c : Core). IsServerOf machine.count machine.limit place c (with_doubt (machine.servers place) made)) (sym same)
-      (doubted_there machine.count machine.limit place core (machine.servers place) made at)),
-    )
-took machine good place item made given home core new (Ok New) at (takable, spelled, same) =
-    (
-      with_server machine place (with_write (machine.servers place) made),
-      Takes.taken made given (next_there machine good place made home core at takable.fit) (room_there machine place core at takable.room) refl refl,
-      inr (with_write (machine.servers place) made, refl, subst (λ (c : Core). IsServerOf machine.count machine.limit place c (with_write (machine.servers place) made)) (sym same)
-      (held_more machine.count machine.limit place core (machine.servers place) made at)),
-    )
+took machine good place item made given home core new (Err taking.LogFull) at (fit, full, same) = (
+  machine,
+  Takes.refused made taking.LogFull given (
+    next_there machine good place made home core at fit,
+    sym (length-map (machine.servers place).held write_of) ∙ ap length (sym (ap (λ (c : Core). c.held) at.is)) ∙ full ∙ ap (λ (c : Core). c.limit) at.is,
+  ) refl refl,
+  inl (refl, same),
+)
+took machine good place item made given home core new (Err taking.OutOfMemory) at (takable, same) = (
+  machine,
+  Takes.refused made taking.OutOfMemory given (
+    next_there machine good place made home core at takable.fit,
+    room_there machine place core at takable.room,
+  ) refl refl,
+  inl (refl, same),
+)
+took machine good place item made given home core new (Err taking.Journal) at (takable, spelled, same) = (
+  with_server machine place (with_doubt (machine.servers place) made),
+  Takes.doubted made given (next_there machine good place made home core at takable.fit) (room_there machine place core at takable.room) refl refl,
+  inr (
+    with_doubt (machine.servers place) made,
+    refl,
+    subst (λ (c : Core). IsServerOf machine.count machine.limit place c (with_doubt (machine.servers place) made)) (sym same)
+        (doubted_there machine.count machine.limit place core (machine.servers place) made at),
+  ),
+)
+took machine good place item made given home core new (Ok New) at (takable, spelled, same) = (
+  with_server machine place (with_write (machine.servers place) made),
+  Takes.taken made given (next_there machine good place made home core at takable.fit) (room_there machine place core at takable.room) refl refl,
+  inr (
+    with_write (machine.servers place) made,
+    refl,
+    subst (λ (c : Core). IsServerOf machine.count machine.limit place c (with_write (machine.servers place) made)) (sym same)
+        (held_more machine.count machine.limit place core (machine.servers place) made at),
+  ),
+)
 
 pub take_tied : {D : Type 0} (servers : List (ServerState D)) (clients : List (Option Client)) (offers : List (List ℕ)) (items : List Write) (told : List Entry) (machine : Machine) → IsGood machine
     → IsTied servers clients offers items told machine → (place item : ℕ) (d new : ServerState D) (write : Write) (answer : Result Took TakeFault) → place < length servers → item < length items
@@ -347,8 +361,7 @@ pub collect_flown : {D : Type 0} (servers : List (ServerState D)) (clients : Lis
 collect_flown servers clients offers items told machine tied place offer lacking known those few =
     let in_count : place < machine.count = omega (arith, known, tied.many) in
     let number : length items ≡ length machine.items = ap length tied.items_are ∙ length-map machine.items write_of in
-    let as_many : length lacking ≡ length those.pasts = ap length (sym those.are) ∙ length-map those.pasts write_of in
-    (
+    let as_many : length lacking ≡ length those.pasts = ap length (sym those.are) ∙ length-map those.pasts write_of in (
       record machine { items = machine.items ++ those.pasts },
       Collects.flown those.offered.database those.pasts
           (record { server = in_count; by = those.offered.server; there = those.there; those = those.those; numbered = subst (λ n. n + max (length those.pasts) 1 ≤ MAX_NUMBER + 1) number (subst (λ n. length items + max n 1 ≤ MAX_NUMBER + 1) as_many few) })

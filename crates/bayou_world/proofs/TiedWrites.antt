@@ -1,12 +1,11 @@
 -- A Write that the servers and sessions that run make, the machine makes.
-use Rattle.std.proofs.Common.{◌≡◌, ◌≢◌, ◌↔◌, inl, inr, ◌⊎◌, ℕ, ◌+◌, ◌<◌, ◌≤◌, true, List, [], ◌∷◌, ◌++◌, Option, None, Some, Result, Ok, Err, IsSome, map, length, get_or, set, Contains, All, ap, sym, ◌∙◌, refl, subst, arith}
+use Rattle.std.proofs.Common.{◌≡◌, ◌≢◌, ◌↔◌, ℕ, ◌+◌, ◌<◌, List, [], ◌∷◌, ◌++◌, Option, None, Some, Result, Ok, Err, IsSome, length, get_or, set, ap, sym, ◌∙◌, refl, subst, arith}
 use Rattle.std.specs.Option.{option_map}
 use Rattle.std.proofs.lemmas.List.{length-map, map-append}
 use Rattle.bayou_base.specs.declared.answer.Accepted.{Accepted}
 use Rattle.bayou_base.specs.declared.entry.Entry.{Entry}
-use Rattle.bayou_base.specs.declared.entry.What.{What}
 use Rattle.bayou_base.specs.declared.entry.What.TheVariants as whats
-use Rattle.bayou_base.specs.declared.limits.TheConstants.{MAX_PLACES, SERVERS, SESSIONS}
+use Rattle.bayou_base.specs.declared.limits.TheConstants.{MAX_PLACES, SESSIONS}
 use Rattle.bayou_base.specs.Vector.{Dominates}
 use Rattle.bayou_lang.specs.declared.write.Write.{Write}
 use Rattle.bayou_lang.specs.declared.program.Program.{Program}
@@ -17,13 +16,12 @@ use Rattle.bayou_server.specs.Writes as accepts
 use Rattle.bayou_server.specs.Server.{Core, ServerState}
 use Rattle.bayou_session.specs.Needs.{HasCounts, write_need}
 use Rattle.bayou_world.specs.declared.client.Client.{Client}
-use Rattle.bayou_world.specs.declared.reply.Reply.{Reply}
 use Rattle.bayou_world.specs.declared.reply.Reply.TheVariants as replies
 use Rattle.bayou_world.specs.Inner.Clients.{Begins, accepted_as, accepted_of}
 use Rattle.bayou_world.specs.Inner.Good.{IsGood}
 use Rattle.bayou_world.specs.Inner.Tie.{IsClientOf, IsServerOf, IsTied, seat, write_of}
-use Rattle.bayou_world.specs.Machine.{Answered, IsWithin, Machine, Made, ServerSets, SessionSets, changed, with_server, writes}
-use Rattle.bayou_world.specs.Steps.{IsAccepted, IsReady, Makes, MayBegin, MayWrite, RefusesWrite, Writes, refusal, with_answer, with_doubt, with_write}
+use Rattle.bayou_world.specs.Machine.{Answered, Machine, Made, ServerSets, SessionSets, with_server, writes}
+use Rattle.bayou_world.specs.Steps.{IsReady, Makes, MayWrite, RefusesWrite, Writes, refusal, with_answer, with_doubt, with_write}
 use Rattle.bayou_world.proofs.Homes.{fitting_at}
 use Rattle.bayou_world.proofs.Tied.{WriteLaw, began, entry_of, may_begin, same_place, session_of_seat, with_place, with_seat}
 use Rattle.bayou_world.proofs.Vectors.{tests_agree}
@@ -73,17 +71,28 @@ refuses law machine good who place client session is counts program core new wri
     (some_doubt (machine.servers place).doubt (subst IsSome (ap (λ (c : Core). c.doubt) at.is) down), same)
 refuses law machine good who place client session is counts program core new (writing.Behind vector) at no_fault (up, behind, same) =
     let held_is = ap (λ (c : Core). c.held) at.is in (
-      (no_doubt (machine.servers place).doubt (sym (ap (λ (c : Core). c.doubt) at.is) ∙ up),
-      (λ may. behind.not_covered (subst (λ h. Dominates (count_of h) (write_need client.session)) (sym held_is) ((write_covered law machine good who place client session is counts).1 may))),
-      behind.held ∙ ap count_of held_is),
+      (
+        no_doubt (machine.servers place).doubt (sym (ap (λ (c : Core). c.doubt) at.is) ∙ up),
+        (λ may. behind.not_covered (subst (λ h. Dominates (count_of h) (write_need client.session)) (sym held_is) ((write_covered law machine good who place client session is counts).1 may))),
+        behind.held ∙ ap count_of held_is,
+      ),
       same,
     )
-refuses law machine good who place client session is counts program core new writing.LogFull at no_fault (ready, full, same) =
-    (((ready_there law machine good who place client session is counts core at ready), (
-      sym (length-map (machine.servers place).held write_of) ∙ ap length (sym (ap (λ (c : Core). c.held) at.is)) ∙ full ∙ ap (λ (c : Core). c.limit) at.is)), same)
-refuses law machine good who place client session is counts program core new writing.OutOfMemory at no_fault (ready, room, same) =
-    (((ready_there law machine good who place client session is counts core at ready),
-      omega (arith, room, length-map (machine.servers place).held write_of, ap length (ap (λ (c : Core). c.held) at.is), ap (λ (c : Core). c.limit) at.is)), same)
+refuses law machine good who place client session is counts program core new writing.LogFull at no_fault (ready, full, same) = (
+  (
+    (ready_there law machine good who place client session is counts core at ready),
+    (
+        sym (length-map (machine.servers place).held write_of) ∙ ap length (sym (ap (λ (c : Core). c.held) at.is)) ∙ full ∙ ap (λ (c : Core). c.limit) at.is),
+  ),
+  same,
+)
+refuses law machine good who place client session is counts program core new writing.OutOfMemory at no_fault (ready, room, same) = (
+  (
+    (ready_there law machine good who place client session is counts core at ready),
+    omega (arith, room, length-map (machine.servers place).held write_of, ap length (ap (λ (c : Core). c.held) at.is), ap (λ (c : Core). c.limit) at.is),
+  ),
+  same,
+)
 refuses law machine good who place client session is counts program core new writing.Journal at no_fault doubts = absurd (no_fault refl)
 
 -- the Write that is made is made there
@@ -122,8 +131,7 @@ refused_entry servers clients offers items told law machine good tied who place 
     let is = seat_is.2 in
     let may = may_begin machine who place client session seat_is.1 is none left known in
     let both = refuses law machine good who place client session is counts program old_server.core new_server.core fault core no_fault refused in
-    let same_server : IsServerOf machine.count machine.limit place new_server.core (machine.servers place) = subst (λ (c : Core). IsServerOf machine.count machine.limit place c (machine.servers place)) (sym both.1) core in
-    (
+    let same_server : IsServerOf machine.count machine.limit place new_server.core (machine.servers place) = subst (λ (c : Core). IsServerOf machine.count machine.limit place c (machine.servers place)) (sym both.1) core in (
       with_answer machine who session (refusal begins.entry),
       Writes.refused session begins.entry fault may both.0 refl (entry_of who place client new session whats.Refused None is begins) refl,
       with_seat (set servers place new_server) clients offers items told machine (same_place servers clients offers items told machine tied place new_server known same_server) who new
@@ -151,8 +159,7 @@ write_tied law servers clients offers items told machine good tied who place pro
     let answered : Answered = record { entry = begins_at.entry; database = made.past; made = Some made } in
     let server_is = subst (λ (c : Core). IsServerOf machine.count machine.limit place c (with_write (machine.servers place) made)) (sym accepts_it.is)
     (held_more machine.count machine.limit place (get_or servers place d).core (machine.servers place) made core) in
-    let machine_then = with_server machine place (with_write (machine.servers place) made) in
-    (
+    let machine_then = with_server machine place (with_write (machine.servers place) made) in (
       with_answer machine_then who session answered,
       Writes.accepted session begins_at.entry made accepted may makes (record { wid = accepts_it.wid; stamp = accepts_it.stamp; deps = accepts_it.deps ∙ makes.next.deps }) refl
           (entry_of who place client new session what (Some accepted) is begins_at) refl,
@@ -173,8 +180,7 @@ write_tied law servers clients offers items told machine good tied who place pro
     let makes = makes_there law machine good who place client session is counts program (get_or servers place d).core doubts.made core doubts.makes in
     let server_is = subst (λ (c : Core). IsServerOf machine.count machine.limit place c (with_doubt (machine.servers place) made)) (sym doubts.is)
     (doubted_there machine.count machine.limit place (get_or servers place d).core (machine.servers place) made core) in
-    let machine_then = with_server machine place (with_doubt (machine.servers place) made) in
-    (
+    let machine_then = with_server machine place (with_doubt (machine.servers place) made) in (
       with_answer machine_then who session (refusal begins_at.entry),
       Writes.doubted session begins_at.entry made may makes refl (entry_of who place client new session whats.Refused None is begins_at) refl,
       with_seat (set servers place new_server) clients offers items told machine_then

@@ -1,5 +1,5 @@
 -- Vectors and the sets that they stand for.
-use Rattle.std.proofs.Common.{◌≡◌, ◌≢◌, ◌↔◌, ℕ, zero, suc, ◌+◌, ◌<◌, ◌≤◌, max, List, [], ◌∷◌, ◌++◌, inl, inr, length, replicate, Contains, slice_index, ap, sym, ◌∙◌, refl, subst, arith}
+use Rattle.std.proofs.Common.{◌≡◌, ◌≢◌, ◌↔◌, ℕ, zero, suc, ◌≤◌, max, List, [], ◌∷◌, ◌++◌, inl, inr, length, replicate, Contains, slice_index, ap, refl, subst, arith}
 use Rattle.std.proofs.lemmas.Bool.{cases_lt}
 use Rattle.std.proofs.lemmas.List.{get_or-replicate, get_or-set_other, get_or-set_same}
 use Rattle.std.proofs.lemmas.List.Elements.{Contains-append_cases, Contains-append_left, Contains-append_right, Contains-push, Contains-push_cases}
@@ -77,8 +77,12 @@ IsVectorOf-joined xs ys set other same one two = record {
         | inr there ↦ omega (arith, two.each name there, at)
       ];
   least = λ vector covers server inside.
-      omega (arith, one.least vector (λ name has. covers name (Contains-append_left set other name has)) server inside,
-      two.least vector (λ name has. covers name (Contains-append_right set other name has)) server inside, joined_at xs ys server same);
+      omega (
+        arith,
+        one.least vector (λ name has. covers name (Contains-append_left set other name has)) server inside,
+        two.least vector (λ name has. covers name (Contains-append_right set other name has)) server inside,
+        joined_at xs ys server same,
+      );
 }
 
 -- of a set and a name more

@@ -9,7 +9,7 @@ use Rattle.bayou_server.specs.declared.fault.TakeFault.TheVariants as taking
 use Rattle.bayou_world.specs.declared.event.Event.{Event}
 use Rattle.bayou_world.specs.declared.reply.Reply.{Reply}
 use Rattle.bayou_world.specs.declared.reply.Reply.TheVariants as replies
-use Rattle.bayou_world.specs.Machine.{IsWithin, Machine, Made, Offered, names, writes}
+use Rattle.bayou_world.specs.Machine.{IsWithin, Machine, Made, names, writes}
 use Rattle.bayou_world.specs.Runs.{Run}
 use Rattle.bayou_world.specs.Steps.{Collects, Holds}
 

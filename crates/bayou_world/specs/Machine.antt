@@ -1,5 +1,5 @@
 -- All servers and all sessions as one machine (Terry et al. 1994, 1995). It speaks of lists and sets of Writes, and counts none.
-use Rattle.std.specs.Prelude.{◌≡◌, ℕ, ◌==◌, List, Option, None, Some, Contains, map, if◌then◌else◌}
+use Rattle.std.specs.Prelude.{ℕ, ◌==◌, List, Option, Some, Contains, map, if◌then◌else◌}
 use Rattle.bayou_base.specs.declared.asks.Asks.{Asks}
 use Rattle.bayou_base.specs.declared.entry.Entry.{Entry}
 use Rattle.bayou_base.specs.declared.wid.Wid.{Wid}

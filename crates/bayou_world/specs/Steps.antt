@@ -1,5 +1,5 @@
 -- What each event does to the machine, with each answer that it may have (Terry et al. 1994, 1995; Petersen et al. 1997).
-use Rattle.std.specs.Prelude.{◌≡◌, ℕ, ◌+◌, ◌<◌, ◌≤◌, ◌⊎◌, ◌↔◌, true, List, [], ◌∷◌, ◌++◌, Option, None, Some, Ok, Err, IsSome, AllPairs, Contains, length, max}
+use Rattle.std.specs.Prelude.{◌≡◌, ℕ, ◌+◌, ◌<◌, ◌≤◌, ◌⊎◌, ◌↔◌, true, List, [], ◌∷◌, ◌++◌, None, Some, Ok, Err, IsSome, AllPairs, Contains, length, max}
 use Rattle.std.specs.List.{slice_get}
 use Rattle.bayou_base.specs.declared.answer.Accepted.{Accepted}
 use Rattle.bayou_base.specs.declared.answer.Seen.{Seen}
@@ -23,7 +23,7 @@ use Rattle.bayou_world.specs.declared.event.Event.{Event}
 use Rattle.bayou_world.specs.declared.event.Event.TheVariants as events
 use Rattle.bayou_world.specs.declared.reply.Reply.{Reply}
 use Rattle.bayou_world.specs.declared.reply.Reply.TheVariants as replies
-use Rattle.bayou_world.specs.Machine.{Answered, IsWithin, Machine, Made, ServerSets, SessionSets, changed, names, with_server, with_session, writes}
+use Rattle.bayou_world.specs.Machine.{Answered, IsWithin, Machine, Made, ServerSets, SessionSets, names, with_server, with_session, writes}
 
 -- ---- an operation of a session
 

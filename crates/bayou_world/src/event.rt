@@ -23,9 +23,15 @@ pub enum Event {
     /// What the server holds is kept as the next offer, from 0 on.
     Offer(ServerId),
     /// What the server holds and this offer hasn't goes in flight, as the next items, from 0 on.
-    Collect { server: ServerId, offer: u32 },
+    Collect {
+        server: ServerId,
+        offer: u32,
+    },
     /// The server is given this item, which stays in flight.
-    Take { server: ServerId, item: u32 },
+    Take {
+        server: ServerId,
+        item: u32,
+    },
     /// The oldest of the session's delivered operations that isn't in the book yet is entered there.
     File(SessionId),
 }

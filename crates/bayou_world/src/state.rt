@@ -160,12 +160,7 @@ impl State {
     }
 
     /// The server is given the item, a copy of which is made first.
-    pub fn take(
-        &mut self,
-        alloc: Global,
-        place: ServerId,
-        item: u32,
-    ) -> Result<Reply, AllocError>
+    pub fn take(&mut self, alloc: Global, place: ServerId, item: u32) -> Result<Reply, AllocError>
         ensures { IfOk result (λ reply. Follows self.old (λ machine next. Takes machine place.index item reply next) self.new) }
     {
         let (at, item) = (usize::from(place.index), item as usize);

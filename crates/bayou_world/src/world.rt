@@ -203,7 +203,9 @@ fn run_with<K: Ledgers>(
     ensures { IfOk result (IsHistory world events.now) }
 {
     let World {
-        servers, sessions, ..
+        servers,
+        sessions,
+        ..
     } = world;
     let state = State {
         servers,

@@ -11,7 +11,6 @@ use Rattle.bayou_server.specs.declared.fault.Behind.{Behind}
 use Rattle.bayou_server.specs.declared.fault.WriteFault.{WriteFault}
 use Rattle.bayou_session.specs.Needs.{Told, after_write, one_place_more}
 use Rattle.bayou_world.specs.declared.client.Client.{Client}
-use Rattle.bayou_world.specs.declared.client.Flight.{Flight}
 
 -- what an answer to a read tells
 abbrev pub seen_as : List ℕ → Result Seen Behind → What

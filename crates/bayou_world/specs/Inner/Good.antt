@@ -1,13 +1,12 @@
 -- What stays true of the machine: callers don't see it.
-use Rattle.std.specs.Prelude.{◌≡◌, ◌≢◌, ℕ, ◌+◌, ◌<◌, ◌≤◌, true, List, ◌∷◌, ◌++◌, Option, None, Some, IfSome, All, Contains, length, slice_index}
-use Rattle.bayou_base.specs.declared.entry.Entry.{Entry}
+use Rattle.std.specs.Prelude.{◌≡◌, ◌≢◌, ℕ, ◌<◌, ◌≤◌, true, List, ◌∷◌, ◌++◌, None, Some, IfSome, All, Contains, length}
 use Rattle.bayou_base.specs.declared.entry.What.{What}
 use Rattle.bayou_base.specs.declared.entry.What.TheVariants as whats
 use Rattle.bayou_lang.specs.declared.write.Write.{Write}
 use Rattle.bayou_lang.specs.Writes.{Fits, IsSound, count_of}
 use Rattle.bayou_judge.specs.History.{IsFrontOf}
 use Rattle.bayou_world.specs.Machine.{Answered, IsWithin, Machine, Made, Offered, ServerSets, SessionSets, names, writes}
-use Rattle.bayou_world.specs.Runs.{IsReadAt, IsWriteAt}
+use Rattle.bayou_world.specs.Runs.{IsReadAt}
 
 -- the Write's own server holds it, with that past
 abbrev pub IsHome : (ℕ → ServerSets) → Made → Type 0

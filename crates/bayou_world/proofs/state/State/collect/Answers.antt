@@ -1,13 +1,12 @@
-use Rattle.std.proofs.Common.{◌≡◌, ◌<◌, ◌≤◌, ◌+◌, ◌++◌, ℕ, max, ap, sym, ◌∙◌, arith, length, get_or, take, refl, subst}
+use Rattle.std.proofs.Common.{◌≡◌, ◌<◌, ◌≤◌, ◌+◌, ◌++◌, max, ap, sym, ◌∙◌, arith, length, get_or, take, subst}
 use Rattle.std.proofs.lemmas.List.{get_or_default}
 use Rattle.bayou_lang.specs.Writes.{lacking_of}
 use Rattle.bayou_world.specs.declared.limits.TheConstants.{MAX_NUMBER}
-use Rattle.bayou_world.specs.Inner.Good.{IsGood}
-use Rattle.bayou_world.specs.Inner.Tie.{IsOf, IsTied}
+use Rattle.bayou_world.specs.Inner.Tie.{IsTied}
 use Rattle.bayou_world.specs.Machine.{Machine}
 use Rattle.bayou_world.specs.Steps.{Collects}
 use Rattle.bayou_world.specs.declared.reply.Reply.TheVariants as replies
-use Rattle.bayou_world.proofs.TiedItems.{Lacks, collect_beyond, collect_flown, collect_lacks}
+use Rattle.bayou_world.proofs.TiedItems.{collect_beyond, collect_flown, collect_lacks}
 use Rattle.bayou_world.proofs.state.State.collect.Goals as goal
 
 pub returns-then-first-max : goal.returns-then-first-max
@@ -53,9 +52,9 @@ returns c machine good tied =
     let number : c.len-number.result ≡ length lacking = omega (arith, c.len-number.ensures) in
     let few : length items + max (length lacking) 1 ≤ MAX_NUMBER + 1 = omega (arith, c.if-first-max.false, first, number, c.max.ensures) in
     subst (λ list. (next : Machine) × Collects machine place c.args.offer (replies.Flown c.len-first.result c.len-number.result) next
-        × IsTied servers clients offers list c.args.self.now.served.items next) (sym c.in_ok-append.ensures.items)
+    × IsTied servers clients offers list c.args.self.now.served.items next) (sym c.in_ok-append.ensures.items)
     (subst (λ n. (next : Machine) × Collects machine place c.args.offer (replies.Flown n c.len-number.result) next
-        × IsTied servers clients offers (items ++ lacking) c.args.self.now.served.items next) (sym first)
+    × IsTied servers clients offers (items ++ lacking) c.args.self.now.served.items next) (sym first)
     (subst (λ n. (next : Machine) × Collects machine place c.args.offer (replies.Flown (length items) n) next
-        × IsTied servers clients offers (items ++ lacking) c.args.self.now.served.items next) (sym number)
+    × IsTied servers clients offers (items ++ lacking) c.args.self.now.served.items next) (sym number)
     (collect_flown servers clients offers items c.args.self.now.served.items machine tied place c.args.offer lacking known lacks few)))

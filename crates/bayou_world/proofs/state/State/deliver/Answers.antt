@@ -1,4 +1,4 @@
-use Rattle.std.proofs.Common.{◌≡◌, ◌<◌, ◌++◌, Some, None, ap, sym, ◌∙◌, arith, length, get_or, set, refl, subst}
+use Rattle.std.proofs.Common.{◌≡◌, ◌<◌, ◌++◌, Some, None, ap, sym, ◌∙◌, arith, length, get_or, set, subst}
 use Rattle.std.proofs.lemmas.List.{get_or_default}
 use Rattle.bayou_world.specs.Inner.Clients.{Hears, served_entries}
 use Rattle.bayou_world.specs.Inner.Tie.{IsTied, seat}
@@ -18,7 +18,7 @@ returns c machine good tied =
     get_or_default clients who None c.index_mut.result.now inside ∙ ap (λ n. get_or clients n c.index_mut.result.now) (sym c.from-seat.ensures) ∙ sym c.index_mut.ensures.value ∙ c.in-Some.is in
     let hears : Hears c.in-Some.client (Some c.in-Some-2.entry) c.hear.new.self = subst (λ h. Hears c.in-Some.client h c.hear.new.self) c.in-Some-2.is c.in_ok-entry.ensures in
     subst (λ list. (next : Machine) × Delivers machine who replies.Delivered next
-        × IsTied servers (set clients c.from-seat.result (Some c.hear.new.self)) c.args.self.now.offers.items c.args.self.now.items.items list next) (sym c.in_ok-keep_served.ensures)
+    × IsTied servers (set clients c.from-seat.result (Some c.hear.new.self)) c.args.self.now.offers.items c.args.self.now.items.items list next) (sym c.in_ok-keep_served.ensures)
     (subst (λ n. (next : Machine) × Delivers machine who replies.Delivered next
-        × IsTied servers (set clients n (Some c.hear.new.self)) c.args.self.now.offers.items c.args.self.now.items.items (c.args.self.now.served.items ++ served_entries c.in-Some-2.entry.what c.in-Some-2.entry) next) (sym c.from-seat.ensures)
+    × IsTied servers (set clients n (Some c.hear.new.self)) c.args.self.now.offers.items c.args.self.now.items.items (c.args.self.now.served.items ++ served_entries c.in-Some-2.entry.what c.in-Some-2.entry) next) (sym c.from-seat.ensures)
     (deliver_tied servers clients c.args.self.now.offers.items c.args.self.now.items.items c.args.self.now.served.items machine good tied who c.in-Some.client c.hear.new.self c.in-Some-2.entry c.args.who.in_range at hears))

@@ -18,7 +18,7 @@ returns-then-lose c machine good tied =
     get_or_default clients who None c.index_mut.result.now inside ∙ ap (λ n. get_or clients n c.index_mut.result.now) (sym c.from-seat.ensures) ∙ sym c.index_mut.ensures.value ∙ c.in-Some.is in
     let some = some_flight c.in-Some.client.flight (c.if-lose.ensures.told.0 refl) in
     subst (λ (client : Client). (next : Machine) × Loses machine who replies.Dropped next
-        × IsTied servers (set clients c.from-seat.result (Some client)) c.args.self.now.offers.items c.args.self.now.items.items c.args.self.now.served.items next) (sym c.if-lose.ensures.lost)
+    × IsTied servers (set clients c.from-seat.result (Some client)) c.args.self.now.offers.items c.args.self.now.items.items c.args.self.now.served.items next) (sym c.if-lose.ensures.lost)
     (subst (λ n. (next : Machine) × Loses machine who replies.Dropped next
-        × IsTied servers (set clients n (Some (record c.in-Some.client { flight = None }))) c.args.self.now.offers.items c.args.self.now.items.items c.args.self.now.served.items next) (sym c.from-seat.ensures)
+    × IsTied servers (set clients n (Some (record c.in-Some.client { flight = None }))) c.args.self.now.offers.items c.args.self.now.items.items c.args.self.now.served.items next) (sym c.from-seat.ensures)
     (lose_tied servers clients c.args.self.now.offers.items c.args.self.now.items.items c.args.self.now.served.items machine good tied who c.in-Some.client some.0 c.args.who.in_range at some.1))

@@ -1,5 +1,4 @@
-use Rattle.std.proofs.Common.{◌≡◌, ◌<◌, ◌≤◌, ◌∷◌, [], ◌++◌, ap, sym, ◌∙◌, arith, length, get_or, refl, subst}
-use Rattle.bayou_base.specs.declared.limits.TheConstants.{MAX_PLACES}
+use Rattle.std.proofs.Common.{◌≡◌, ◌<◌, ◌≤◌, ◌∷◌, [], ◌++◌, ap, sym, ◌∙◌, arith, length, get_or, subst}
 use Rattle.bayou_lang.specs.Writes.{count_of}
 use Rattle.bayou_world.specs.declared.limits.TheConstants.{MAX_NUMBER}
 use Rattle.bayou_world.specs.Inner.Tie.{IsTied}
@@ -21,7 +20,7 @@ returns c machine good tied =
     let here : d ≡ get_or servers place d = c.index.ensures ∙ ap (λ n. get_or servers n d) c.from-at.ensures in
     let counts : c.vector.result ≡ count_of (get_or servers place d).core.held = c.vector.ensures ∙ ap (λ (x : _). count_of x.core.held) here in
     subst (λ list. (next : Machine) × Offers machine place (replies.Kept c.len-number.result) next
-        × IsTied servers c.args.self.now.clients.items list c.args.self.now.items.items c.args.self.now.served.items next) (sym c.in_ok-push.ensures.items)
+    × IsTied servers c.args.self.now.clients.items list c.args.self.now.items.items c.args.self.now.served.items next) (sym c.in_ok-push.ensures.items)
     (subst (λ n. (next : Machine) × Offers machine place (replies.Kept n) next
-        × IsTied servers c.args.self.now.clients.items (offers ++ c.vector.result ∷ []) c.args.self.now.items.items c.args.self.now.served.items next) (sym number)
+    × IsTied servers c.args.self.now.clients.items (offers ++ c.vector.result ∷ []) c.args.self.now.items.items c.args.self.now.served.items next) (sym number)
     (offer_tied servers c.args.self.now.clients.items offers c.args.self.now.items.items c.args.self.now.served.items machine tied place d c.vector.result known few counts))

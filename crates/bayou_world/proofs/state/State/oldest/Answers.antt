@@ -1,12 +1,6 @@
-use Rattle.std.proofs.Common.{◌≡◌, ◌<◌, ◌++◌, ◌∷◌, [], List, Option, Some, None, ap, sym, ◌∙◌, arith, length, get_or, set, refl, subst}
-use Rattle.std.specs.Option.{option_to_list}
+use Rattle.std.proofs.Common.{◌≡◌, ◌<◌, Some, None, ap, sym, ◌∙◌, arith, length, get_or, refl}
 use Rattle.std.proofs.lemmas.List.{get_or_default}
-use Rattle.bayou_base.specs.declared.entry.Entry.{Entry}
-use Rattle.bayou_world.specs.declared.client.Client.{Client}
-use Rattle.bayou_world.specs.Inner.Booking.{TakesOldest}
-use Rattle.bayou_world.specs.Inner.Clients.{Pops}
 use Rattle.bayou_world.specs.Inner.Tie.{seat}
-use Rattle.bayou_world.specs.declared.state.State.{State}
 use Rattle.bayou_world.proofs.Oldest.{takes_oldest}
 use Rattle.bayou_world.proofs.state.State.oldest.Goals as goal
 

@@ -1,4 +1,4 @@
-use Rattle.std.proofs.Common.{◌≡◌, ◌<◌, Some, None, ap, sym, ◌∙◌, arith, length, get_or, set, refl, subst, true}
+use Rattle.std.proofs.Common.{◌≡◌, ◌<◌, Some, None, ap, sym, ◌∙◌, arith, length, get_or, set, refl, subst}
 use Rattle.std.proofs.lemmas.List.{get_or_default}
 use Rattle.bayou_server.specs.Reads as served
 use Rattle.bayou_session.specs.Needs.{read_need}
@@ -24,7 +24,7 @@ returns c machine good tied =
     get_or_default clients who None c.index_mut.result.now inside ∙ ap (λ n. get_or clients n c.index_mut.result.now) (sym c.from-seat.ensures) ∙ sym c.index_mut.ensures.value ∙ c.in-Some.is in
     let may = c.if-not-may_begin.ensures.0 refl in
     subst (λ n. (next : Machine) × Reads machine who place c.args.key.now (replies.Read c.read.result) next
-        × IsTied servers (set clients n (Some c.read.new.self)) c.args.self.now.offers.items c.args.self.now.items.items c.args.self.now.served.items next) (sym c.from-seat.ensures)
+    × IsTied servers (set clients n (Some c.read.new.self)) c.args.self.now.offers.items c.args.self.now.items.items c.args.self.now.served.items next) (sym c.from-seat.ensures)
     (read_tied c.read_need_is_what_is_asked.ensures servers clients c.args.self.now.offers.items c.args.self.now.items.items c.args.self.now.served.items machine good tied who place c.args.key.now
     c.in-Some.client c.read.new.self d c.read.result c.args.who.in_range at may.0 may.1 known c.read.ensures.counts
     (subst (λ x. served.Reads x.core (read_need c.in-Some.client.session) c.args.key.now c.read.result) here c.read.ensures.answer)

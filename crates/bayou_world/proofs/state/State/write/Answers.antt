@@ -1,4 +1,4 @@
-use Rattle.std.proofs.Common.{◌≡◌, ◌<◌, Some, None, ap, sym, ◌∙◌, arith, length, get_or, set, refl, subst, true}
+use Rattle.std.proofs.Common.{◌≡◌, ◌<◌, Some, None, ap, sym, ◌∙◌, arith, length, get_or, set, refl, subst}
 use Rattle.std.proofs.lemmas.List.{get_or_default}
 use Rattle.bayou_server.specs.Writes as accepts
 use Rattle.bayou_session.specs.Needs.{write_need}
@@ -24,9 +24,9 @@ returns c machine good tied =
     get_or_default clients who None c.index_mut.result.now inside ∙ ap (λ n. get_or clients n c.index_mut.result.now) (sym c.from-seat.ensures) ∙ sym c.index_mut.ensures.value ∙ c.in-Some.is in
     let may = c.if-not-may_begin.ensures.0 refl in
     subst (λ n. (next : Machine) × Writes machine who place c.args.program (replies.Wrote c.write.result) next
-        × IsTied (set servers n c.write.new.server) (set clients c.from-seat.result (Some c.write.new.self)) c.args.self.now.offers.items c.args.self.now.items.items c.args.self.now.served.items next) (sym c.from-at.ensures)
+    × IsTied (set servers n c.write.new.server) (set clients c.from-seat.result (Some c.write.new.self)) c.args.self.now.offers.items c.args.self.now.items.items c.args.self.now.served.items next) (sym c.from-at.ensures)
     (subst (λ n. (next : Machine) × Writes machine who place c.args.program (replies.Wrote c.write.result) next
-        × IsTied (set servers place c.write.new.server) (set clients n (Some c.write.new.self)) c.args.self.now.offers.items c.args.self.now.items.items c.args.self.now.served.items next) (sym c.from-seat.ensures)
+    × IsTied (set servers place c.write.new.server) (set clients n (Some c.write.new.self)) c.args.self.now.offers.items c.args.self.now.items.items c.args.self.now.served.items next) (sym c.from-seat.ensures)
     (write_tied c.write_need_is_what_is_asked.ensures servers clients c.args.self.now.offers.items c.args.self.now.items.items c.args.self.now.served.items machine good tied who place c.args.program
     c.in-Some.client c.write.new.self d c.write.new.server c.write.result c.args.who.in_range at may.0 may.1 known c.write.ensures.counts
     (subst (λ x. accepts.Writes x.core (write_need c.in-Some.client.session) c.args.program c.write.result c.write.new.server.core) here c.write.ensures.answer)

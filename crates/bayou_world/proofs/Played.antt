@@ -1,0 +1,293 @@
+-- Runs, event by event.
+use Rattle.std.proofs.Common.{◌≡◌, ◌≢◌, ℕ, zero, suc, ◌+◌, ◌<◌, ◌≤◌, cond, true, false, ◌==◌, List, [], ◌∷◌, ◌++◌, Option, None, Some, Result, Ok, Err, IfOk, map, length, get_or, take, drop, ap, sym, ◌∙◌, refl, subst, arith}
+use Rattle.std.specs.Option.{option_map}
+use Rattle.std.proofs.lemmas.Bool.Decides.{nat_tests}
+use Rattle.std.proofs.lemmas.List.{get_or-map, length-map, length-replicate, map-append, take_all, take_more}
+use Rattle.std.proofs.lemmas.List.Elements.{All-nil}
+use Rattle.bayou_base.specs.declared.asks.Asks.{Asks}
+use Rattle.bayou_base.specs.declared.entry.Entry.{Entry}
+use Rattle.bayou_base.specs.declared.limits.TheConstants.{SERVERS, SESSIONS}
+use Rattle.bayou_lang.specs.declared.program.Program.{Program}
+use Rattle.bayou_lang.specs.declared.write.Write.{Write}
+use Rattle.bayou_server.specs.Server.{Core, ServerState}
+use Rattle.bayou_session.specs.Needs.{Told}
+use Rattle.bayou_session.specs.Needs as sessions
+use Rattle.bayou_world.specs.declared.client.Client.{Client}
+use Rattle.bayou_world.specs.declared.event.Event.{Event}
+use Rattle.bayou_world.specs.declared.event.Event.TheVariants as events
+use Rattle.bayou_world.specs.declared.reply.Reply.{Reply}
+use Rattle.bayou_world.specs.declared.state.State.{State}
+use Rattle.bayou_world.specs.Inner.Beginning.{AreFirstSeats, AreStarted, IsFirstSeat, Leaves, SoFar}
+use Rattle.bayou_world.specs.Inner.Booking.{Booking, FollowsInBook, IsBookOf}
+use Rattle.bayou_world.specs.Inner.Good.{IsGood}
+use Rattle.bayou_world.specs.Inner.Tie.{Follows, IsFlightOf, IsOf, IsSeatOf, IsTied, seat}
+use Rattle.bayou_world.specs.Invariant.{IsVectorOf}
+use Rattle.bayou_world.specs.Machine.{Machine, writes}
+use Rattle.bayou_world.specs.Runs.{Run, asks_of, first_machine, new_session, places_for}
+use Rattle.bayou_world.specs.Histories.{Begun, IsHistory}
+use Rattle.bayou_world.specs.declared.history.History.{History}
+use Rattle.bayou_audit.specs.Totals.{is_read, is_refusal, is_write, number_of, totals_of}
+use Rattle.std.specs.Global.{Vec}
+use Rattle.bayou_world.specs.Steps.{Collects, Delivers, Files, Loses, Offers, Reads, Step, Takes, Writes}
+use Rattle.bayou_world.proofs.Starting.{first_good}
+use Rattle.bayou_world.proofs.Stepping.{step_good}
+use Rattle.bayou_world.proofs.Vectors.{IsVectorOf-none}
+
+-- ---- what an event leaves of the bounds and the book
+
+pub record Keeps (old new : Machine) : Type 0 where
+  pub count : new.count ≡ old.count
+  pub places : new.places ≡ old.places
+  pub filed : new.filed ≡ old.filed
+
+kept : (old new is : Machine) → new ≡ is → is.count ≡ old.count → is.places ≡ old.places → is.filed ≡ old.filed → Keeps old new
+kept old new is same count places filed = subst (Keeps old) (sym same) (record { count = count; places = places; filed = filed })
+
+read_keeps : (old : Machine) (who place : ℕ) (key : List ℕ) (reply : Reply) (new : Machine) → Reads old who place key reply new → Keeps old new
+read_keeps old who place key reply new (Reads.skipped cannot is same) = kept old new _ same refl refl refl
+read_keeps old who place key reply new (Reads.behind session entry may not_may is entry_is same) = kept old new _ same refl refl refl
+read_keeps old who place key reply new (Reads.served session entry seen may covered value vector is entry_is same) = kept old new _ same refl refl refl
+
+write_keeps : (old : Machine) (who place : ℕ) (program : Program) (reply : Reply) (new : Machine) → Writes old who place program reply new → Keeps old new
+write_keeps old who place program reply new (Writes.skipped cannot is same) = kept old new _ same refl refl refl
+write_keeps old who place program reply new (Writes.refused session entry fault may refused is entry_is same) = kept old new _ same refl refl refl
+write_keeps old who place program reply new (Writes.doubted session entry made may makes is entry_is same) = kept old new _ same refl refl refl
+write_keeps old who place program reply new (Writes.accepted session entry made accepted may makes told_is is entry_is same) = kept old new _ same refl refl refl
+
+deliver_keeps : (old : Machine) (who : ℕ) (reply : Reply) (new : Machine) → Delivers old who reply new → Keeps old new
+deliver_keeps old who reply new (Delivers.skipped none is same) = kept old new _ same refl refl refl
+deliver_keeps old who reply new (Delivers.delivered session answered flies is same) = kept old new _ same refl refl refl
+
+lose_keeps : (old : Machine) (who : ℕ) (reply : Reply) (new : Machine) → Loses old who reply new → Keeps old new
+lose_keeps old who reply new (Loses.skipped none is same) = kept old new _ same refl refl refl
+lose_keeps old who reply new (Loses.dropped session answered flies is same) = kept old new _ same refl refl refl
+
+offer_keeps : (old : Machine) (place : ℕ) (reply : Reply) (new : Machine) → Offers old place reply new → Keeps old new
+offer_keeps old place reply new (Offers.skipped none is same) = kept old new _ same refl refl refl
+offer_keeps old place reply new (Offers.kept known few is same) = kept old new _ same refl refl refl
+
+collect_keeps : (old : Machine) (place offer : ℕ) (reply : Reply) (new : Machine) → Collects old place offer reply new → Keeps old new
+collect_keeps old place offer reply new (Collects.skipped none is same) = kept old new _ same refl refl refl
+collect_keeps old place offer reply new (Collects.no_memory known there is same) = kept old new _ same refl refl refl
+collect_keeps old place offer reply new (Collects.flown offered lacking may is same) = kept old new _ same refl refl refl
+
+take_keeps : (old : Machine) (place item : ℕ) (reply : Reply) (new : Machine) → Takes old place item reply new → Keeps old new
+take_keeps old place item reply new (Takes.skipped none is same) = kept old new _ same refl refl refl
+take_keeps old place item reply new (Takes.had made given holds is same) = kept old new _ same refl refl refl
+take_keeps old place item reply new (Takes.refused made fault given refused is same) = kept old new _ same refl refl refl
+take_keeps old place item reply new (Takes.doubted made given next room is same) = kept old new _ same refl refl refl
+take_keeps old place item reply new (Takes.taken made given next room is same) = kept old new _ same refl refl refl
+
+file_count : (old : Machine) (who : ℕ) (reply : Reply) (new : Machine) → Files old who reply new → new.count ≡ old.count
+file_count old who reply new (Files.skipped none is same) = ap (λ (m : Machine). m.count) same
+file_count old who reply new (Files.filed session entry later may is same) = ap (λ (m : Machine). m.count) same
+
+step_count : (old : Machine) (event : Event) (reply : Reply) (new : Machine) → Step old event reply new → new.count ≡ old.count
+step_count old (events.Read session server key) reply new step = (read_keeps old session.index server.index key reply new step).count
+step_count old (events.Write session server program) reply new step = (write_keeps old session.index server.index program reply new step).count
+step_count old (events.Deliver session) reply new step = (deliver_keeps old session.index reply new step).count
+step_count old (events.Lose session) reply new step = (lose_keeps old session.index reply new step).count
+step_count old (events.Offer server) reply new step = (offer_keeps old server.index reply new step).count
+step_count old (events.Collect server offer) reply new step = (collect_keeps old server.index offer reply new step).count
+step_count old (events.Take server item) reply new step = (take_keeps old server.index item reply new step).count
+step_count old (events.File session) reply new step = file_count old session.index reply new step
+
+-- ---- one event, with the book beside it
+
+beside : (old new : State) (booking : Booking) (Does : Machine → Machine → Type 0) → ((machine next : Machine) → Does machine next → Keeps machine next) → Follows old Does new → FollowsInBook old booking Does new booking
+beside old new booking Does keeps follows machine good tied book =
+    let step = follows machine good tied in
+    let same = keeps machine step.0 step.1 in
+    (step.0, step.1, step.2, record { places = book.places ∙ sym same.places; entries = book.entries ∙ sym same.filed })
+
+pub read_beside : (old new : State) (booking : Booking) (who place : ℕ) (key : List ℕ) (reply : Reply) → Follows old (λ machine next. Reads machine who place key reply next) new
+    → FollowsInBook old booking (λ machine next. Reads machine who place key reply next) new booking
+read_beside old new booking who place key reply = beside old new booking (λ machine next. Reads machine who place key reply next) (λ machine next does. read_keeps machine who place key reply next does)
+
+pub write_beside : (old new : State) (booking : Booking) (who place : ℕ) (program : Program) (reply : Reply) → Follows old (λ machine next. Writes machine who place program reply next) new
+    → FollowsInBook old booking (λ machine next. Writes machine who place program reply next) new booking
+write_beside old new booking who place program reply = beside old new booking (λ machine next. Writes machine who place program reply next) (λ machine next does. write_keeps machine who place program reply next does)
+
+pub deliver_beside : (old new : State) (booking : Booking) (who : ℕ) (reply : Reply) → Follows old (λ machine next. Delivers machine who reply next) new
+    → FollowsInBook old booking (λ machine next. Delivers machine who reply next) new booking
+deliver_beside old new booking who reply = beside old new booking (λ machine next. Delivers machine who reply next) (λ machine next does. deliver_keeps machine who reply next does)
+
+pub lose_beside : (old new : State) (booking : Booking) (who : ℕ) (reply : Reply) → Follows old (λ machine next. Loses machine who reply next) new
+    → FollowsInBook old booking (λ machine next. Loses machine who reply next) new booking
+lose_beside old new booking who reply = beside old new booking (λ machine next. Loses machine who reply next) (λ machine next does. lose_keeps machine who reply next does)
+
+pub offer_beside : (old new : State) (booking : Booking) (place : ℕ) (reply : Reply) → Follows old (λ machine next. Offers machine place reply next) new
+    → FollowsInBook old booking (λ machine next. Offers machine place reply next) new booking
+offer_beside old new booking place reply = beside old new booking (λ machine next. Offers machine place reply next) (λ machine next does. offer_keeps machine place reply next does)
+
+pub collect_beside : (old new : State) (booking : Booking) (place offer : ℕ) (reply : Reply) → Follows old (λ machine next. Collects machine place offer reply next) new
+    → FollowsInBook old booking (λ machine next. Collects machine place offer reply next) new booking
+collect_beside old new booking place offer reply = beside old new booking (λ machine next. Collects machine place offer reply next) (λ machine next does. collect_keeps machine place offer reply next does)
+
+pub take_beside : (old new : State) (booking : Booking) (place item : ℕ) (reply : Reply) → Follows old (λ machine next. Takes machine place item reply next) new
+    → FollowsInBook old booking (λ machine next. Takes machine place item reply next) new booking
+take_beside old new booking place item reply = beside old new booking (λ machine next. Takes machine place item reply next) (λ machine next does. take_keeps machine place item reply next does)
+
+-- ---- a run grows
+
+run_more : (old : Machine) (events : List Event) (replies : List Reply) (mid : Machine) (event : Event) (reply : Reply) (new : Machine) → Run old events replies mid → Step mid event reply new
+    → Run old (events ++ event ∷ []) (replies ++ reply ∷ []) new
+run_more old [] [] mid event reply new run step = (new, subst (λ (m : Machine). Step m event reply new) run step, refl)
+run_more old [] (told ∷ replies) mid event reply new run step = absurd run
+run_more old (first ∷ events) [] mid event reply new run step = absurd run
+run_more old (first ∷ events) (told ∷ replies) mid event reply new (next, one, rest) step = (next, one, run_more next events replies mid event reply new rest step)
+
+pub SoFar-none : (first : Machine) (state : State) (booking : Booking) → IsGood first → IsOf state first → IsBookOf booking first → SoFar first [] [] state booking
+SoFar-none first state booking good tied book = record { now = first; run = refl; good = good; count = refl; tied = tied; book = book }
+
+pub SoFar-more : (first : Machine) (events : List Event) (at : ℕ) (replies : List Reply) (state new : State) (booking new_booking : Booking) (event : Event) (reply : Reply) → at < length events → event ≡ get_or events at event
+    → SoFar first (take at events) replies state booking → FollowsInBook state booking (λ machine next. Step machine event reply next) new new_booking
+    → SoFar first (take (at + 1) events) (replies ++ reply ∷ []) new new_booking
+SoFar-more first events at replies state new booking new_booking event reply inside is so_far follows =
+    let step = follows so_far.now so_far.good so_far.tied so_far.book in
+    let longer : take (at + 1) events ≡ take at events ++ event ∷ [] = take_more events at event inside ∙ ap (λ e. take at events ++ e ∷ []) (sym is) in
+    subst (λ list. SoFar first list (replies ++ reply ∷ []) new new_booking) (sym longer) (record {
+      now = step.0;
+      run = run_more first (take at events) replies so_far.now event reply step.0 so_far.run step.1;
+      good = step_good so_far.now event reply step.0 so_far.good step.1;
+      count = step_count so_far.now event reply step.0 step.1 ∙ so_far.count;
+      tied = step.2;
+      book = step.3;
+    })
+
+-- where it succeeds
+pub if_ok : {X E : Type 0} (P Q : X → Type 0) → ((x : X) → P x → Q x) → (result : Result X E) → IfOk result P → IfOk result Q
+if_ok P Q each (Ok x) is = each x is
+if_ok P Q each (Err error) is = is
+
+-- ---- sessions and seats
+
+drop_next : {X : Type 0} (xs : List X) (k : ℕ) (x : X) → k < length xs → x ≡ get_or xs k x → drop k xs ≡ x ∷ drop (suc k) xs
+drop_next [] k x inside is = absurd (omega (arith, inside))
+drop_next (y ∷ ys) zero x inside is = ap (λ z. z ∷ ys) (sym is)
+drop_next (y ∷ ys) (suc k) x inside is = drop_next ys k x (omega (arith, inside)) is
+
+first_asks : (session : Told) (sessions : List Told) (who : ℕ) → session.id.index ≡ who → asks_of (session ∷ sessions) who ≡ Some session.asks
+first_asks session sessions who named =
+    let is : (session.id.index == who) ≡ true = grind (arith, nat_tests) in
+    ap (λ t. cond t (Some session.asks) (asks_of sessions who)) is
+
+later_asks : (session : Told) (sessions : List Told) (who : ℕ) → session.id.index ≢ who → asks_of (session ∷ sessions) who ≡ asks_of sessions who
+later_asks session sessions who differs =
+    let isnt : (session.id.index == who) ≡ false = elim (session.id.index == who) as (λ t. (session.id.index == who) ≡ t → t ≡ false) [
+      | true ↦ λ e. absurd (differs (grind (arith, nat_tests)))
+      | false ↦ λ e. refl
+    ] refl in
+    ap (λ t. cond t (Some session.asks) (asks_of sessions who)) isnt
+
+pub asks_found : (list : List Told) (who at : ℕ) (session : Told) → at < length list → session ≡ get_or list at session → asks_of list who ≡ asks_of (drop at list) who → session.id.index ≡ who → asks_of list who ≡ Some session.asks
+asks_found list who at session inside is so_far named =
+    so_far ∙ ap (λ l. asks_of l who) (drop_next list at session inside is) ∙ first_asks session (drop (suc at) list) who named
+
+pub asks_over : (list : List Told) (who at : ℕ) (session : Told) → at < length list → session ≡ get_or list at session → asks_of list who ≡ asks_of (drop at list) who → session.id.index ≢ who
+    → asks_of list who ≡ asks_of (drop (at + 1) list) who
+asks_over list who at session inside is so_far differs =
+    let next : at + 1 ≡ suc at = omega arith in
+    so_far ∙ ap (λ l. asks_of l who) (drop_next list at session inside is) ∙ later_asks session (drop (suc at) list) who differs ∙ ap (λ n. asks_of (drop n list) who) (sym next)
+
+drop_end : {X : Type 0} (xs : List X) (k : ℕ) → length xs ≤ k → drop k xs ≡ []
+drop_end [] zero all = refl
+drop_end [] (suc k) all = refl
+drop_end (x ∷ xs) zero all = absurd (omega (arith, all))
+drop_end (x ∷ xs) (suc k) all = drop_end xs k (omega (arith, all))
+
+pub asks_none : (list : List Told) (who at : ℕ) → length list ≤ at → asks_of list who ≡ asks_of (drop at list) who → asks_of list who ≡ None
+asks_none list who at all so_far = so_far ∙ ap (λ l. asks_of l who) (drop_end list at all)
+
+-- ---- dumps
+
+pub dumps_more : {D E : Type 0} (f : E → List Write) (dumps : List E) (dump : E) (servers : List (ServerState D)) (at : ℕ) (server : ServerState D) → at < length servers → server ≡ get_or servers at server → f dump ≡ server.core.held
+    → map f dumps ≡ map (λ (s : ServerState D). s.core.held) (take at servers) → map f (dumps ++ dump ∷ []) ≡ map (λ (s : ServerState D). s.core.held) (take (at + 1) servers)
+dumps_more f dumps dump servers at server inside is held so_far =
+    let held_of = λ (s : ServerState _). s.core.held in
+    map-append f dumps (dump ∷ []) ∙ ap (λ list. list ++ f dump ∷ []) so_far ∙ ap (λ h. map held_of (take at servers) ++ h ∷ []) held
+    ∙ sym (map-append held_of (take at servers) (server ∷ [])) ∙ ap (map held_of) (ap (λ s. take at servers ++ s ∷ []) is ∙ sym (take_more servers at server inside))
+
+pub dumps_all : {D E : Type 0} (f : E → List Write) (dumps : List E) (servers : List (ServerState D)) (at : ℕ) → length servers ≤ at → map f dumps ≡ map (λ (s : ServerState D). s.core.held) (take at servers)
+    → map f dumps ≡ map (λ (s : ServerState D). s.core.held) servers
+dumps_all f dumps servers at all so_far = so_far ∙ ap (map (λ (s : ServerState _). s.core.held)) (take_all at servers all)
+
+-- ---- as a run begins
+
+new_client : (who : ℕ) (asks : Option Asks) (client : Option Client) → IsFirstSeat who asks client → IsSeatOf who client (option_map new_session asks)
+new_client who None None is = tt
+new_client who None (Some client) is = absurd is
+new_client who (Some asks) None is = absurd is
+new_client who (Some asks) (Some client) is =
+    let zero_counts = sessions.new_session client.session.id asks in record {
+      name = is.name;
+      asks = ap (λ (t : Told). t.asks) is.session;
+      begun = ap (λ (t : Told). t.begun) is.session;
+      long = subst (λ (t : Told). (length t.reads ≡ SERVERS) × (length t.writes ≡ SERVERS)) (sym is.session) (length-replicate {A = ℕ} SERVERS 0, length-replicate {A = ℕ} SERVERS 0);
+      reads = subst (λ (t : Told). IsVectorOf t.reads []) (sym is.session) IsVectorOf-none;
+      writes = subst (λ (t : Told). IsVectorOf t.writes []) (sym is.session) IsVectorOf-none;
+      flight = subst (λ f. IsFlightOf f None) (sym is.flight) tt;
+      waiting = is.waiting;
+      own = All-nil (λ (entry : Entry). entry.session.index ≡ who);
+    }
+
+pub begins_tied : {D : Type 0} (servers : List (ServerState D)) (clients : List (Option Client)) (count limit places : ℕ) (list : List Told) → AreStarted count count limit servers → AreFirstSeats SESSIONS list clients
+    → IsTied servers clients [] [] [] (first_machine count limit places (asks_of list))
+begins_tied servers clients count limit places list started seated = record {
+  many = started.many;
+  servers_are = λ place d inside. record { is = started.fresh place d inside };
+  seats = seated.many;
+  clients_are = λ who inside. new_client who (asks_of list who) (seat clients who) (seated.each who inside);
+  offers_are = refl;
+  items_are = refl;
+  served_are = refl;
+}
+
+-- ---- as a run ends
+
+dump_at : {D E : Type 0} (f : E → List Write) (dumps : List E) (servers : List (ServerState D)) (place : ℕ) (d : E) (held : List Write) → map f dumps ≡ map (λ (s : ServerState D). s.core.held) servers → place < length servers
+    → ((e : ServerState D) → (get_or servers place e).core.held ≡ held) → f (get_or dumps place d) ≡ held
+dump_at f dumps [] place d held same inside each = absurd (omega (arith, inside))
+dump_at f dumps (server ∷ servers) place d held same inside each =
+    let held_of = λ (s : ServerState _). s.core.held in
+    let as_many : length dumps ≡ length (server ∷ servers) = sym (length-map dumps f) ∙ ap length same ∙ length-map (server ∷ servers) held_of in
+    let here : get_or (map f dumps) place (held_of server) ≡ f (get_or dumps place d) = get_or-map f dumps place d (held_of server) (omega (arith, inside, as_many)) in
+    let there : get_or (map held_of (server ∷ servers)) place (held_of server) ≡ held_of (get_or (server ∷ servers) place server) = get_or-map held_of (server ∷ servers) place server (held_of server) inside in
+    sym here ∙ ap (λ list. get_or list place (held_of server)) same ∙ there ∙ each server
+
+pub leaves : (first : Machine) (events : List Event) (at : ℕ) (replies : List Reply) (state : State) (booking : Booking) (history : History) → SoFar first (take at events) replies state booking → length events ≤ at
+    → history.replies.items ≡ replies → history.served.items ≡ state.served.items
+    → map (λ (dump : Vec Write). dump.items) history.dumps.items ≡ map (λ (s : ServerState _). s.core.held) state.servers.items
+    → history.totals ≡ totals_of 0 (number_of is_read booking.entries) (number_of is_write booking.entries) (number_of is_refusal booking.entries) → Leaves first events history
+leaves first events at replies state booking history so_far all replies_are served dumps totals =
+    let now = so_far.now in
+    let items = λ (dump : Vec Write). dump.items in
+    let many : length history.dumps.items ≡ first.count =
+    sym (length-map history.dumps.items items) ∙ ap length dumps ∙ length-map state.servers.items (λ (s : ServerState _). s.core.held) ∙ so_far.tied.many ∙ so_far.count in
+    record {
+      last = now;
+      run = subst (λ list. Run first list history.replies.items now) (take_all at events all) (subst (λ list. Run first (take at events) list now) (sym replies_are) so_far.run);
+      served = served ∙ so_far.tied.served_are;
+      one_each = many;
+      dumps = λ place d inside.
+          let here : place < now.count = omega (arith, inside, so_far.count) in
+          dump_at items history.dumps.items state.servers.items place d (writes (now.servers place).held) dumps (omega (arith, here, so_far.tied.many))
+          (λ e. ap (λ (c : Core). c.held) (so_far.tied.servers_are place e here).is);
+      totals = totals ∙ ap (λ list. totals_of 0 (number_of is_read list) (number_of is_write list) (number_of is_refusal list)) so_far.book.entries;
+    }
+
+-- from the beginning
+pub history_is : {D : Type 0} (begun : Begun) (servers : List (ServerState D)) (clients : List (Option Client)) (offers : List (List ℕ)) (items : List Write) (served : List Entry) (booking : Booking) (events : List Event) (history : History)
+    → AreStarted begun.count begun.count begun.limit servers → AreFirstSeats SESSIONS begun.sessions clients
+    → offers ≡ [] → items ≡ [] → served ≡ [] → booking ≡ record { places = places_for events; entries = [] }
+    → ((first : Machine) → IsGood first → IsTied servers clients offers items served first → IsBookOf booking first → Leaves first events history) → IsHistory begun events history
+history_is begun servers clients offers items served booking events history started seated none_offered none_flying none_served book plays =
+    let first = first_machine begun.count begun.limit (places_for events) (asks_of begun.sessions) in
+    let tied = begins_tied servers clients begun.count begun.limit (places_for events) begun.sessions started seated in
+    let is_of : IsTied servers clients offers items served first =
+    subst (λ x. IsTied servers clients x items served first) (sym none_offered)
+    (subst (λ x. IsTied servers clients [] x served first) (sym none_flying)
+    (subst (λ x. IsTied servers clients [] [] x first) (sym none_served) tied)) in
+    let left = plays first (first_good begun.count begun.limit (places_for events) (asks_of begun.sessions)) is_of
+    (record { places = ap (λ (b : Booking). b.places) book; entries = ap (λ (b : Booking). b.entries) book }) in
+    record { last = left.last; run = left.run; served = left.served; one_each = left.one_each; dumps = left.dumps; totals = left.totals }
