@@ -30,8 +30,10 @@ pub fn sessions_of(
     asks: &[Asks],
 ) -> Result<Vec<Session>, AllocError> {
     let mut sessions = Vec::new(alloc);
-    for (index, asked) in asks.iter().enumerate() {
-        sessions.push(Session::new(session_id(rt, index as u8), *asked))?;
+    let mut index: u8 = 0;
+    for asked in asks {
+        sessions.push(Session::new(session_id(rt, index), *asked))?;
+        index = index.saturating_add(1);
     }
     Ok(sessions)
 }

@@ -13,7 +13,7 @@ use std::process::Abort;
 use std::test::Fail;
 
 /// How many lists from the seed.
-const LISTS: u32 = 200;
+const LISTS: u32 = 100;
 
 /// How many events a list has, but for some more at its end.
 const EVENTS: usize = 300;
@@ -135,7 +135,7 @@ impl List {
     fn collect(&mut self, rt: &impl Abort, dice: &mut Dice) -> Result<(), AllocError> {
         let to = dice.server(rt);
         let server = dice.server(rt);
-        let last = self.offers.len() as u32;
+        let last = self.offers.len().min(EVENTS) as u32;
         let offer = last.saturating_sub(dice.below(2));
         self.offers.push(to.index)?;
         self.events.push(Event::Offer(to))?;
