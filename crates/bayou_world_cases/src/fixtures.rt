@@ -20,7 +20,9 @@ pub fn room(rt: &impl Abort) -> Key {
 /// A program that puts the number at `room`.
 pub fn put(rt: &impl Abort, alloc: Global, number: i64) -> Result<RestingProgram, AllocError> {
     let op = Op::Put(room(rt), Term::Lit(Value::Num(number)));
-    Program::new(&[], &[op], &[]).expect(rt, "no program").rest(alloc)
+    Program::new(&[], &[op], &[])
+        .expect(rt, "no program")
+        .rest(alloc)
 }
 
 /// New sessions with these asks, numbered from 0 on.

@@ -115,10 +115,7 @@ static OF_ONE_WRITE: [Script; 2] = [
             (Act::Deliver(0), Delivered),
             (Act::File(0), Filed),
         ],
-        served: &[
-            (0, 1, 0, Wrote((0, 1), [0, 0])),
-            (0, 3, 1, Saw([1, 0])),
-        ],
+        served: &[(0, 1, 0, Wrote((0, 1), [0, 0])), (0, 3, 1, Saw([1, 0]))],
         dumps: [&[(0, 1)], &[(0, 1)]],
         totals: (0, 1, 0),
     },
@@ -362,16 +359,21 @@ fn leaves_what_it_says(
         writes,
         refusals,
     };
-    Ok(are_said(history.replies.as_slice(), script.acts)
-        && are_lines(history.served.as_slice(), script.served)
-        && have_names(history.dumps.as_slice(), &script.dumps)
-        && history.totals == totals)
+    Ok(
+        are_said(history.replies.as_slice(), script.acts)
+            && are_lines(history.served.as_slice(), script.served)
+            && have_names(history.dumps.as_slice(), &script.dumps)
+            && history.totals == totals,
+    )
 }
 
 #[test]
 fn a_session_finds_the_write_that_it_was_told_of(rt: HostRuntime) -> Result<(), Fail> {
     for script in OF_ONE_WRITE {
-        assert!(rt; leaves_what_it_says(&rt, rt.alloc(), &script)?, "{script:?}");
+        assert!(rt;
+            leaves_what_it_says(&rt, rt.alloc(), &script)?,
+            "{script:?}"
+        );
     }
     Ok(())
 }
@@ -379,7 +381,10 @@ fn a_session_finds_the_write_that_it_was_told_of(rt: HostRuntime) -> Result<(), 
 #[test]
 fn what_was_delivered_is_entered_once(rt: HostRuntime) -> Result<(), Fail> {
     for script in OF_BOOKS {
-        assert!(rt; leaves_what_it_says(&rt, rt.alloc(), &script)?, "{script:?}");
+        assert!(rt;
+            leaves_what_it_says(&rt, rt.alloc(), &script)?,
+            "{script:?}"
+        );
     }
     Ok(())
 }
