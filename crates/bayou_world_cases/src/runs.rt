@@ -1,0 +1,386 @@
+//! Lists of events at random, at four servers and by eight sessions that ask for this and that: the judge finds what was served
+//! clean. Where the same sessions ask for nothing, it finds breaches of each guarantee.
+ghost use Rattle.std.specs.Prelude.{◌<◌};
+
+use crate::fixtures::{put, room, server_id, session_id, sessions_of};
+use bayou_base::{Asks, Entry, ServerId, SessionId};
+use bayou_judge::{Guarantee, Refusal, Verdict, judge};
+use bayou_server::{TakeFault, Took, WriteFault};
+use bayou_world::world::World;
+use bayou_world::{Event, History, Reply};
+use std::alloc::{AllocError, Global};
+use std::process::Abort;
+use std::test::Fail;
+
+/// How many lists from the seed.
+const LISTS: u32 = 100;
+
+/// How many events a list has, but for some more at its end.
+const EVENTS: usize = 300;
+
+/// In so many rounds a list is made. Behind each but the last it is run, so that the next events can name what went in flight.
+const ROUNDS: usize = 3;
+
+/// How many Writes each server may hold, by turns.
+const LIMITS: [u32; 4] = [6, 20, 100, 1_000];
+
+/// Kinds of answers: see [`kind_of`].
+const KINDS: usize = 22;
+
+const ALL: Asks = Asks {
+    ryw: true,
+    mr: true,
+    wfr: true,
+    mw: true,
+};
+
+/// Items that were collected for a server: which server, the number of the first, and how many.
+type Batch = (u8, u32, u32);
+
+/// Numbers at random, from a seed: a linear congruential generator (Knuth).
+#[derive(Clone, Copy)]
+struct Dice {
+    state: u64,
+}
+
+impl Dice {
+    /// A number below this one, which isn't 0.
+    fn below(&mut self, bound: u32) -> u32
+        ensures { 0 < bound → result < bound }
+    {
+        self.state = self
+            .state
+            .wrapping_mul(6_364_136_223_846_793_005)
+            .wrapping_add(1_442_695_040_888_963_407);
+        (self.state >> 40) as u32 % bound.max(1)
+    }
+
+    fn chance(&mut self, one_in: u32) -> bool {
+        self.below(one_in) == 0
+    }
+
+    fn server(&mut self, rt: &impl Abort) -> ServerId {
+        server_id(rt, self.below(4) as u8)
+    }
+
+    fn session(&mut self, rt: &impl Abort) -> SessionId {
+        session_id(rt, self.below(8) as u8)
+    }
+
+    fn asks(&mut self) -> Asks {
+        Asks {
+            ryw: self.chance(2),
+            mr: self.chance(2),
+            wfr: self.chance(2),
+            mw: self.chance(2),
+        }
+    }
+
+    fn asks_of_all(&mut self) -> [Asks; 8] {
+        let mut all = [Asks::default(); 8];
+        for asks in &mut all {
+            *asks = self.asks();
+        }
+        all
+    }
+}
+
+/// A list of events as it grows.
+#[derive(Drop)]
+struct List {
+    alloc: Global,
+    events: Vec<Event>,
+    /// The server of each offer.
+    offers: Vec<u8>,
+    batches: Vec<Batch>,
+}
+
+impl List {
+    fn new(alloc: Global) -> Self {
+        List {
+            alloc,
+            events: Vec::new(alloc),
+            offers: Vec::new(alloc),
+            batches: Vec::new(alloc),
+        }
+    }
+
+    /// A session tries something, and mostly hears of it at once.
+    fn operate(&mut self, rt: &impl Abort, dice: &mut Dice) -> Result<(), AllocError> {
+        let (session, server) = (dice.session(rt), dice.server(rt));
+        if dice.chance(2) {
+            let key = room(rt);
+            self.events.push(Event::Read {
+                session,
+                server,
+                key,
+            })?;
+        } else {
+            let program = put(rt, self.alloc, i64::from(dice.below(100)))?;
+            self.events.push(Event::Write {
+                session,
+                server,
+                program,
+            })?;
+        }
+        match dice.below(8) {
+            0..=5 => self.events.push(Event::Deliver(session))?,
+            6 => self.events.push(Event::Lose(session))?,
+            _ => {}
+        }
+        Ok(())
+    }
+
+    /// A server offers, and one collects for that offer or the one before.
+    fn collect(&mut self, rt: &impl Abort, dice: &mut Dice) -> Result<(), AllocError> {
+        let to = dice.server(rt);
+        let server = dice.server(rt);
+        let last = self.offers.len().min(EVENTS) as u32;
+        let offer = last.saturating_sub(dice.below(2));
+        self.offers.push(to.index)?;
+        self.events.push(Event::Offer(to))?;
+        self.events.push(Event::Collect { server, offer })?;
+        Ok(())
+    }
+
+    /// A server is given what was collected for it not long ago, but for an item now and then.
+    fn take(&mut self, rt: &impl Abort, dice: &mut Dice) -> Result<(), AllocError> {
+        let back = dice.below(4) as usize + 1;
+        let place = self.batches.len().saturating_sub(back);
+        let Some((to, first, number)) = self.batches.get(place).copied() else {
+            return Ok(());
+        };
+        let server = server_id(rt, to);
+        for offset in 0..number.min(8) {
+            let item = first.saturating_add(offset);
+            if !dice.chance(10) {
+                self.events.push(Event::Take { server, item })?;
+            }
+        }
+        Ok(())
+    }
+
+    /// An event of a session alone, or one that names what isn't there.
+    fn stray(&mut self, rt: &impl Abort, dice: &mut Dice) -> Result<(), AllocError> {
+        let (session, server) = (dice.session(rt), dice.server(rt));
+        let event = match dice.below(12) {
+            0 => Event::Offer(server_id(rt, 4)),
+            1 => Event::Collect {
+                server,
+                offer: 1_000,
+            },
+            2 => Event::Take {
+                server,
+                item: 1_000_000,
+            },
+            3 => Event::Read {
+                session: session_id(rt, 8),
+                server,
+                key: room(rt),
+            },
+            4 => Event::Lose(session),
+            5..=7 => Event::Deliver(session),
+            _ => Event::File(session),
+        };
+        self.events.push(event)?;
+        Ok(())
+    }
+
+    /// So many events, or a few more.
+    fn grow(&mut self, rt: &impl Abort, dice: &mut Dice, many: usize) -> Result<(), AllocError> {
+        for _ in 0..EVENTS {
+            if self.events.len() < many {
+                match dice.below(10) {
+                    0..=3 => self.operate(rt, dice)?,
+                    4 | 5 => self.collect(rt, dice)?,
+                    6 | 7 => self.take(rt, dice)?,
+                    _ => self.stray(rt, dice)?,
+                }
+            }
+        }
+        Ok(())
+    }
+}
+
+/// What was collected for which server.
+fn batches_of(alloc: Global, list: &List, replies: &[Reply]) -> Result<Vec<Batch>, AllocError> {
+    let mut batches = Vec::new(alloc);
+    for (event, reply) in list.events.iter().zip(replies.iter()) {
+        if let (Event::Collect { offer, .. }, Reply::Flown { first, number }) = (event, reply)
+            && let Some(to) = list.offers.get(*offer as usize)
+            && *number > 0
+        {
+            batches.push((*to, *first, *number))?;
+        }
+    }
+    Ok(batches)
+}
+
+/// A run of the events where sessions ask for these.
+fn run(
+    rt: &impl Abort,
+    alloc: Global,
+    limit: u32,
+    asks: &[Asks; 8],
+    events: &[Event],
+) -> Result<History, AllocError> {
+    let sessions = sessions_of(rt, alloc, asks)?;
+    World::new(alloc, 4, limit.min(1_000), sessions.as_slice())?.run(alloc, events)
+}
+
+/// A list from the dice, for sessions that ask for these.
+fn list_of(
+    rt: &impl Abort,
+    alloc: Global,
+    dice: &mut Dice,
+    limit: u32,
+    asks: &[Asks; 8],
+) -> Result<List, AllocError> {
+    let mut list = List::new(alloc);
+    for round in 1..ROUNDS {
+        list.grow(rt, dice, round * (EVENTS / ROUNDS))?;
+        let history = run(rt, alloc, limit, asks, list.events.as_slice())?;
+        list.batches = batches_of(alloc, &list, history.replies.as_slice())?;
+    }
+    list.grow(rt, dice, EVENTS)?;
+    Ok(list)
+}
+
+/// Why it was skipped: by its event.
+fn skip_of(event: &Event) -> usize {
+    match event {
+        Event::Read { .. } => 14,
+        Event::Write { .. } => 15,
+        Event::Deliver(_) => 16,
+        Event::Lose(_) => 17,
+        Event::Offer(_) => 18,
+        Event::Collect { .. } => 19,
+        Event::Take { .. } => 20,
+        Event::File(_) => 21,
+    }
+}
+
+/// Which of the kinds below [`KINDS`] the answer is: each that there may be where no device fails and memory isn't refused.
+fn kind_of(event: &Event, reply: &Reply) -> usize {
+    match reply {
+        Reply::Read(Ok(_)) => 0,
+        Reply::Read(Err(_)) => 1,
+        Reply::Wrote(Ok(_)) => 2,
+        Reply::Wrote(Err(WriteFault::Behind(_))) => 3,
+        Reply::Wrote(Err(WriteFault::LogFull)) => 4,
+        Reply::Took(Ok(Took::New)) => 5,
+        Reply::Took(Ok(Took::Had)) => 6,
+        Reply::Took(Err(TakeFault::Gap)) => 7,
+        Reply::Took(Err(TakeFault::LogFull)) => 8,
+        Reply::Kept(_) => 9,
+        Reply::Flown { .. } => 10,
+        Reply::Delivered => 11,
+        Reply::Dropped => 12,
+        Reply::Filed => 13,
+        Reply::Skipped => skip_of(event),
+        Reply::Wrote(Err(_)) | Reply::Took(Err(_)) | Reply::NoMemory => KINDS,
+    }
+}
+
+/// What came of the lists.
+#[derive(Clone, Copy, Debug)]
+struct Tally {
+    /// How many runs the judge found clean.
+    clean: u32,
+    /// How many answers of each kind there were, and of none of them.
+    kinds: [u32; KINDS + 1],
+    /// How many breaches of each guarantee were found where nothing was asked for.
+    broken: [u32; 4],
+}
+
+impl Tally {
+    fn add_replies(&mut self, events: &[Event], replies: &[Reply]) {
+        for (event, reply) in events.iter().zip(replies.iter()) {
+            let kind = kind_of(event, reply).min(KINDS);
+            self.kinds[kind] = self.kinds[kind].saturating_add(1);
+        }
+    }
+
+    fn add_breach(&mut self, verdict: Result<Verdict, Refusal>) {
+        let Ok(Verdict::Broken(breach)) = verdict else {
+            return;
+        };
+        let at = match breach.guarantee {
+            Guarantee::ReadYourWrites => 0,
+            Guarantee::MonotonicReads => 1,
+            Guarantee::WritesFollowReads => 2,
+            Guarantee::MonotonicWrites => 3,
+        };
+        self.broken[at] = self.broken[at].saturating_add(1);
+    }
+
+    /// The run with what is asked for, and the one where nothing is, which is judged as if everything were.
+    fn add(
+        &mut self,
+        rt: &impl Abort,
+        alloc: Global,
+        dice: &mut Dice,
+        limit: u32,
+    ) -> Result<(), AllocError> {
+        let asks = dice.asks_of_all();
+        let list = list_of(rt, alloc, dice, limit, &asks)?;
+        let events = list.events.as_slice();
+        let history = run(rt, alloc, limit, &asks, events)?;
+        self.add_replies(events, history.replies.as_slice());
+        if verdict_of(alloc, history.served.as_slice(), &history) == Ok(Verdict::Clean) {
+            self.clean = self.clean.saturating_add(1);
+        }
+        let free = run(rt, alloc, limit, &[Asks::default(); 8], events)?;
+        let entries = asking_for_all(alloc, free.served.as_slice())?;
+        self.add_breach(verdict_of(alloc, entries.as_slice(), &free));
+        Ok(())
+    }
+
+    /// Whether each run was clean, no kind of answer is missing, and none other was among them.
+    fn is_full(&self) -> bool {
+        let (kinds, others) = (&self.kinds[..KINDS], self.kinds[KINDS]);
+        self.clean == LISTS
+            && kinds.iter().all(|many| *many > 0)
+            && others == 0
+            && self.broken.iter().all(|many| *many > 0)
+    }
+}
+
+fn verdict_of(alloc: Global, entries: &[Entry], history: &History) -> Result<Verdict, Refusal> {
+    if history.dumps.len() != 4 {
+        return Err(Refusal::OutOfMemory);
+    }
+    judge(alloc, 4, entries, history.dumps.as_slice())
+}
+
+/// The entries, as if their sessions had asked for everything.
+fn asking_for_all(alloc: Global, served: &[Entry]) -> Result<Vec<Entry>, AllocError> {
+    let mut entries = Vec::new(alloc);
+    for entry in served {
+        let mut other = entry.copy();
+        other.asks = ALL;
+        entries.push(other)?;
+    }
+    Ok(entries)
+}
+
+fn found_from(rt: &impl Abort, alloc: Global, seed: u64) -> Result<Tally, AllocError> {
+    let mut dice = Dice { state: seed };
+    let mut tally = Tally {
+        clean: 0,
+        kinds: [0; KINDS + 1],
+        broken: [0; 4],
+    };
+    for number in 0..LISTS {
+        let limit = LIMITS[number as usize % LIMITS.len()];
+        tally.add(rt, alloc, &mut dice, limit)?;
+    }
+    Ok(tally)
+}
+
+#[test]
+fn each_run_is_clean(rt: HostRuntime) -> Result<(), Fail> {
+    let found = found_from(&rt, rt.alloc(), 1994)?;
+    assert!(rt; found.is_full(), "{found:?}");
+    Ok(())
+}

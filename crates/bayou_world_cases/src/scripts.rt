@@ -1,0 +1,390 @@
+//! Scripts at two servers: what each event is answered, and what is left.
+use crate::fixtures::{put, room, server_id, session_id, sessions_of};
+use Said::{
+    Accepted, Delivered, Dropped, Filed, Flown, Full, Gap, Had, Kept, New, ReadBehind, Seen,
+    Skipped, WriteBehind,
+};
+use Told::{Saw, Wrote};
+use bayou_audit::Totals;
+use bayou_base::{Asks, Entry, Value, Vector, What};
+use bayou_lang::RestingWrite;
+use bayou_server::{Behind, TakeFault, Took, WriteFault};
+use bayou_world::world::World;
+use bayou_world::{Event, History, Reply};
+use std::alloc::{AllocError, Global};
+use std::process::Abort;
+use std::test::Fail;
+
+/// The counts of the two servers.
+type Counts = [u32; 2];
+
+/// An event, of sessions and servers by their numbers. What is read and put is `room`.
+#[derive(Clone, Copy, Debug)]
+enum Act {
+    Read(u8, u8),
+    Write(u8, u8, i64),
+    Deliver(u8),
+    Lose(u8),
+    Offer(u8),
+    Collect(u8, u32),
+    Take(u8, u32),
+    File(u8),
+}
+
+/// A reply.
+#[derive(Clone, Copy, Debug, PartialEq, Eq)]
+enum Said {
+    Seen(Option<i64>, Counts),
+    ReadBehind(Counts),
+    /// Origin and seq, and what was held just before.
+    Accepted((u8, u32), Counts),
+    WriteBehind(Counts),
+    Full,
+    New,
+    Had,
+    Gap,
+    Kept(u32),
+    Flown(u32, u32),
+    Delivered,
+    Dropped,
+    Filed,
+    Skipped,
+    Otherwise,
+}
+
+/// What was served.
+#[derive(Clone, Copy, Debug, PartialEq, Eq)]
+enum Told {
+    Saw(Counts),
+    Wrote((u8, u32), Counts),
+    Nothing,
+}
+
+/// An entry: its session, its place, its server, and what it tells.
+type Line = (u8, u32, u8, Told);
+
+#[derive(Clone, Copy, Debug)]
+struct Script {
+    limit: u32,
+    /// What the sessions ask for, from 0 on.
+    asks: &'static [Asks],
+    acts: &'static [(Act, Said)],
+    served: &'static [Line],
+    /// Origin and seq of what each server holds.
+    dumps: [&'static [(u8, u32)]; 2],
+    /// Reads, Writes and refusals in the book.
+    totals: (usize, usize, usize),
+}
+
+const NOTHING: Asks = Asks {
+    ryw: false,
+    mr: false,
+    wfr: false,
+    mw: false,
+};
+
+const OWN_WRITES: Asks = Asks {
+    ryw: true,
+    mr: false,
+    wfr: false,
+    mw: false,
+};
+
+const ALL: Asks = Asks {
+    ryw: true,
+    mr: true,
+    wfr: true,
+    mw: true,
+};
+
+/// A session that asks for Read Your Writes, whose Write it is told of, or isn't.
+static OF_ONE_WRITE: [Script; 2] = [
+    Script {
+        limit: 100,
+        asks: &[OWN_WRITES],
+        acts: &[
+            (Act::Write(0, 0, 7), Accepted((0, 1), [0, 0])),
+            (Act::Deliver(0), Delivered),
+            (Act::Read(0, 1), ReadBehind([0, 0])),
+            (Act::Deliver(0), Delivered),
+            (Act::Offer(1), Kept(0)),
+            (Act::Collect(0, 0), Flown(0, 1)),
+            (Act::Take(1, 0), New),
+            (Act::Take(1, 0), Had),
+            (Act::Read(0, 1), Seen(Some(7), [1, 0])),
+            (Act::Deliver(0), Delivered),
+            (Act::File(0), Filed),
+        ],
+        served: &[(0, 1, 0, Wrote((0, 1), [0, 0])), (0, 3, 1, Saw([1, 0]))],
+        dumps: [&[(0, 1)], &[(0, 1)]],
+        totals: (0, 1, 0),
+    },
+    // The Write is there, but the session has never heard of it.
+    Script {
+        limit: 100,
+        asks: &[OWN_WRITES],
+        acts: &[
+            (Act::Write(0, 0, 7), Accepted((0, 1), [0, 0])),
+            (Act::Lose(0), Dropped),
+            (Act::Read(0, 1), Seen(None, [0, 0])),
+            (Act::Deliver(0), Delivered),
+        ],
+        served: &[(0, 2, 1, Saw([0, 0]))],
+        dumps: [&[(0, 1)], &[]],
+        totals: (0, 0, 0),
+    },
+];
+
+/// What is entered in the book, and what isn't.
+static OF_BOOKS: [Script; 3] = [
+    // Nothing is entered that wasn't delivered, and nothing twice.
+    Script {
+        limit: 100,
+        asks: &[NOTHING],
+        acts: &[
+            (Act::File(0), Skipped),
+            (Act::Write(0, 1, 3), Accepted((1, 1), [0, 0])),
+            (Act::File(0), Skipped),
+            (Act::Deliver(0), Delivered),
+            (Act::File(0), Filed),
+            (Act::File(0), Skipped),
+            (Act::Read(0, 1), Seen(Some(3), [0, 1])),
+            (Act::Lose(0), Dropped),
+            (Act::File(0), Skipped),
+            (Act::File(1), Skipped),
+        ],
+        served: &[(0, 1, 1, Wrote((1, 1), [0, 0]))],
+        dumps: [&[], &[(1, 1)]],
+        totals: (0, 1, 0),
+    },
+    // Two sessions, of which one is refused whatever it tries.
+    Script {
+        limit: 2,
+        asks: &[ALL, ALL],
+        acts: &[
+            (Act::Write(0, 0, 1), Accepted((0, 1), [0, 0])),
+            (Act::Write(0, 0, 1), Skipped),
+            (Act::Deliver(0), Delivered),
+            (Act::Deliver(0), Skipped),
+            (Act::Write(0, 1, 2), WriteBehind([0, 0])),
+            (Act::Deliver(0), Delivered),
+            (Act::Write(1, 0, 3), Accepted((0, 2), [1, 0])),
+            (Act::Deliver(1), Delivered),
+            (Act::Read(1, 0), Seen(Some(3), [2, 0])),
+            (Act::Deliver(1), Delivered),
+            (Act::Write(1, 0, 4), Full),
+            (Act::Deliver(1), Delivered),
+            (Act::Read(0, 1), ReadBehind([0, 0])),
+            (Act::Deliver(0), Delivered),
+            (Act::File(1), Filed),
+            (Act::File(0), Filed),
+            (Act::File(1), Filed),
+            (Act::File(0), Filed),
+            (Act::File(0), Filed),
+            (Act::File(0), Skipped),
+            (Act::File(1), Filed),
+            (Act::File(1), Skipped),
+        ],
+        served: &[
+            (0, 1, 0, Wrote((0, 1), [0, 0])),
+            (1, 1, 0, Wrote((0, 2), [1, 0])),
+            (1, 2, 0, Saw([2, 0])),
+        ],
+        dumps: [&[(0, 1), (0, 2)], &[]],
+        totals: (1, 2, 3),
+    },
+    // What can't be taken, and what names nothing that is there.
+    Script {
+        limit: 2,
+        asks: &[NOTHING, NOTHING],
+        acts: &[
+            (Act::Write(0, 0, 1), Accepted((0, 1), [0, 0])),
+            (Act::Write(1, 0, 2), Accepted((0, 2), [1, 0])),
+            (Act::Collect(0, 0), Skipped),
+            (Act::Take(1, 0), Skipped),
+            (Act::Offer(2), Skipped),
+            (Act::Read(2, 0), Skipped),
+            (Act::Offer(1), Kept(0)),
+            (Act::Collect(0, 0), Flown(0, 2)),
+            (Act::Collect(1, 0), Flown(2, 0)),
+            (Act::Take(1, 1), Gap),
+            (Act::Take(1, 0), New),
+            (Act::Deliver(1), Delivered),
+            (Act::Write(1, 1, 5), Accepted((1, 1), [1, 0])),
+            (Act::Take(1, 1), Full),
+            (Act::Deliver(1), Delivered),
+            (Act::Lose(0), Dropped),
+            (Act::Lose(0), Skipped),
+            (Act::File(0), Skipped),
+            (Act::File(1), Filed),
+        ],
+        served: &[
+            (1, 1, 0, Wrote((0, 2), [1, 0])),
+            (1, 2, 1, Wrote((1, 1), [1, 0])),
+        ],
+        dumps: [&[(0, 1), (0, 2)], &[(0, 1), (1, 1)]],
+        totals: (0, 1, 0),
+    },
+];
+
+fn event_of(rt: &impl Abort, alloc: Global, act: Act) -> Result<Event, AllocError> {
+    Ok(match act {
+        Act::Read(session, server) => Event::Read {
+            session: session_id(rt, session),
+            server: server_id(rt, server),
+            key: room(rt),
+        },
+        Act::Write(session, server, number) => Event::Write {
+            session: session_id(rt, session),
+            server: server_id(rt, server),
+            program: put(rt, alloc, number)?,
+        },
+        Act::Deliver(session) => Event::Deliver(session_id(rt, session)),
+        Act::Lose(session) => Event::Lose(session_id(rt, session)),
+        Act::Offer(server) => Event::Offer(server_id(rt, server)),
+        Act::Collect(server, offer) => Event::Collect {
+            server: server_id(rt, server),
+            offer,
+        },
+        Act::Take(server, item) => Event::Take {
+            server: server_id(rt, server),
+            item,
+        },
+        Act::File(session) => Event::File(session_id(rt, session)),
+    })
+}
+
+fn counts_of(vector: &Vector) -> Counts {
+    let counts = vector.counts();
+    [counts[0], counts[1]]
+}
+
+fn number_in(value: &Option<Value>) -> Option<i64> {
+    match value {
+        Some(Value::Num(number)) => Some(*number),
+        _ => None,
+    }
+}
+
+fn saying(reply: &Reply) -> Said {
+    match reply {
+        Reply::Read(Ok(seen)) => Seen(number_in(&seen.value), counts_of(&seen.vector)),
+        Reply::Read(Err(Behind { vector })) => ReadBehind(counts_of(vector)),
+        Reply::Wrote(Ok(made)) => Accepted(
+            (made.wid.origin.index, made.wid.seq),
+            counts_of(&made.deps),
+        ),
+        Reply::Wrote(Err(WriteFault::Behind(vector))) => WriteBehind(counts_of(vector)),
+        Reply::Wrote(Err(WriteFault::LogFull)) => Full,
+        Reply::Took(Ok(Took::New)) => New,
+        Reply::Took(Ok(Took::Had)) => Had,
+        Reply::Took(Err(TakeFault::Gap)) => Gap,
+        Reply::Took(Err(TakeFault::LogFull)) => Full,
+        Reply::Kept(number) => Kept(*number),
+        Reply::Flown { first, number } => Flown(*first, *number),
+        Reply::Delivered => Delivered,
+        Reply::Dropped => Dropped,
+        Reply::Filed => Filed,
+        Reply::Skipped => Skipped,
+        _ => Said::Otherwise,
+    }
+}
+
+fn line_of(entry: &Entry) -> Line {
+    let told = match &entry.what {
+        What::Read(_, vector) => Saw(counts_of(vector)),
+        What::Write(wid, _, deps) => Wrote((wid.origin.index, wid.seq), counts_of(deps)),
+        What::Refused => Told::Nothing,
+    };
+    (entry.session.index, entry.place, entry.server.index, told)
+}
+
+fn are_said(replies: &[Reply], acts: &[(Act, Said)]) -> bool {
+    let mut is_each = replies.len() == acts.len();
+    for (reply, (_, wanted)) in replies.iter().zip(acts.iter()) {
+        is_each = is_each && saying(reply) == *wanted;
+    }
+    is_each
+}
+
+fn are_lines(served: &[Entry], lines: &[Line]) -> bool {
+    let mut is_each = served.len() == lines.len();
+    for (entry, line) in served.iter().zip(lines.iter()) {
+        is_each = is_each && line_of(entry) == *line;
+    }
+    is_each
+}
+
+fn has_names(dump: &[RestingWrite], names: &[(u8, u32)]) -> bool {
+    let mut is_each = dump.len() == names.len();
+    for (write, name) in dump.iter().zip(names.iter()) {
+        let wid = write.wid();
+        is_each = is_each && (wid.origin.index, wid.seq) == *name;
+    }
+    is_each
+}
+
+fn have_names(dumps: &[Vec<RestingWrite>], names: &[&'static [(u8, u32)]; 2]) -> bool {
+    match (dumps.first(), dumps.get(1)) {
+        (Some(first), Some(second)) => {
+            dumps.len() == 2
+                && has_names(first.as_slice(), names[0])
+                && has_names(second.as_slice(), names[1])
+        }
+        _ => false,
+    }
+}
+
+fn play(rt: &impl Abort, alloc: Global, script: &Script) -> Result<History, AllocError> {
+    let mut events = Vec::new(alloc);
+    for (act, _) in script.acts {
+        events.push(event_of(rt, alloc, *act)?)?;
+    }
+    let sessions = sessions_of(rt, alloc, script.asks)?;
+    let limit = script.limit.min(100);
+    World::new(alloc, 2, limit, sessions.as_slice())?.run(alloc, events.as_slice())
+}
+
+/// Whether replies, entries, dumps and totals are those of the script.
+fn leaves_what_it_says(
+    rt: &impl Abort,
+    alloc: Global,
+    script: &Script,
+) -> Result<bool, AllocError> {
+    let history = play(rt, alloc, script)?;
+    let (reads, writes, refusals) = script.totals;
+    let totals = Totals {
+        slips: 0,
+        reads,
+        writes,
+        refusals,
+    };
+    Ok(
+        are_said(history.replies.as_slice(), script.acts)
+            && are_lines(history.served.as_slice(), script.served)
+            && have_names(history.dumps.as_slice(), &script.dumps)
+            && history.totals == totals,
+    )
+}
+
+#[test]
+fn a_session_finds_the_write_that_it_was_told_of(rt: HostRuntime) -> Result<(), Fail> {
+    for script in OF_ONE_WRITE {
+        assert!(rt;
+            leaves_what_it_says(&rt, rt.alloc(), &script)?,
+            "{script:?}"
+        );
+    }
+    Ok(())
+}
+
+#[test]
+fn what_was_delivered_is_entered_once(rt: HostRuntime) -> Result<(), Fail> {
+    for script in OF_BOOKS {
+        assert!(rt;
+            leaves_what_it_says(&rt, rt.alloc(), &script)?,
+            "{script:?}"
+        );
+    }
+    Ok(())
+}
