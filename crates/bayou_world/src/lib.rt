@@ -1,11 +1,12 @@
 //! All servers and all sessions as one machine (Terry et al. 1994, 1995; Petersen et al. 1997), and the four session guarantees
 //! over every run of it.
 //!
-//! [`World`] runs real servers on devices in memory, real sessions and a book through a list of events, and what that leaves is
-//! a run of a machine (`IsHistory` in `specs/Histories`). Callers see a machine of sets (`specs/Machine`): what each server holds and ever had, each session's read-set and write-set, what
-//! is in flight, and what was served. An event does to it what `specs/Steps` says, with each answer that it may have; nothing there
-//! counts Writes. The laws say what is true of every run: a name is of one Write, what each server holds is prefix-closed, a vector
-//! stands for a set, and each served operation has every guarantee that its session asked for.
+//! [`World`] leads real servers on devices in memory, real sessions and a book through a list of events, and what that leaves is a
+//! run of a machine of sets (`IsHistory` in `specs/Histories`). Callers see that machine (`specs/Machine`): what each server holds and
+//! ever had, each session's read-set and write-set, what is in flight, and what was served. An event does to it what `specs/Steps`
+//! says, with each answer that it may have; nothing there counts Writes. The laws say what is true of every run: a name is of one
+//! Write, what each server holds is prefix-closed, a vector stands for a set, and each served operation has every guarantee that its
+//! session asked for.
 //!
 //! Callers owe what a server's start owes. Nothing stands on this crate. It isn't promised that memory suffices, that servers become
 //! equal, nor that a session is ever served.
