@@ -1,3 +1,4 @@
+pub mod Blanks
 pub mod Inner
 pub mod Settles
 pub mod Totals

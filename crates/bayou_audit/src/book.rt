@@ -1,5 +1,6 @@
 ghost use Rattle.std.specs.Prelude.{◌≡◌, ◌<◌, ◌≤◌, ◌+◌, ◌↔◌, IfOk, IsErr, MatchResult, length};
 ghost use Rattle.bayou_base.specs.declared.limits.TheConstants.{SESSIONS};
+ghost use Rattle.bayou_audit.specs.Blanks.{AreBlanksOf, named};
 ghost use Rattle.bayou_audit.specs.Settles.{IsSettled, IsUnsettled};
 ghost use Rattle.bayou_audit.specs.Totals.{AreNewShares, IsExact, new_book, no_totals, sums_of, with_claim, with_entry, with_filed, with_slip_out, with_slip_spent, with_void};
 
@@ -87,10 +88,7 @@ impl<K: Ledgers> Book<K> {
         shares: u8,
         places: usize,
     ) -> Result<(Self, Vec<Share<K>>), AllocError>
-        requires slips { (blanks.slips.name ≡ K.Slips.name) × (blanks.slips.parts ≡ K.Slips.parts) × (blanks.slips.parts ≡ shares) }
-        requires reads { (blanks.reads.name ≡ K.Reads.name) × (blanks.reads.parts ≡ K.Reads.parts) × (blanks.reads.parts ≡ shares) }
-        requires writes { (blanks.writes.name ≡ K.Writes.name) × (blanks.writes.parts ≡ K.Writes.parts) × (blanks.writes.parts ≡ shares) }
-        requires refusals { (blanks.refusals.name ≡ K.Refusals.name) × (blanks.refusals.parts ≡ K.Refusals.parts) × (blanks.refusals.parts ≡ shares) }
+        requires blanks { AreBlanksOf blanks (named K.Slips.name K.Slips.parts) (named K.Reads.name K.Reads.parts) (named K.Writes.name K.Writes.parts) (named K.Refusals.name K.Refusals.parts) shares }
         requires some { (0 < shares) × (shares ≤ SESSIONS) }
         ensures book { IfOk result (λ made. made.0 ≡ new_book shares places) }
         ensures shares { IfOk result (λ made. AreNewShares shares made.1.items) }

@@ -1,6 +1,7 @@
 //! The book of a run.
 ghost use Rattle.std.specs.Prelude.{◌≡◌, [], IfOk};
 ghost use Rattle.bayou_base.specs.declared.limits.TheConstants.{SESSIONS as SESSIONS_NUMBER};
+ghost use Rattle.bayou_audit.specs.Blanks.{AreBlanksOf, named};
 ghost use Rattle.bayou_audit.specs.Totals.{is_read, is_refusal, is_write, number_of, totals_of};
 ghost use Rattle.bayou_world.specs.Inner.Booking.{FollowsInBook};
 ghost use Rattle.bayou_world.specs.Steps.{Files};
@@ -33,10 +34,7 @@ impl<K: Ledgers> Model for Filing<K> {
 impl<K: Ledgers> Filing<K> {
     /// A book with so many places, in which nothing was entered.
     pub fn new(alloc: Global, blanks: Blanks, places: usize) -> Result<Self, AllocError>
-        requires slips { (blanks.slips.name ≡ K.Slips.name) × (blanks.slips.parts ≡ K.Slips.parts) × (blanks.slips.parts ≡ SESSIONS_NUMBER) }
-        requires reads { (blanks.reads.name ≡ K.Reads.name) × (blanks.reads.parts ≡ K.Reads.parts) × (blanks.reads.parts ≡ SESSIONS_NUMBER) }
-        requires writes { (blanks.writes.name ≡ K.Writes.name) × (blanks.writes.parts ≡ K.Writes.parts) × (blanks.writes.parts ≡ SESSIONS_NUMBER) }
-        requires refusals { (blanks.refusals.name ≡ K.Refusals.name) × (blanks.refusals.parts ≡ K.Refusals.parts) × (blanks.refusals.parts ≡ SESSIONS_NUMBER) }
+        requires blanks { AreBlanksOf blanks (named K.Slips.name K.Slips.parts) (named K.Reads.name K.Reads.parts) (named K.Writes.name K.Writes.parts) (named K.Refusals.name K.Refusals.parts) SESSIONS_NUMBER }
         ensures { IfOk result (λ filing. filing ≡ record { places = places; entries = [] }) }
     {
         let (book, shares) = Book::new(alloc, blanks, SESSIONS as u8, places)?;

@@ -1,5 +1,6 @@
 //! Servers and sessions to which nothing has happened, and a run of them.
 ghost use Rattle.std.specs.Prelude.{◌≡◌, ◌<◌, ◌≤◌, [], IfOk, List, map};
+ghost use Rattle.bayou_audit.specs.Blanks.{AreBlanksOf, named};
 ghost use Rattle.bayou_base.specs.declared.limits.TheConstants.{MAX_WRITES, SERVERS as SERVERS_NUMBER, SESSIONS as SESSIONS_NUMBER};
 ghost use Rattle.bayou_world.specs.Histories.{IsHistory};
 ghost use Rattle.bayou_world.specs.Inner.Beginning.{AreFirstSeats, AreStarted, IsFirstSeat, Leaves, fresh_core};
@@ -196,10 +197,7 @@ fn run_with<K: Ledgers>(
     world: World,
     events: &[Event],
 ) -> Result<History, AllocError>
-    requires slips { (blanks.slips.name ≡ K.Slips.name) × (blanks.slips.parts ≡ K.Slips.parts) × (blanks.slips.parts ≡ SESSIONS_NUMBER) }
-    requires reads { (blanks.reads.name ≡ K.Reads.name) × (blanks.reads.parts ≡ K.Reads.parts) × (blanks.reads.parts ≡ SESSIONS_NUMBER) }
-    requires writes { (blanks.writes.name ≡ K.Writes.name) × (blanks.writes.parts ≡ K.Writes.parts) × (blanks.writes.parts ≡ SESSIONS_NUMBER) }
-    requires refusals { (blanks.refusals.name ≡ K.Refusals.name) × (blanks.refusals.parts ≡ K.Refusals.parts) × (blanks.refusals.parts ≡ SESSIONS_NUMBER) }
+    requires blanks { AreBlanksOf blanks (named K.Slips.name K.Slips.parts) (named K.Reads.name K.Reads.parts) (named K.Writes.name K.Writes.parts) (named K.Refusals.name K.Refusals.parts) SESSIONS_NUMBER }
     ensures { IfOk result (IsHistory world events.now) }
 {
     let World {
@@ -230,10 +228,7 @@ where
     T: Ledger + Send + Sync,
     U: Ledger + Send + Sync,
     V: Ledger + Send + Sync,
-    requires slips { (blanks.slips.name ≡ S.name) × (blanks.slips.parts ≡ S.parts) × (blanks.slips.parts ≡ SESSIONS_NUMBER) }
-    requires reads { (blanks.reads.name ≡ T.name) × (blanks.reads.parts ≡ T.parts) × (blanks.reads.parts ≡ SESSIONS_NUMBER) }
-    requires writes { (blanks.writes.name ≡ U.name) × (blanks.writes.parts ≡ U.parts) × (blanks.writes.parts ≡ SESSIONS_NUMBER) }
-    requires refusals { (blanks.refusals.name ≡ V.name) × (blanks.refusals.parts ≡ V.parts) × (blanks.refusals.parts ≡ SESSIONS_NUMBER) }
+    requires blanks { AreBlanksOf blanks (named S.name S.parts) (named T.name T.parts) (named U.name U.parts) (named V.name V.parts) SESSIONS_NUMBER }
     ensures { IfOk result (IsHistory world events.now) }
 {
     run_with::<Four<S, T, U, V>>(alloc, blanks, world, events)
