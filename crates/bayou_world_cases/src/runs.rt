@@ -13,7 +13,7 @@ use std::process::Abort;
 use std::test::Fail;
 
 /// How many lists from the seed.
-const LISTS: u32 = 100;
+const LISTS: u32 = 200;
 
 /// How many events a list has, but for some more at its end.
 const EVENTS: usize = 300;
