@@ -3,7 +3,7 @@ use Rattle.std.proofs.Common.{◌≡◌, List, Err, inl, inr, true, refl}
 use Rattle.clap.proofs.OnLiterals.{clap_on_literals}
 use Rattle.clap.specs.Kinds.{HasKind}
 use Rattle.clap.specs.Values.{kind_of}
-use Rattle.clap.specs.Words.{Text, is_simple_and_free}
+use Rattle.clap.specs.Words.{Text, is_simple, is_simple_and_free}
 use Rattle.clap.specs.declared.error.Error.{Error}
 use Rattle.clap.specs.declared.error.kind.ErrorKind.TheVariants.{OutOfMemory}
 use Rattle.bayou_command.specs.declared.Stop.{Stop}
@@ -14,6 +14,10 @@ use Rattle.bayou_command.specs.Inner.Stops.{StopsAt}
 pub simple : is_simple_and_free bayou_app ≡ true
 unfolding clap_on_literals
 simple = refl
+
+pub plain : is_simple bayou_app ≡ true
+unfolding clap_on_literals
+plain = refl
 
 -- an error that the words may meet is told as what it is
 pub stopped : (words : List Text) (error : Error) (stop : Stop) → HasKind (faults_of words) error → (kind_of error ≡ OutOfMemory → stop ≡ Memory)

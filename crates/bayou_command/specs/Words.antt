@@ -1,30 +1,78 @@
 -- The command line, as `clap` sees it: a program that asks for its one subcommand.
-use Rattle.std.specs.Prelude.{◌≡◌, ◌⊎◌, List, [], Result, Ok, Err, true, codes}
+use Rattle.std.specs.Prelude.{◌≡◌, ◌⊎◌, if◌then◌else◌, List, [], Option, None, Some, Result, Ok, Err, true, codes}
+use Rattle.std.specs.Str.{bytes_eq}
 use Rattle.clap.specs.Kinds.{IsAmong, Kinds}
-use Rattle.clap.specs.Words.{App, Text, fault_of, new_app, with_subcommand}
+use Rattle.clap.specs.Words.{App, Row, Rule, Text, fault_of, first_of, new_app, new_rule, subcommand_of, with_rule, with_subcommand}
 use Rattle.clap.specs.declared.error.kind.ErrorKind.{ErrorKind}
 use Rattle.clap.specs.declared.error.kind.ErrorKind.TheVariants.{DisplayHelp, DisplayVersion}
 use Rattle.bayou_command.specs.declared.Stop.{Stop}
-use Rattle.bayou_command.specs.declared.Stop.TheVariants.{Asked, Refused, Memory}
+use Rattle.bayou_command.specs.declared.Source.{Source}
+use Rattle.bayou_command.specs.declared.Source.TheVariants.{Standard, File}
+use Rattle.bayou_command.specs.declared.Stop.TheVariants as stops
 use Rattle.bayou_command.specs.declared.Task.{Task}
-use Rattle.bayou_command.specs.declared.Task.TheVariants.{Run}
+use Rattle.bayou_command.specs.declared.Task.TheVariants.{Run, Audit}
 
+-- the word behind a command that names a file
+abbrev pub file_name : Text
+file_name = codes "FILE"
+
+abbrev pub file_rule : Rule
+file_rule = new_rule file_name
+
+-- `run` takes a file or none, and `audit` takes one
 abbrev pub run_app : App
-run_app = new_app (codes "run")
+run_app = with_rule (new_app (codes "run")) file_rule
+
+abbrev pub audit_app : App
+audit_app = with_rule (new_app (codes "audit")) (record file_rule { required = true })
 
 abbrev pub bare_app : App
 bare_app = new_app (codes "bayou")
 
 abbrev pub bayou_app : App
-bayou_app = with_subcommand (record bare_app { top = record bare_app.top { has_version = true; subcommand_required = true } }) run_app.top
+bayou_app = with_subcommand (with_subcommand (record bare_app { top = record bare_app.top { has_version = true; subcommand_required = true } }) run_app.top)
+    audit_app.top
 
 -- why the words, the program's own name before them, may name no task; there is nothing of that kind where they name one
 abbrev pub faults_of : List Text → Kinds
 faults_of words = fault_of bayou_app words
 
--- the words ask for `run`
-abbrev pub NamesRun : List Text → Type 0
-NamesRun words = faults_of words ≡ []
+-- where an input comes from: the standard input, or the file of this name
+pub data Input : Type 0 where
+  standard : Input
+  file : Text → Input
+
+-- no name, and the name `-`, is the standard input
+abbrev pub input_named : Option Text → Input
+input_named None = standard
+input_named (Some name) = if bytes_eq name (codes "-") then standard else file name
+
+abbrev pub input_of : List Row → Input
+input_of rows = input_named (first_of file_name rows)
+
+-- what is asked for
+pub data Asked : Type 0 where
+  a_run : Input → Asked
+  an_audit : Input → Asked
+
+-- of the program's two commands, the one that was entered
+abbrev pub asked_by : Option (Text × List Row) → Asked
+asked_by None = a_run standard
+asked_by (Some (name, rows)) = if bytes_eq name (codes "audit") then an_audit (input_of rows) else a_run (input_of rows)
+
+-- the words are no mistake, and ask for this
+pub record AskFor (words : List Text) (asked : Asked) : Type 0 where
+  pub good : faults_of words ≡ []
+  pub entered : asked_by (subcommand_of bayou_app words) ≡ asked
+
+-- what is seen of an input, and of a task
+abbrev pub input_seen : Source → Input
+input_seen Standard = standard
+input_seen (File name) = file name.now
+
+abbrev pub task_seen : Task → Asked
+task_seen (Run source) = a_run (input_seen source)
+task_seen (Audit source) = an_audit (input_seen source)
 
 -- it is no mistake, but asks for a text: a help, or the version
 abbrev pub IsRequest : ErrorKind → Type 0
@@ -44,7 +92,7 @@ pub record AreMistaken (words : List Text) : Type 0 where
 
 -- what the words name, or why they name nothing, where memory didn't run out
 abbrev pub Names : List Text → Result Task Stop → Type 0
-Names words (Ok Run) = NamesRun words
-Names words (Err (Asked text)) = AskForText words
-Names words (Err (Refused text)) = AreMistaken words
-Names words (Err Memory) = Unit {0}
+Names words (Ok task) = AskFor words (task_seen task)
+Names words (Err (stops.Asked text)) = AskForText words
+Names words (Err (stops.Refused text)) = AreMistaken words
+Names words (Err stops.Memory) = Unit {0}

@@ -7,12 +7,12 @@
 
 ghost use Rattle.std.specs.Prelude.{◌≡◌, ◌∷◌, [], IfOk, MatchResult, codes, false, map};
 ghost use Rattle.clap.specs.declared.builder.command.Command.TheViews.{out-Command as fields_of};
-ghost use Rattle.clap.specs.Words.{app_of, kind_of};
-ghost use Rattle.bayou_command.specs.Words.{Names, NamesRun, bayou_app, run_app};
+ghost use Rattle.clap.specs.Words.{app_of, found_of, kind_of, rows_of, subcommand_rows_of};
+ghost use Rattle.bayou_command.specs.Words.{AskFor, Names, a_run, an_audit, asked_by, audit_app, bayou_app, file, input_of, input_seen, run_app, standard, task_seen};
 ghost use Rattle.bayou_command.specs.Inner.Stops.{StopsAt};
 
 use clap::error::ErrorKind;
-use clap::{Command, Error};
+use clap::{Arg, ArgMatches, Command, Error};
 use std::alloc::{AllocError, Global};
 use std::convert::AsStr;
 
@@ -26,7 +26,7 @@ const EXAMPLE: &str =
   ["write",0,0,{"update":[["put","room",1]]}]
   ["read",0,0,"room"]
 
-Put it into a file and call: bayou run < FILE
+Put it into a file and call: bayou run FILE
 It prints:
 
   0 wrote 0:1 clock 1 deps 0
@@ -36,8 +36,16 @@ It prints:
 3 memory, a device, the input or the output failed. docs/TROUBLE.md says what to do about each fault; examples/ has scripts
 to begin from."#;
 
-const RUN_ABOUT: &str =
-    "Reads a script on standard input, checks it, and prints a line for each answer.";
+const RUN_ABOUT: &str = "Reads a script, checks it, and prints a line for each answer.";
+
+const RUN_FILE: &str = "The script; without it, and where it is -, the standard input";
+
+const AUDIT_ABOUT: &str = "Reads entries and dumps, and says whether each session had what it asked for.";
+
+const AUDIT_FILE: &str = "The audit file; where it is -, the standard input";
+
+const AUDIT_FORM: &str =
+    r#"AUDITFORM"#;
 
 const RUN_FORM: &str =
     r#"Each line is a JSON array, and an empty line is skipped. The first starts the servers; the others follow in any order. I is a
@@ -85,11 +93,22 @@ Pages: docs/LANGUAGE.md (programs), docs/GUARANTEES.md (what a session may ask f
 docs/RECOVERY.md (fuse, reopen, restart), docs/ANTI-ENTROPY.md (pull, resend), docs/BOOK.md (totals), docs/TROUBLE.md (what to do about each fault),
 examples/README.md (scripts)."#;
 
+/// Where an input comes from.
+#[derive(Clone, Copy, Debug, PartialEq, Eq)]
+pub enum Source<'a> {
+    /// The standard input.
+    Standard,
+    /// The file of this name.
+    File(&'a str),
+}
+
 /// What the program is to do.
 #[derive(Clone, Copy, Debug, PartialEq, Eq)]
-pub enum Task {
-    /// To run the script on its input.
-    Run,
+pub enum Task<'a> {
+    /// To run the script that is there.
+    Run(Source<'a>),
+    /// To audit the file that is there.
+    Audit(Source<'a>),
 }
 
 /// Why the words name no task.
@@ -130,13 +149,26 @@ impl Stop {
     }
 }
 
-fn run_command<'a>(alloc: Global) -> Command<'a>
-    ensures app { app_of result ≡ run_app }
-    ensures local { (fields_of result).has_globals ≡ false }
+fn run_command<'a>(alloc: Global) -> Result<Command<'a>, AllocError>
+    ensures app { IfOk result (λ command. app_of command ≡ run_app) }
+    ensures local { IfOk result (λ command. (fields_of command).has_globals ≡ false) }
 {
+    let file = Arg::new(alloc, "FILE").help(RUN_FILE);
     Command::new(alloc, "run")
         .about(RUN_ABOUT)
         .after_help(RUN_FORM)
+        .arg(file)
+}
+
+fn audit_command<'a>(alloc: Global) -> Result<Command<'a>, AllocError>
+    ensures app { IfOk result (λ command. app_of command ≡ audit_app) }
+    ensures local { IfOk result (λ command. (fields_of command).has_globals ≡ false) }
+{
+    let file = Arg::new(alloc, "FILE").help(AUDIT_FILE).required(true);
+    Command::new(alloc, "audit")
+        .about(AUDIT_ABOUT)
+        .after_help(AUDIT_FORM)
+        .arg(file)
 }
 
 fn bayou_command<'a>(alloc: Global) -> Result<Command<'a>, AllocError>
@@ -148,21 +180,52 @@ fn bayou_command<'a>(alloc: Global) -> Result<Command<'a>, AllocError>
         .about(ABOUT)
         .after_help(EXAMPLE)
         .subcommand_required(true)
-        .subcommand(run_command(alloc))
+        .subcommand(run_command(alloc)?)?
+        .subcommand(audit_command(alloc)?)
+}
+
+/// The input that a command names.
+fn source_in<'a>(found: &ArgMatches<'a>) -> Source<'a>
+    ensures { input_seen result ≡ input_of (rows_of (found_of found.now)) }
+{
+    let Some(name) = found.get_str("FILE") else {
+        return Source::Standard;
+    };
+    if name == "-" {
+        return Source::Standard;
+    }
+    Source::File(name)
+}
+
+/// What is asked for by the command that was entered.
+fn task_in<'a>(matches: &ArgMatches<'a>) -> Task<'a>
+    ensures { task_seen result ≡ asked_by (subcommand_rows_of matches.now) }
+{
+    match matches.subcommand() {
+        Some(("audit", found)) => Task::Audit(source_in(found)),
+        Some((_, found)) => Task::Run(source_in(found)),
+        None => Task::Run(Source::Standard),
+    }
 }
 
 /// What the words name. The first of them is the program's own name.
-pub fn read_words<'a, S: AsStr>(alloc: Global, words: &'a [S]) -> Result<Task, Stop>
-    // Words are taken exactly where they ask for `run` and nothing else; others ask for a text, or are a mistake. Memory may run out.
+pub fn read_words<'a, S: AsStr>(alloc: Global, words: &'a [S]) -> Result<Task<'a>, Stop>
+    // Words are taken exactly where they ask for a command and its input, and nothing else; others ask for a text, or are a mistake. Memory
+    // may run out.
     ensures { Names (map S.text words.entry.now) result }
 {
     match bayou_command(alloc)?.try_get_matches_from(words) {
-        Ok(_) => Ok(Task::Run),
+        Ok(matches) => Ok(task_in(&matches)),
         Err(error) => Err(Stop::of(alloc, &error)),
     }
 }
 
-/// A law: `bayou run` asks for `run`.
-pub fn run_is_named()
-    ensures { NamesRun (codes "bayou" ∷ codes "run" ∷ []) }
+/// A law: `bayou run`, `bayou run -` and `bayou run FILE` ask for a run, of the standard input or of the file, and `bayou audit FILE` and
+/// `bayou audit -` for an audit.
+pub fn commands_are_named()
+    ensures run { AskFor (codes "bayou" ∷ codes "run" ∷ []) (a_run standard) }
+    ensures run_dash { AskFor (codes "bayou" ∷ codes "run" ∷ codes "-" ∷ []) (a_run standard) }
+    ensures run_file { AskFor (codes "bayou" ∷ codes "run" ∷ codes "a.jsonl" ∷ []) (a_run (file (codes "a.jsonl"))) }
+    ensures audit { AskFor (codes "bayou" ∷ codes "audit" ∷ codes "a.jsonl" ∷ []) (an_audit (file (codes "a.jsonl"))) }
+    ensures audit_dash { AskFor (codes "bayou" ∷ codes "audit" ∷ codes "-" ∷ []) (an_audit standard) }
 {}

@@ -1,5 +1,5 @@
 -- The servers and the sessions of a script.
-use Rattle.std.specs.Prelude.{◌≡◌, ℕ, ◌<◌, List, Option, None, Some, false, length, replicate, slice_set, unwrap_or}
+use Rattle.std.specs.Prelude.{◌≡◌, ℕ, ◌<◌, List, Option, None, Some, false, length, map, replicate, slice_set, unwrap_or}
 use Rattle.std.specs.List.{slice_get, slice_index_or}
 use Rattle.bayou_base.specs.declared.asks.Asks.{Asks}
 use Rattle.bayou_base.specs.declared.limits.TheConstants.{SESSIONS}
@@ -8,7 +8,8 @@ use Rattle.bayou_session.specs.Needs.{Told, new_session}
 use Rattle.bayou_machine.specs.declared.fault.BeginFault.{BeginFault}
 use Rattle.bayou_machine.specs.declared.fault.BeginFault.TheVariants as faults
 use Rattle.bayou_machine.specs.declared.replica.Replica.{Replica}
-use Rattle.bayou_machine.specs.Replica.{IsBegun, IsNotBegun}
+use Rattle.bayou_lang.specs.declared.write.Write.{Write}
+use Rattle.bayou_machine.specs.Replica.{IsBegun, IsNotBegun, held_by}
 
 -- How many servers there are, how many Writes each may hold, where each of them stands, and the sessions, those that
 -- were opened.
@@ -36,6 +37,10 @@ with_server machine place replica = record machine { servers = slice_set machine
 -- the server of this index stands so
 abbrev pub StandsAt : Machine → ℕ → Replica → Type 0
 StandsAt machine place replica = slice_get machine.servers place ≡ Some replica
+
+-- what each server holds, or held as it was stopped, in order of receipt
+abbrev pub dumps_of : Machine → List (List Write)
+dumps_of machine = map held_by machine.servers
 
 -- The servers of a script as it begins: each was started on an empty device, and no session is open.
 pub record HasBegun (count limit : ℕ) (machine : Machine) : Type 0 where

@@ -24,7 +24,7 @@ use Rattle.bayou_server.specs.Stored.{OpensInCalls, ReopensJournal, StoresWrite}
 use Rattle.bayou_server.specs.Writes.{Writes}
 use Rattle.bayou_session.specs.Needs.{Told, after_read, after_write, one_place_more, read_need, write_need}
 use Rattle.bayou_machine.specs.declared.answer.Answer.{Answer}
-use Rattle.bayou_machine.specs.declared.answer.Answer.TheVariants.{Done, Wrote, Read, Refused, NotServed, Lost, Logged, Recovered, Exchanged, Counted}
+use Rattle.bayou_machine.specs.declared.answer.Answer.TheVariants.{Done, Wrote, Read, Refused, NotServed, Lost, Logged, Recovered, Exchanged, Counted, Judged, Surveyed, Booked}
 use Rattle.bayou_machine.specs.declared.answer.Answer.TheVariants as answers
 use Rattle.bayou_machine.specs.declared.answer.Recovery.{Recovery}
 use Rattle.bayou_machine.specs.declared.answer.Recovery.TheVariants.{Reopened, NotReopened, NotRunning, Restarted, NotRestarted}
@@ -159,6 +159,9 @@ IsListed id replica (Lost who) = ⊥
 IsListed id replica (Recovered recovery) = ⊥
 IsListed id replica (Exchanged exchange) = ⊥
 IsListed id replica (Counted totals) = ⊥
+IsListed id replica (Judged result) = ⊥
+IsListed id replica (Surveyed result) = ⊥
+IsListed id replica (Booked file) = ⊥
 
 -- its device is to fail
 abbrev pub IsFused : ℕ → ℕ → Replica → Replica → Type 0

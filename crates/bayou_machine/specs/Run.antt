@@ -1,19 +1,27 @@
 -- What a script may be answered: a run of a machine over its servers, its sessions and the book of what they were served.
-use Rattle.std.specs.Prelude.{◌≡◌, ℕ, Bool, true, false, List, [], ◌∷◌, ◌++◌, Option, None, Some}
+use Rattle.std.specs.Prelude.{◌≡◌, ◌≢◌, ℕ, Bool, true, false, List, [], ◌∷◌, ◌++◌, Option, None, Some, Result, Err}
+use Rattle.std.specs.Global.{Vec}
 use Rattle.bayou_base.specs.declared.asks.Asks.{Asks}
 use Rattle.bayou_base.specs.declared.entry.Entry.{Entry}
 use Rattle.bayou_base.specs.declared.server.ServerId.{ServerId}
 use Rattle.bayou_base.specs.declared.session.SessionId.{SessionId}
+use Rattle.bayou_judge.specs.declared.verdict.Refusal.{Refusal}
+use Rattle.bayou_judge.specs.declared.verdict.Refusal.TheVariants.{OutOfMemory}
+use Rattle.bayou_judge.specs.declared.verdict.Surveyed.{Surveyed as SurveyedSession}
+use Rattle.bayou_judge.specs.declared.verdict.Verdict.{Verdict}
+use Rattle.bayou_judge.specs.Answers.{Judges, SurveyAnswer}
+use Rattle.bayou_judge.specs.History.{lists_of}
 use Rattle.bayou_session.specs.Needs.{Told, new_session}
-use Rattle.bayou_text.specs.Said.{Said, servers, session, write, read, log, fuse, lose, reopen, restart, pull, resend, totals}
+use Rattle.bayou_text.specs.Said.{Said, servers, session, write, read, log, fuse, lose, reopen, restart, pull, resend, totals, judge, survey, book, entry, held}
+use Rattle.bayou_script.specs.declared.audit_file.AuditFile.{AuditFile}
 use Rattle.bayou_script.specs.Script.{Plan}
 use Rattle.bayou_machine.specs.declared.answer.Answer.{Answer}
-use Rattle.bayou_machine.specs.declared.answer.Answer.TheVariants.{Counted, Done, Recovered}
+use Rattle.bayou_machine.specs.declared.answer.Answer.TheVariants.{Booked, Counted, Done, Judged, Recovered, Surveyed}
 use Rattle.bayou_machine.specs.declared.answer.Recovery.{Recovery}
 use Rattle.bayou_machine.specs.declared.replica.Replica.{Replica}
 use Rattle.bayou_machine.specs.Exchange.{Exchanges, own_counts, zero_counts}
 use Rattle.bayou_machine.specs.Filed.{Files, Filings, operation_of, places_for, totals_filed, what_told}
-use Rattle.bayou_machine.specs.Machine.{HasBegun, Machine, StandsAt, session_of, with_server, with_session}
+use Rattle.bayou_machine.specs.Machine.{HasBegun, Machine, StandsAt, dumps_of, session_of, with_server, with_session}
 use Rattle.bayou_machine.specs.Replica.{IsFused, IsListed, IsRead, IsReopened, IsRestarted, IsShortened, IsWritten}
 
 -- the session is opened
@@ -81,26 +89,39 @@ Step old (restart place) answer new = Recovers (IsRestarted old.count old.limit)
 Step old (pull to source cut) answer new = Exchanges own_counts cut old to source answer new
 Step old (resend to source) answer new = Exchanges zero_counts None old to source answer new
 Step old totals answer new = ⊥
+Step old judge answer new = ⊥
+Step old survey answer new = ⊥
+Step old book answer new = ⊥
+Step old (entry what counts) answer new = ⊥
+Step old (held place written counts) answer new = ⊥
 
 -- Servers and sessions have nothing to say of the book.
 abbrev pub asks_book : Said → Bool
 asks_book totals = true
+asks_book judge = true
+asks_book survey = true
+asks_book book = true
 asks_book _ = false
 
--- it asks for a log
-abbrev pub IsLog : Said → Type 0
-IsLog (servers count limit) = ⊥
-IsLog (session who asks) = ⊥
-IsLog (write who server program) = ⊥
-IsLog (read who server key) = ⊥
-IsLog (log server) = Unit {0}
-IsLog (fuse server calls kept) = ⊥
-IsLog (lose server count) = ⊥
-IsLog (reopen server) = ⊥
-IsLog (restart server) = ⊥
-IsLog (pull to source cut) = ⊥
-IsLog (resend to source) = ⊥
-IsLog totals = ⊥
+-- what is asked for may take memory to be told, and has no answer for the want of it
+abbrev pub TakesMemory : Said → Type 0
+TakesMemory (servers count limit) = ⊥
+TakesMemory (session who asks) = ⊥
+TakesMemory (write who server program) = ⊥
+TakesMemory (read who server key) = ⊥
+TakesMemory (log server) = Unit {0}
+TakesMemory (fuse server calls kept) = ⊥
+TakesMemory (lose server count) = ⊥
+TakesMemory (reopen server) = ⊥
+TakesMemory (restart server) = ⊥
+TakesMemory (pull to source cut) = ⊥
+TakesMemory (resend to source) = ⊥
+TakesMemory totals = ⊥
+TakesMemory judge = Unit {0}
+TakesMemory survey = Unit {0}
+TakesMemory book = Unit {0}
+TakesMemory (entry what counts) = ⊥
+TakesMemory (held place written counts) = ⊥
 
 -- The machine of a script: its servers and sessions, and the book of what was served.
 pub record Audited : Type 0 where
@@ -135,10 +156,35 @@ abbrev pub Does : Option (ℕ × ℕ) → Audited → Said → Answer → Audite
 Does None old said answer new = Leaves old said answer new
 Does (Some (who, place)) old said answer new = Tries old who place said answer new
 
--- From old, what a line says may get this answer and leave new: what sessions are told is filed, and the totals are those of what
--- was filed so far.
+-- the verdict on what was filed so far and what the servers hold
+pub record IsJudged (audited : Audited) (answer : Answer) : Type 0 where
+  pub result : Result Verdict Refusal
+  pub answered : answer ≡ Judged result
+  pub told : result ≢ Err OutOfMemory
+  pub judges : Judges audited.machine.count audited.book.entries (dumps_of audited.machine) result
+
+-- the survey of what was filed so far and what the servers hold
+pub record IsSurveyed (audited : Audited) (answer : Answer) : Type 0 where
+  pub result : Result (Vec SurveyedSession) Refusal
+  pub answered : answer ≡ Surveyed result
+  pub told : result ≢ Err OutOfMemory
+  pub surveys : SurveyAnswer audited.machine.count audited.book.entries (dumps_of audited.machine) result
+
+-- what was filed so far and what the servers hold, as it is
+pub record IsBooked (audited : Audited) (answer : Answer) : Type 0 where
+  pub file : AuditFile
+  pub answered : answer ≡ Booked file
+  pub count : file.count ≡ audited.machine.count
+  pub entries : file.entries.items ≡ audited.book.entries
+  pub dumps : lists_of file.dumps.items ≡ dumps_of audited.machine
+
+-- From old, what a line says may get this answer and leave new: what sessions are told is filed, and the totals, the verdict, the survey
+-- and the book are those of what was filed so far.
 abbrev pub Turn : Audited → Said → Answer → Audited → Type 0
 Turn old totals answer new = (new ≡ old) × (answer ≡ Counted (totals_filed old.book.entries))
+Turn old judge answer new = (new ≡ old) × IsJudged old answer
+Turn old survey answer new = (new ≡ old) × IsSurveyed old answer
+Turn old book answer new = (new ≡ old) × IsBooked old answer
 Turn old said answer new = Does (operation_of said) old said answer new
 
 -- what is said one after another may get these answers

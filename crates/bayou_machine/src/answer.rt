@@ -1,7 +1,9 @@
 use bayou_audit::Totals;
 use bayou_base::{Accepted, Key, Seen, ServerId, SessionId, Vector, Wid};
+use bayou_judge::{Refusal, Surveyed, Verdict};
 use bayou_log::Listed;
 use bayou_peer::{PullFault, Pulled};
+use bayou_script::AuditFile;
 use bayou_server::{ReopenFault, StartFault, WriteFault};
 
 /// What a command is answered.
@@ -50,6 +52,12 @@ pub enum Answer {
     Exchanged(Exchange),
     /// How much was filed so far.
     Counted(Totals),
+    /// The verdict on what was filed so far and what the servers hold. Want of memory is no answer.
+    Judged(Result<Verdict, Refusal>),
+    /// What became of each guarantee in each session that was filed so far. Want of memory is no answer.
+    Surveyed(Result<Vec<Surveyed>, Refusal>),
+    /// What was filed so far and what the servers hold.
+    Booked(AuditFile),
 }
 
 /// What became of a server that was to take Writes from another.

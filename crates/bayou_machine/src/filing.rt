@@ -1,19 +1,22 @@
 //! What is filed of the operations of a script.
-ghost use Rattle.std.specs.Prelude.{◌≡◌, ◌≢◌, ◌<◌, ◌-◌, ◌++◌, [], IfOk, IsTrue, List, MatchResult, None, Some, length, map};
+ghost use Rattle.std.specs.Prelude.{◌≡◌, ◌≢◌, ◌<◌, ◌-◌, ◌++◌, [], IfOk, IsTrue, List, MatchResult, None, Some, false, length, map};
 ghost use Rattle.std.specs.Option.{option_map};
 ghost use Rattle.bayou_audit.specs.Blanks.{AreBlanksOf, named};
 ghost use Rattle.bayou_base.specs.declared.entry.Entry.{Entry as Filed};
 ghost use Rattle.bayou_base.specs.declared.limits.TheConstants.{MAX_PLACES, SESSIONS as SESSIONS_NUMBER};
 ghost use Rattle.bayou_script.specs.Script.{is_served};
+ghost use Rattle.bayou_machine.specs.declared.answer.Answer.TheVariants.{Booked};
 ghost use Rattle.bayou_machine.specs.Filed.{Files, operation_of as operation_said, places_for as places_of, totals_filed, what_told};
 ghost use Rattle.bayou_machine.specs.Inner.Filing.{index_of};
-ghost use Rattle.bayou_machine.specs.Run.{IsLog, Tries, Turn, audited};
+ghost use Rattle.bayou_machine.specs.Run.{IsBooked, IsJudged, IsSurveyed, TakesMemory, Tries, Turn, asks_book, audited};
 ghost use Rattle.bayou_text.specs.Said.{command_said};
 
 use crate::answer::Answer;
 use crate::store::Store;
 use bayou_audit::{Blanks, Book, Ledgers, Share, Slip, Totals};
 use bayou_base::{Entry, MAX_PLACES, SESSIONS, ServerId, SessionId, What};
+use bayou_judge::{Refusal, judge, survey};
+use bayou_script::AuditFile;
 use bayou_session::Session;
 use bayou_text::Command;
 use std::alloc::{AllocError, Global};
@@ -29,7 +32,8 @@ pub struct Filing<K: Ledgers> {
 
 impl<K: Ledgers> Model for Filing<K> {
     ghost use Rattle.std.specs.Prelude.{◌≡◌};
-    ghost use Rattle.bayou_machine.specs.Filed.{Filings};
+    ghost use Rattle.bayou_machine.specs.declared.answer.Answer.TheVariants.{Booked};
+ghost use Rattle.bayou_machine.specs.Filed.{Filings};
     ghost use Rattle.bayou_machine.specs.Inner.Filing.{AreOfSessions};
 
     ghost Value = { Filings };
@@ -57,7 +61,10 @@ fn what_of(answer: &Answer) -> Option<What>
         | Answer::Stopped { .. }
         | Answer::Recovered(_)
         | Answer::Exchanged(_)
-        | Answer::Counted(_) => None,
+        | Answer::Counted(_)
+        | Answer::Judged(_)
+        | Answer::Surveyed(_)
+        | Answer::Booked(_) => None,
     }
 }
 
@@ -116,7 +123,10 @@ fn operation_of(command: &Command) -> Option<(SessionId, ServerId)>
         | Command::Restart { .. }
         | Command::Pull { .. }
         | Command::Resend { .. }
-        | Command::Totals => None,
+        | Command::Totals
+        | Command::Judge
+        | Command::Survey
+        | Command::Book => None,
     }
 }
 
@@ -164,7 +174,7 @@ impl<K: Ledgers> Filing<K> {
         requires room { length self.old.entries < self.old.places }
         ensures { MatchResult result
             (λ answer. Tries (audited store.old self.old) who.index server.index (command_said command) answer (audited store.new self.new))
-            (λ _. IsLog (command_said command) × (store.new ≡ store.old) × (self.new ≡ self.old)) }
+            (λ _. TakesMemory (command_said command) × (store.new ≡ store.old) × (self.new ≡ self.old)) }
     {
         let session = store.session(who);
         let share = &mut self.shares[usize::from(who.index)];
@@ -183,7 +193,63 @@ impl<K: Ledgers> Filing<K> {
         }
     }
 
-    /// What the command is answered, and files what sessions are told. Only a log may want memory that it has no answer for.
+    /// What the command is answered, which asks nothing of the book, and files what its session is told, if it has one.
+    fn do_one(
+        &mut self,
+        alloc: Global,
+        store: &mut Store,
+        command: Command,
+    ) -> Result<Answer, AllocError>
+        requires served { IsTrue (is_served store.old.count (command_said command)) }
+        requires other { asks_book (command_said command) ≡ false }
+        requires room { operation_said (command_said command) ≢ None → length self.old.entries < self.old.places }
+        ensures { MatchResult result
+            (λ answer. Turn (audited store.old self.old) (command_said command) answer (audited store.new self.new))
+            (λ _. TakesMemory (command_said command) × (store.new ≡ store.old) × (self.new ≡ self.old)) }
+    {
+        match operation_of(&command) {
+            Some((who, server)) => self.operate(alloc, store, command, who, server),
+            None => store.answer(alloc, command),
+        }
+    }
+
+    /// What was filed so far, and what the servers hold.
+    fn book(&self, alloc: Global, store: &Store) -> Result<AuditFile, AllocError>
+        ensures { IfOk result (λ file. IsBooked (audited store.now self.now) (Booked file)) }
+    {
+        let entries = self.book.entries(alloc)?;
+        let dumps = store.dumps(alloc)?;
+        Ok(AuditFile {
+            count: store.count(),
+            entries,
+            dumps,
+        })
+    }
+
+    /// The verdict on what was filed so far and what the servers hold.
+    fn judge(&self, alloc: Global, store: &Store) -> Result<Answer, AllocError>
+        ensures { IfOk result (IsJudged (audited store.now self.now)) }
+    {
+        let file = self.book(alloc, store)?;
+        match judge(alloc, file.count, file.entries.as_slice(), file.dumps.as_slice()) {
+            Err(Refusal::OutOfMemory) => Err(AllocError),
+            told => Ok(Answer::Judged(told)),
+        }
+    }
+
+    /// The survey of what was filed so far and what the servers hold.
+    fn survey(&self, alloc: Global, store: &Store) -> Result<Answer, AllocError>
+        ensures { IfOk result (IsSurveyed (audited store.now self.now)) }
+    {
+        let file = self.book(alloc, store)?;
+        match survey(alloc, file.count, file.entries.as_slice(), file.dumps.as_slice()) {
+            Err(Refusal::OutOfMemory) => Err(AllocError),
+            told => Ok(Answer::Surveyed(told)),
+        }
+    }
+
+    /// What the command is answered, and files what sessions are told. Only where much is told may memory be wanted for which there is
+    /// no answer.
     pub fn answer(
         &mut self,
         alloc: Global,
@@ -194,14 +260,14 @@ impl<K: Ledgers> Filing<K> {
         requires room { operation_said (command_said command) ≢ None → length self.old.entries < self.old.places }
         ensures { MatchResult result
             (λ answer. Turn (audited store.old self.old) (command_said command) answer (audited store.new self.new))
-            (λ _. IsLog (command_said command) × (store.new ≡ store.old) × (self.new ≡ self.old)) }
+            (λ _. TakesMemory (command_said command) × (store.new ≡ store.old) × (self.new ≡ self.old)) }
     {
-        if let Command::Totals = command {
-            return Ok(Answer::Counted(self.totals()));
-        }
-        match operation_of(&command) {
-            Some((who, server)) => self.operate(alloc, store, command, who, server),
-            None => store.answer(alloc, command),
+        match command {
+            Command::Totals => Ok(Answer::Counted(self.totals())),
+            Command::Judge => self.judge(alloc, store),
+            Command::Survey => self.survey(alloc, store),
+            Command::Book => Ok(Answer::Booked(self.book(alloc, store)?)),
+            command => self.do_one(alloc, store, command),
         }
     }
 }

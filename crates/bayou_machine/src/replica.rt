@@ -5,7 +5,7 @@ use crate::answer::{Answer, Recovery};
 use crate::fault::BeginFault;
 use bayou_base::{Key, ServerId, SessionId};
 use bayou_device::{MemoryDevice, OpenGate};
-use bayou_lang::RestingProgram;
+use bayou_lang::{RestingProgram, RestingWrite};
 use bayou_script::Servers;
 use bayou_server::{NotStarted, Server, StartFault, Stopped};
 use bayou_session::Session;
@@ -19,6 +19,17 @@ pub enum Replica {
     Running(Server<MemoryDevice<OpenGate>>),
     /// Its last start was refused: its device, and what it held before.
     Stopped(Stopped<MemoryDevice<OpenGate>>),
+}
+
+/// Copies of the Writes, in their order.
+fn copies(alloc: Global, writes: &[RestingWrite]) -> Result<Vec<RestingWrite>, AllocError>
+    ensures { IfOk result (λ copied. copied.items ≡ writes.now) }
+{
+    let mut copied = Vec::new(alloc);
+    for write in writes {
+        copied.push(write.copy(alloc)?)?;
+    }
+    Ok(copied)
 }
 
 impl Replica {
@@ -116,6 +127,16 @@ impl Replica {
             listing,
             vector,
         })
+    }
+
+    /// Copies of the Writes that it holds, or held as it was stopped, in order of receipt.
+    pub(crate) fn dump(&self, alloc: Global) -> Result<Vec<RestingWrite>, AllocError>
+        ensures { IfOk result (λ writes. writes.items ≡ held_by self.now) }
+    {
+        match self {
+            Replica::Running(server) => server.dump(alloc),
+            Replica::Stopped(stopped) => copies(alloc, stopped.log.receipts()),
+        }
     }
 
     /// Sets a fuse on its device.

@@ -6,7 +6,7 @@ use crate::answer::{Answer, Exchange, Recovery};
 use crate::fault::BeginFault;
 use crate::replica::Replica;
 use bayou_base::{Asks, Key, SESSIONS, ServerId, SessionId, Vector};
-use bayou_lang::RestingProgram;
+use bayou_lang::{RestingProgram, RestingWrite};
 use bayou_peer::cut_after;
 use bayou_script::Servers;
 use bayou_session::Session;
@@ -37,8 +37,9 @@ impl Model for Store {
 impl Store {
     ghost use Rattle.bayou_machine.specs.Exchange.{Exchanges};
     ghost use Rattle.bayou_machine.specs.declared.replica.Replica.{Replica as Replicated};
-    ghost use Rattle.bayou_machine.specs.Machine.{FailsToBegin, HasBegun, StandsAt, session_of};
-    ghost use Rattle.bayou_machine.specs.Run.{IsLog, Step, asks_book};
+    ghost use Rattle.bayou_judge.specs.History.{lists_of};
+    ghost use Rattle.bayou_machine.specs.Machine.{FailsToBegin, HasBegun, StandsAt, dumps_of, session_of};
+    ghost use Rattle.bayou_machine.specs.Run.{Step, TakesMemory, asks_book};
     ghost use Rattle.bayou_script.specs.Script.{is_served};
     ghost use Rattle.bayou_text.specs.Said.{command_said};
 
@@ -68,6 +69,25 @@ impl Store {
         }
     }
 
+    /// How many servers there are.
+    pub(crate) fn count(&self) -> u8
+        ensures value { result ≡ self.now.count }
+        ensures in_range { (0 < result) × (result ≤ SERVERS) }
+    {
+        self.servers.count
+    }
+
+    /// Copies of the Writes that each server holds, or held as it was stopped, in order of receipt.
+    pub(crate) fn dumps(&self, alloc: Global) -> Result<Vec<Vec<RestingWrite>>, AllocError>
+        ensures { IfOk result (λ dumps. lists_of dumps.items ≡ dumps_of self.now) }
+    {
+        let mut dumps = Vec::new(alloc);
+        for replica in &self.replicas {
+            dumps.push(replica.dump(alloc)?)?;
+        }
+        Ok(dumps)
+    }
+
     /// What the command is answered, which asks nothing of the book. Only a log may want memory that it has no answer for.
     #[tactic(auto, unfolding(bayou_script::specs::Script::are_servers))]
     pub(crate) fn answer(&mut self, alloc: Global, command: Command) -> Result<Answer, AllocError>
@@ -75,7 +95,7 @@ impl Store {
         requires other { asks_book (command_said command) ≡ false }
         ensures { MatchResult result
             (λ answer. Step self.old (command_said command) answer self.new)
-            (λ _. IsLog (command_said command) × (self.new ≡ self.old)) }
+            (λ _. TakesMemory (command_said command) × (self.new ≡ self.old)) }
     {
         match command {
             Command::Session { session, asks } => {
@@ -107,7 +127,7 @@ impl Store {
                 Ok(Answer::Exchanged(self.pull(alloc, to, from, cut)))
             }
             Command::Resend { to, from } => Ok(Answer::Exchanged(self.resend(alloc, to, from))),
-            Command::Totals => unreachable!(),
+            Command::Totals | Command::Judge | Command::Survey | Command::Book => unreachable!(),
         }
     }
 

@@ -22,7 +22,7 @@ use Rattle.bayou_shell.specs.declared.fault.Fault.TheVariants as faults
 use Rattle.bayou_shell.specs.Fault.{exit_status, fault_of_begin, status_of}
 use Rattle.bayou_shell.specs.Inner.Faults.{IsReadFault, IsRunFault}
 use Rattle.bayou_shell.specs.Inner.Waiting.{Gathers, Stage}
-use Rattle.bayou_shell.specs.Printed.{answer_text}
+use Rattle.bayou_print.specs.Printed.{answer_text}
 use Rattle.bayou_shell.specs.Run.{Prints, PrintsPart, RunsAs, answers_text}
 use Rattle.bayou_shell.specs.Turns.{EndsReading, EndsWriting}
 use Rattle.bayou_shell.proofs.Gathered.{Gathers-trans, Takes-all, Takes-front, Takes-rest}

@@ -1,9 +1,14 @@
 -- How a run ends.
-use Rattle.std.specs.Prelude.{ℕ, Result, Ok, Err}
+use Rattle.std.specs.Prelude.{ℕ, List, [], ◌∷◌, Result, Ok, Err, max}
+use Rattle.bayou_judge.specs.declared.verdict.Verdict.TheVariants.{Clean, Broken}
+use Rattle.bayou_machine.specs.declared.answer.Answer.{Answer}
+use Rattle.bayou_machine.specs.declared.answer.Answer.TheVariants.{Judged, Surveyed}
 use Rattle.bayou_machine.specs.declared.fault.BeginFault.{BeginFault}
 use Rattle.bayou_machine.specs.declared.fault.BeginFault.TheVariants as begin
 use Rattle.bayou_script.specs.declared.fault.Refusal.{Refusal}
 use Rattle.bayou_script.specs.declared.fault.Refusal.TheVariants as refusal
+use Rattle.bayou_shell.specs.declared.ended.Ended.{Ended}
+use Rattle.bayou_shell.specs.declared.ended.Ended.TheVariants as ended
 use Rattle.bayou_shell.specs.declared.fault.Fault.{Fault}
 use Rattle.bayou_shell.specs.declared.fault.Fault.TheVariants.{Line, Memory, Device, Input, Output}
 
@@ -25,7 +30,26 @@ status_of Device = 3
 status_of Input = 3
 status_of Output = 3
 
+-- 1 for a verdict that is broken, 2 for one that is refused, or a survey
+abbrev pub answer_status : Answer → ℕ
+answer_status (Judged (Ok Clean)) = 0
+answer_status (Judged (Ok (Broken breach))) = 1
+answer_status (Judged (Err refusal)) = 2
+answer_status (Surveyed (Ok list)) = 0
+answer_status (Surveyed (Err refusal)) = 2
+answer_status _ = 0
+
+-- with several the greatest counts
+abbrev pub answers_status : List Answer → ℕ
+answers_status [] = 0
+answers_status (answer ∷ answers) = max (answer_status answer) (answers_status answers)
+
+abbrev pub ended_status : Ended → ℕ
+ended_status ended.Clean = 0
+ended_status ended.Broken = 1
+ended_status ended.Refused = 2
+
 -- the exit status of a run
-abbrev pub exit_status : Result (Unit {0}) Fault → ℕ
-exit_status (Ok done) = 0
+abbrev pub exit_status : Result Ended Fault → ℕ
+exit_status (Ok ended) = ended_status ended
 exit_status (Err fault) = status_of fault

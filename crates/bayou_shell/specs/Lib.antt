@@ -1,6 +1,5 @@
 pub mod Fault
 pub mod Inner
-pub mod Printed
 pub mod Program
 pub mod Run
 pub mod Turns

@@ -6,23 +6,26 @@ use Rattle.bayou_machine.specs.declared.fault.BeginFault.TheVariants as beginnin
 use Rattle.bayou_machine.specs.Machine.{FailsToBegin}
 use Rattle.bayou_machine.specs.Run.{Audited, IsNewRun, Run}
 use Rattle.bayou_script.specs.Script.{IsRefused, IsScript, Plan, lines_of}
+use Rattle.bayou_shell.specs.declared.ended.Ended.{Ended}
 use Rattle.bayou_shell.specs.declared.fault.Fault.{Fault}
 use Rattle.bayou_shell.specs.declared.fault.Fault.TheVariants.{Line, Device, Input, Output}
 use Rattle.bayou_shell.specs.declared.fault.Fault.TheVariants as fault
-use Rattle.bayou_shell.specs.Printed.{answer_text}
+use Rattle.bayou_print.specs.Printed.{answer_text}
+use Rattle.bayou_shell.specs.Fault.{answers_status, ended_status}
 
 -- what is printed for answers where there are so many servers
 abbrev pub answers_text : ℕ → List Answer → List ℕ
 answers_text count answers = flat_map (answer_text count) answers
 
--- the text is what is printed for the answers of some run of all commands
-pub record Prints (plan : Plan) (text : List ℕ) : Type 0 where
+-- the text is what is printed for the answers of some run of all commands, and the verdicts among them come to this
+pub record Prints (plan : Plan) (ended : Ended) (text : List ℕ) : Type 0 where
   pub answers : List Answer
   pub first : Audited
   pub last : Audited
   pub begun : IsNewRun plan first
   pub run : Run first plan.commands answers last
   pub lines : text ≡ answers_text plan.count answers
+  pub verdicts : ended_status ended ≡ answers_status answers
 
 -- the text is a front of what is printed for the answers of some run of the first commands
 pub record PrintsPart (plan : Plan) (text : List ℕ) : Type 0 where
@@ -38,8 +41,8 @@ pub record PrintsPart (plan : Plan) (text : List ℕ) : Type 0 where
 -- What is read and written from an input. A script is run whole, or is told a fault of a run with a part of its lines
 -- printed; another input is refused for its least line with a fault, with nothing printed. Want of memory and of the
 -- input may come before anything is printed, and so may a server whose start was refused for something else.
-abbrev pub RunsAs : List ℕ → Result (Unit {0}) Fault → Option (List ℕ) → Option (List ℕ) → Type 0
-RunsAs input (Ok done) old new = (plan : Plan) × IsScript (lines_of input) plan × (text : List ℕ) × Prints plan text × Appends old new text
+abbrev pub RunsAs : List ℕ → Result Ended Fault → Option (List ℕ) → Option (List ℕ) → Type 0
+RunsAs input (Ok ended) old new = (plan : Plan) × IsScript (lines_of input) plan × (text : List ℕ) × Prints plan ended text × Appends old new text
 RunsAs input (Err (Line number fault)) old new = IsRefused (lines_of input) number fault × Keeps old new
 RunsAs input (Err fault.Memory) old new = Keeps old new ⊎ ((plan : Plan) × IsScript (lines_of input) plan × (text : List ℕ) × PrintsPart plan text × Appends old new text)
 RunsAs input (Err Device) old new = (plan : Plan) × IsScript (lines_of input) plan × FailsToBegin plan.count plan.limit beginning.Device × Keeps old new

@@ -24,6 +24,6 @@ EndsWriting has_failed turns_left Input = Unit {0}
 EndsWriting has_failed turns_left Output = HasEnded has_failed turns_left
 
 -- how many lines a run may cut short: none where it ends well, else the last one
-abbrev pub cut_lines : Result (Unit {0}) Fault → ℕ
+abbrev pub cut_lines : {A : Type 0} → Result A Fault → ℕ
 cut_lines (Ok done) = 0
 cut_lines (Err fault) = 1

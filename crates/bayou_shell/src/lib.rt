@@ -14,8 +14,8 @@
 //! gives or takes anything.
 #![tactic(auto)]
 
+pub mod ended;
 pub mod fault;
-mod printed;
 pub mod program;
 mod reading;
 pub mod run;
@@ -23,6 +23,7 @@ mod telling;
 mod waiting;
 mod writing;
 
+pub use ended::Ended;
 pub use fault::Fault;
 pub use program::{refuse_words, run_main};
 pub use run::run_script;

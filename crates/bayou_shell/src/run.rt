@@ -1,4 +1,4 @@
-ghost use Rattle.std.specs.Prelude.{◌≡◌, ◌≢◌, ◌<◌, ◌≤◌, ◌⊎◌, [], List, ℕ, IfErr, IfSome, IsTrue, MatchResult, None, OnOk, length};
+ghost use Rattle.std.specs.Prelude.{◌≡◌, ◌≢◌, ◌<◌, ◌≤◌, ◌⊎◌, [], List, ℕ, IfErr, IfOk, IfSome, IsTrue, MatchResult, None, OnOk, length};
 ghost use Rattle.bayou_script.specs.Plan.{plan_of};
 ghost use Rattle.bayou_script.specs.Script.{is_served};
 ghost use Rattle.bayou_text.specs.Said.{command_said};
@@ -6,14 +6,16 @@ ghost use Rattle.bayou_machine.specs.declared.answer.Answer.{Answer};
 ghost use Rattle.bayou_base.specs.declared.limits.TheConstants.{SESSIONS as SESSIONS_NUMBER};
 ghost use Rattle.bayou_audit.specs.Blanks.{AreBlanksOf, named};
 ghost use Rattle.bayou_machine.specs.Filed.{operation_of};
-ghost use Rattle.bayou_shell.specs.Printed.{answer_text};
+ghost use Rattle.bayou_print.specs.Printed.{answer_text};
 ghost use Rattle.bayou_machine.specs.Run.{IsNewRun, Turn, audited};
 ghost use Rattle.bayou_shell.specs.Run.{Prints, PrintsPart, RunsAs};
+ghost use Rattle.bayou_shell.specs.Fault.{answer_status, ended_status};
 ghost use Rattle.bayou_shell.specs.Inner.Faults.{IsRunFault};
 ghost use Rattle.bayou_streams.specs.Account.{Pays, Takes, account};
 ghost use Rattle.bayou_shell.specs.Inner.Waiting.{Gathers, stage};
 ghost use Rattle.bayou_shell.specs.Turns.{EndsReading, EndsWriting, cut_lines};
 
+use crate::ended::Ended;
 use crate::fault::Fault;
 use crate::reading::read_script;
 use crate::telling::write_answer;
@@ -38,11 +40,12 @@ fn answer_one<K: Ledgers, W: Write>(
     command: Command,
     output: &mut Output<W>,
     waiting: &mut Waiting,
-) -> Result<(), Fault>
+) -> Result<Ended, Fault>
     requires served { IsTrue (is_served store.old.count (command_said command)) }
     requires room { operation_of (command_said command) ≢ None → length filing.old.entries < filing.old.places }
     ensures answered { MatchResult result
-        (λ _. (answer : Answer) × Turn (audited store.old filing.old) (command_said command) answer (audited store.new filing.new)
+        (λ ended. (answer : Answer) × (ended_status ended ≡ answer_status answer)
+        × Turn (audited store.old filing.old) (command_said command) answer (audited store.new filing.new)
         × Gathers (stage W.contents output.old waiting.old) (stage W.contents output.new waiting.new) (answer_text servers.count answer) [])
         (λ fault. IsRunFault fault × ((stage W.contents output.new waiting.new ≡ stage W.contents output.old waiting.old)
         ⊎ (answer : Answer) × Turn (audited store.old filing.old) (command_said command) answer (audited store.new filing.new)
@@ -51,7 +54,8 @@ fn answer_one<K: Ledgers, W: Write>(
     ensures ready { OnOk result (output.old.channel.turns_left ≤ output.new.channel.turns_left) }
 {
     let answer = filing.answer(alloc, store, command)?;
-    write_answer(alloc, servers.count, &answer, output, waiting)
+    write_answer(alloc, servers.count, &answer, output, waiting)?;
+    Ok(Ended::of(&answer))
 }
 
 /// Answers the commands in order, from what the servers hold as a script begins, and writes what is printed for each, or has
@@ -63,9 +67,9 @@ fn answer_each<K: Ledgers, W: Write>(
     filing: Filing<K>,
     output: &mut Output<W>,
     waiting: &mut Waiting,
-) -> Result<(), Fault>
+) -> Result<Ended, Fault>
     requires { IsNewRun (plan_of script) (audited store filing) }
-    ensures ok { OnOk result ((text : List ℕ) × Prints (plan_of script) text × Gathers (stage W.contents output.old waiting.old) (stage W.contents output.new waiting.new) text []) }
+    ensures ok { IfOk result (λ ended. (text : List ℕ) × Prints (plan_of script) ended text × Gathers (stage W.contents output.old waiting.old) (stage W.contents output.new waiting.new) text []) }
     ensures err { IfErr result (λ fault. IsRunFault fault × (text : List ℕ) × (missing : List ℕ) × PrintsPart (plan_of script) text
         × Gathers (stage W.contents output.old waiting.old) (stage W.contents output.new waiting.new) text missing) }
     ensures ended { IfErr result (EndsWriting output.new.channel.write_failed output.new.channel.turns_left) }
@@ -77,8 +81,9 @@ fn answer_each<K: Ledgers, W: Write>(
     } = script;
     let mut store = store;
     let mut filing = filing;
+    let mut ended = Ended::Clean;
     while let Some(command) = commands.pop_front() {
-        answer_one(
+        let told = answer_one(
             alloc,
             servers,
             &mut store,
@@ -87,8 +92,9 @@ fn answer_each<K: Ledgers, W: Write>(
             output,
             waiting,
         )?;
+        ended = ended.and(told);
     }
-    Ok(())
+    Ok(ended)
 }
 
 /// Answers the commands, and writes what is printed for them. What was printed before a fault is written too.
@@ -99,10 +105,10 @@ fn answer_all<K: Ledgers, W: Write>(
     filing: Filing<K>,
     output: &mut Output<W>,
     waiting: Waiting,
-) -> Result<(), Fault>
+) -> Result<Ended, Fault>
     requires begun { IsNewRun (plan_of script) (audited store filing) }
     requires none { waiting.lines.items ≡ [] }
-    ensures ok { OnOk result ((text : List ℕ) × Prints (plan_of script) text × Takes (account W.contents output.old) (account W.contents output.new) text) }
+    ensures ok { IfOk result (λ ended. (text : List ℕ) × Prints (plan_of script) ended text × Takes (account W.contents output.old) (account W.contents output.new) text) }
     ensures err { IfErr result (λ fault. IsRunFault fault
         × (text : List ℕ) × PrintsPart (plan_of script) text × Takes (account W.contents output.old) (account W.contents output.new) text) }
     ensures ended { IfErr result (EndsWriting output.new.channel.write_failed output.new.channel.turns_left) }
@@ -110,7 +116,10 @@ fn answer_all<K: Ledgers, W: Write>(
 {
     let mut waiting = waiting;
     match answer_each(alloc, script, store, filing, output, &mut waiting) {
-        Ok(()) => waiting.write(output),
+        Ok(ended) => {
+            waiting.write(output)?;
+            Ok(ended)
+        }
         Err(Fault::Memory) => {
             // What was printed before is written. Where that fails, want of memory still came first.
             let _ = waiting.write(output);
@@ -127,7 +136,7 @@ fn run_with<K: Ledgers, R: Read, W: Write>(
     blanks: Blanks,
     input: &mut Channel<R, ()>,
     output: &mut Output<W>,
-) -> Result<(), Fault>
+) -> Result<Ended, Fault>
     requires blanks { AreBlanksOf blanks (named K.Slips.name K.Slips.parts) (named K.Reads.name K.Reads.parts) (named K.Writes.name K.Writes.parts) (named K.Refusals.name K.Refusals.parts) SESSIONS_NUMBER }
     ensures runs { IfSome (R.remaining input.old.reader) (λ text. RunsAs text result (W.contents output.old.channel.writer) (W.contents output.new.channel.writer)) }
     ensures read { IfErr result (EndsReading input.new.read_failed input.new.turns_left) }
@@ -148,7 +157,7 @@ fn run_over<S, T, U, V, R, W>(
     blanks: Blanks,
     input: &mut Channel<R, ()>,
     output: &mut Output<W>,
-) -> Result<(), Fault>
+) -> Result<Ended, Fault>
 where
     S: Ledger + Send + Sync,
     T: Ledger + Send + Sync,
@@ -171,7 +180,7 @@ pub fn run_script<R: Read, W: Write>(
     alloc: Global,
     input: &mut Channel<R, ()>,
     output: &mut Output<W>,
-) -> Result<(), Fault>
+) -> Result<Ended, Fault>
     ensures runs { IfSome (R.remaining input.old.reader) (λ text. RunsAs text result (W.contents output.old.channel.writer) (W.contents output.new.channel.writer)) }
     ensures read { IfErr result (EndsReading input.new.read_failed input.new.turns_left) }
     ensures written { IfErr result (EndsWriting output.new.channel.write_failed output.new.channel.turns_left) }

@@ -1,13 +1,18 @@
-use Rattle.std.proofs.Common.{◌≡◌, [], map, true, subst}
+use Rattle.std.proofs.Common.{◌≡◌, ◌∙◌, [], ap, map, sym, true, subst}
 use Rattle.clap.specs.Kinds.{HasKind}
-use Rattle.clap.specs.Words.{App, fault_of, is_simple_and_free}
-use Rattle.bayou_command.proofs.Named.{simple, stopped}
+use Rattle.clap.specs.Words.{App, HasMatchesOf, fault_of, is_simple_and_free}
+use Rattle.bayou_command.specs.Words.{asked_by}
+use Rattle.bayou_command.proofs.Named.{plain, simple, stopped}
 use Rattle.bayou_command.proofs.read_words.Goals as goal
 
 pub returns-in-Ok : goal.returns-in-Ok
 returns-in-Ok g c =
     let words = map g.S.AsStr.text c.args.words.now in
-    subst (λ (app : App). is_simple_and_free app ≡ true → fault_of app words ≡ []) c.in_ok-bayou_command.ensures c.in-Ok.ensures.kinds simple
+    let made = c.in_ok-bayou_command.ensures in
+    record {
+      good = subst (λ (app : App). is_simple_and_free app ≡ true → fault_of app words ≡ []) made c.in-Ok.ensures.kinds simple;
+      entered = ap asked_by (sym (subst (λ (app : App). HasMatchesOf app words c.in-Ok.matches) made c.in-Ok.ensures.matches plain).1) ∙ sym c.task_in.ensures;
+    }
 
 pub returns : goal.returns
 returns g c =

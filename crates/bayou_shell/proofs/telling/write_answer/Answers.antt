@@ -1,7 +1,7 @@
 use Rattle.std.proofs.Common.{◌≡◌, ◌++◌, ◌∙◌, [], ap, sym, subst}
 use Rattle.std.specs.Prelude.{flat_map}
 use Rattle.bayou_shell.specs.Inner.Waiting.{Gathers, stage}
-use Rattle.bayou_shell.specs.Printed.{answer_text, last_text, listed_text, log_text}
+use Rattle.bayou_print.specs.Printed.{answer_text, last_text, listed_text, log_text}
 use Rattle.bayou_shell.proofs.Gathered.{Gathers-less, Gathers-trans}
 use Rattle.std.proofs.lemmas.Result.{on_ok_weaker}
 use Rattle.bayou_shell.proofs.telling.write_answer.Goals as goal

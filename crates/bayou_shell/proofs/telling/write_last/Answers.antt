@@ -1,7 +1,7 @@
 use Rattle.std.proofs.Common.{◌∙◌, List, ℕ, subst, sym}
 use Rattle.std.specs.Io.{IsEmptyOrEndsWith}
-use Rattle.bayou_shell.specs.Printed.{last_text}
-use Rattle.bayou_shell.proofs.Ended.{last_ends}
+use Rattle.bayou_print.specs.Printed.{last_text}
+use Rattle.bayou_print.proofs.Ended.{last_ends}
 use Rattle.bayou_shell.proofs.Gathered.{Gathers-none}
 use Rattle.bayou_shell.proofs.telling.write_last.Goals as goal
 

@@ -3,8 +3,8 @@ use Rattle.std.specs.Prelude.{flat_map}
 use Rattle.std.proofs.lemmas.List.{at_drop_more}
 use Rattle.std.specs.Io.{IsEmptyOrEndsWith}
 use Rattle.bayou_log.specs.declared.listing.Listed.{Listed}
-use Rattle.bayou_shell.specs.Printed.{listed_text}
-use Rattle.bayou_shell.proofs.Ended.{listed_ends}
+use Rattle.bayou_print.specs.Printed.{listed_text}
+use Rattle.bayou_print.proofs.Ended.{listed_ends}
 use Rattle.bayou_shell.specs.Inner.Waiting.{Gathers, Stage, stage}
 use Rattle.bayou_shell.proofs.Gathered.{Gathers-less, Gathers-none, Gathers-trans}
 use Rattle.bayou_shell.proofs.telling.write_listing.Goals as goal

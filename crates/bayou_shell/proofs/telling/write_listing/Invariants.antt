@@ -2,7 +2,7 @@
 use Rattle.std.proofs.Common.{◌≡◌, ◌≤◌, ℕ, List, [], ◌++◌, drop}
 use Rattle.std.specs.Prelude.{flat_map}
 use Rattle.bayou_shell.specs.Inner.Waiting.{Gathers, stage}
-use Rattle.bayou_shell.specs.Printed.{listed_text}
+use Rattle.bayou_print.specs.Printed.{listed_text}
 use Rattle.bayou_shell.proofs.telling.write_listing.Given as goal
 
 abbrev pub invariant-loop-listed : goal.invariant-loop-listed

@@ -1,17 +1,26 @@
 -- Each text that is printed is empty, or ends with a line feed.
-use Rattle.std.proofs.Common.{◌≡◌, ℕ, Ok, Err, ◌-◌, List, [], ◌∷◌, ◌++◌, ◌∙◌, refl, ap, sym, subst, length, get_or, append_assoc, codes, decimal, arith}
+use Rattle.std.proofs.Common.{◌≡◌, ℕ, Result, Ok, Err, ◌-◌, List, [], ◌∷◌, ◌++◌, ◌∙◌, refl, ap, sym, subst, length, get_or, append_assoc, codes, decimal, arith}
 use Rattle.std.proofs.lemmas.List.{length_push, get_or_push}
 use Rattle.std.specs.Io.{IsEmptyOrEndsWith}
 use Rattle.bayou_lang.specs.declared.eval.Outcome.{Outcome}
 use Rattle.bayou_lang.specs.declared.eval.Outcome.TheVariants.{Updated, Merged, Nothing}
 use Rattle.bayou_log.specs.declared.listing.Listed.{Listed}
 use Rattle.bayou_machine.specs.declared.answer.Answer.{Answer}
-use Rattle.bayou_machine.specs.declared.answer.Answer.TheVariants.{Done, Wrote, Read, Refused, NotServed, Lost, Logged, Stopped, Recovered, Exchanged, Counted}
+use Rattle.bayou_machine.specs.declared.answer.Answer.TheVariants.{Done, Wrote, Read, Refused, NotServed, Lost, Logged, Stopped, Recovered, Exchanged, Counted, Judged, Surveyed, Booked}
 use Rattle.bayou_machine.specs.declared.answer.Exchange.{Exchange}
 use Rattle.bayou_machine.specs.declared.answer.Exchange.TheVariants.{NotRunning as NothingRuns, Ended}
 use Rattle.bayou_machine.specs.declared.answer.Recovery.{Recovery}
 use Rattle.bayou_machine.specs.declared.answer.Recovery.TheVariants.{Reopened, NotReopened, NotRunning, Restarted, NotRestarted}
-use Rattle.bayou_shell.specs.Printed.{adopted_text, counts_text, exchange_text, last_text, listed_text, outcome_text, pulling_text, recovery_text, refusal_text, reopening_text, starting_text, value_text}
+use Rattle.bayou_judge.specs.declared.breach.Breach.{Breach}
+use Rattle.bayou_judge.specs.declared.verdict.Refusal.{Refusal}
+use Rattle.bayou_judge.specs.declared.verdict.Refusal.TheVariants.{BadDump, Forged, OutOfMemory}
+use Rattle.bayou_judge.specs.declared.verdict.Surveyed.{Surveyed as SurveyedSession}
+use Rattle.bayou_judge.specs.declared.verdict.Verdict.{Verdict}
+use Rattle.bayou_judge.specs.declared.verdict.Verdict.TheVariants.{Clean, Broken}
+use Rattle.bayou_text.specs.Said.{Said}
+use Rattle.bayou_print.specs.Booked.{line_text}
+use Rattle.bayou_print.specs.Verdicts.{broken_text, found_text, guarantee_text, refused_text, surveyed_text, verdict_text}
+use Rattle.bayou_print.specs.Printed.{adopted_text, counts_text, exchange_text, last_text, listed_text, outcome_text, pulling_text, recovery_text, refusal_text, reopening_text, starting_text, value_text}
 
 -- it ends with a line feed
 record Ends (text : List ℕ) : Type 0 where
@@ -54,8 +63,33 @@ listed_ends server listed =
     ends_is _
     (behind (codes "log ") _ (behind (decimal server) _ (behind (codes " ") _ (behind (decimal listed.wid.origin.index) _ (behind (codes ":") _ (behind (decimal listed.wid.seq) _ (behind (codes " clock ") _ (behind (decimal listed.stamp.clock) _ (outcome_ends listed.outcome)))))))))
 
+nothing_ends : IsEmptyOrEndsWith [] 10
+nothing_ends = λ some. absurd (omega arith)
+
+refused_ends : (refusal : Refusal) → IsEmptyOrEndsWith (refused_text refusal) 10
+refused_ends (BadDump server at) = ends_is _ (behind (codes "judge refused dump ") _ (behind (decimal server.index) _ (behind (codes " ") _ (behind (decimal at) _ feed))))
+refused_ends (Forged at) = ends_is _ (behind (codes "judge refused forged ") _ (behind (decimal at) _ feed))
+refused_ends OutOfMemory = nothing_ends
+
+broken_ends : (breach : Breach) → Ends (broken_text breach)
+broken_ends breach =
+    behind (codes "broken ") _ (behind (guarantee_text breach.guarantee) _ (behind (codes " session ") _ (behind (decimal breach.session.index) _ (behind (codes " places ") _ (behind (decimal breach.first) _ (behind (codes " ") _ (behind (decimal breach.second) _ (behind (codes " server ") _ (behind (decimal breach.server.index) _ (behind (codes " wid ") _ (behind (decimal breach.wid.origin.index) _ (behind (codes ":") _ (behind (decimal breach.wid.seq) _ feed)))))))))))))
+
+pub verdict_ends : (verdict : Result Verdict Refusal) → IsEmptyOrEndsWith (verdict_text verdict) 10
+verdict_ends (Ok Clean) = ends_is _ (record { front = codes "clean"; split = refl })
+verdict_ends (Ok (Broken breach)) = ends_is _ (broken_ends breach)
+verdict_ends (Err refusal) = refused_ends refusal
+
+pub surveyed_ends : (surveyed : SurveyedSession) → IsEmptyOrEndsWith (surveyed_text surveyed) 10
+surveyed_ends surveyed =
+    ends_is _
+    (behind (codes "survey ") _ (behind (decimal surveyed.session.index) _ (behind (codes " ryw ") _ (behind (found_text surveyed.ryw) _ (behind (codes " mr ") _ (behind (found_text surveyed.mr) _ (behind (codes " wfr ") _ (behind (found_text surveyed.wfr) _ (behind (codes " mw ") _ (behind (found_text surveyed.mw) _ feed))))))))))
+
+pub line_ends : (said : Said) → IsEmptyOrEndsWith (line_text said) 10
+line_ends said = ends_is _ (behind _ _ feed)
+
 pub last_ends : (servers : ℕ) (answer : Answer) → IsEmptyOrEndsWith (last_text servers answer) 10
-last_ends servers Done = λ some. absurd (omega arith)
+last_ends servers Done = nothing_ends
 last_ends servers (Wrote session accepted) =
     ends_is _
     (behind (decimal session.index) _ (behind (codes " wrote ") _ (behind (decimal accepted.wid.origin.index) _ (behind (codes ":") _ (behind (decimal accepted.wid.seq) _ (behind (codes " clock ") _ (behind (decimal accepted.stamp.clock) _ (behind (codes " deps ") _ (behind (counts_text servers accepted.deps) _ feed)))))))))
@@ -72,3 +106,7 @@ last_ends servers (Exchanged exchange) = ends_is _ (exchange_ends exchange)
 last_ends servers (Counted totals) =
     ends_is _
     (behind (codes "totals reads ") _ (behind (decimal totals.reads) _ (behind (codes " writes ") _ (behind (decimal totals.writes) _ (behind (codes " refusals ") _ (behind (decimal totals.refusals) _ (behind (codes " slips ") _ (behind (decimal totals.slips) _ feed))))))))
+last_ends servers (Judged verdict) = verdict_ends verdict
+last_ends servers (Surveyed (Ok list)) = nothing_ends
+last_ends servers (Surveyed (Err refusal)) = refused_ends refusal
+last_ends servers (Booked file) = nothing_ends

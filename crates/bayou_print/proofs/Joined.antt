@@ -2,7 +2,7 @@
 use Rattle.std.proofs.Common.{◌≡◌, ℕ, zero, suc, ◌+◌, ◌<◌, ◌≤◌, List, [], ◌∷◌, ◌++◌, ◌⊎◌, inl, inr, map, decimal, slice_index, refl, ap, sym, ◌∙◌, append_assoc, arith, add-one}
 use Rattle.std.specs.List.{join_with_byte}
 use Rattle.std.proofs.lemmas.List.{map-append}
-use Rattle.bayou_shell.specs.Printed.{first_counts, counts_text}
+use Rattle.bayou_print.specs.Printed.{first_counts, counts_text}
 
 -- what stands before one more text: a comma, where there is one already
 abbrev pub comma_after : List (List ℕ) → List ℕ

@@ -1,9 +1,9 @@
 use Rattle.std.proofs.Common.{rules, ◌++◌, inl, inr, sym, ap, decimal}
 use Rattle.std.specs.Fmt.{HasWritten}
 use Rattle.std.proofs.Output.{has_written_append, has_written_of_eq}
-use Rattle.bayou_shell.proofs.Joined.{counts_more}
-use Rattle.bayou_shell.proofs.printed.CountsDisplay.fmt.Goals as goal
-use Rattle.bayou_shell.proofs.printed.CountsDisplay.fmt.Goals.{then-index-gt0, else-index-gt0}
+use Rattle.bayou_print.proofs.Joined.{counts_more}
+use Rattle.bayou_print.proofs.printed.CountsDisplay.fmt.Goals as goal
+use Rattle.bayou_print.proofs.printed.CountsDisplay.fmt.Goals.{then-index-gt0, else-index-gt0}
 
 pub loop-index-preserved : goal.loop-index-preserved
 loop-index-preserved g c p =

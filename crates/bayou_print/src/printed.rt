@@ -3,8 +3,9 @@ ghost use Rattle.serde_json.specs.Data.{string};
 ghost use Rattle.serde_json.specs.Written.{compact_text};
 ghost use Rattle.bayou_base.specs.declared.limits.TheConstants.{SERVERS};
 ghost use Rattle.bayou_machine.specs.declared.answer.Answer.TheVariants.{NotServed, Read, Wrote};
-ghost use Rattle.bayou_shell.specs.Printed.{adopted_text, counts_text, exchange_text, last_text, listed_text, pulling_text, recovery_text, refusal_text, reopening_text, starting_text, taking_text, totals_text, value_text};
+ghost use Rattle.bayou_print.specs.Printed.{adopted_text, counts_text, exchange_text, last_text, listed_text, pulling_text, recovery_text, refusal_text, reopening_text, starting_text, taking_text, totals_text, value_text};
 
+use crate::verdict::{refused_line, verdict_line};
 use bayou_audit::Totals;
 use bayou_base::{Accepted, Key, Seen, ServerId, SessionId, Value, Vector, Wid};
 use bayou_lang::Outcome;
@@ -285,7 +286,7 @@ fn totals_line(alloc: Global, totals: Totals) -> Result<String, AllocError>
 }
 
 /// The last line that is printed for an answer where there are so many servers, or nothing.
-pub fn printed(alloc: Global, servers: u8, answer: &Answer) -> Result<String, AllocError>
+pub fn last_line(alloc: Global, servers: u8, answer: &Answer) -> Result<String, AllocError>
     requires { servers ≤ SERVERS }
     ensures { IfOk result (λ text. string_bytes text ≡ last_text servers answer.now) }
 {
@@ -315,5 +316,8 @@ pub fn printed(alloc: Global, servers: u8, answer: &Answer) -> Result<String, Al
         Answer::Recovered(recovery) => recovery_line(alloc, recovery),
         Answer::Exchanged(exchange) => exchange_line(alloc, exchange),
         Answer::Counted(totals) => totals_line(alloc, *totals),
+        Answer::Judged(verdict) => verdict_line(alloc, verdict),
+        Answer::Surveyed(Err(refusal)) => refused_line(alloc, refusal),
+        Answer::Surveyed(Ok(_)) | Answer::Booked(_) => Ok(String::new(alloc)),
     }
 }

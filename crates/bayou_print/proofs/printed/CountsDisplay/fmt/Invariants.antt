@@ -1,7 +1,7 @@
 -- the counts so far were written
 use Rattle.std.specs.Fmt.{HasWritten, IsPlainFormatter}
-use Rattle.bayou_shell.specs.Printed.{counts_text}
-use Rattle.bayou_shell.proofs.printed.CountsDisplay.fmt.Given as goal
+use Rattle.bayou_print.specs.Printed.{counts_text}
+use Rattle.bayou_print.proofs.printed.CountsDisplay.fmt.Given as goal
 
 abbrev pub invariant-loop-index : goal.invariant-loop-index
 invariant-loop-index g l =

@@ -9,6 +9,7 @@ use Rattle.bayou_base.specs.declared.value.Value.{Value}
 use Rattle.bayou_base.specs.declared.value.Value.TheVariants.{Num, Text}
 use Rattle.bayou_lang.specs.declared.eval.Outcome.{Outcome}
 use Rattle.bayou_lang.specs.declared.eval.Outcome.TheVariants.{Updated, Merged, Nothing}
+use Rattle.bayou_judge.specs.History.{lists_of}
 use Rattle.bayou_log.specs.declared.listing.Listed.{Listed}
 use Rattle.bayou_base.specs.declared.wid.Wid.{Wid}
 use Rattle.bayou_server.specs.declared.fault.ReopenFault.{ReopenFault}
@@ -18,7 +19,7 @@ use Rattle.bayou_server.specs.declared.fault.StartFault.TheVariants as starting
 use Rattle.bayou_server.specs.declared.fault.WriteFault.{WriteFault}
 use Rattle.bayou_server.specs.declared.fault.WriteFault.TheVariants as writing
 use Rattle.bayou_machine.specs.declared.answer.Answer.{Answer}
-use Rattle.bayou_machine.specs.declared.answer.Answer.TheVariants.{Done, Wrote, Read, Refused, NotServed, Lost, Logged, Stopped, Recovered, Exchanged, Counted}
+use Rattle.bayou_machine.specs.declared.answer.Answer.TheVariants.{Done, Wrote, Read, Refused, NotServed, Lost, Logged, Stopped, Recovered, Exchanged, Counted, Judged, Surveyed, Booked}
 use Rattle.bayou_peer.specs.declared.fault.Fault.TheVariants as streams
 use Rattle.bayou_peer.specs.declared.fault.PullFault.{PullFault}
 use Rattle.bayou_peer.specs.declared.fault.PullFault.TheVariants as pulling
@@ -28,6 +29,8 @@ use Rattle.bayou_machine.specs.declared.answer.Exchange.{Exchange}
 use Rattle.bayou_machine.specs.declared.answer.Exchange.TheVariants.{NotRunning as NothingRuns, Ended}
 use Rattle.bayou_machine.specs.declared.answer.Recovery.{Recovery}
 use Rattle.bayou_machine.specs.declared.answer.Recovery.TheVariants.{Reopened, NotReopened, NotRunning, Restarted, NotRestarted}
+use Rattle.bayou_print.specs.Booked.{book_text}
+use Rattle.bayou_print.specs.Verdicts.{refused_text, surveyed_text, verdict_text}
 
 -- the counts of the first servers, in order
 abbrev pub first_counts : ℕ → List ℕ → List ℕ
@@ -89,19 +92,23 @@ listed_text server listed =
     codes "log " ++ (decimal server ++ (codes " " ++ (decimal listed.wid.origin.index ++ (codes ":" ++ (decimal listed.wid.seq
     ++ (codes " clock " ++ (decimal listed.stamp.clock ++ outcome_text listed.outcome)))))))
 
--- the lines of the Writes in a log
-abbrev pub log_text : Answer → List ℕ
-log_text (Logged server listing vector) = flat_map (listed_text server.index) listing.items
-log_text Done = []
-log_text (Wrote session accepted) = []
-log_text (Read session key seen) = []
-log_text (Refused session refusal) = []
-log_text (NotServed session vector) = []
-log_text (Lost session) = []
-log_text (Stopped server) = []
-log_text (Recovered recovery) = []
-log_text (Exchanged exchange) = []
-log_text (Counted totals) = []
+-- the lines of an answer that has one for each of its parts: of the Writes in a log, of the sessions in a survey, of a book
+abbrev pub lines_text : Answer → List ℕ
+lines_text (Logged server listing vector) = flat_map (listed_text server.index) listing.items
+lines_text (Surveyed (Ok list)) = flat_map surveyed_text list.items
+lines_text (Surveyed (Err refusal)) = []
+lines_text (Booked file) = book_text file.count file.entries.items (lists_of file.dumps.items)
+lines_text (Judged verdict) = []
+lines_text Done = []
+lines_text (Wrote session accepted) = []
+lines_text (Read session key seen) = []
+lines_text (Refused session refusal) = []
+lines_text (NotServed session vector) = []
+lines_text (Lost session) = []
+lines_text (Stopped server) = []
+lines_text (Recovered recovery) = []
+lines_text (Exchanged exchange) = []
+lines_text (Counted totals) = []
 
 -- the line of a server that was to be reopened or restarted
 abbrev pub recovery_text : Recovery → List ℕ
@@ -166,7 +173,11 @@ last_text servers (Stopped server) = codes "stopped " ++ (decimal server.index +
 last_text servers (Recovered recovery) = recovery_text recovery
 last_text servers (Exchanged exchange) = exchange_text exchange
 last_text servers (Counted totals) = totals_text totals
+last_text servers (Judged verdict) = verdict_text verdict
+last_text servers (Surveyed (Ok list)) = []
+last_text servers (Surveyed (Err refusal)) = refused_text refusal
+last_text servers (Booked file) = []
 
--- what is printed for an answer: a log's lines, one for each Write, go before its last
+-- what is printed for an answer: the lines of its parts go before its last
 abbrev pub answer_text : ℕ → Answer → List ℕ
-answer_text servers answer = log_text answer ++ last_text servers answer
+answer_text servers answer = lines_text answer ++ last_text servers answer

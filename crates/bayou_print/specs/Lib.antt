@@ -1,0 +1,4 @@
+pub mod Booked
+pub mod Laws
+pub mod Printed
+pub mod Verdicts
