@@ -1,14 +1,17 @@
 -- What `clap` says of words that the program's command takes or refuses.
-use Rattle.std.proofs.Common.{◌≡◌, List, Err, inl, inr, true, refl}
+use Rattle.std.proofs.Common.{◌≡◌, ◌∙◌, if◌then◌else◌, Bool, List, Option, None, Some, Err, inl, inr, true, false, ap, codes, refl, sym}
+use Rattle.std.specs.Str.{bytes_eq}
+use Rattle.clap.proofs.WalkLemmas.{first_value-rows}
 use Rattle.clap.proofs.OnLiterals.{clap_on_literals}
 use Rattle.clap.specs.Kinds.{HasKind}
 use Rattle.clap.specs.Values.{kind_of}
-use Rattle.clap.specs.Words.{Text, is_simple, is_simple_and_free}
+use Rattle.clap.specs.Words.{Text, first_value, is_simple, is_simple_and_free, rows_of}
+use Rattle.clap.specs.declared.parser.matches.Found.{Found}
 use Rattle.clap.specs.declared.error.Error.{Error}
 use Rattle.clap.specs.declared.error.kind.ErrorKind.TheVariants.{OutOfMemory}
 use Rattle.bayou_command.specs.declared.Stop.{Stop}
 use Rattle.bayou_command.specs.declared.Stop.TheVariants.{Asked, Refused, Memory}
-use Rattle.bayou_command.specs.Words.{Names, bayou_app, faults_of}
+use Rattle.bayou_command.specs.Words.{Input, Names, bayou_app, faults_of, file, file_name, input_named, input_of, standard}
 use Rattle.bayou_command.specs.Inner.Stops.{StopsAt}
 
 pub simple : is_simple_and_free bayou_app ≡ true
@@ -27,3 +30,13 @@ stopped words error (Asked text) (inr among) memory at = record { kind = kind_of
 stopped words error (Refused text) (inl lacked) memory at = let bad = memory lacked in absurd (cc)
 stopped words error (Refused text) (inr among) memory at = record { kind = kind_of error; among = among; mistake = at }
 stopped words error Memory has memory at = tt
+
+-- the input is the one that the word names
+pub named_by : (found : Found) (word : Option Text) (input : Input) → word ≡ first_value found file_name → input ≡ input_named word → input ≡ input_of (rows_of found)
+named_by found word input is named = named ∙ ap input_named (is ∙ first_value-rows found file_name)
+
+pub dash : (name : Text) → bytes_eq name (codes "-") ≡ true → standard ≡ input_named (Some name)
+dash name is = ap (λ (b : Bool). if b then standard else file name) (sym is)
+
+pub no_dash : (name : Text) → bytes_eq name (codes "-") ≡ false → file name ≡ input_named (Some name)
+no_dash name is = ap (λ (b : Bool). if b then standard else file name) (sym is)

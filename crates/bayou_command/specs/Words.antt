@@ -29,9 +29,12 @@ audit_app = with_rule (new_app (codes "audit")) (record file_rule { required = t
 abbrev pub bare_app : App
 bare_app = new_app (codes "bayou")
 
+-- it tells its version, and asks for a command
+abbrev pub main_app : App
+main_app = record bare_app { top = record bare_app.top { has_version = true; subcommand_required = true } }
+
 abbrev pub bayou_app : App
-bayou_app = with_subcommand (with_subcommand (record bare_app { top = record bare_app.top { has_version = true; subcommand_required = true } }) run_app.top)
-    audit_app.top
+bayou_app = with_subcommand (with_subcommand main_app run_app.top) audit_app.top
 
 -- why the words, the program's own name before them, may name no task; there is nothing of that kind where they name one
 abbrev pub faults_of : List Text → Kinds

@@ -129,7 +129,7 @@ pub record Audited : Type 0 where
   pub book : Filings
 
 abbrev pub audited : Machine → Filings → Audited
-audited machine book = record { machine = machine; book = book }
+audited machine filings = record { machine = machine; book = filings }
 
 -- as a script begins, nothing was filed
 pub record IsNewRun (plan : Plan) (audited : Audited) : Type 0 where

@@ -1,4 +1,5 @@
-ghost use Rattle.std.specs.Prelude.{◌≡◌, ◌<◌, ℕ, IfOk, IfErr, IsTrue, List, MatchResult, false};
+ghost use Rattle.std.specs.Prelude.{◌≡◌, ◌<◌, ◌≤◌, ℕ, IfOk, IfErr, IsTrue, List, MatchResult, false};
+ghost use Rattle.bayou_base.specs.declared.limits.TheConstants.{SERVERS};
 ghost use Rattle.bayou_machine.specs.declared.answer.Answer.TheVariants.{Done, Exchanged, Recovered};
 ghost use Rattle.bayou_text.specs.Said.{fuse, log, lose, pull, read, reopen, resend, restart, session, write};
 

@@ -1,5 +1,5 @@
 -- Runs, one turn after another, and what is printed for them.
-use Rattle.std.proofs.Common.{◌≡◌, ℕ, Bool, true, false, ◌&&◌, List, [], ◌∷◌, ◌++◌, Option, None, Some, IfSome, IfErr, OnOk, Result, Ok, Err, inl, inr, IsTrue, map, take, length, ap, sym, ◌∙◌, refl, subst, append_assoc, arith, ◌+◌, ◌≤◌}
+use Rattle.std.proofs.Common.{◌≡◌, ℕ, Bool, true, false, ◌&&◌, List, [], ◌∷◌, ◌++◌, Option, None, Some, IfSome, IfErr, IfOk, Result, Ok, Err, inl, inr, IsTrue, map, take, length, ap, ap₂, max, sym, ◌∙◌, refl, subst, append_assoc, arith, ◌+◌, ◌≤◌}
 use Rattle.std.proofs.lemmas.List.{append-nil, take_all}
 use Rattle.std.proofs.lemmas.Grind.{flat_map-append}
 use Rattle.std.proofs.KnownBytes.{Keeps-refl}
@@ -19,7 +19,9 @@ use Rattle.bayou_text.specs.Said.{Said, command_said}
 use Rattle.bayou_shell.specs.declared.fault.Fault.{Fault}
 use Rattle.bayou_shell.specs.declared.fault.Fault.TheVariants.{Line, Device, Input, Output}
 use Rattle.bayou_shell.specs.declared.fault.Fault.TheVariants as faults
-use Rattle.bayou_shell.specs.Fault.{exit_status, fault_of_begin, status_of}
+use Rattle.std.proofs.Math.Nat.{max-assoc, max-zero_left}
+use Rattle.bayou_shell.specs.declared.ended.Ended.{Ended}
+use Rattle.bayou_shell.specs.Fault.{answer_status, answers_status, ended_status, exit_status, fault_of_begin, status_of}
 use Rattle.bayou_shell.specs.Inner.Faults.{IsReadFault, IsRunFault}
 use Rattle.bayou_shell.specs.Inner.Waiting.{Gathers, Stage}
 use Rattle.bayou_print.specs.Printed.{answer_text}
@@ -35,8 +37,13 @@ answers_more : (count : ℕ) (answers : List Answer) (answer : Answer) → answe
 answers_more count answers answer =
     flat_map-append (answer_text count) answers (answer ∷ []) ∙ ap (λ line. answers_text count answers ++ line) (append-nil (answer_text count answer))
 
+statuses_more : (answers : List Answer) (answer : Answer) → answers_status (answers ++ answer ∷ []) ≡ max (answers_status answers) (answer_status answer)
+statuses_more [] answer = max-zero_left (answer_status answer)
+statuses_more (first ∷ answers) answer =
+    ap (max (answer_status first)) (statuses_more answers answer) ∙ sym (max-assoc (answer_status first) (answers_status answers) (answer_status answer))
+
 -- what was answered so far, and what is left
-pub record SoFar (plan : Plan) (state : Audited) (rest : List Command) (old new : Stage) : Type 0 where
+pub record SoFar (plan : Plan) (ended : Ended) (state : Audited) (rest : List Command) (old new : Stage) : Type 0 where
   pub done : List Said
   pub answers : List Answer
   pub first : Audited
@@ -47,12 +54,14 @@ pub record SoFar (plan : Plan) (state : Audited) (rest : List Command) (old new 
   pub room : length state.book.entries + operations (map command_said rest) ≤ state.book.places
   pub served : IsTrue (list_all (λ command. is_served plan.count (command_said command)) rest)
   pub written : Gathers old new (answers_text plan.count answers) []
+  pub verdicts : ended_status ended ≡ answers_status answers
 
 -- one command more was answered
-pub SoFar-more : (plan : Plan) (store after : Audited) (command : Command) (rest : List Command) (answer : Answer) (old mid new : Stage)
-    → SoFar plan store (command ∷ rest) old mid → Turn store (command_said command) answer after → Gathers mid new (answer_text plan.count answer) []
-    → SoFar plan after rest old new
-SoFar-more plan store after command rest answer old mid new so_far step written =
+pub SoFar-more : (plan : Plan) (ended told now : Ended) (store after : Audited) (command : Command) (rest : List Command) (answer : Answer) (old mid new : Stage)
+    → SoFar plan ended store (command ∷ rest) old mid → Turn store (command_said command) answer after → Gathers mid new (answer_text plan.count answer) []
+    → ended_status told ≡ answer_status answer → ended_status now ≡ max (ended_status ended) (ended_status told)
+    → SoFar plan now after rest old new
+SoFar-more plan ended told now store after command rest answer old mid new so_far step written of both =
     let said = command_said command in
     let moves = Turn-moves store after said answer step in
     record {
@@ -67,12 +76,13 @@ SoFar-more plan store after command rest answer old mid new so_far step written 
       served = and_right (is_served plan.count said) _ so_far.served;
       written = subst (λ text. Gathers old new text []) (sym (answers_more plan.count so_far.answers answer))
           (Gathers-trans old mid new (answers_text plan.count so_far.answers) (answer_text plan.count answer) [] so_far.written written);
+      verdicts = both ∙ ap₂ max so_far.verdicts of ∙ sym (statuses_more so_far.answers answer);
     }
 
 -- all commands were answered
-pub SoFar-all : (plan : Plan) (store : Audited) (old new : Stage) → SoFar plan store [] old new
-    → (text : List ℕ) × Prints plan text × Gathers old new text []
-SoFar-all plan store old new so_far =
+pub SoFar-all : (plan : Plan) (ended : Ended) (store : Audited) (old new : Stage) → SoFar plan ended store [] old new
+    → (text : List ℕ) × Prints plan ended text × Gathers old new text []
+SoFar-all plan ended store old new so_far =
     let all : plan.commands ≡ so_far.done = so_far.whole ∙ append-nil so_far.done in (
       answers_text plan.count so_far.answers,
       record {
@@ -82,15 +92,16 @@ SoFar-all plan store old new so_far =
         begun = so_far.begun;
         run = subst (λ commands. Run so_far.first commands so_far.answers store) (sym all) so_far.run;
         lines = refl;
+        verdicts = so_far.verdicts;
       },
       so_far.written,
     )
 
 -- one command more was answered, and a part of what is printed for it is missing
-pub SoFar-part : (plan : Plan) (store after : Audited) (command : Command) (rest : List Command) (answer : Answer) (old mid new : Stage) (missing : List ℕ)
-    → SoFar plan store (command ∷ rest) old mid → Turn store (command_said command) answer after → Gathers mid new (answer_text plan.count answer) missing
+pub SoFar-part : (plan : Plan) (ended : Ended) (store after : Audited) (command : Command) (rest : List Command) (answer : Answer) (old mid new : Stage) (missing : List ℕ)
+    → SoFar plan ended store (command ∷ rest) old mid → Turn store (command_said command) answer after → Gathers mid new (answer_text plan.count answer) missing
     → (text : List ℕ) × (missing : List ℕ) × PrintsPart plan text × Gathers old new text missing
-SoFar-part plan store after command rest answer old mid new missing so_far step some =
+SoFar-part plan ended store after command rest answer old mid new missing so_far step some =
     let said = command_said command in
     let before = answers_text plan.count so_far.answers in
     let done = so_far.done ++ said ∷ [] in
@@ -114,9 +125,9 @@ SoFar-part plan store after command rest answer old mid new missing so_far step 
     )
 
 -- nothing was written for one command more
-pub SoFar-stopped : (plan : Plan) (store : Audited) (rest : List Command) (old mid new : Stage)
-    → SoFar plan store rest old mid → new ≡ mid → (text : List ℕ) × (missing : List ℕ) × PrintsPart plan text × Gathers old new text missing
-SoFar-stopped plan store rest old mid new so_far same =
+pub SoFar-stopped : (plan : Plan) (ended : Ended) (store : Audited) (rest : List Command) (old mid new : Stage)
+    → SoFar plan ended store rest old mid → new ≡ mid → (text : List ℕ) × (missing : List ℕ) × PrintsPart plan text × Gathers old new text missing
+SoFar-stopped plan ended store rest old mid new so_far same =
     let before = answers_text plan.count so_far.answers in
     let first : take (length so_far.done) plan.commands ≡ so_far.done =
     ap (take (length so_far.done)) so_far.whole ∙ take-append_seam so_far.done (map command_said rest) in (
@@ -149,8 +160,8 @@ PrintsPart-front plan text front rest split part = record {
 }
 
 -- the whole is a front
-pub PrintsPart-whole : (plan : Plan) (text : List ℕ) → Prints plan text → PrintsPart plan text
-PrintsPart-whole plan text all = record {
+pub PrintsPart-whole : (plan : Plan) (ended : Ended) (text : List ℕ) → Prints plan ended text → PrintsPart plan text
+PrintsPart-whole plan ended text all = record {
   number = length plan.commands;
   answers = all.answers;
   first = all.first;
@@ -162,9 +173,9 @@ PrintsPart-whole plan text all = record {
 }
 
 -- what waited at the end was written too
-pub all_written : (plan : Plan) (a b : Stage) (c : Account) → a.waiting ≡ [] → (text : List ℕ) × Prints plan text × Gathers a b text [] → Takes b.output c b.waiting
-    → (text : List ℕ) × Prints plan text × Takes a.output c text
-all_written plan a b c none (text, prints, gathered) took = (text, prints, Takes-all a b c text none gathered took)
+pub all_written : (plan : Plan) (ended : Ended) (a b : Stage) (c : Account) → a.waiting ≡ [] → (text : List ℕ) × Prints plan ended text × Gathers a b text []
+    → Takes b.output c b.waiting → (text : List ℕ) × Prints plan ended text × Takes a.output c text
+all_written plan ended a b c none (text, prints, gathered) took = (text, prints, Takes-all a b c text none gathered took)
 
 -- or a part of it
 pub part_written : (plan : Plan) (a b : Stage) (c : Account) (text missing : List ℕ) → a.waiting ≡ [] → PrintsPart plan text → Gathers a b text missing
@@ -191,15 +202,15 @@ RunsAs-unread (Some input) contents Output is = absurd is
 
 -- want of memory before anything was read is an end of a run
 pub RunsAs-memory : (known contents : Option (List ℕ)) (status : ℕ) (read_fails write_fails : Bool) (reads writes : ℕ) → status ≡ status_of faults.Memory
-    → IfSome known (λ input. (ended : Result (Unit {0}) Fault) × RunsAs input ended contents contents × (status ≡ exit_status ended)
+    → IfSome known (λ input. (ended : Result Ended Fault) × RunsAs input ended contents contents × (status ≡ exit_status ended)
     × IfErr ended (EndsReading read_fails reads) × IfErr ended (EndsWriting write_fails writes))
 RunsAs-memory None contents status read_fails write_fails reads writes is = tt
 RunsAs-memory (Some input) contents status read_fails write_fails reads writes is = (Err faults.Memory, inl (Keeps-refl contents), is, tt, tt)
 
 -- a script that was read runs as it is told
-pub RunsAs-script : (known : Option (List ℕ)) (old new : Account) (plan : Plan) (result : Result (Unit {0}) Fault)
+pub RunsAs-script : (known : Option (List ℕ)) (old new : Account) (plan : Plan) (result : Result Ended Fault)
     → IfSome known (λ text. IsScript (lines_of text) plan)
-    → OnOk result ((text : List ℕ) × Prints plan text × Takes old new text)
+    → IfOk result (λ ended. (text : List ℕ) × Prints plan ended text × Takes old new text)
     → IfErr result (λ fault. IsRunFault fault × (text : List ℕ) × PrintsPart plan text × Takes old new text)
     → IfSome known (λ input. RunsAs input result old.contents new.contents)
 RunsAs-script None old new plan result script ok err = tt

@@ -1,5 +1,7 @@
 -- How a run ends.
 use Rattle.std.specs.Prelude.{ℕ, List, [], ◌∷◌, Result, Ok, Err, max}
+use Rattle.bayou_judge.specs.declared.verdict.Refusal.{Refusal}
+use Rattle.bayou_judge.specs.declared.verdict.Verdict.{Verdict}
 use Rattle.bayou_judge.specs.declared.verdict.Verdict.TheVariants.{Clean, Broken}
 use Rattle.bayou_machine.specs.declared.answer.Answer.{Answer}
 use Rattle.bayou_machine.specs.declared.answer.Answer.TheVariants.{Judged, Surveyed}
@@ -31,10 +33,13 @@ status_of Input = 3
 status_of Output = 3
 
 -- 1 for a verdict that is broken, 2 for one that is refused, or a survey
+abbrev pub verdict_status : Result Verdict Refusal → ℕ
+verdict_status (Ok Clean) = 0
+verdict_status (Ok (Broken breach)) = 1
+verdict_status (Err refusal) = 2
+
 abbrev pub answer_status : Answer → ℕ
-answer_status (Judged (Ok Clean)) = 0
-answer_status (Judged (Ok (Broken breach))) = 1
-answer_status (Judged (Err refusal)) = 2
+answer_status (Judged verdict) = verdict_status verdict
 answer_status (Surveyed (Ok list)) = 0
 answer_status (Surveyed (Err refusal)) = 2
 answer_status _ = 0

@@ -1,3 +1,4 @@
+pub mod Audit
 pub mod Fault
 pub mod Inner
 pub mod Program

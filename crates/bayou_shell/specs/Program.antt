@@ -1,10 +1,14 @@
--- What the program does with words that name no run.
-use Rattle.std.specs.Prelude.{◌≡◌, ℕ, List, Option, Result, Ok, Err}
+-- What the program does with the words that it is called with.
+use Rattle.std.specs.Prelude.{◌≡◌, ℕ, List, Option, IfSome, Result, Ok, Err}
 use Rattle.std.specs.Io.KnownBytes.{Appends, Keeps}
-use Rattle.bayou_command.specs.Words.{AreMistaken, AskForText}
+use Rattle.bayou_command.specs.Words.{AreMistaken, AskForText, Asked, Input, a_run, an_audit}
+use Rattle.bayou_shell.specs.declared.ended.Ended.{Ended}
 use Rattle.bayou_shell.specs.declared.fault.Fault.{Fault}
-use Rattle.bayou_shell.specs.declared.fault.Fault.TheVariants.{Line, Memory, Device, Input, Output}
-use Rattle.bayou_shell.specs.Fault.{exit_status, status_of}
+use Rattle.bayou_shell.specs.declared.fault.Fault.TheVariants.{Line, Memory, Device, Output}
+use Rattle.bayou_shell.specs.declared.fault.Fault.TheVariants.{Input as InputFault}
+use Rattle.bayou_shell.specs.Fault.{status_of}
+use Rattle.bayou_shell.specs.Audit.{AuditsAs}
+use Rattle.bayou_shell.specs.Run.{RunsAs}
 use Rattle.bayou_streams.specs.Written.{AppendsFront}
 
 -- the exit status of a command line that is refused
@@ -17,12 +21,34 @@ WritesText text (Ok done) old new = Appends old new text
 WritesText text (Err Output) old new = AppendsFront old new text
 WritesText text (Err Memory) old new = ⊥
 WritesText text (Err Device) old new = ⊥
-WritesText text (Err Input) old new = ⊥
+WritesText text (Err InputFault) old new = ⊥
 WritesText text (Err (Line number fault)) old new = ⊥
+
+-- the exit status of a text that was asked for
+abbrev pub text_status : Result (Unit {0}) Fault → ℕ
+text_status (Ok done) = 0
+text_status (Err fault) = status_of fault
 
 -- Words that ask for a text get it on the output, and the status tells whether it was written; of words that are a mistake, and where
 -- memory runs out, nothing goes there.
 pub data TellsOf (words : List (List ℕ)) (status : ℕ) (old new : Option (List ℕ)) : Type 0 where
-  asked : AskForText words → (text : List ℕ) (ended : Result (Unit {0}) Fault) → WritesText text ended old new → status ≡ exit_status ended → TellsOf words status old new
+  asked : AskForText words → (text : List ℕ) (ended : Result (Unit {0}) Fault) → WritesText text ended old new → status ≡ text_status ended → TellsOf words status old new
   mistaken : AreMistaken words → status ≡ refused_status → Keeps old new → TellsOf words status old new
   no_memory : status ≡ status_of Memory → Keeps old new → TellsOf words status old new
+
+-- what is asked for is done on an input of these bytes
+abbrev pub Works : Asked → List ℕ → Result Ended Fault → Option (List ℕ) → Option (List ℕ) → Type 0
+Works (a_run source) input ended old new = RunsAs input ended old new
+Works (an_audit source) input ended old new = AuditsAs input ended old new
+
+abbrev pub input_of_asked : Asked → Input
+input_of_asked (a_run source) = source
+input_of_asked (an_audit source) = source
+
+-- What becomes of what is asked for on a file: the file may be refused, or memory may run out before it is opened, and nothing is printed;
+-- else it is done on what a reader of it gives.
+pub data WorksOn {R : Type 0} (opens : R → Type 0) (refuses : Type 0) (remaining : R → Option (List ℕ)) (asked : Asked) (ended : Result Ended Fault)
+    (old new : Option (List ℕ)) : Type 0 where
+  not_opened : refuses → ended ≡ Err InputFault → Keeps old new → WorksOn opens refuses remaining asked ended old new
+  no_memory : ended ≡ Err Memory → Keeps old new → WorksOn opens refuses remaining asked ended old new
+  opened : (reader : R) → opens reader → IfSome (remaining reader) (λ text. Works asked text ended old new) → WorksOn opens refuses remaining asked ended old new

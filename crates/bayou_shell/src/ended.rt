@@ -1,8 +1,8 @@
 //! What a run comes to that had no fault.
 ghost use Rattle.std.specs.Prelude.{◌≡◌, max};
-ghost use Rattle.bayou_shell.specs.Fault.{answer_status, ended_status};
+ghost use Rattle.bayou_shell.specs.Fault.{answer_status, ended_status, verdict_status};
 
-use bayou_judge::Verdict;
+use bayou_judge::{Refusal, Verdict};
 use bayou_machine::Answer;
 
 /// What the verdicts that were told come to.
@@ -28,15 +28,25 @@ impl Ended {
         }
     }
 
+    /// What a verdict comes to.
+    pub(crate) fn of_verdict(verdict: &Result<Verdict, Refusal>) -> Self
+        ensures { ended_status result ≡ verdict_status verdict.now }
+    {
+        match verdict {
+            Ok(Verdict::Clean) => Ended::Clean,
+            Ok(Verdict::Broken(_)) => Ended::Broken,
+            Err(_) => Ended::Refused,
+        }
+    }
+
     /// What an answer comes to.
     pub(crate) fn of(answer: &Answer) -> Self
         ensures { ended_status result ≡ answer_status answer.now }
     {
         match answer {
-            Answer::Judged(Ok(Verdict::Broken(_))) => Ended::Broken,
-            Answer::Judged(Err(_)) | Answer::Surveyed(Err(_)) => Ended::Refused,
-            Answer::Judged(Ok(Verdict::Clean))
-            | Answer::Surveyed(Ok(_))
+            Answer::Judged(verdict) => Ended::of_verdict(verdict),
+            Answer::Surveyed(Err(_)) => Ended::Refused,
+            Answer::Surveyed(Ok(_))
             | Answer::Done
             | Answer::Wrote { .. }
             | Answer::Read { .. }

@@ -14,8 +14,10 @@
 //! gives or takes anything.
 #![tactic(auto)]
 
+pub mod audit;
 pub mod ended;
 pub mod fault;
+pub mod files;
 pub mod program;
 mod reading;
 pub mod run;
@@ -23,7 +25,9 @@ mod telling;
 mod waiting;
 mod writing;
 
+pub use audit::run_audit;
 pub use ended::Ended;
 pub use fault::Fault;
+pub use files::Files;
 pub use program::{refuse_words, run_main};
 pub use run::run_script;

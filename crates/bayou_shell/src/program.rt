@@ -1,18 +1,21 @@
 ghost use Rattle.std.specs.IoError.{error_kind};
-ghost use Rattle.std.specs.Prelude.{◌≡◌, ◌≢◌, ◌≤◌, IfErr, IfSome, Result, map, true};
-ghost use Rattle.bayou_command.specs.Words.{NamesRun};
+ghost use Rattle.std.specs.Prelude.{◌≡◌, ◌≢◌, ◌<◌, ◌≤◌, ℕ, IfErr, IfSome, List, Result, map, true};
+ghost use Rattle.bayou_command.specs.Words.{AskFor, Asked, file, input_seen, standard, task_seen};
+ghost use Rattle.bayou_shell.specs.declared.ended.Ended.{Ended};
 ghost use Rattle.bayou_shell.specs.declared.fault.Fault.{Fault};
 ghost use Rattle.bayou_shell.specs.declared.fault.Fault.TheVariants.{Memory};
 ghost use Rattle.bayou_shell.specs.Fault.{exit_status, status_of};
-ghost use Rattle.bayou_shell.specs.Program.{TellsOf, refused_status};
-ghost use Rattle.bayou_shell.specs.Run.{RunsAs};
+ghost use Rattle.bayou_shell.specs.Program.{TellsOf, Works, WorksOn, WritesText, input_of_asked, refused_status, text_status};
 ghost use Rattle.bayou_streams.specs.Account.{Pays, account};
-ghost use Rattle.bayou_shell.specs.Turns.{EndsReading, EndsWriting};
+ghost use Rattle.bayou_shell.specs.Turns.{EndsReading, EndsWriting, cut_lines};
 
+use crate::audit::run_audit;
+use crate::ended::Ended;
 use crate::fault::Fault;
+use crate::files::Files;
 use crate::run::run_script;
 use crate::writing::write_text;
-use bayou_command::{Stop, Task, read_words};
+use bayou_command::{Source, Stop, Task, read_words};
 use bayou_streams::{Channel, Output};
 use std::alloc::Global;
 use std::convert::AsStr;
@@ -33,11 +36,24 @@ fn tell<E: Write>(errors: &mut Output<E>, fault: Fault) -> u8
 }
 
 /// Tells how a task ended, where it ended with a fault, and gives the exit status.
-fn finish<E: Write>(errors: &mut Output<E>, ended: Result<(), Fault>) -> u8
+fn finish<E: Write>(errors: &mut Output<E>, ended: Result<Ended, Fault>) -> u8
     ensures status { result ≡ exit_status ended }
     ensures paid { Pays (account E.contents errors.old) (account E.contents errors.new) 1 }
 {
     match ended {
+        Ok(ended) => ended.status(),
+        Err(fault) => tell(errors, fault),
+    }
+}
+
+/// Writes a text that was asked for, and gives the exit status.
+fn show<W: Write, E: Write>(output: &mut Output<W>, errors: &mut Output<E>, text: &str) -> u8
+    ensures written { (ended : Result (Unit {0}) Fault) × WritesText text.now ended (W.contents output.old.channel.writer) (W.contents output.new.channel.writer) × (result ≡ text_status ended) }
+    ensures clean { result ≡ 0 → output.new.channel.write_failed ≡ true → output.old.channel.write_failed ≡ true }
+    ensures paid { Pays (account W.contents output.old) (account W.contents output.new) 1 }
+    ensures paid_errors { Pays (account E.contents errors.old) (account E.contents errors.new) 1 }
+{
+    match write_text(output, text.as_bytes()) {
         Ok(()) => 0,
         Err(fault) => tell(errors, fault),
     }
@@ -56,36 +72,88 @@ pub fn refuse_words<E: Write>(errors: &mut Output<E>, error: &io::Error) -> u8
     REFUSED
 }
 
+/// Where the input of a task comes from.
+fn source_of<'a>(task: Task<'a>) -> Source<'a>
+    ensures { input_seen result ≡ input_of_asked (task_seen task) }
+{
+    match task {
+        Task::Run(source) | Task::Audit(source) => source,
+    }
+}
+
+/// Does a task on this input.
+fn work<R: Read, W: Write>(
+    alloc: Global,
+    task: Task,
+    input: &mut Channel<R, ()>,
+    output: &mut Output<W>,
+) -> Result<Ended, Fault>
+    ensures works { IfSome (R.remaining input.old.reader) (λ text. Works (task_seen task) text result (W.contents output.old.channel.writer) (W.contents output.new.channel.writer)) }
+    ensures read { IfErr result (EndsReading input.new.read_failed input.new.turns_left) }
+    ensures written { IfErr result (EndsWriting output.new.channel.write_failed output.new.channel.turns_left) }
+    ensures turns { input.new.turns_left ≤ input.old.turns_left }
+    ensures paid { Pays (account W.contents output.old) (account W.contents output.new) (cut_lines result) }
+{
+    match task {
+        Task::Run(_) => run_script(alloc, input, output),
+        Task::Audit(_) => run_audit(alloc, input, output),
+    }
+}
+
+/// Does a task on the file of this name.
+fn work_on<F: Files, W: Write>(
+    alloc: Global,
+    task: Task,
+    name: &str,
+    files: &mut F,
+    output: &mut Output<W>,
+) -> Result<Ended, Fault>
+    ensures works { WorksOn (F.opens name.now) (F.refuses name.now) ⟦<F::Reader as Read>⟧.remaining (task_seen task) result (W.contents output.old.channel.writer) (W.contents output.new.channel.writer) }
+    ensures written { IfErr result (EndsWriting output.new.channel.write_failed output.new.channel.turns_left) }
+    ensures paid { Pays (account W.contents output.old) (account W.contents output.new) (cut_lines result) }
+{
+    match files.open(alloc, name) {
+        Ok(reader) => work(alloc, task, &mut Channel::new(reader, ()), output),
+        Err(_) => Err(Fault::Input),
+    }
+}
+
 /// Does what the words say, of which the first is the program's own name, and gives the exit status.
-pub fn run_main<'a, S: AsStr, R: Read, W: Write, E: Write>(
+pub fn run_main<'a, S: AsStr, F: Files, R: Read, W: Write, E: Write>(
     alloc: Global,
     words: &'a [S],
+    files: &mut F,
     input: &mut Channel<R, ()>,
     output: &mut Output<W>,
     errors: &mut Output<E>,
 ) -> u8
-    ensures run { NamesRun (map S.text words.entry.now) → IfSome (R.remaining input.old.reader) (λ text. (ended : Result (Unit {0}) Fault)
-        × RunsAs text ended (W.contents output.old.channel.writer) (W.contents output.new.channel.writer) × (result ≡ exit_status ended)
+    // A task on the standard input.
+    ensures standard { (asked : Asked) → AskFor (map S.text words.entry.now) asked → input_of_asked asked ≡ standard → IfSome (R.remaining input.old.reader) (λ text. (ended : Result Ended Fault)
+        × Works asked text ended (W.contents output.old.channel.writer) (W.contents output.new.channel.writer) × (result ≡ exit_status ended)
         × IfErr ended (EndsReading input.new.read_failed input.new.turns_left) × IfErr ended (EndsWriting output.new.channel.write_failed output.new.channel.turns_left)) }
-    // Words that name no run: nothing is read.
-    ensures unread { ¬ (NamesRun (map S.text words.entry.now)) → input.new ≡ input.old }
-    ensures others { ¬ (NamesRun (map S.text words.entry.now)) → TellsOf (map S.text words.entry.now) result (W.contents output.old.channel.writer) (W.contents output.new.channel.writer) }
+    // A task on a file.
+    ensures named { (asked : Asked) (name : List ℕ) → AskFor (map S.text words.entry.now) asked → input_of_asked asked ≡ file name → (ended : Result Ended Fault)
+        × WorksOn (F.opens name) (F.refuses name) ⟦<F::Reader as Read>⟧.remaining asked ended (W.contents output.old.channel.writer) (W.contents output.new.channel.writer)
+        × (result ≡ exit_status ended) × IfErr ended (EndsWriting output.new.channel.write_failed output.new.channel.turns_left) }
+    // The standard input isn't read where nothing is asked for of it.
+    ensures unread { ¬ ((asked : Asked) × AskFor (map S.text words.entry.now) asked × (input_of_asked asked ≡ standard)) → input.new ≡ input.old }
+    ensures others { ¬ ((asked : Asked) × AskFor (map S.text words.entry.now) asked) → TellsOf (map S.text words.entry.now) result (W.contents output.old.channel.writer) (W.contents output.new.channel.writer) }
     // A text that was asked for is not lost in silence.
-    ensures clean { ¬ (NamesRun (map S.text words.entry.now)) → result ≡ 0 → output.new.channel.write_failed ≡ true → output.old.channel.write_failed ≡ true }
+    ensures clean { ¬ ((asked : Asked) × AskFor (map S.text words.entry.now) asked) → result ≡ 0 → output.new.channel.write_failed ≡ true → output.old.channel.write_failed ≡ true }
     ensures turns { input.new.turns_left ≤ input.old.turns_left }
     ensures paid { Pays (account W.contents output.old) (account W.contents output.new) 1 }
-    ensures paid_whole { NamesRun (map S.text words.entry.now) → result ≡ 0 → Pays (account W.contents output.old) (account W.contents output.new) 0 }
+    ensures paid_whole { (asked : Asked) → AskFor (map S.text words.entry.now) asked → result < 2 → Pays (account W.contents output.old) (account W.contents output.new) 0 }
     ensures paid_errors { Pays (account E.contents errors.old) (account E.contents errors.new) 1 }
 {
     match read_words(alloc, words) {
-        Ok(Task::Run) => {
-            let ended = run_script(alloc, input, output);
+        Ok(task) => {
+            let ended = match source_of(task) {
+                Source::Standard => work(alloc, task, input, output),
+                Source::File(name) => work_on(alloc, task, name, files, output),
+            };
             finish(errors, ended)
         }
-        Err(Stop::Asked(text)) => {
-            let ended = write_text(output, text.as_bytes());
-            finish(errors, ended)
-        }
+        Err(Stop::Asked(text)) => show(output, errors, text.as_str()),
         Err(Stop::Refused(text)) => {
             let _ = write_text(errors, text.as_bytes());
             REFUSED

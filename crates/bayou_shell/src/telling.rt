@@ -20,7 +20,7 @@ use std::alloc::Global;
 use std::io::Write;
 
 /// Writes the line of each part.
-fn write_each<P: Printer, W: Write>(
+pub(crate) fn write_each<P: Printer, W: Write>(
     alloc: Global,
     printer: &P,
     parts: &[P::Part],

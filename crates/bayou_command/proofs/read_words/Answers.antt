@@ -14,8 +14,8 @@ returns-in-Ok g c =
       entered = ap asked_by (sym (subst (λ (app : App). HasMatchesOf app words c.in-Ok.matches) made c.in-Ok.ensures.matches plain).1) ∙ sym c.task_in.ensures;
     }
 
-pub returns : goal.returns
-returns g c =
+pub returns-in-Err : goal.returns-in-Err
+returns-in-Err g c =
     let words = map g.S.AsStr.text c.args.words.now in
     stopped words c.in-Err.error c.of.result
     (subst (λ (app : App). is_simple_and_free app ≡ true → HasKind (fault_of app words) c.in-Err.error) c.in_ok-bayou_command.ensures c.in-Err.ensures.kinds simple)

@@ -5,7 +5,7 @@ use Rattle.std.proofs.Math.Bool.{cond}
 use Rattle.bayou_base.specs.declared.entry.Entry.{Entry}
 use Rattle.bayou_base.specs.declared.entry.What.{What}
 use Rattle.bayou_session.specs.Needs.{Told}
-use Rattle.bayou_text.specs.Said.{Said, servers, session, write, read, log, fuse, lose, reopen, restart, pull, resend, totals}
+use Rattle.bayou_text.specs.Said.{Said, servers, session, write, read, log, fuse, lose, reopen, restart, pull, resend, totals, judge, survey, book, entry, held}
 use Rattle.bayou_machine.specs.declared.answer.Answer.{Answer}
 use Rattle.bayou_machine.specs.Filed.{Files, Filings, operation_of, operations, what_told}
 use Rattle.bayou_machine.specs.Machine.{Machine, session_of}
@@ -34,6 +34,11 @@ Step-count old new (restart place) answer (recovery, is, change) = ap (λ machin
 Step-count old new (pull to source cut) answer step = ap (λ machine. machine.count) step.only
 Step-count old new (resend to source) answer step = ap (λ machine. machine.count) step.only
 Step-count old new totals answer step = absurd step
+Step-count old new judge answer step = absurd step
+Step-count old new survey answer step = absurd step
+Step-count old new book answer step = absurd step
+Step-count old new (entry what counts) answer step = absurd step
+Step-count old new (held place written counts) answer step = absurd step
 
 -- no turn changes how many servers there are, nor how many places the book has, and an operation files one entry at most
 pub record Moves (old new : Audited) (said : Said) : Type 0 where
@@ -65,6 +70,13 @@ left old new said answer leaves = record {
   filed = omega (arith, ap (λ (book : Filings). length book.entries) leaves.same);
 }
 
+stays : (old new : Audited) (said : Said) → operations (said ∷ []) ≡ 0 → new ≡ old → Moves old new said
+stays old new said none same = record {
+  count = ap (λ (audited : Audited). audited.machine.count) same;
+  places = ap (λ (audited : Audited). audited.book.places) same;
+  filed = omega (arith, none, ap (λ (audited : Audited). length audited.book.entries) same);
+}
+
 pub Turn-moves : (old new : Audited) (said : Said) (answer : Answer) → Turn old said answer new → Moves old new said
 Turn-moves old new (servers count limit) answer turn = left old new _ answer turn
 Turn-moves old new (session who asks) answer turn = left old new _ answer turn
@@ -77,11 +89,12 @@ Turn-moves old new (reopen place) answer turn = left old new _ answer turn
 Turn-moves old new (restart place) answer turn = left old new _ answer turn
 Turn-moves old new (pull to source cut) answer turn = left old new _ answer turn
 Turn-moves old new (resend to source) answer turn = left old new _ answer turn
-Turn-moves old new totals answer turn = record {
-  count = ap (λ (audited : Audited). audited.machine.count) turn.0;
-  places = ap (λ (audited : Audited). audited.book.places) turn.0;
-  filed = omega (arith, ap (λ (audited : Audited). length audited.book.entries) turn.0);
-}
+Turn-moves old new totals answer turn = stays old new _ refl turn.0
+Turn-moves old new judge answer turn = stays old new _ refl turn.0
+Turn-moves old new survey answer turn = stays old new _ refl turn.0
+Turn-moves old new book answer turn = stays old new _ refl turn.0
+Turn-moves old new (entry what counts) answer turn = left old new _ answer turn
+Turn-moves old new (held place written counts) answer turn = left old new _ answer turn
 
 -- the first of the commands, and the others
 one_and : (said : Said) (others : List Said) (b : Bool) → length (cond b (said ∷ others) others) ≡ length (cond b (said ∷ []) []) + length others

@@ -8,7 +8,7 @@ use Rattle.bayou_shell.proofs.run.answer_each.Given as goal
 
 abbrev pub invariant-loop-command : goal.invariant-loop-command
 invariant-loop-command g l = record {
-  so_far : SoFar (plan_of l.fn.script) (audited l.store l.filing) l.commands.items (stage g.W.Write.contents l.initial.output l.initial.waiting)
+  so_far : SoFar (plan_of l.fn.script) l.ended (audited l.store l.filing) l.commands.items (stage g.W.Write.contents l.initial.output l.initial.waiting)
       (stage g.W.Write.contents l.output l.waiting);
   ready : l.initial.output.channel.turns_left ≤ l.output.channel.turns_left;
 }

@@ -1,0 +1,22 @@
+//! Inputs that have a name.
+ghost use Rattle.std.specs.Prelude.{ℕ, IfErr, IfOk, List};
+
+use std::alloc::Global;
+use std::io;
+use std::io::Read;
+
+/// Where inputs that have a name are opened.
+pub trait Files {
+    type Reader: Read + Drop;
+
+    /// Whether opening the file of this name may give this reader.
+    ghost opens: { List ℕ → Reader → Type 0 };
+
+    /// Whether the file of this name may be refused.
+    ghost refuses: { List ℕ → Type 0 };
+
+    /// Opens the file of this name, to be read from its beginning.
+    fn open(&mut self, alloc: Global, name: &str) -> Result<Self::Reader, io::Error>
+        ensures opened { IfOk result (opens name.now) }
+        ensures refused { IfErr result (λ error. refuses name.now) };
+}
