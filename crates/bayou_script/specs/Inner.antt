@@ -1,2 +1,3 @@
 pub mod Draft
+pub mod Taking
 pub mod Using

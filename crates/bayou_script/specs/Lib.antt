@@ -1,4 +1,5 @@
 pub mod Inner
+pub mod Order
 pub mod Plan
 pub mod Reading
 pub mod Script

@@ -18,6 +18,7 @@ pub mod fault;
 pub mod laws;
 pub mod reader;
 pub mod script;
+mod text;
 mod uses;
 
 pub use fault::{Refusal, ScriptFault};
