@@ -1,9 +1,9 @@
 -- Scripts: what their lines say, each in its place.
-use Rattle.std.specs.Prelude.{◌≡◌, if◌then◌else◌, ℕ, ◌==◌, Bool, true, not, ◌&&◌, List, [], ◌∷◌, Option, None, Some, length, nat_le, nat_lt, unwrap_or}
+use Rattle.std.specs.Prelude.{◌≡◌, if◌then◌else◌, ℕ, ◌==◌, Bool, true, false, not, ◌&&◌, List, [], ◌∷◌, Option, None, Some, length, nat_le, nat_lt, unwrap_or}
 use Rattle.std.specs.List.{list_all, list_any}
 use Rattle.std.specs.Option.{is_some}
 use Rattle.bayou_base.specs.declared.limits.TheConstants.{DEFAULT_LIMIT, MAX_LINES}
-use Rattle.bayou_text.specs.Said.{Said, servers, session, write, read, log, fuse, lose, reopen, restart, pull, resend, totals}
+use Rattle.bayou_text.specs.Said.{Said, servers, session, write, read, log, fuse, lose, reopen, restart, pull, resend, totals, judge, survey, book, entry, held}
 use Rattle.bayou_script.specs.declared.fault.Refusal.{Refusal}
 use Rattle.bayou_script.specs.declared.fault.ScriptFault.{ScriptFault}
 use Rattle.bayou_script.specs.Order.{InOrderBy, IsRefusedBy, Order, RefusedBy}
@@ -26,6 +26,9 @@ of_session who place = record { starts = None; opens = []; sessions = who ∷ []
 abbrev pub of_servers : ℕ → ℕ → Use
 of_servers to source = record { starts = None; opens = []; sessions = []; servers = to ∷ source ∷ [] }
 
+abbrev pub of_none : Use
+of_none = record { starts = None; opens = []; sessions = []; servers = [] }
+
 abbrev pub use_of : Said → Use
 use_of (servers count limit) = record { starts = Some count; opens = []; sessions = []; servers = [] }
 use_of (session who asks) = record { starts = None; opens = who ∷ []; sessions = []; servers = [] }
@@ -38,7 +41,12 @@ use_of (reopen place) = at_server place
 use_of (restart place) = at_server place
 use_of (pull to source cut) = of_servers to source
 use_of (resend to source) = of_servers to source
-use_of totals = record { starts = None; opens = []; sessions = []; servers = [] }
+use_of totals = of_none
+use_of judge = of_none
+use_of survey = of_none
+use_of book = of_none
+use_of (entry told counts) = of_none
+use_of (held place item counts) = of_none
 
 -- whether no two of these are one
 abbrev pub are_distinct : List ℕ → Bool
@@ -77,9 +85,18 @@ abbrev pub is_behind : List Said → Use → Bool
 is_behind front used = nat_lt 0 (length front) && (list_all (λ who. not (is_open who front)) used.opens
     && (list_all (λ who. is_open who front) used.sessions && are_servers (started front) used.servers))
 
--- Whether a line may say this behind what was said before: `servers` comes first, and once.
+-- whether it is what a line of an audit file says behind its first line
+abbrev pub is_audit : Said → Bool
+is_audit (entry told counts) = true
+is_audit (held place item counts) = true
+is_audit _ = false
+
+-- Whether a line may say this behind what was said before: `servers` comes first, and once, and a script says nothing of what an
+-- audit file says behind it.
 abbrev pub has_place : List Said → Said → Bool
-has_place front said = if is_some (use_of said).starts then length front == 0 else is_behind front (use_of said)
+has_place front said =
+    if is_audit said then false
+    else (if is_some (use_of said).starts then length front == 0 else is_behind front (use_of said))
 
 -- the order of a script's lines, of which there are so many at the most
 abbrev pub script_order : Order

@@ -87,6 +87,7 @@ impl Draft {
                 Some(servers) => self.is_behind(servers, used_by(command)),
                 None => false,
             },
+            Line::Audit(_) => false,
         }
     }
 
@@ -104,7 +105,7 @@ impl Draft {
         Ok(())
     }
 
-    /// Adds a line that has its place.
+    /// Adds a line that has its place. A line of an audit file has none, and adds nothing.
     fn add_placed(&mut self, line: Line) -> Result<(), Refusal>
         requires { (bytes : List ℕ) × Spells bytes (said line) }
         ensures ok { (front : List Said) → IsDraftOf self.old front → IsTrue (has_place front (said line))
@@ -118,6 +119,7 @@ impl Draft {
                 Ok(())
             }
             Line::Command(command) => self.push(command),
+            Line::Audit(_) => Ok(()),
         }
     }
 

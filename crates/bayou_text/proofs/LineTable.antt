@@ -9,11 +9,11 @@ use Rattle.bayou_text.specs.declared.line.Shape.TheVariants as shape
 use Rattle.bayou_text.proofs.ProgramTable.{program_found, program_read}
 use Rattle.bayou_text.proofs.Readers.{bound, there, word_or, worded_of, listed_items, number_found, number_read, key_found, key_read, asks_found, asks_read}
 use Rattle.bayou_text.specs.Asks.{asks_in}
-use Rattle.bayou_text.specs.Lines.{servers_in, opening_in, writing_in, reading_in, alone_in, fusing_in, losing_in, trial_of, totals_in, asked_of, pulling_in, resending_in, exchange_of, command_of, line_in, text_line}
+use Rattle.bayou_text.specs.Lines.{servers_in, opening_in, writing_in, reading_in, alone_in, fusing_in, losing_in, trial_of, bare_in, asked_of, pulling_in, resending_in, exchange_of, command_of, line_in, text_line}
 use Rattle.bayou_text.specs.Numbers.{count_in, limit_in, session_in, server_in, calls_in, kept_in, lost_in, cut_in}
 use Rattle.bayou_text.specs.Programs.{program_in}
 use Rattle.bayou_text.specs.Reading.{◌>>=◌, worded}
-use Rattle.bayou_text.specs.Said.{Said, servers, session, write, read, log, fuse, lose, reopen, restart, pull, resend, totals}
+use Rattle.bayou_text.specs.Said.{Said, servers, session, write, read, log, fuse, lose, reopen, restart, pull, resend, totals, judge, survey, book, entry, held}
 use Rattle.bayou_text.specs.Spelling.{form}
 use Rattle.bayou_text.specs.Table.{BetweenIs, NumberIs, AtServer, ServerIs, ProgramIs, KeyIs, LineIs, Spells}
 use Rattle.bayou_text.specs.Values.{key_in}
@@ -266,20 +266,29 @@ resending_found d (t ∷ f ∷ []) s is e =
     subst (λ (l : Said). LineIs d l) same (between (codes "resend") d t f to.0 source.0 is to.1 source.1)
 resending_found d (t ∷ f ∷ other ∷ more) s is e = absurd (cc)
 
-totals_found : (d : Data) (parts : List Data) (s : Said) → d ≡ form (codes "totals") parts
-    → totals_in parts ≡ Ok s → LineIs d s
-unfolding totals_in
-totals_found d [] s is e =
-    let same : totals ≡ s = cc in
-    subst (λ (l : Said). LineIs d l) same is
-totals_found d (part ∷ parts) s is e = absurd (cc)
+bare_found : (what s : Said) (word : List ℕ) (d : Data) (parts : List Data) → (d ≡ form word [] → LineIs d what)
+    → d ≡ form word parts → bare_in what parts ≡ Ok s → LineIs d s
+unfolding bare_in
+bare_found what s word d [] line_is is e =
+    let same : what ≡ s = cc in
+    subst (λ (l : Said). LineIs d l) same (line_is is)
+bare_found what s word d (part ∷ parts) line_is is e = absurd (cc)
 
 asked_found : (d : Data) (word : List ℕ) (parts : List Data) (s : Said) → d ≡ form word parts
     → asked_of word parts ≡ Ok s → LineIs d s
 unfolding asked_of
-asked_found d word parts s is e = elim (word_or d word (codes "totals") parts (totals_in parts) _ s is e) [
-  | inl h ↦ totals_found d parts s h.0 h.1
-  | inr h ↦ trial_found d word parts s is h
+asked_found d word parts s is e = elim (word_or d word (codes "totals") parts (bare_in totals parts) _ s is e) [
+  | inl h ↦ bare_found totals s (codes "totals") d parts (λ h. h) h.0 h.1
+  | inr h ↦ elim (word_or d word (codes "judge") parts (bare_in judge parts) _ s is h) [
+    | inl i ↦ bare_found judge s (codes "judge") d parts (λ h. h) i.0 i.1
+    | inr i ↦ elim (word_or d word (codes "survey") parts (bare_in survey parts) _ s is i) [
+      | inl j ↦ bare_found survey s (codes "survey") d parts (λ h. h) j.0 j.1
+      | inr j ↦ elim (word_or d word (codes "book") parts (bare_in book parts) (trial_of word parts) s is j) [
+        | inl k ↦ bare_found book s (codes "book") d parts (λ h. h) k.0 k.1
+        | inr k ↦ trial_found d word parts s is k
+      ]
+    ]
+  ]
 ]
 
 exchange_found : (d : Data) (word : List ℕ) (parts : List Data) (s : Said) → d ≡ form word parts
@@ -335,7 +344,7 @@ unfolding alone_in
 alone_read place n what is low = rw (server_read place n is low)
 
 pub line_read : (d : Data) (s : Said) → LineIs d s → line_in d ≡ Ok s
-unfolding servers_in opening_in writing_in reading_in fusing_in losing_in trial_of totals_in asked_of pulling_in resending_in exchange_of
+unfolding servers_in opening_in writing_in reading_in fusing_in losing_in trial_of bare_in asked_of pulling_in resending_in exchange_of
 line_read d (servers count None) is =
     rw is.form_is (formed _ (is.count_data ∷ []) _
     (rw (number_read 1 SERVERS is.count_data count is.count_is is.count_in_range.0 is.count_in_range.1)))
@@ -408,6 +417,11 @@ line_read d (resend to source) is =
       server_read is.source_data source is.source_is is.source_in_range,
     )))
 line_read d totals is = rw is (formed (codes "totals") [] totals (λ i. Ok totals))
+line_read d judge is = rw is (formed (codes "judge") [] judge (λ i. Ok judge))
+line_read d survey is = rw is (formed (codes "survey") [] survey (λ i. Ok survey))
+line_read d book is = rw is (formed (codes "book") [] book (λ i. Ok book))
+line_read d (entry told counts) is = absurd is
+line_read d (held place item counts) is = absurd is
 
 -- ---- bytes
 

@@ -12,7 +12,7 @@ use Rattle.bayou_text.specs.Asks.{asks_in}
 use Rattle.bayou_text.specs.Numbers.{count_in, limit_in, session_in, server_in, calls_in, kept_in, lost_in, cut_in}
 use Rattle.bayou_text.specs.Programs.{program_in}
 use Rattle.bayou_text.specs.Reading.{Parsed, ◌>>=◌, worded}
-use Rattle.bayou_text.specs.Said.{Said, servers, session, write, read, log, fuse, lose, reopen, restart, pull, resend, totals}
+use Rattle.bayou_text.specs.Said.{Said, servers, session, write, read, log, fuse, lose, reopen, restart, pull, resend, totals, judge, survey, book}
 use Rattle.bayou_text.specs.Values.{key_in}
 
 -- ["servers", count] and ["servers", count, limit], behind the word
@@ -102,14 +102,19 @@ resending_in (to ∷ source ∷ []) = do
   Ok (resend at other)
 resending_in _ = Err (BadShape Arity)
 
--- ["totals"]
-unfoldable pub totals_in : List Data → Parsed Said
-totals_in [] = Ok totals
-totals_in _ = Err (BadShape Arity)
+-- ["totals"], ["judge"], ["survey"] and ["book"]
+unfoldable pub bare_in : Said → List Data → Parsed Said
+bare_in what [] = Ok what
+bare_in what _ = Err (BadShape Arity)
 
 -- what is asked of the whole run
 unfoldable pub asked_of : List ℕ → List Data → Parsed Said
-asked_of word parts = if bytes_eq word (codes "totals") then totals_in parts else trial_of word parts
+asked_of word parts =
+    if bytes_eq word (codes "totals") then bare_in totals parts
+    else (if bytes_eq word (codes "judge") then bare_in judge parts
+    else (if bytes_eq word (codes "survey") then bare_in survey parts
+    else (if bytes_eq word (codes "book") then bare_in book parts
+    else trial_of word parts)))
 
 -- what two servers do
 unfoldable pub exchange_of : List ℕ → List Data → Parsed Said

@@ -1,7 +1,7 @@
 -- Which lines are read.
 use Rattle.std.specs.Prelude.{ℕ, ◌≤◌, IfSome, ⊤}
 use Rattle.bayou_base.specs.declared.limits.TheConstants.{MAX_WRITES, SERVERS, MAX_FUSE_CALLS, MAX_FUSE_KEPT, MAX_LOST_BYTES}
-use Rattle.bayou_text.specs.Said.{Said, servers, session, write, read, log, fuse, lose, reopen, restart, pull, resend, totals}
+use Rattle.bayou_text.specs.Said.{Said, servers, session, write, read, log, fuse, lose, reopen, restart, pull, resend, totals, judge, survey, book, entry, held}
 
 abbrev pub IsCount : ℕ → Type 0
 IsCount count = (1 ≤ count) × (count ≤ SERVERS)
@@ -28,3 +28,8 @@ IsReadable (restart place) = ⊤
 IsReadable (pull to source cut) = IfSome cut (λ items. items ≤ MAX_WRITES)
 IsReadable (resend to source) = ⊤
 IsReadable totals = ⊤
+IsReadable judge = ⊤
+IsReadable survey = ⊤
+IsReadable book = ⊤
+IsReadable (entry told counts) = ⊥
+IsReadable (held place item counts) = ⊥

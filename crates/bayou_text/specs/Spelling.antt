@@ -14,7 +14,7 @@ use Rattle.bayou_lang.specs.declared.program.Cond.{Cond}
 use Rattle.bayou_lang.specs.declared.program.Cond.TheVariants.{Equals, Absent, AtLeast}
 use Rattle.bayou_lang.specs.declared.program.Alt.{Alt}
 use Rattle.bayou_lang.specs.declared.program.Program.{Program}
-use Rattle.bayou_text.specs.Said.{Said, servers, session, write, read, log, fuse, lose, reopen, restart, pull, resend, totals}
+use Rattle.bayou_text.specs.Said.{Said, servers, session, write, read, log, fuse, lose, reopen, restart, pull, resend, totals, judge, survey, book, entry, held}
 
 -- an array that begins with a word
 abbrev pub form : List ℕ → List Data → Data
@@ -87,3 +87,8 @@ line_json (pull to source None) = form (codes "pull") (count_json to ∷ count_j
 line_json (pull to source (Some items)) = form (codes "pull") (count_json to ∷ count_json source ∷ count_json items ∷ [])
 line_json (resend to source) = form (codes "resend") (count_json to ∷ count_json source ∷ [])
 line_json totals = form (codes "totals") []
+line_json judge = form (codes "judge") []
+line_json survey = form (codes "survey") []
+line_json book = form (codes "book") []
+line_json (entry told counts) = form (codes "entry") []
+line_json (held place item counts) = form (codes "held") []

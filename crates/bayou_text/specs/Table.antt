@@ -22,7 +22,7 @@ use Rattle.bayou_lang.specs.declared.program.Program.{Program}
 use Rattle.bayou_lang.specs.Ranges.{IsKey}
 use Rattle.bayou_text.specs.Ranges.{IsCount, IsLimit, IsFuse}
 use Rattle.bayou_text.specs.Reading.{names}
-use Rattle.bayou_text.specs.Said.{Said, servers, session, write, read, log, fuse, lose, reopen, restart, pull, resend, totals}
+use Rattle.bayou_text.specs.Said.{Said, servers, session, write, read, log, fuse, lose, reopen, restart, pull, resend, totals, judge, survey, book, entry, held}
 use Rattle.bayou_text.specs.Spelling.{form}
 
 -- an integer, and no other number: 1.0 isn't one
@@ -229,6 +229,11 @@ LineIs d (pull to source None) = BetweenIs (codes "pull") d to source
 LineIs d (pull to source (Some items)) = CutIs d to source items
 LineIs d (resend to source) = BetweenIs (codes "resend") d to source
 LineIs d totals = d ≡ form (codes "totals") []
+LineIs d judge = d ≡ form (codes "judge") []
+LineIs d survey = d ≡ form (codes "survey") []
+LineIs d book = d ≡ form (codes "book") []
+LineIs d (entry told counts) = ⊥
+LineIs d (held place item counts) = ⊥
 
 -- bytes that say this: at most so many, UTF-8, and the JSON of a line
 pub record Spells (bytes : List ℕ) (s : Said) : Type 0 where

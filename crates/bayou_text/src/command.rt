@@ -70,4 +70,10 @@ pub enum Command {
     },
     /// The numbers of reads, Writes and refusals that were filed so far, and of slips that are out.
     Totals,
+    /// Whether some session wasn't given what it asked for: the first entry that shows it, among those filed so far.
+    Judge,
+    /// For each session, which of the four guarantees it was given, whatever it asked for.
+    Survey,
+    /// The audit file of what was filed so far, and of what the servers hold.
+    Book,
 }

@@ -13,11 +13,13 @@
 //! server started), and that memory was short where [`LineFault::OutOfMemory`] is answered.
 #![tactic(auto)]
 
+pub mod audit;
 pub mod command;
 pub mod laws;
 pub mod line;
 pub mod read;
 
+pub use audit::AuditLine;
 pub use command::{Command, PlannedFailure};
 pub use line::{Line, LineFault, Shape};
 pub use read::read_line;

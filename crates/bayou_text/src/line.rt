@@ -1,9 +1,10 @@
+use crate::audit::AuditLine;
 use crate::command::Command;
 use bayou_base::KeyFault;
 use bayou_lang::ProgramFault;
 use std::alloc::{AllocError, AllocFailed};
 
-/// A line of a script.
+/// A line of a script or of an audit file.
 #[derive(Debug, Drop)]
 pub enum Line {
     /// Starts this many servers, each with a log of this many Writes at the most.
@@ -14,6 +15,8 @@ pub enum Line {
     },
     /// Asks something of the servers and the sessions.
     Command(Command),
+    /// Tells something of a run that was.
+    Audit(AuditLine),
 }
 
 /// What of a line has a shape that no line has.

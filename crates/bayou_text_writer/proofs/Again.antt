@@ -23,12 +23,13 @@ use Rattle.bayou_lang.specs.declared.program.Alt.{Alt}
 use Rattle.bayou_lang.specs.declared.program.Program.{Program}
 use Rattle.bayou_lang.specs.declared.program.ProgramFault.{ProgramFault}
 use Rattle.bayou_lang.specs.declared.program.ProgramFault.TheVariants.{TooManyConds, TooManyOps, TooManyAlts}
+use Rattle.bayou_text.specs.declared.audit.AuditLine.TheVariants as audit
 use Rattle.bayou_text.specs.declared.command.Command.TheVariants as command
 use Rattle.bayou_text.specs.declared.line.Line.{Line}
 use Rattle.bayou_text.specs.declared.line.Line.TheVariants as line
 use Rattle.bayou_text.proofs.Readers.{listed_items}
 use Rattle.bayou_text.specs.Asks.{asks_in}
-use Rattle.bayou_text.specs.Lines.{line_in, servers_in, opening_in, writing_in, reading_in, alone_in, fusing_in, losing_in, trial_of, totals_in, asked_of, pulling_in, resending_in, exchange_of}
+use Rattle.bayou_text.specs.Lines.{line_in, servers_in, opening_in, writing_in, reading_in, alone_in, fusing_in, losing_in, trial_of, bare_in, asked_of, pulling_in, resending_in, exchange_of}
 use Rattle.bayou_text.specs.Numbers.{number_in, session_in, server_in, integer_in}
 use Rattle.bayou_text.specs.Parts.{named_in, keyed_in, term_in, op_in, cond_in}
 use Rattle.bayou_text.specs.Programs.{few_in, alt_in, program_in}
@@ -144,7 +145,7 @@ server_again : (place : ServerId) → server_in (count_json place.index) ≡ Ok 
 server_again place = number_again 0 (SERVERS - 1) place.index (omega arith) (omega (arith, place.in_range))
 
 pub line_again : (l : Line) → IsLine l → IsReadable (said l) → line_in (line_json (said l)) ≡ Ok (said l)
-unfolding line_in servers_in opening_in writing_in reading_in alone_in fusing_in losing_in trial_of totals_in asked_of pulling_in resending_in exchange_of
+unfolding line_in servers_in opening_in writing_in reading_in alone_in fusing_in losing_in trial_of bare_in asked_of pulling_in resending_in exchange_of
 line_again (line.Servers count None) kept readable = rw (
     number_again 1 SERVERS count readable.0.0 readable.0.1
     )
@@ -176,3 +177,8 @@ line_again (line.Command (command.Pull to source (Some items))) kept readable = 
 )
 line_again (line.Command (command.Resend to source)) kept readable = rw (server_again to, server_again source)
 line_again (line.Command command.Totals) kept readable = refl
+line_again (line.Command command.Judge) kept readable = refl
+line_again (line.Command command.Survey) kept readable = refl
+line_again (line.Command command.Book) kept readable = refl
+line_again (line.Audit (audit.Entry told counts)) kept readable = absurd readable
+line_again (line.Audit (audit.Held place item counts)) kept readable = absurd readable

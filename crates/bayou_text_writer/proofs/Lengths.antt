@@ -22,6 +22,7 @@ use Rattle.bayou_lang.specs.declared.program.Alt.{Alt}
 use Rattle.bayou_lang.specs.declared.program.Program.{Program}
 use Rattle.std.specs.Int.{w64}
 use Rattle.std.specs.Int.RustNames.{FitsSigned}
+use Rattle.bayou_text.specs.declared.audit.AuditLine.TheVariants as audit
 use Rattle.bayou_text.specs.declared.command.Command.TheVariants as command
 use Rattle.bayou_text.specs.declared.line.Line.{Line}
 use Rattle.bayou_text.specs.declared.line.Line.TheVariants as line
@@ -296,3 +297,8 @@ line_size (line.Command (command.Resend to source)) kept =
       count_size source.index (omega (arith, source.in_range)),
     )
 line_size (line.Command command.Totals) kept = omega (arith, form_none (codes "totals"))
+line_size (line.Command command.Judge) kept = omega (arith, form_none (codes "judge"))
+line_size (line.Command command.Survey) kept = omega (arith, form_none (codes "survey"))
+line_size (line.Command command.Book) kept = omega (arith, form_none (codes "book"))
+line_size (line.Audit (audit.Entry told counts)) kept = omega (arith, form_none (codes "entry"))
+line_size (line.Audit (audit.Held place item counts)) kept = omega (arith, form_none (codes "held"))

@@ -16,7 +16,7 @@ use Rattle.bayou_lang.specs.declared.program.Cond.{Cond}
 use Rattle.bayou_lang.specs.declared.program.Cond.TheVariants.{Equals, Absent, AtLeast}
 use Rattle.bayou_lang.specs.declared.program.Alt.{Alt}
 use Rattle.bayou_lang.specs.declared.program.Program.{Program}
-use Rattle.bayou_text.specs.Said.{Said, servers, session, write, read, log, fuse, lose, reopen, restart, pull, resend, totals}
+use Rattle.bayou_text.specs.Said.{Said, servers, session, write, read, log, fuse, lose, reopen, restart, pull, resend, totals, judge, survey, book, entry, held}
 use Rattle.bayou_text.specs.Spelling.{form, word_if, count_json, value_json, term_json, op_json, cond_json, alt_json, program_json, asks_json, list_json, line_json}
 
 -- no float, and at most so deep
@@ -180,3 +180,8 @@ line_plain (pull to source (Some items)) =
     )
 line_plain (resend to source) = formed 6 _ (count_json to ∷ count_json source ∷ []) (count 6 to, (count 6 source, tt))
 line_plain totals = formed 6 _ [] tt
+line_plain judge = formed 6 _ [] tt
+line_plain survey = formed 6 _ [] tt
+line_plain book = formed 6 _ [] tt
+line_plain (entry told counts) = formed 6 _ [] tt
+line_plain (held place item counts) = formed 6 _ [] tt

@@ -12,7 +12,7 @@ ghost use Rattle.bayou_text.specs.Table.{Spells};
 use crate::write::asks::asks_json;
 use crate::write::program::program_json;
 use bayou_base::{ServerId, SessionId};
-use bayou_text::{Command, Line};
+use bayou_text::{AuditLine, Command, Line};
 use serde_json::{Value, json};
 use std::alloc::{AllocError, Global};
 
@@ -157,5 +157,10 @@ fn line_json(alloc: Global, line: &Line) -> Result<Value, AllocError>
         ),
         Line::Command(Command::Resend { to, from }) => between_json(alloc, "resend", *to, *from),
         Line::Command(Command::Totals) => numbers_json(alloc, "totals", &[]),
+        Line::Command(Command::Judge) => numbers_json(alloc, "judge", &[]),
+        Line::Command(Command::Survey) => numbers_json(alloc, "survey", &[]),
+        Line::Command(Command::Book) => numbers_json(alloc, "book", &[]),
+        Line::Audit(AuditLine::Entry { .. }) => numbers_json(alloc, "entry", &[]),
+        Line::Audit(AuditLine::Held { .. }) => numbers_json(alloc, "held", &[]),
     }
 }

@@ -2,7 +2,7 @@ ghost use Rattle.std.specs.Prelude.{◌≡◌, map};
 ghost use Rattle.serde_json.specs.View.{view};
 ghost use Rattle.bayou_text.specs.Lines as grammar;
 ghost use Rattle.bayou_text.specs.Reading.{Answers};
-ghost use Rattle.bayou_text.specs.Said.{said};
+ghost use Rattle.bayou_text.specs.Said.{command_said, said};
 
 use crate::command::Command;
 use crate::line::{Line, LineFault, Shape};
@@ -15,17 +15,27 @@ pub(crate) fn asked_in(word: &str, parts: &[Value]) -> Result<Line, LineFault>
     ensures { Answers said result (grammar.asked_of word.now (map view parts.now)) }
 {
     if word == "totals" {
-        return totals_in(parts);
+        return bare_in(Command::Totals, parts);
+    }
+    if word == "judge" {
+        return bare_in(Command::Judge, parts);
+    }
+    if word == "survey" {
+        return bare_in(Command::Survey, parts);
+    }
+    if word == "book" {
+        return bare_in(Command::Book, parts);
     }
     trial_in(word, parts)
 }
 
-#[tactic(auto, unfolding(crate::specs::Lines::totals_in))]
-fn totals_in(parts: &[Value]) -> Result<Line, LineFault>
-    ensures { Answers said result (grammar.totals_in (map view parts.now)) }
+/// A command that takes nothing.
+#[tactic(auto, unfolding(crate::specs::Lines::bare_in))]
+fn bare_in(command: Command, parts: &[Value]) -> Result<Line, LineFault>
+    ensures { Answers said result (grammar.bare_in (command_said command) (map view parts.now)) }
 {
     let [] = parts else {
         return Err(LineFault::BadShape(Shape::Arity));
     };
-    Ok(Line::Command(Command::Totals))
+    Ok(Line::Command(command))
 }

@@ -19,8 +19,12 @@ IsCommand (command.Restart place) = ⊤
 IsCommand (command.Pull to source cut) = IfSome cut (λ items. items < 2 ^ 32)
 IsCommand (command.Resend to source) = ⊤
 IsCommand command.Totals = ⊤
+IsCommand command.Judge = ⊤
+IsCommand command.Survey = ⊤
+IsCommand command.Book = ⊤
 
 -- and each line
 abbrev pub IsLine : Line → Type 0
 IsLine (line.Servers count limit) = (count < 2 ^ 32) × IfSome limit (λ most. most < 2 ^ 32)
 IsLine (line.Command command) = IsCommand command
+IsLine (line.Audit told) = ⊤
