@@ -1,3 +1,4 @@
+pub mod AuditFile
 pub mod Inner
 pub mod Order
 pub mod Plan

@@ -3,8 +3,11 @@ use Rattle.std.specs.Prelude.{◌≡◌, ◌+◌, ℕ, List, [], ◌∷◌, ◌+
 use Rattle.std.specs.List.{onto_first}
 use Rattle.bayou_text.specs.Said.{Said}
 use Rattle.bayou_script.specs.declared.fault.Refusal.{Refusal}
+use Rattle.bayou_script.specs.declared.reader.AuditReader.{AuditReader}
 use Rattle.bayou_script.specs.declared.reader.ScriptReader.{ScriptReader}
 use Rattle.bayou_script.specs.declared.text.TextReader.{TextReader}
+use Rattle.bayou_script.specs.AuditFile.{audit_order}
+use Rattle.bayou_script.specs.Inner.AuditDraft.{IsAuditDraftOf}
 use Rattle.bayou_script.specs.Inner.Draft.{IsDraftOf}
 use Rattle.bayou_script.specs.Order.{InOrderBy, Order, RefusedBy, lines_of}
 use Rattle.bayou_script.specs.Script.{script_order}
@@ -26,6 +29,9 @@ pub record HasReadBy {D : Type 0} (order : Order) (keeps : D → List Said → T
 
 abbrev pub HasRead : ScriptReader → List ℕ → Type 0
 HasRead reader bytes = HasReadBy script_order IsDraftOf reader.text bytes
+
+abbrev pub HasReadAudit : AuditReader → List ℕ → Type 0
+HasReadAudit reader bytes = HasReadBy audit_order IsAuditDraftOf reader.text bytes
 
 -- the lines are refused so, whatever follows these bytes
 abbrev pub IsRefusedSoFar : Order → List ℕ → Refusal → Type 0
