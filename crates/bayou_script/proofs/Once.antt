@@ -1,11 +1,14 @@
 -- Lines are a script in one way, or are refused for one line.
-use Rattle.std.proofs.Common.{◌≡◌, ◌⊎◌, inl, inr, ℕ, ◌+◌, ◌<◌, List, [], ◌∷◌, ◌++◌, Option, Some, true, false, IsTrue, length, unwrap_or, refl, sym, ap, ◌∙◌, subst, arith, append_assoc}
+use Rattle.std.proofs.Common.{◌≡◌, ◌⊎◌, inl, inr, ℕ, suc, ◌+◌, ◌<◌, List, [], ◌∷◌, ◌++◌, Option, Some, true, false, IsTrue, length, get_or, unwrap_or, refl, sym, ap, ◌∙◌, subst, arith, append_assoc}
 use Rattle.std.proofs.lemmas.Bool.{cases_lt}
 use Rattle.bayou_base.specs.declared.limits.TheConstants.{DEFAULT_LIMIT}
+use Rattle.bayou_base.specs.declared.entry.Entry.{Entry}
+use Rattle.bayou_lang.specs.declared.write.Write.{Write}
 use Rattle.bayou_text.specs.declared.line.LineFault.{LineFault}
 use Rattle.bayou_text.specs.Lines.{IsFaultOf}
 use Rattle.bayou_text.specs.Said.{Said, servers}
 use Rattle.bayou_text.specs.Table.{Spells}
+use Rattle.bayou_script.specs.AuditFile.{Evidence, IsAuditFile, audit_order, dump_of, entries_of}
 use Rattle.bayou_script.specs.declared.fault.ScriptFault.{ScriptFault}
 use Rattle.bayou_script.specs.Order.{Order, InOrderBy, nothing, skipped, added, HasFault, in_itself, misplaced, IsRefusedBy, at_line, at_end, kind_of}
 use Rattle.bayou_script.specs.Script.{IsScript, Plan, script_order}
@@ -61,6 +64,36 @@ one_plan laws lines one other is also =
     let same = one_front script_order laws lines (servers one.count is.most ∷ one.commands) is.in_order lines (servers other.count also.most ∷ other.commands) also.in_order refl in
     let mosts : is.most ≡ also.most = cc in
     plan_same one other (cc) (is.limit ∙ ap (λ (most : Option ℕ). unwrap_or most DEFAULT_LIMIT) mosts ∙ sym also.limit) (cc)
+
+-- ---- so is the evidence of an audit file
+
+-- lists of one length that have the same at each place
+lists_same : (one other : List (List Write)) → length one ≡ length other → ((k : ℕ) → k < length one → get_or one k [] ≡ get_or other k []) → one ≡ other
+lists_same [] [] same each = refl
+lists_same [] (dump ∷ dumps) same each = absurd (omega (arith, same))
+lists_same (dump ∷ dumps) [] same each = absurd (omega (arith, same))
+lists_same (dump ∷ dumps) (item ∷ items) same each =
+    let heads : dump ≡ item = each 0 (omega arith) in
+    let tails = lists_same dumps items (omega (arith, same)) (λ k within. each (suc k) (omega (arith, within))) in
+    ap (λ (l : List (List Write)). dump ∷ l) tails ∙ ap (λ (d : List Write). d ∷ items) heads
+
+evidence_same : (one other : Evidence) → one.count ≡ other.count → one.entries ≡ other.entries → one.dumps ≡ other.dumps → one ≡ other
+evidence_same one other counts entries dumps =
+    ap (λ (n : ℕ). record { count = n; entries = one.entries; dumps = one.dumps }) counts
+    ∙ ap (λ (l : List Entry). record { count = other.count; entries = l; dumps = one.dumps }) entries
+    ∙ ap (λ (l : List (List Write)). record { count = other.count; entries = other.entries; dumps = l }) dumps
+
+pub one_evidence : LineLaws → (lines : List (List ℕ)) (one other : Evidence) → IsAuditFile lines one → IsAuditFile lines other → one ≡ other
+one_evidence laws lines one other is also =
+    let same = one_front audit_order laws lines (servers one.count is.most ∷ is.others) is.in_order lines (servers other.count also.most ∷ also.others) also.in_order refl in
+    let counts : one.count ≡ other.count = cc in
+    let others : is.others ≡ also.others = cc in
+    evidence_same one other counts (is.entries ∙ ap entries_of others ∙ sym also.entries)
+    (lists_same one.dumps other.dumps (is.one_each ∙ counts ∙ sym also.one_each)
+    (λ k within.
+    let here : k < one.count = omega (arith, within, is.one_each) in
+    let there : k < other.count = omega (arith, here, counts) in
+    is.dumps k here ∙ ap (dump_of k) others ∙ sym (also.dumps k there)))
 
 -- ---- a line that stands among lines in order has no fault
 

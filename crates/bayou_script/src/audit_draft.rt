@@ -121,11 +121,13 @@ impl Front for AuditDraft {
         match line {
             Line::Servers { count, .. } => self.start(alloc, count),
             Line::Audit(AuditLine::Entry { entry, counts }) => self.add_entry(entry, counts),
-            Line::Audit(AuditLine::Held {
-                server,
-                write,
-                counts,
-            }) => self.add_held(server, write, counts),
+            Line::Audit(
+                AuditLine::Held {
+                    server,
+                    write,
+                    counts,
+                },
+            ) => self.add_held(server, write, counts),
             Line::Command(_) => Ok(false),
         }
     }

@@ -7,7 +7,7 @@ use Rattle.bayou_script.specs.AuditFile.{dump_of, entries_of}
 -- What was said is how many servers there are, and then other lines; it is nothing where there are none.
 abbrev pub Counts : ℕ → List Said → Type 0
 Counts count [] = count ≡ 0
-Counts count (first ∷ others) = (0 < count) × ((most : Option ℕ) × (first ≡ servers count most))
+Counts count (first ∷ others) = (most : Option ℕ) × (0 < count) × (first ≡ servers count most)
 
 -- the draft keeps what was said
 pub record IsAuditDraftOf (draft : AuditDraft) (front : List Said) : Type 0 where
