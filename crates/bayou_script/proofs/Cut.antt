@@ -12,9 +12,9 @@ use Rattle.bayou_text.specs.Said.{Said}
 use Rattle.bayou_script.specs.declared.fault.Refusal.{Refusal}
 use Rattle.bayou_script.specs.declared.fault.Refusal.TheVariants.{Line, OutOfMemory}
 use Rattle.bayou_script.specs.declared.fault.ScriptFault.TheVariants.{BadShape}
-use Rattle.bayou_script.specs.Inner.Draft.{FaultAt}
-use Rattle.bayou_script.specs.Reading.{RefusedSoFar, begun_by}
-use Rattle.bayou_script.specs.Script.{HasFault, InOrder, RefusedFor, at_line, in_itself, lines_of}
+use Rattle.bayou_script.specs.Inner.Taking.{FaultAt}
+use Rattle.bayou_script.specs.Order.{HasFault, InOrderBy, Order, RefusedBy, at_line, in_itself, lines_of}
+use Rattle.bayou_script.specs.Reading.{IsRefusedSoFar, begun_by}
 
 -- whatever follows, the text has these lines, and one that has come so far
 abbrev pub Cuts : List ℕ → List (List ℕ) → List ℕ → Type 0
@@ -64,28 +64,29 @@ pub Cuts-all : (bytes : List ℕ) (ended : List (List ℕ)) (line : List ℕ) �
 Cuts-all bytes ended line cut =
     ap lines_of (sym (append-nil bytes)) ∙ cut [] ∙ ap (λ (l : List (List ℕ)). ended ++ l) (begun_nil line [])
 
-refused_line : (lines ended : List (List ℕ)) (bytes : List ℕ) (others : List (List ℕ)) (front : List Said) (refusal : Refusal) → lines ≡ ended ++ bytes ∷ others
-    → InOrder ended front → FaultAt (length ended + 1) front bytes refusal → RefusedFor lines refusal
-refused_line lines ended bytes others front (Line told fault) split in_order (number, has) =
-    at_line ended bytes others front split in_order number (subst (λ n. HasFault n front bytes fault) (sym number) has)
-refused_line lines ended bytes others front OutOfMemory split in_order fault = tt
+refused_line : (order : Order) (lines ended : List (List ℕ)) (bytes : List ℕ) (others : List (List ℕ)) (front : List Said) (refusal : Refusal)
+    → lines ≡ ended ++ bytes ∷ others → InOrderBy order ended front → FaultAt order (length ended + 1) front bytes refusal → RefusedBy order lines refusal
+refused_line order lines ended bytes others front (Line told fault) split in_order (number, has) =
+    at_line ended bytes others front split in_order number (subst (λ n. HasFault order n front bytes fault) (sym number) has)
+refused_line order lines ended bytes others front OutOfMemory split in_order fault = tt
 
 -- a line that has ended is at fault
-pub refused_ended : (bytes : List ℕ) (ended : List (List ℕ)) (line : List ℕ) (front : List Said) (refusal : Refusal) → Cuts bytes ended line → InOrder ended front
-    → FaultAt (length ended + 1) front line refusal → RefusedSoFar (bytes ++ 10 ∷ []) refusal
-refused_ended bytes ended line front refusal cut in_order fault = λ more.
-    refused_line (lines_of ((bytes ++ 10 ∷ []) ++ more)) ended line (lines_of more) front refusal (ends_there bytes ended line more cut) in_order fault
+pub refused_ended : (order : Order) (bytes : List ℕ) (ended : List (List ℕ)) (line : List ℕ) (front : List Said) (refusal : Refusal) → Cuts bytes ended line
+    → InOrderBy order ended front → FaultAt order (length ended + 1) front line refusal → IsRefusedSoFar order (bytes ++ 10 ∷ []) refusal
+refused_ended order bytes ended line front refusal cut in_order fault = λ more.
+    refused_line order (lines_of ((bytes ++ 10 ∷ []) ++ more)) ended line (lines_of more) front refusal (ends_there bytes ended line more cut) in_order fault
 
 -- so is the last
-pub refused_last : (bytes : List ℕ) (ended : List (List ℕ)) (line : List ℕ) (front : List Said) (refusal : Refusal) → Cuts bytes ended line → InOrder ended front
-    → FaultAt (length ended + 1) front line refusal → RefusedFor (lines_of bytes) refusal
-refused_last bytes ended line front refusal cut in_order fault =
-    refused_line (lines_of bytes) ended line [] front refusal (Cuts-all bytes ended line cut) in_order fault
+pub refused_last : (order : Order) (bytes : List ℕ) (ended : List (List ℕ)) (line : List ℕ) (front : List Said) (refusal : Refusal) → Cuts bytes ended line
+    → InOrderBy order ended front → FaultAt order (length ended + 1) front line refusal → RefusedBy order (lines_of bytes) refusal
+refused_last order bytes ended line front refusal cut in_order fault =
+    refused_line order (lines_of bytes) ended line [] front refusal (Cuts-all bytes ended line cut) in_order fault
 
 -- a line that is too long is at fault, however it goes on
-pub refused_long : (bytes : List ℕ) (ended : List (List ℕ)) (line : List ℕ) (byte number : ℕ) (front : List Said) → (byte == 10) ≡ false → Cuts bytes ended line
-    → InOrder ended front → number ≡ length ended + 1 → MAX_LINE_BYTES ≤ length line → RefusedSoFar (bytes ++ byte ∷ []) (Line number BadShape)
-refused_long bytes ended line byte number front other cut in_order is long = λ more.
+pub refused_long : (order : Order) (bytes : List ℕ) (ended : List (List ℕ)) (line : List ℕ) (byte number : ℕ) (front : List Said) → (byte == 10) ≡ false
+    → Cuts bytes ended line → InOrderBy order ended front → number ≡ length ended + 1 → MAX_LINE_BYTES ≤ length line
+    → IsRefusedSoFar order (bytes ++ byte ∷ []) (Line number BadShape)
+refused_long order bytes ended line byte number front other cut in_order is long = λ more.
     let begun : List ℕ = line ++ byte ∷ [] in
     let (end, others, so) = begun_long begun (lines_of more) (omega (arith, length-append line (byte ∷ []))) in
     let past : MAX_LINE_BYTES < length (begun ++ end) = omega (arith, length-append begun end, length-append line (byte ∷ [])) in
@@ -93,9 +94,9 @@ refused_long bytes ended line byte number front other cut in_order is long = λ 
     (in_itself (faults.BadShape shape.Line) (λ none. let zero_long = ap length none in absurd (omega arith)) (too_long past refl) refl)
 
 -- what is refused so far stays refused
-pub RefusedSoFar-more : (bytes rest : List ℕ) (refusal : Refusal) → RefusedSoFar bytes refusal → RefusedSoFar (bytes ++ rest) refusal
-RefusedSoFar-more bytes rest refusal refused = λ more.
-    subst (λ text. RefusedFor (lines_of text) refusal) (sym (append_assoc bytes rest more)) (refused (rest ++ more))
+pub IsRefusedSoFar-more : (order : Order) (bytes rest : List ℕ) (refusal : Refusal) → IsRefusedSoFar order bytes refusal → IsRefusedSoFar order (bytes ++ rest) refusal
+IsRefusedSoFar-more order bytes rest refusal refused = λ more.
+    subst (λ text. RefusedBy order (lines_of text) refusal) (sym (append_assoc bytes rest more)) (refused (rest ++ more))
 
 pub is_other : (byte : ℕ) → ¬ (byte ≡ 10) → (byte == 10) ≡ false
 is_other byte other = ne_eqb byte 10 other
@@ -105,9 +106,9 @@ pub one_more : (bytes piece : List ℕ) (i : ℕ) → i < length piece → (byte
 one_more bytes piece i within = append_assoc bytes (take i piece) (get_or piece i 0 ∷ []) ∙ ap (λ l. bytes ++ l) (sym (take_more piece i 0 within))
 
 -- what is refused within a piece is refused behind it
-pub refused_within : (bytes piece : List ℕ) (i : ℕ) (refusal : Refusal) → i < length piece → RefusedSoFar ((bytes ++ take i piece) ++ get_or piece i 0 ∷ []) refusal
-    → RefusedSoFar (bytes ++ piece) refusal
-refused_within bytes piece i refusal within refused =
-    let some : RefusedSoFar (bytes ++ take (i + 1) piece) refusal = subst (λ l. RefusedSoFar l refusal) (one_more bytes piece i within) refused in
-    subst (λ l. RefusedSoFar l refusal) (append_assoc bytes (take (i + 1) piece) (drop (i + 1) piece) ∙ ap (λ l. bytes ++ l) (take-append-drop (i + 1) piece))
-    (RefusedSoFar-more (bytes ++ take (i + 1) piece) (drop (i + 1) piece) refusal some)
+pub refused_within : (order : Order) (bytes piece : List ℕ) (i : ℕ) (refusal : Refusal) → i < length piece
+    → IsRefusedSoFar order ((bytes ++ take i piece) ++ get_or piece i 0 ∷ []) refusal → IsRefusedSoFar order (bytes ++ piece) refusal
+refused_within order bytes piece i refusal within refused =
+    let some : IsRefusedSoFar order (bytes ++ take (i + 1) piece) refusal = subst (λ l. IsRefusedSoFar order l refusal) (one_more bytes piece i within) refused in
+    subst (λ l. IsRefusedSoFar order l refusal) (append_assoc bytes (take (i + 1) piece) (drop (i + 1) piece) ∙ ap (λ l. bytes ++ l) (take-append-drop (i + 1) piece))
+    (IsRefusedSoFar-more order (bytes ++ take (i + 1) piece) (drop (i + 1) piece) refusal some)

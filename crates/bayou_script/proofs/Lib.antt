@@ -1,3 +1,4 @@
+mod Audited
 mod Checked
 mod Cut
 pub mod Once

@@ -1,2 +1,4 @@
+pub mod AuditDraft
 pub mod Draft
+pub mod Taking
 pub mod Using

@@ -1,17 +1,13 @@
 -- Scripts: what their lines say, each in its place.
-use Rattle.std.specs.Prelude.{◌≡◌, ◌≢◌, if◌then◌else◌, ℕ, ◌+◌, ◌<◌, ◌==◌, Bool, true, false, not, ◌&&◌, List, [], ◌∷◌, ◌++◌, Option, None, Some, IsTrue, length, nat_lt, unwrap_or}
-use Rattle.std.specs.List.{list_all, list_any, slice_split}
+use Rattle.std.specs.Prelude.{◌≡◌, if◌then◌else◌, ℕ, ◌==◌, Bool, true, false, not, ◌&&◌, List, [], ◌∷◌, Option, None, Some, length, nat_le, nat_lt, unwrap_or}
+use Rattle.std.specs.List.{list_all, list_any}
 use Rattle.std.specs.Option.{is_some}
 use Rattle.bayou_base.specs.declared.limits.TheConstants.{DEFAULT_LIMIT, MAX_LINES}
-use Rattle.bayou_text.specs.declared.line.LineFault.{LineFault}
-use Rattle.bayou_text.specs.declared.line.LineFault.TheVariants as line
-use Rattle.bayou_text.specs.Lines.{IsFaultOf}
 use Rattle.bayou_text.specs.Said.{Said, servers, session, write, read, log, fuse, lose, reopen, restart, pull, resend, totals, judge, survey, book, entry, held}
-use Rattle.bayou_text.specs.Table.{Spells}
 use Rattle.bayou_script.specs.declared.fault.Refusal.{Refusal}
-use Rattle.bayou_script.specs.declared.fault.Refusal.TheVariants.{Line, OutOfMemory}
 use Rattle.bayou_script.specs.declared.fault.ScriptFault.{ScriptFault}
-use Rattle.bayou_script.specs.declared.fault.ScriptFault.TheVariants.{NotJson, BadShape, BadKey, BadProgram, OutOfPlace}
+use Rattle.bayou_script.specs.Order.{InOrderBy, IsRefusedBy, Order, RefusedBy}
+pub use Rattle.bayou_script.specs.Order.{lines_of}
 
 -- What a line uses: how many servers it starts, which sessions it opens, for which of those that are open it speaks, and which
 -- servers it speaks to.
@@ -102,37 +98,17 @@ has_place front said =
     if is_audit said then false
     else (if is_some (use_of said).starts then length front == 0 else is_behind front (use_of said))
 
--- a text's lines, each without its line feed
-abbrev pub lines_of : List ℕ → List (List ℕ)
-lines_of text = slice_split (λ byte. byte == 10) text
+-- the order of a script's lines, of which there are so many at the most
+abbrev pub script_order : Order
+script_order number front said = nat_le number MAX_LINES && has_place front said
 
--- These lines are in order, and say this: each is empty, or says something that has its place there.
-pub data InOrder : List (List ℕ) → List Said → Type 0 where
-  nothing : InOrder [] []
-  skipped : (lines : List (List ℕ)) (front : List Said) → InOrder lines front → InOrder (lines ++ [] ∷ []) front
-  added : (lines : List (List ℕ)) (front : List Said) (line : List ℕ) (said : Said) → InOrder lines front
-      → line ≢ [] → Spells line said → length lines < MAX_LINES → IsTrue (has_place front said) → InOrder (lines ++ line ∷ []) (front ++ said ∷ [])
+-- the lines of a script are in order, and say this
+abbrev pub InOrder : List (List ℕ) → List Said → Type 0
+InOrder lines front = InOrderBy script_order lines front
 
--- the kind of a line's own fault; want of memory is none
-abbrev pub kind_of : LineFault → Option ScriptFault
-kind_of line.OutOfMemory = None
-kind_of line.NotJson = Some NotJson
-kind_of (line.BadShape what) = Some BadShape
-kind_of (line.Key why) = Some BadKey
-kind_of (line.Program why) = Some BadProgram
-
--- the fault of the line of this number behind what was said: its own, or that it is out of place
-pub data HasFault (number : ℕ) (front : List Said) (bytes : List ℕ) (fault : ScriptFault) : Type 0 where
-  in_itself : (why : LineFault) → bytes ≢ [] → IsFaultOf bytes why → kind_of why ≡ Some fault → HasFault number front bytes fault
-  too_late : (said : Said) → bytes ≢ [] → Spells bytes said → MAX_LINES < number → fault ≡ OutOfPlace → HasFault number front bytes fault
-  misplaced : (said : Said) → bytes ≢ [] → Spells bytes said → has_place front said ≡ false → fault ≡ OutOfPlace → HasFault number front bytes fault
-
--- The lines are refused for this one: those before it are in order, and it has the fault. Lines that say nothing are
--- refused for line 1.
-pub data IsRefused (lines : List (List ℕ)) (number : ℕ) (fault : ScriptFault) : Type 0 where
-  at_line : (before : List (List ℕ)) (bytes : List ℕ) (after : List (List ℕ)) (front : List Said) → lines ≡ before ++ bytes ∷ after
-      → InOrder before front → number ≡ length before + 1 → HasFault number front bytes fault → IsRefused lines number fault
-  at_end : InOrder lines [] → number ≡ 1 → fault ≡ OutOfPlace → IsRefused lines number fault
+-- the lines are no script: this one is the least with a fault
+abbrev pub IsRefused : List (List ℕ) → ℕ → ScriptFault → Type 0
+IsRefused lines number fault = IsRefusedBy script_order lines number fault
 
 -- the lines are a script that says this
 pub record IsScript (lines : List (List ℕ)) (plan : Plan) : Type 0 where
@@ -142,5 +118,4 @@ pub record IsScript (lines : List (List ℕ)) (plan : Plan) : Type 0 where
 
 -- why the lines aren't taken as a script, where memory didn't run out
 abbrev pub RefusedFor : List (List ℕ) → Refusal → Type 0
-RefusedFor lines (Line number fault) = IsRefused lines number fault
-RefusedFor lines OutOfMemory = Unit {0}
+RefusedFor lines refusal = RefusedBy script_order lines refusal

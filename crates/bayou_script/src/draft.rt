@@ -1,12 +1,13 @@
-ghost use Rattle.std.specs.Prelude.{◌≡◌, ◌+◌, [], ◌∷◌, ◌++◌, ℕ, List, Some, IfErr, OnOk, IsTrue, MatchResult, length};
+ghost use Rattle.std.specs.Prelude.{◌≡◌, [], ◌∷◌, ◌++◌, ℕ, List, Some, IfErr, OnOk, IsTrue, MatchResult};
 ghost use Rattle.bayou_script.specs.Inner.Using.{places_of};
 ghost use Rattle.bayou_script.specs.Script.{are_servers};
 
-use crate::fault::{Refusal, ScriptFault};
+use crate::fault::Refusal;
 use crate::script::{Script, Servers};
+use crate::text::Front;
 use crate::uses::{Places, Uses, used_by};
 use bayou_base::{DEFAULT_LIMIT, MAX_LINES, SESSIONS, SessionId};
-use bayou_text::{Command, Line, read_line};
+use bayou_text::{Command, Line};
 use std::alloc::Global;
 use std::collections::VecDeque;
 
@@ -39,7 +40,7 @@ impl Draft {
     ghost use Rattle.bayou_text.specs.Said.{Said, command_said, said};
     ghost use Rattle.bayou_text.specs.Table.{Spells};
     ghost use Rattle.bayou_script.specs.declared.fault.Refusal.TheVariants.{OutOfMemory};
-    ghost use Rattle.bayou_script.specs.Inner.Draft.{FaultAt, IsDraftOf};
+    ghost use Rattle.bayou_script.specs.Inner.Draft.{IsDraftOf};
     ghost use Rattle.bayou_script.specs.Inner.Using.{AreUses};
     ghost use Rattle.bayou_script.specs.Script.{InOrder, IsScript, RefusedFor, Use, has_place, is_behind, is_open};
     ghost use Rattle.bayou_script.specs.Plan.{plan_of};
@@ -105,7 +106,7 @@ impl Draft {
     }
 
     /// Adds a line that has its place. A line of an audit file has none, and adds nothing.
-    fn add(&mut self, line: Line) -> Result<(), Refusal>
+    fn add_placed(&mut self, line: Line) -> Result<(), Refusal>
         requires { (bytes : List ℕ) × Spells bytes (said line) }
         ensures ok { (front : List Said) → IsDraftOf self.old front → IsTrue (has_place front (said line))
             → OnOk result (IsDraftOf self.new (front ++ said line ∷ [])) }
@@ -122,29 +123,6 @@ impl Draft {
         }
     }
 
-    /// Adds what the line of this number says. An empty line says nothing.
-    pub fn take(&mut self, alloc: Global, number: u64, bytes: &[u8]) -> Result<(), Refusal>
-        ensures { (before : List (List ℕ)) (front : List Said) → number ≡ length before + 1 → InOrder before front → IsDraftOf self.old front
-            → MatchResult result
-            (λ _. (after : List Said) × InOrder (before ++ bytes.now ∷ []) after × IsDraftOf self.new after)
-            (FaultAt number front bytes.now) }
-    {
-        if bytes.is_empty() {
-            return Ok(());
-        }
-        let line = match read_line(alloc, bytes) {
-            Ok(line) => line,
-            Err(fault) => return Err(Refusal::of_line(number, fault)),
-        };
-        if number > MAX_LINES || !self.has_place(&line) {
-            return Err(Refusal::Line {
-                number,
-                fault: ScriptFault::OutOfPlace,
-            });
-        }
-        self.add(line)
-    }
-
     /// The script of which this is all.
     pub fn finish(self) -> Result<Script, Refusal>
         requires { (front : List Said) × IsDraftOf self front }
@@ -156,10 +134,24 @@ impl Draft {
                 servers,
                 commands: self.commands,
             }),
-            None => Err(Refusal::Line {
-                number: 1,
-                fault: ScriptFault::OutOfPlace,
-            }),
+            None => Err(Refusal::out_of_place(1)),
         }
+    }
+}
+
+impl Front for Draft {
+    ghost use Rattle.bayou_script.specs.Inner.Draft.{IsDraftOf};
+    ghost use Rattle.bayou_script.specs.Script.{script_order};
+
+    ghost order = { script_order };
+
+    ghost keeps = { IsDraftOf };
+
+    fn add(&mut self, _alloc: Global, number: u64, line: Line) -> Result<bool, Refusal> {
+        if number > MAX_LINES || !self.has_place(&line) {
+            return Ok(false);
+        }
+        self.add_placed(line)?;
+        Ok(true)
     }
 }

@@ -2,7 +2,7 @@ use bayou_text::LineFault;
 use std::alloc::{AllocError, AllocFailed};
 use thiserror::Error;
 
-/// What is wrong with a line of a script.
+/// What is wrong with a line of a script, or of an audit file.
 #[derive(Clone, Copy, Debug, PartialEq, Eq, Error)]
 pub enum ScriptFault {
     /// It isn't UTF-8, or isn't JSON.
@@ -17,12 +17,12 @@ pub enum ScriptFault {
     /// A program in it has a list that is too long.
     #[error("bad program")]
     BadProgram,
-    /// It is a command, which can't stand there.
+    /// It can't stand there.
     #[error("out of place")]
     OutOfPlace,
 }
 
-/// Why a text wasn't taken as a script.
+/// Why a text wasn't taken as a script, or as an audit file.
 #[derive(Clone, Copy, Debug, PartialEq, Eq)]
 pub enum Refusal {
     /// Its line of this number, counted from 1 on, has this fault.
@@ -33,9 +33,11 @@ pub enum Refusal {
 
 impl Refusal {
     ghost use Rattle.std.specs.Prelude.{◌≡◌};
-    ghost use Rattle.bayou_script.specs.Inner.Draft.{refusal_of};
+    ghost use Rattle.bayou_script.specs.declared.fault.Refusal.TheVariants.{Line};
+    ghost use Rattle.bayou_script.specs.declared.fault.ScriptFault.TheVariants.{OutOfPlace};
+    ghost use Rattle.bayou_script.specs.Inner.Taking.{refusal_of};
 
-    /// The refusal of a script whose line of this number wasn't read.
+    /// The refusal of a text whose line of this number wasn't read.
     pub(crate) fn of_line(number: u64, fault: LineFault) -> Self
         ensures { result ≡ refusal_of number fault }
     {
@@ -47,6 +49,16 @@ impl Refusal {
             LineFault::Program(_) => ScriptFault::BadProgram,
         };
         Refusal::Line { number, fault }
+    }
+
+    /// The refusal of a text whose line of this number has no place there.
+    pub(crate) fn out_of_place(number: u64) -> Self
+        ensures { result ≡ Line number OutOfPlace }
+    {
+        Refusal::Line {
+            number,
+            fault: ScriptFault::OutOfPlace,
+        }
     }
 }
 

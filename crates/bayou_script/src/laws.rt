@@ -1,5 +1,6 @@
-//! What the order of a script's lines comes to: a law is the contract of a function that does nothing.
+//! What the order of a text's lines comes to: a law is the contract of a function that does nothing.
 ghost use Rattle.std.specs.Prelude.{◌≡◌, ℕ, List};
+ghost use Rattle.bayou_script.specs.AuditFile.{Evidence, IsAuditFile, IsAuditRefused};
 ghost use Rattle.bayou_script.specs.declared.fault.ScriptFault.{ScriptFault};
 ghost use Rattle.bayou_script.specs.Script.{IsRefused, IsScript, Plan};
 
@@ -11,6 +12,16 @@ pub fn a_script_is_read_in_one_way()
     ensures one_refusal { (lines : List (List ℕ)) (number more : ℕ) (fault other : ScriptFault)
         → IsRefused lines number fault → IsRefused lines more other → (number ≡ more) × (fault ≡ other) }
     ensures not_both { (lines : List (List ℕ)) (plan : Plan) (number : ℕ) (fault : ScriptFault) → IsScript lines plan → ¬ IsRefused lines number fault }
+{
+    a_line_is_read_in_one_way();
+}
+
+/// Lines are an audit file or are refused, never both; the evidence is one, and so is the refusal.
+pub fn an_audit_file_is_read_in_one_way()
+    ensures one_evidence { (lines : List (List ℕ)) (one other : Evidence) → IsAuditFile lines one → IsAuditFile lines other → one ≡ other }
+    ensures one_refusal { (lines : List (List ℕ)) (number more : ℕ) (fault other : ScriptFault)
+        → IsAuditRefused lines number fault → IsAuditRefused lines more other → (number ≡ more) × (fault ≡ other) }
+    ensures not_both { (lines : List (List ℕ)) (evidence : Evidence) (number : ℕ) (fault : ScriptFault) → IsAuditFile lines evidence → ¬ IsAuditRefused lines number fault }
 {
     a_line_is_read_in_one_way();
 }

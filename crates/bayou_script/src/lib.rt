@@ -13,13 +13,17 @@
 //! the last that can be counted, the one of number 2^64 - 1, is answered so too.
 #![tactic(auto)]
 
+pub mod audit;
+mod audit_draft;
 mod draft;
 pub mod fault;
 pub mod laws;
 pub mod reader;
 pub mod script;
+mod text;
 mod uses;
 
+pub use audit::AuditFile;
 pub use fault::{Refusal, ScriptFault};
-pub use reader::ScriptReader;
+pub use reader::{AuditReader, ScriptReader};
 pub use script::{Script, Servers};

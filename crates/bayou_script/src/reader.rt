@@ -1,19 +1,18 @@
-//! Scripts that come in pieces.
-ghost use Rattle.std.specs.Prelude.{◌≡◌, [], ◌∷◌, ◌++◌, ℕ, List, MatchResult};
+//! Scripts and audit files that come in pieces.
+ghost use Rattle.std.specs.Prelude.{[], ◌++◌, ℕ, List, MatchResult};
 
+use crate::audit::AuditFile;
+use crate::audit_draft::AuditDraft;
 use crate::draft::Draft;
-use crate::fault::{Refusal, ScriptFault};
+use crate::fault::Refusal;
 use crate::script::Script;
-use bayou_base::MAX_LINE_BYTES;
+use crate::text::TextReader;
 use std::alloc::Global;
 
 /// A script of which a front was read. It keeps what the whole lines say, and the bytes of the line that hasn't ended.
 #[derive(Drop)]
 pub struct ScriptReader {
-    draft: Draft,
-    /// The number of the line that hasn't ended, counted from 1 on.
-    number: u64,
-    line: Vec<u8>,
+    text: TextReader<Draft>,
 }
 
 impl ScriptReader {
@@ -26,51 +25,8 @@ impl ScriptReader {
         ensures { HasRead result [] }
     {
         ScriptReader {
-            draft: Draft::new(alloc),
-            number: 1,
-            line: Vec::new(alloc),
+            text: TextReader::new(alloc, Draft::new(alloc)),
         }
-    }
-
-    /// Takes the line that has ended.
-    fn end_line(&mut self, alloc: Global) -> Result<(), Refusal>
-        ensures { (bytes : List ℕ) → HasRead self.old bytes
-            → MatchResult result (λ _. HasRead self.new (bytes ++ 10 ∷ [])) (RefusedSoFar (bytes ++ 10 ∷ [])) }
-    {
-        self.draft.take(alloc, self.number, self.line.as_slice())?;
-        let Some(next) = self.number.checked_add(1) else {
-            return Err(Refusal::OutOfMemory);
-        };
-        self.number = next;
-        self.line.clear();
-        Ok(())
-    }
-
-    /// Takes a byte of the line that hasn't ended. A line that is too long needn't end to be refused.
-    fn go_on(&mut self, byte: u8) -> Result<(), Refusal>
-        requires { ¬ (byte ≡ 10) }
-        ensures { (bytes : List ℕ) → HasRead self.old bytes
-            → MatchResult result (λ _. HasRead self.new (bytes ++ byte ∷ [])) (RefusedSoFar (bytes ++ byte ∷ [])) }
-    {
-        if self.line.len() >= MAX_LINE_BYTES {
-            return Err(Refusal::Line {
-                number: self.number,
-                fault: ScriptFault::BadShape,
-            });
-        }
-        self.line.push(byte)?;
-        Ok(())
-    }
-
-    /// Takes the next byte.
-    fn take(&mut self, alloc: Global, byte: u8) -> Result<(), Refusal>
-        ensures { (bytes : List ℕ) → HasRead self.old bytes
-            → MatchResult result (λ _. HasRead self.new (bytes ++ byte ∷ [])) (RefusedSoFar (bytes ++ byte ∷ [])) }
-    {
-        if byte == b'\n' {
-            return self.end_line(alloc);
-        }
-        self.go_on(byte)
     }
 
     /// Reads on. The least line with a fault is told as soon as its fault is sure, whatever stands behind it; then the reader
@@ -79,10 +35,7 @@ impl ScriptReader {
         ensures { (bytes : List ℕ) → HasRead self.old bytes
             → MatchResult result (λ _. HasRead self.new (bytes ++ piece.now)) (RefusedSoFar (bytes ++ piece.now)) }
     {
-        for byte in piece {
-            self.take(alloc, *byte)?;
-        }
-        Ok(())
+        self.text.feed(alloc, piece)
     }
 
     /// The script that was read. What stands behind the last line feed is its last line.
@@ -91,8 +44,44 @@ impl ScriptReader {
         ensures { (bytes : List ℕ) → HasRead self bytes
             → MatchResult result (λ script. IsScript (lines_of bytes) (plan_of script)) (RefusedFor (lines_of bytes)) }
     {
-        let mut draft = self.draft;
-        draft.take(alloc, self.number, self.line.as_slice())?;
-        draft.finish()
+        self.text.end(alloc)?.finish()
+    }
+}
+
+/// An audit file of which a front was read. It keeps what the whole lines say, and the bytes of the line that hasn't ended.
+#[derive(Drop)]
+pub struct AuditReader {
+    text: TextReader<AuditDraft>,
+}
+
+impl AuditReader {
+    ghost use Rattle.bayou_script.specs.AuditFile.{IsAuditFile, audit_order, evidence_of};
+    ghost use Rattle.bayou_script.specs.Order.{RefusedBy, lines_of};
+    ghost use Rattle.bayou_script.specs.Reading.{HasReadAudit, IsRefusedSoFar};
+
+    /// Nothing was read.
+    pub fn new(alloc: Global) -> Self
+        ensures { HasReadAudit result [] }
+    {
+        AuditReader {
+            text: TextReader::new(alloc, AuditDraft::new(alloc)),
+        }
+    }
+
+    /// Reads on. The least line with a fault is told as soon as its fault is sure, whatever stands behind it; then the reader
+    /// is of no more use.
+    pub fn feed(&mut self, alloc: Global, piece: &[u8]) -> Result<(), Refusal>
+        ensures { (bytes : List ℕ) → HasReadAudit self.old bytes
+            → MatchResult result (λ _. HasReadAudit self.new (bytes ++ piece.now)) (IsRefusedSoFar audit_order (bytes ++ piece.now)) }
+    {
+        self.text.feed(alloc, piece)
+    }
+
+    /// The audit file that was read. What stands behind the last line feed is its last line.
+    pub fn finish(self, alloc: Global) -> Result<AuditFile, Refusal>
+        ensures { (bytes : List ℕ) → HasReadAudit self bytes
+            → MatchResult result (λ file. IsAuditFile (lines_of bytes) (evidence_of file)) (RefusedBy audit_order (lines_of bytes)) }
+    {
+        self.text.end(alloc)?.finish()
     }
 }

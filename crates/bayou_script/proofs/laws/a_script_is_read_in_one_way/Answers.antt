@@ -1,4 +1,7 @@
-use Rattle.bayou_script.proofs.Once.{LineLaws, not_both, one_plan, one_refusal}
+use Rattle.std.proofs.Common.{◌∷◌}
+use Rattle.bayou_text.specs.Said.{servers}
+use Rattle.bayou_script.specs.Script.{script_order}
+use Rattle.bayou_script.proofs.Once.{LineLaws, not_refused, one_plan, one_refusal}
 use Rattle.bayou_script.proofs.laws.a_script_is_read_in_one_way.Goals as goal
 
 pub returns-clause-one_plan : goal.returns-clause-one_plan
@@ -15,12 +18,12 @@ returns-clause-one_refusal c =
       one_line = c.a_line_is_read_in_one_way.ensures.one_line;
       one_fault = c.a_line_is_read_in_one_way.ensures.one_fault;
       not_both = c.a_line_is_read_in_one_way.ensures.not_both;
-    } in one_refusal laws
+    } in one_refusal script_order laws
 
 pub returns-clause-not_both : goal.returns-clause-not_both
-returns-clause-not_both c =
+returns-clause-not_both c lines plan number fault script =
     let laws : LineLaws = record {
       one_line = c.a_line_is_read_in_one_way.ensures.one_line;
       one_fault = c.a_line_is_read_in_one_way.ensures.one_fault;
       not_both = c.a_line_is_read_in_one_way.ensures.not_both;
-    } in not_both laws
+    } in not_refused script_order laws lines (servers plan.count script.most) plan.commands number fault script.in_order

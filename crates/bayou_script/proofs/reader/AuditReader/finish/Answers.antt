@@ -1,0 +1,11 @@
+use Rattle.std.proofs.lemmas.Result.{err_from_is_err_and}
+use Rattle.bayou_script.specs.Order.{lines_of}
+use Rattle.bayou_script.proofs.reader.AuditReader.finish.Goals as goal
+
+pub returns-in_err-end : goal.returns-in_err-end
+returns-in_err-end c bytes read =
+    let p = err_from_is_err_and c.from_residual.result c.from_residual.ensures.1 in rw (p.1, p.2) (c.in_err-end.ensures bytes read)
+
+pub returns : goal.returns
+returns c bytes read =
+    let (front, in_order, draft) = c.in_ok-end.ensures bytes read in c.finish.ensures (lines_of bytes) front in_order draft

@@ -1,0 +1,27 @@
+-- What a draft makes of a line.
+use Rattle.std.specs.Prelude.{◌≡◌, ℕ, Bool, List, [], ◌∷◌, ◌++◌, IsTrue}
+use Rattle.bayou_text.specs.declared.line.LineFault.{LineFault}
+use Rattle.bayou_text.specs.declared.line.LineFault.TheVariants as line
+use Rattle.bayou_text.specs.Said.{Said}
+use Rattle.bayou_script.specs.declared.fault.Refusal.{Refusal}
+use Rattle.bayou_script.specs.declared.fault.Refusal.TheVariants.{Line, OutOfMemory}
+use Rattle.bayou_script.specs.declared.fault.ScriptFault.TheVariants.{NotJson, BadShape, BadKey, BadProgram}
+use Rattle.bayou_script.specs.Order.{HasFault, Order}
+
+-- What this says was added behind the front, if that is its place there.
+pub record HasAdded {D : Type 0} (order : Order) (keeps : D → List Said → Type 0) (number : ℕ) (front : List Said) (told : Said) (new : D) (placed : Bool) : Type 0 where
+  pub place : placed ≡ order number front told
+  pub kept : IsTrue placed → keeps new (front ++ told ∷ [])
+
+-- why a line isn't taken, where memory didn't run out
+abbrev pub FaultAt : Order → ℕ → List Said → List ℕ → Refusal → Type 0
+FaultAt order number front bytes (Line told fault) = (told ≡ number) × HasFault order number front bytes fault
+FaultAt order number front bytes OutOfMemory = Unit {0}
+
+-- the refusal of a text whose line of this number wasn't read
+abbrev pub refusal_of : ℕ → LineFault → Refusal
+refusal_of number line.OutOfMemory = OutOfMemory
+refusal_of number line.NotJson = Line number NotJson
+refusal_of number (line.BadShape what) = Line number BadShape
+refusal_of number (line.Key why) = Line number BadKey
+refusal_of number (line.Program why) = Line number BadProgram

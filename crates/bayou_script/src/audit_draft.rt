@@ -1,0 +1,134 @@
+ghost use Rattle.std.specs.Prelude.{◌≡◌, ◌<◌, ◌≤◌, [], ℕ, List, Option, Some, map, MatchResult, length};
+ghost use Rattle.bayou_base.specs.declared.limits.TheConstants.{SERVERS};
+
+use crate::audit::AuditFile;
+use crate::fault::Refusal;
+use crate::text::Front;
+use bayou_base::{Entry, MAX_ENTRIES, ServerId};
+use bayou_lang::RestingWrite;
+use bayou_text::{AuditLine, Line};
+use std::alloc::Global;
+
+/// The front of an audit file, while its lines are checked.
+#[derive(Drop)]
+pub(crate) struct AuditDraft {
+    /// How many servers there are: none before the first line that isn't empty.
+    count: u8,
+    entries: Vec<Entry>,
+    /// What each server holds.
+    dumps: Vec<Vec<RestingWrite>>,
+    ghost count_in_range: { count ≤ SERVERS },
+    ghost one_each: { length dumps.items ≡ count },
+}
+
+impl AuditDraft {
+    ghost use Rattle.bayou_text.specs.Said.{Said, entry as entry_line, held as held_line, servers as servers_line};
+    ghost use Rattle.bayou_script.specs.declared.fault.Refusal.TheVariants.{OutOfMemory};
+    ghost use Rattle.bayou_script.specs.AuditFile.{IsAuditFile, InAuditOrder, audit_order, evidence_of};
+    ghost use Rattle.bayou_script.specs.Inner.AuditDraft.{IsAuditDraftOf};
+    ghost use Rattle.bayou_script.specs.Inner.Taking.{HasAdded};
+    ghost use Rattle.bayou_script.specs.Order.{RefusedBy};
+
+    pub fn new(alloc: Global) -> Self
+        ensures { IsAuditDraftOf result [] }
+    {
+        AuditDraft {
+            count: 0,
+            entries: Vec::new(alloc),
+            dumps: Vec::new(alloc),
+        }
+    }
+
+    /// Starts so many servers, which hold nothing yet, where none were started.
+    fn start(&mut self, alloc: Global, count: u8) -> Result<bool, Refusal>
+        requires { (0 < count) × (count ≤ SERVERS) }
+        ensures { (number : ℕ) (front : List Said) (most : Option ℕ) → IsAuditDraftOf self.old front
+            → MatchResult result (HasAdded audit_order IsAuditDraftOf number front (servers_line count most) self.new) (λ refusal. refusal ≡ OutOfMemory) }
+    {
+        if self.count > 0 {
+            return Ok(false);
+        }
+        let mut dumps = Vec::with_capacity(alloc, usize::from(count))?;
+        for _ in 0..count {
+            dumps.push_reserved(Vec::new(alloc));
+        }
+        self.count = count;
+        self.dumps = dumps;
+        Ok(true)
+    }
+
+    /// Adds the entry, whose vector, if it has one, has so many counts.
+    fn add_entry(&mut self, entry: Entry, counts: Option<u8>) -> Result<bool, Refusal>
+        ensures { (number : ℕ) (front : List Said) → IsAuditDraftOf self.old front
+            → MatchResult result (HasAdded audit_order IsAuditDraftOf number front (entry_line entry counts) self.new) (λ refusal. refusal ≡ OutOfMemory) }
+    {
+        if entry.server.index >= self.count
+            || counts.unwrap_or(self.count) != self.count
+            || self.entries.len() >= MAX_ENTRIES
+        {
+            return Ok(false);
+        }
+        self.entries.push(entry)?;
+        Ok(true)
+    }
+
+    /// Adds the Write, whose vector has so many counts, to what the server holds.
+    fn add_held(
+        &mut self,
+        server: ServerId,
+        write: RestingWrite,
+        counts: u8,
+    ) -> Result<bool, Refusal>
+        ensures { (number : ℕ) (front : List Said) → IsAuditDraftOf self.old front
+            → MatchResult result (HasAdded audit_order IsAuditDraftOf number front (held_line server.index write counts) self.new) (λ refusal. refusal ≡ OutOfMemory) }
+    {
+        if server.index >= self.count
+            || write.wid().origin.index >= self.count
+            || counts != self.count
+        {
+            return Ok(false);
+        }
+        let dump = &mut self.dumps[usize::from(server.index)];
+        dump.push(write)?;
+        Ok(true)
+    }
+
+    /// The audit file of which this is all.
+    pub fn finish(self) -> Result<AuditFile, Refusal>
+        ensures { (lines : List (List ℕ)) (front : List Said) → InAuditOrder lines front → IsAuditDraftOf self front
+            → MatchResult result (λ file. IsAuditFile lines (evidence_of file)) (RefusedBy audit_order lines) }
+    {
+        if self.count == 0 {
+            return Err(Refusal::out_of_place(1));
+        }
+        Ok(AuditFile {
+            count: self.count,
+            entries: self.entries,
+            dumps: self.dumps,
+        })
+    }
+}
+
+impl Front for AuditDraft {
+    ghost use Rattle.bayou_script.specs.AuditFile.{audit_order};
+    ghost use Rattle.bayou_script.specs.Inner.AuditDraft.{IsAuditDraftOf};
+
+    ghost order = { audit_order };
+
+    ghost keeps = { IsAuditDraftOf };
+
+    fn add(&mut self, alloc: Global, _number: u64, line: Line) -> Result<bool, Refusal> {
+        match line {
+            Line::Servers { count, .. } => self.start(alloc, count),
+            Line::Audit(AuditLine::Entry { entry, counts }) => self.add_entry(entry, counts),
+            Line::Audit(
+                AuditLine::Held {
+                    server,
+                    write,
+                    counts,
+                },
+            ) => self.add_held(server, write, counts),
+            Line::Command(_) => Ok(false),
+        }
+    }
+}
