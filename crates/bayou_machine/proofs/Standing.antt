@@ -1,8 +1,12 @@
 -- The servers of a machine, each in its place.
-use Rattle.std.proofs.Common.{◌≡◌, ℕ, zero, suc, ◌<◌, List, [], ◌∷◌, Some, set, length, get_or, ap, sym, ◌∙◌, subst, refl, arith}
+use Rattle.std.proofs.Common.{◌≡◌, ℕ, zero, suc, ◌<◌, List, [], ◌∷◌, Some, set, length, map, get_or, ap, sym, ◌∙◌, subst, refl, arith}
 use Rattle.std.proofs.lemmas.Option.{slice_get_read}
-use Rattle.std.proofs.lemmas.List.{get_or_default, set-get_or}
+use Rattle.std.proofs.lemmas.List.{get_or_default, length-map, set-get_or}
 use Rattle.std.specs.List.{insert, remove, slice_get}
+use Rattle.std.specs.Global.{Vec}
+use Rattle.bayou_judge.specs.History.{lists_of}
+use Rattle.bayou_lang.specs.declared.write.Write.{Write}
+use Rattle.bayou_machine.specs.Replica.{held_by}
 use Rattle.bayou_machine.specs.declared.replica.Replica.{Replica}
 use Rattle.bayou_machine.specs.Machine.{Machine, with_server}
 
@@ -39,3 +43,7 @@ same_machine machine replicas place at replica servers here found =
     subst (λ (list : List Replica). set list place replica ≡ list) servers
     (subst (λ i. set replicas i replica ≡ replicas) here (put_same replicas at replica replica found refl)) in
     ap (λ (list : List Replica). record machine { servers = list }) (sym same)
+
+-- there is a dump for each server
+pub one_dump_each : (dumps : List (Vec Write)) (servers : List Replica) → lists_of dumps ≡ map held_by servers → length dumps ≡ length servers
+one_dump_each dumps servers same = sym (length-map dumps (λ (dump : Vec Write). dump.items)) ∙ ap length same ∙ length-map servers held_by

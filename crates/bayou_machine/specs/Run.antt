@@ -13,7 +13,7 @@ use Rattle.bayou_judge.specs.Answers.{Judges, SurveyAnswer}
 use Rattle.bayou_judge.specs.History.{lists_of}
 use Rattle.bayou_session.specs.Needs.{Told, new_session}
 use Rattle.bayou_text.specs.Said.{Said, servers, session, write, read, log, fuse, lose, reopen, restart, pull, resend, totals, judge, survey, book, entry, held}
-use Rattle.bayou_script.specs.declared.audit_file.AuditFile.{AuditFile}
+use Rattle.bayou_script.specs.declared.audit.AuditFile.{AuditFile}
 use Rattle.bayou_script.specs.Script.{Plan}
 use Rattle.bayou_machine.specs.declared.answer.Answer.{Answer}
 use Rattle.bayou_machine.specs.declared.answer.Answer.TheVariants.{Booked, Counted, Done, Judged, Recovered, Surveyed}

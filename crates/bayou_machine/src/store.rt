@@ -1,4 +1,4 @@
-ghost use Rattle.std.specs.Prelude.{◌≡◌, ◌<◌, ◌≤◌, ℕ, IfOk, IfErr, IsTrue, List, MatchResult, false};
+ghost use Rattle.std.specs.Prelude.{◌≡◌, ◌<◌, ◌≤◌, ℕ, IfOk, IfErr, IsTrue, List, MatchResult, false, length};
 ghost use Rattle.bayou_base.specs.declared.limits.TheConstants.{SERVERS};
 ghost use Rattle.bayou_machine.specs.declared.answer.Answer.TheVariants.{Done, Exchanged, Recovered};
 ghost use Rattle.bayou_text.specs.Said.{fuse, log, lose, pull, read, reopen, resend, restart, session, write};
@@ -80,7 +80,8 @@ impl Store {
 
     /// Copies of the Writes that each server holds, or held as it was stopped, in order of receipt.
     pub(crate) fn dumps(&self, alloc: Global) -> Result<Vec<Vec<RestingWrite>>, AllocError>
-        ensures { IfOk result (λ dumps. lists_of dumps.items ≡ dumps_of self.now) }
+        ensures held { IfOk result (λ dumps. lists_of dumps.items ≡ dumps_of self.now) }
+        ensures one_each { IfOk result (λ dumps. length dumps.items ≡ self.now.count) }
     {
         let mut dumps = Vec::new(alloc);
         for replica in &self.replicas {

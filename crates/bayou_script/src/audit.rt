@@ -5,7 +5,7 @@ use bayou_base::Entry;
 use bayou_lang::RestingWrite;
 
 /// An audit file, each line of which is in its place.
-#[derive(Drop)]
+#[derive(Debug, Drop)]
 pub struct AuditFile {
     /// How many servers there are, from server 0 on.
     pub count: u8,

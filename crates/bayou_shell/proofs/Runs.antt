@@ -1,5 +1,5 @@
 -- Runs, one turn after another, and what is printed for them.
-use Rattle.std.proofs.Common.{◌≡◌, ℕ, Bool, true, false, ◌&&◌, List, [], ◌∷◌, ◌++◌, Option, None, Some, IfSome, IfErr, IfOk, Result, Ok, Err, inl, inr, IsTrue, map, take, length, ap, ap₂, max, sym, ◌∙◌, refl, subst, append_assoc, arith, ◌+◌, ◌≤◌}
+use Rattle.std.proofs.Common.{◌≡◌, ℕ, zero, suc, Bool, true, false, ◌&&◌, List, [], ◌∷◌, ◌++◌, Option, None, Some, IfSome, IfErr, IfOk, Result, Ok, Err, inl, inr, IsTrue, map, take, length, ap, ap₂, max, sym, ◌∙◌, refl, subst, append_assoc, arith, ◌+◌, ◌≤◌}
 use Rattle.std.proofs.lemmas.List.{append-nil, take_all}
 use Rattle.std.proofs.lemmas.Grind.{flat_map-append}
 use Rattle.std.proofs.KnownBytes.{Keeps-refl}
@@ -12,14 +12,14 @@ use Rattle.bayou_machine.specs.Filed.{operations}
 use Rattle.bayou_machine.specs.Laws.Runs.{Run-more, Turn-moves, operations-first}
 use Rattle.bayou_machine.specs.Machine.{FailsToBegin}
 use Rattle.bayou_machine.specs.Run.{Audited, IsNewRun, Run, Turn}
-use Rattle.bayou_script.specs.Script.{IsScript, Plan, is_served, lines_of}
+use Rattle.bayou_script.specs.Script.{IsScript, Plan, is_served, lines_of, script_order}
 use Rattle.bayou_streams.specs.Account.{Account, Takes, TakesFront}
 use Rattle.bayou_text.specs.declared.command.Command.{Command}
 use Rattle.bayou_text.specs.Said.{Said, command_said}
 use Rattle.bayou_shell.specs.declared.fault.Fault.{Fault}
 use Rattle.bayou_shell.specs.declared.fault.Fault.TheVariants.{Line, Device, Input, Output}
 use Rattle.bayou_shell.specs.declared.fault.Fault.TheVariants as faults
-use Rattle.std.proofs.Math.Nat.{max-assoc, max-zero_left}
+use Rattle.std.proofs.Math.Nat.{max-zero, suc-max-suc, zero-max}
 use Rattle.bayou_shell.specs.declared.ended.Ended.{Ended}
 use Rattle.bayou_shell.specs.Fault.{answer_status, answers_status, ended_status, exit_status, fault_of_begin, status_of}
 use Rattle.bayou_shell.specs.Inner.Faults.{IsReadFault, IsRunFault}
@@ -37,8 +37,16 @@ answers_more : (count : ℕ) (answers : List Answer) (answer : Answer) → answe
 answers_more count answers answer =
     flat_map-append (answer_text count) answers (answer ∷ []) ∙ ap (λ line. answers_text count answers ++ line) (append-nil (answer_text count answer))
 
+max-assoc : (a b c : ℕ) → max (max a b) c ≡ max a (max b c)
+max-assoc zero b c = ap (λ n. max n c) (zero-max b) ∙ sym (zero-max (max b c))
+max-assoc (suc a) zero c = ap (λ n. max n c) (max-zero (suc a)) ∙ ap (max (suc a)) (sym (zero-max c))
+max-assoc (suc a) (suc b) zero = max-zero (max (suc a) (suc b)) ∙ ap (max (suc a)) (sym (max-zero (suc b)))
+max-assoc (suc a) (suc b) (suc c) =
+    ap (λ n. max n (suc c)) (suc-max-suc a b) ∙ suc-max-suc (max a b) c ∙ ap (λ n. suc n) (max-assoc a b c) ∙ sym (suc-max-suc a (max b c))
+    ∙ ap (max (suc a)) (sym (suc-max-suc b c))
+
 statuses_more : (answers : List Answer) (answer : Answer) → answers_status (answers ++ answer ∷ []) ≡ max (answers_status answers) (answer_status answer)
-statuses_more [] answer = max-zero_left (answer_status answer)
+statuses_more [] answer = max-zero (answer_status answer) ∙ sym (zero-max (answer_status answer))
 statuses_more (first ∷ answers) answer =
     ap (max (answer_status first)) (statuses_more answers answer) ∙ sym (max-assoc (answer_status first) (answers_status answers) (answer_status answer))
 
@@ -192,7 +200,7 @@ part_taken plan a b text missing none prints gathered =
     (front, PrintsPart-front plan text front rest split prints, took)
 
 -- where the input isn't taken as a script, nothing is answered
-pub RunsAs-unread : (known contents : Option (List ℕ)) (fault : Fault) → IsReadFault known fault → IfSome known (λ input. RunsAs input (Err fault) contents contents)
+pub RunsAs-unread : (known contents : Option (List ℕ)) (fault : Fault) → IsReadFault script_order known fault → IfSome known (λ input. RunsAs input (Err fault) contents contents)
 RunsAs-unread None contents fault is = tt
 RunsAs-unread (Some input) contents (Line number why) refused = (refused, Keeps-refl contents)
 RunsAs-unread (Some input) contents faults.Memory is = inl (Keeps-refl contents)

@@ -48,7 +48,7 @@ pub record Moves (old new : Audited) (said : Said) : Type 0 where
 
 filed_one : (who place : ℕ) (told : Told) (what : Option What) (filed : List Entry) → Files who place told what filed → length filed ≤ 1
 filed_one who place told None filed is = subst (λ (list : List Entry). length list ≤ 1) (sym is) (lit≤ tt)
-filed_one who place told (Some what) filed (entry, is, of) = subst (λ (list : List Entry). length list ≤ 1) (sym is) (lit≤ tt)
+filed_one who place told (Some what) filed (one, is, of) = subst (λ (list : List Entry). length list ≤ 1) (sym is) (lit≤ tt)
 
 tried : (old new : Audited) (who place : ℕ) (said : Said) (answer : Answer) → operations (said ∷ []) ≡ 1 → Tries old who place said answer new → Moves old new said
 tried old new who place said answer one tries = record {

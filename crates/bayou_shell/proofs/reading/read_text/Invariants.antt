@@ -1,12 +1,11 @@
 -- what came so far was read, and each turn took one from those left
 use Rattle.std.proofs.Common.{◌≤◌, List, ℕ}
 use Rattle.std.specs.Io.KnownBytes.{Consumes}
-use Rattle.bayou_script.specs.Reading.{HasRead}
-use Rattle.bayou_shell.proofs.reading.read_script.Given as goal
+use Rattle.bayou_shell.proofs.reading.read_text.Given as goal
 
 abbrev pub invariant-loop-turn : goal.invariant-loop-turn
 invariant-loop-turn g l = record {
-  read : (bytes : List ℕ) × Consumes (g.R.Read.remaining l.initial.input.reader) (g.R.Read.remaining l.input.reader) bytes × HasRead l.reader bytes;
+  read : (bytes : List ℕ) × Consumes (g.R.Read.remaining l.initial.input.reader) (g.R.Read.remaining l.input.reader) bytes × g.T.Taker.has_read l.taker bytes;
   fewer : l.input.turns_left ≤ l.initial.input.turns_left;
 }
 

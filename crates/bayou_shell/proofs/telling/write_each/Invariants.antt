@@ -2,11 +2,10 @@
 use Rattle.std.proofs.Common.{◌≡◌, ◌≤◌, ℕ, List, [], ◌++◌, drop}
 use Rattle.std.specs.Prelude.{flat_map}
 use Rattle.bayou_shell.specs.Inner.Waiting.{Gathers, stage}
-use Rattle.bayou_print.specs.Printed.{listed_text}
-use Rattle.bayou_shell.proofs.telling.write_listing.Given as goal
+use Rattle.bayou_shell.proofs.telling.write_each.Given as goal
 
-abbrev pub invariant-loop-listed : goal.invariant-loop-listed
-invariant-loop-listed g l =
-    (front : List ℕ) × (flat_map (listed_text l.server.index) l.listing ≡ front ++ flat_map (listed_text l.server.index) (drop l.listed-index l.listing))
+abbrev pub invariant-loop-part : goal.invariant-loop-part
+invariant-loop-part g l =
+    (front : List ℕ) × (flat_map (g.P.Printer.text l.printer.now) l.parts ≡ front ++ flat_map (g.P.Printer.text l.printer.now) (drop l.part-index l.parts))
     × Gathers (stage g.W.Write.contents l.initial.output l.initial.waiting) (stage g.W.Write.contents l.output l.waiting) front []
     × (l.initial.output.channel.turns_left ≤ l.output.channel.turns_left)
