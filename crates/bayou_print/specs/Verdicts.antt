@@ -17,12 +17,15 @@ guarantee_text MonotonicReads = codes "mr"
 guarantee_text WritesFollowReads = codes "wfr"
 guarantee_text MonotonicWrites = codes "mw"
 
--- the least breach: the guarantee, the session, the places of the two operations, where it shows and by which Write
+-- where a breach shows: the places of the two operations, the server, and the Write
+abbrev pub shown_text : Breach → List ℕ
+shown_text breach =
+    codes " places " ++ (decimal breach.first ++ (codes " " ++ (decimal breach.second ++ (codes " server " ++ (decimal breach.server.index
+    ++ (codes " wid " ++ (decimal breach.wid.origin.index ++ (codes ":" ++ (decimal breach.wid.seq ++ codes "\n")))))))))
+
+-- the least breach: the guarantee, the session, and where it shows
 abbrev pub broken_text : Breach → List ℕ
-broken_text breach =
-    codes "broken " ++ (guarantee_text breach.guarantee ++ (codes " session " ++ (decimal breach.session.index ++ (codes " places " ++ (decimal breach.first
-    ++ (codes " " ++ (decimal breach.second ++ (codes " server " ++ (decimal breach.server.index ++ (codes " wid " ++ (decimal breach.wid.origin.index
-    ++ (codes ":" ++ (decimal breach.wid.seq ++ codes "\n")))))))))))))
+broken_text breach = codes "broken " ++ (guarantee_text breach.guarantee ++ (codes " session " ++ (decimal breach.session.index ++ shown_text breach)))
 
 -- why there is no verdict; of want of memory nothing is printed
 abbrev pub refused_text : Refusal → List ℕ

@@ -17,14 +17,14 @@ pub trait Printer {
     type Part;
 
     /// The line of the part.
-    ghost text: { Self → Part → List ℕ };
+    ghost text: { Self → Self.Part → List ℕ };
 
     /// The line of the part, with its line feed.
     fn line(&self, alloc: Global, part: &Self::Part) -> Result<String, AllocError>
         ensures { IfOk result (λ line. string_bytes line ≡ text self.now part.now) };
 
     /// It ends with a line feed.
-    ghost ends: { (printer : Self) (part : Part) → IsEmptyOrEndsWith (text printer part) 10 };
+    ghost ends: { (printer : Self) (part : Self.Part) → IsEmptyOrEndsWith (text printer part) 10 };
 }
 
 /// The log of a server.

@@ -1,6 +1,6 @@
 //! The lines of a verdict and of a survey.
 ghost use Rattle.std.specs.Prelude.{◌≡◌, IfOk, string_bytes};
-ghost use Rattle.bayou_print.specs.Verdicts.{broken_text, found_text, guarantee_text, refused_text, surveyed_text, verdict_text};
+ghost use Rattle.bayou_print.specs.Verdicts.{broken_text, found_text, guarantee_text, refused_text, shown_text, surveyed_text, verdict_text};
 
 use bayou_judge::{Breach, Guarantee, Refusal, Surveyed, Verdict};
 use std::alloc::{AllocError, Global};
@@ -17,18 +17,24 @@ fn guarantee_word(guarantee: Guarantee) -> &'static str
     }
 }
 
+/// Where a breach shows.
+fn shown(alloc: Global, breach: &Breach) -> Result<String, AllocError>
+    ensures { IfOk result (λ text. string_bytes text ≡ shown_text breach.now) }
+{
+    let (first, second) = (breach.first, breach.second);
+    let server = breach.server.index;
+    let (origin, seq) = (breach.wid.origin.index, breach.wid.seq);
+    format!(in alloc; " places {first} {second} server {server} wid {origin}:{seq}\n")
+}
+
 /// The line of the least breach.
 fn broken_line(alloc: Global, breach: &Breach) -> Result<String, AllocError>
     ensures { IfOk result (λ line. string_bytes line ≡ broken_text breach.now) }
 {
     let guarantee = guarantee_word(breach.guarantee);
     let session = breach.session.index;
-    let (first, second) = (breach.first, breach.second);
-    let server = breach.server.index;
-    let (origin, seq) = (breach.wid.origin.index, breach.wid.seq);
-    format!(in alloc;
-        "broken {guarantee} session {session} places {first} {second} server {server} wid {origin}:{seq}\n"
-    )
+    let shown = shown(alloc, breach)?;
+    format!(in alloc; "broken {guarantee} session {session}{shown}")
 }
 
 /// The line of what can be no evidence; none of want of memory.

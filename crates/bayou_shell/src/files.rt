@@ -10,7 +10,7 @@ pub trait Files {
     type Reader: Read + Drop;
 
     /// Whether opening the file of this name may give this reader.
-    ghost opens: { List ℕ → Reader → Type 0 };
+    ghost opens: { List ℕ → Self.Reader → Type 0 };
 
     /// Whether the file of this name may be refused.
     ghost refuses: { List ℕ → Type 0 };

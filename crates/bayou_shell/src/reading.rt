@@ -26,7 +26,7 @@ trait Taker: Drop {
     ghost has_read: { Self → List ℕ → Type 0 };
 
     /// The lines say this.
-    ghost says: { List (List ℕ) → Text → Type 0 };
+    ghost says: { List (List ℕ) → Self.Text → Type 0 };
 
     /// Takes a piece more, unless there is a line with a fault.
     fn take(&mut self, alloc: Global, piece: &[u8]) -> Result<(), Refusal>
