@@ -1,6 +1,6 @@
 -- How a run ends.
 use Rattle.std.specs.Prelude.{ℕ, List, [], ◌∷◌, Result, Ok, Err, max}
-use Rattle.bayou_judge.specs.declared.verdict.Refusal.{Refusal}
+use Rattle.bayou_judge.specs.declared.verdict.Refusal.{Refusal as NoVerdict}
 use Rattle.bayou_judge.specs.declared.verdict.Verdict.{Verdict}
 use Rattle.bayou_judge.specs.declared.verdict.Verdict.TheVariants.{Clean, Broken}
 use Rattle.bayou_machine.specs.declared.answer.Answer.{Answer}
@@ -33,7 +33,7 @@ status_of Input = 3
 status_of Output = 3
 
 -- 1 for a verdict that is broken, 2 for one that is refused, or a survey
-abbrev pub verdict_status : Result Verdict Refusal → ℕ
+abbrev pub verdict_status : Result Verdict NoVerdict → ℕ
 verdict_status (Ok Clean) = 0
 verdict_status (Ok (Broken breach)) = 1
 verdict_status (Err refusal) = 2

@@ -1,5 +1,5 @@
 //! Answers to what is written for them, line by line.
-ghost use Rattle.std.specs.Prelude.{◌≡◌, ◌<◌, ◌≤◌, [], List, ℕ, IfErr, OnOk, flat_map};
+ghost use Rattle.std.specs.Prelude.{◌≡◌, ◌<◌, ◌≤◌, [], List, ℕ, IfErr, OnOk, flat_map, length};
 ghost use Rattle.bayou_base.specs.declared.limits.TheConstants.{SERVERS};
 ghost use Rattle.bayou_judge.specs.History.{lists_of};
 ghost use Rattle.bayou_print.specs.Booked.{book_text, dumps_text, evidence_text};
