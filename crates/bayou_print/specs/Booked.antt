@@ -31,9 +31,13 @@ abbrev pub dumps_text : ℕ → List (List HeldWrite) → ℕ → List ℕ
 dumps_text count dumps zero = []
 dumps_text count dumps (suc place) = dumps_text count dumps place ++ held_text count place (dump_of dumps place)
 
--- what sessions were served, and then what servers hold
+-- what sessions were served
+abbrev pub entries_text : ℕ → List Entry → List ℕ
+entries_text count entries = flat_map (λ what. line_text (entry_said count what)) entries
+
+-- and then what servers hold
 abbrev pub evidence_text : ℕ → List Entry → List (List HeldWrite) → List ℕ
-evidence_text count entries dumps = flat_map (λ what. line_text (entry_said count what)) entries ++ dumps_text count dumps count
+evidence_text count entries dumps = entries_text count entries ++ dumps_text count dumps count
 
 -- the whole file
 abbrev pub book_text : ℕ → List Entry → List (List HeldWrite) → List ℕ

@@ -1,4 +1,5 @@
 pub mod Asked
+pub mod Audited
 pub mod Gathered
 pub mod Read
 pub mod Runs

@@ -1,7 +1,7 @@
 //! Audit files to the lines of a verdict and a survey.
 ghost use Rattle.std.specs.Prelude.{◌≡◌, ◌≤◌, [], List, ℕ, IfErr, IfOk, IfSome, OnOk, ◌⊎◌};
 ghost use Rattle.bayou_script.specs.AuditFile.{evidence_of};
-ghost use Rattle.bayou_shell.specs.Audit.{AuditsAs, IsAudit, IsAuditPart, IsSurveyOf};
+ghost use Rattle.bayou_shell.specs.Audit.{AuditsAs, IsAudit, IsAuditPart, IsSurveyOf, IsVerdictOf};
 ghost use Rattle.bayou_shell.specs.Inner.Faults.{IsRunFault};
 ghost use Rattle.bayou_shell.specs.Inner.Waiting.{Gathers, stage};
 ghost use Rattle.bayou_shell.specs.Turns.{EndsReading, EndsWriting, cut_lines};
@@ -12,7 +12,7 @@ use crate::fault::Fault;
 use crate::reading::read_audit;
 use crate::telling::write_each;
 use crate::waiting::Waiting;
-use bayou_judge::{Refusal, judge, survey};
+use bayou_judge::{Refusal, Verdict, judge, survey};
 use bayou_print::{Survey, verdict_line};
 use bayou_script::AuditFile;
 use bayou_streams::{Channel, Output};
@@ -46,6 +46,28 @@ fn write_survey<W: Write>(
     }
 }
 
+/// Writes this verdict on the evidence, and the survey behind it unless the verdict is refused, or has them wait.
+fn write_verdict<W: Write>(
+    alloc: Global,
+    file: &AuditFile,
+    verdict: &Result<Verdict, Refusal>,
+    output: &mut Output<W>,
+    waiting: &mut Waiting,
+) -> Result<Ended, Fault>
+    requires { IsVerdictOf (evidence_of file.now) verdict.now }
+    ensures whole { IfOk result (λ ended. (text : List ℕ) × IsAudit (evidence_of file.now) ended text × Gathers (stage W.contents output.old waiting.old) (stage W.contents output.new waiting.new) text []) }
+    ensures part { IfErr result (λ fault. IsRunFault fault × (text missing : List ℕ) × IsAuditPart (evidence_of file.now) text × Gathers (stage W.contents output.old waiting.old) (stage W.contents output.new waiting.new) text missing) }
+    ensures ended { IfErr result (EndsWriting output.new.channel.write_failed output.new.channel.turns_left) }
+    ensures ready { OnOk result (output.old.channel.turns_left ≤ output.new.channel.turns_left) }
+{
+    let line = verdict_line(alloc, verdict)?;
+    waiting.print(output, line.as_bytes())?;
+    if verdict.is_ok() {
+        write_survey(alloc, file, output, waiting)?;
+    }
+    Ok(Ended::of_verdict(verdict))
+}
+
 /// Writes the verdict on the evidence, and the survey behind it unless the verdict is refused, or has them wait.
 fn write_audit<W: Write>(
     alloc: Global,
@@ -58,21 +80,15 @@ fn write_audit<W: Write>(
     ensures ended { IfErr result (EndsWriting output.new.channel.write_failed output.new.channel.turns_left) }
     ensures ready { OnOk result (output.old.channel.turns_left ≤ output.new.channel.turns_left) }
 {
-    let verdict = judge(
+    match judge(
         alloc,
         file.count,
         file.entries.as_slice(),
         file.dumps.as_slice(),
-    );
-    if let Err(Refusal::OutOfMemory) = verdict {
-        return Err(Fault::Memory);
+    ) {
+        Err(Refusal::OutOfMemory) => Err(Fault::Memory),
+        verdict => write_verdict(alloc, file, &verdict, output, waiting),
     }
-    let line = verdict_line(alloc, &verdict)?;
-    waiting.print(output, line.as_bytes())?;
-    if verdict.is_ok() {
-        write_survey(alloc, file, output, waiting)?;
-    }
-    Ok(Ended::of_verdict(&verdict))
 }
 
 /// Writes the verdict and the survey. What was printed before a fault is written too.

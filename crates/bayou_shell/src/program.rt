@@ -74,7 +74,7 @@ pub fn refuse_words<E: Write>(errors: &mut Output<E>, error: &io::Error) -> u8
 
 /// Where the input of a task comes from.
 fn source_of<'a>(task: Task<'a>) -> Source<'a>
-    ensures { input_seen result ≡ input_of_asked (task_seen task) }
+    ensures { input_seen result ≡ input_of_asked (task_seen task.entry) }
 {
     match task {
         Task::Run(source) | Task::Audit(source) => source,
@@ -88,7 +88,7 @@ fn work<R: Read, W: Write>(
     input: &mut Channel<R, ()>,
     output: &mut Output<W>,
 ) -> Result<Ended, Fault>
-    ensures works { IfSome (R.remaining input.old.reader) (λ text. Works (task_seen task) text result (W.contents output.old.channel.writer) (W.contents output.new.channel.writer)) }
+    ensures works { IfSome (R.remaining input.old.reader) (λ text. Works (task_seen task.entry) text result (W.contents output.old.channel.writer) (W.contents output.new.channel.writer)) }
     ensures read { IfErr result (EndsReading input.new.read_failed input.new.turns_left) }
     ensures written { IfErr result (EndsWriting output.new.channel.write_failed output.new.channel.turns_left) }
     ensures turns { input.new.turns_left ≤ input.old.turns_left }
@@ -108,7 +108,7 @@ fn work_on<F: Files, W: Write>(
     files: &mut F,
     output: &mut Output<W>,
 ) -> Result<Ended, Fault>
-    ensures works { WorksOn (F.opens name.now) (F.refuses name.now) ⟦<F::Reader as Read>⟧.remaining (task_seen task) result (W.contents output.old.channel.writer) (W.contents output.new.channel.writer) }
+    ensures works { WorksOn (F.opens name.now) (F.refuses name.now) ⟦<F::Reader as Read>⟧.remaining (task_seen task.entry) result (W.contents output.old.channel.writer) (W.contents output.new.channel.writer) }
     ensures written { IfErr result (EndsWriting output.new.channel.write_failed output.new.channel.turns_left) }
     ensures paid { Pays (account W.contents output.old) (account W.contents output.new) (cut_lines result) }
 {

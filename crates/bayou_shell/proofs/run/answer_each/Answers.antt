@@ -5,13 +5,14 @@ use Rattle.bayou_script.specs.Plan.{plan_of}
 use Rattle.std.proofs.Math.Nat.{le-max_left}
 use Rattle.bayou_machine.specs.Filed.{operations}
 use Rattle.bayou_machine.specs.Run.{audited}
+use Rattle.bayou_shell.specs.declared.ended.Ended.TheVariants.{Clean}
 use Rattle.bayou_shell.specs.Inner.Waiting.{stage}
 use Rattle.bayou_shell.proofs.Gathered.{Gathers-nil}
 use Rattle.bayou_shell.proofs.Runs.{SoFar, SoFar-more, SoFar-part, SoFar-stopped}
 use Rattle.bayou_shell.proofs.run.answer_each.Goals as goal
 
 pub loop-command-init : goal.loop-command-init
-loop-command-init g c = let so_far : SoFar (plan_of c.args.script) c.loop-command.init.ended (audited c.args.store c.args.filing) c.args.script.commands.items (stage g.W.Write.contents c.args.output.now c.args.waiting.now) (stage g.W.Write.contents c.args.output.now c.args.waiting.now) = record {
+loop-command-init g c = let so_far : SoFar (plan_of c.args.script) Clean (audited c.args.store c.args.filing) c.args.script.commands.items (stage g.W.Write.contents c.args.output.now c.args.waiting.now) (stage g.W.Write.contents c.args.output.now c.args.waiting.now) = record {
   done = [];
   answers = [];
   first = audited c.args.store c.args.filing;
@@ -33,9 +34,9 @@ loop-command-preserved g c =
     c.in-Some.ensures.items c.loop-command.invariant.so_far in
     let (answer, of, step, written) = c.in_ok-told.ensures.answered in
     record {
-      so_far = SoFar-more plan c.loop-command.ended c.in_ok-told.told c.and.result (audited c.loop-command.store c.loop-command.filing) (audited c.answer_one.new.store c.answer_one.new.filing) c.in-Some.command c.pop_front.new.self.items answer
+      so_far = SoFar-more plan c.loop-command.ended c.in_ok-told.told c.and-ended.result (audited c.loop-command.store c.loop-command.filing) (audited c.answer_one.new.store c.answer_one.new.filing) c.in-Some.command c.pop_front.new.self.items answer
           (stage bytes c.args.output.now c.args.waiting.now) (stage bytes c.loop-command.output c.loop-command.waiting) (stage bytes c.answer_one.new.output c.answer_one.new.waiting) before
-          step written of c.and.ensures;
+          step written of c.and-ended.ensures;
       ready = omega (arith, c.loop-command.invariant.ready, c.in_ok-told.ensures.ready);
     }
 

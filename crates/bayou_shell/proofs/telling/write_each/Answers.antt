@@ -31,7 +31,7 @@ loop-part-preserved g c =
 
 pub print-requires : goal.print-requires
 print-requires g c =
-    subst (λ (l : List ℕ). IsEmptyOrEndsWith l 10) (sym (c.as_bytes.ensures.value ∙ c.in_ok-line.ensures)) (g.P.Printer.ends c.args.printer.now c.part-item.result)
+    subst (λ (l : List ℕ). IsEmptyOrEndsWith l 10) (sym (c.as_bytes.ensures.value ∙ c.in_ok-line.ensures)) (g.met.P.Printer.ends c.args.printer.now c.part-item.result)
 
 -- the lines from this one on are missing, or a part of them
 stopped : {A : Type 0} (f : A → List ℕ) (all : List A) (old now new : Stage) (front line rest missing : List ℕ) → flat_map f all ≡ front ++ (line ++ rest)

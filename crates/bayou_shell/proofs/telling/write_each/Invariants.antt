@@ -6,6 +6,6 @@ use Rattle.bayou_shell.proofs.telling.write_each.Given as goal
 
 abbrev pub invariant-loop-part : goal.invariant-loop-part
 invariant-loop-part g l =
-    (front : List ℕ) × (flat_map (g.P.Printer.text l.printer.now) l.parts ≡ front ++ flat_map (g.P.Printer.text l.printer.now) (drop l.part-index l.parts))
+    (front : List ℕ) × (flat_map (g.P.Printer.text l.printer) l.parts ≡ front ++ flat_map (g.P.Printer.text l.printer) (drop l.part-index l.parts))
     × Gathers (stage g.W.Write.contents l.initial.output l.initial.waiting) (stage g.W.Write.contents l.output l.waiting) front []
     × (l.initial.output.channel.turns_left ≤ l.output.channel.turns_left)
