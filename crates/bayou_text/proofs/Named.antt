@@ -170,7 +170,7 @@ write_of-from at seq clock deps program w e =
     let within = bound (placed seq) (λ within. placed clock >>= λ timely. Ok (made origin.0 within timely)) w origin.2 in
     let timely = bound (placed clock) (λ timely. Ok (made origin.0 within.0 timely)) w within.2 in
     let is : made origin.0 within.0 timely.0 ≡ w = ok_same (made origin.0 within.0 timely.0) w timely.2 in
-    subst (λ (x : Write). IsOf at seq clock deps program x) is (record {
+    subst (λ (x : Write). IsOf at seq clock deps program x) {x = made origin.0 within.0 timely.0} is (record {
       origin = server_of-from at origin.0 origin.1;
       seq_is = refl;
       clock_is = refl;
