@@ -8,7 +8,7 @@ use Rattle.std.specs.List.{cons_option}
 use Rattle.bayou_base.specs.declared.entry.Entry.{Entry}
 use Rattle.bayou_base.specs.declared.limits.TheConstants.{MAX_ENTRIES}
 use Rattle.bayou_lang.specs.declared.write.Write.{Write}
-use Rattle.bayou_text.specs.Said.{Said, servers, entry, held}
+use Rattle.bayou_text.specs.Said.{Said, entry, held}
 use Rattle.bayou_script.specs.AuditFile.{audit_order, dump_told, entries_told, entry_told, write_told}
 use Rattle.bayou_script.specs.Inner.AuditDraft.{Counts}
 use Rattle.bayou_script.specs.Script.{started, use_of}

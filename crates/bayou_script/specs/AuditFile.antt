@@ -1,5 +1,5 @@
 -- Audit files: what was served, and what was held, each line in its place.
-use Rattle.std.specs.Prelude.{◌≡◌, if◌then◌else◌, ℕ, ◌<◌, ◌==◌, Bool, false, ◌&&◌, List, [], ◌∷◌, Option, None, Some, length, map, nat_lt, slice_index_or, unwrap_or}
+use Rattle.std.specs.Prelude.{◌≡◌, if◌then◌else◌, ℕ, ◌<◌, ◌==◌, false, ◌&&◌, List, [], ◌∷◌, Option, None, Some, length, map, nat_lt, slice_index_or, unwrap_or}
 use Rattle.std.specs.List.{filter_map}
 use Rattle.bayou_base.specs.declared.entry.Entry.{Entry}
 use Rattle.bayou_base.specs.declared.limits.TheConstants.{MAX_ENTRIES}

@@ -1,5 +1,4 @@
-use Rattle.std.proofs.Common.{◌≡◌, ◌<◌, ◌∙◌, ◌∷◌, ◌++◌, [], sym, ap, arith, append-nil}
-use Rattle.bayou_lang.specs.declared.write.Write.{Write}
+use Rattle.std.proofs.Common.{◌≡◌, ◌<◌, ◌∙◌, sym, ap, arith, append-nil}
 use Rattle.bayou_text.specs.Said.{held}
 use Rattle.bayou_script.specs.AuditFile.{entries_told}
 use Rattle.bayou_script.proofs.Audited.{counts_more, entries_more, held_more, held_placed, started_are}
