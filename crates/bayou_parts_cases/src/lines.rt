@@ -105,7 +105,7 @@ const COMMANDS: &str = r#"["servers",1]
 ["totals"]
 ["totals",0] => !BadShape(Arity)
 ["Read",0,0,"a"] => !BadShape(Command)
-["entry",0] => !BadShape(Command)
+["entry",0] => !BadShape(Arity)
 ["x"] => !BadShape(Command)
 [1] => !BadShape(Line)
 [] => !BadShape(Line)
@@ -173,6 +173,78 @@ const EXCHANGES: &str = r#"["pull",1,0]
 #[test]
 fn exchanges(rt: HostRuntime) {
     all_agree(&rt, rt.alloc(), EXCHANGES);
+}
+
+/// What is asked of the whole run, and what became of operations.
+const ENTRIES: &str = r#"["judge"]
+["survey"]
+["book"]
+["judge",0] => !BadShape(Arity)
+["survey",[]] => !BadShape(Arity)
+["book",null] => !BadShape(Arity)
+["entry",0,1,[],0,"write",1,1,[0,0]]
+["entry",0,2,[],1,"read","room",[0,0]]
+["entry",31,4294967295,["ryw","mr","wfr","mw"],7,"refused"]
+["entry",0,1,["mw","ryw","mw"],0,"refused"] => ["entry",0,1,["ryw","mw"],0,"refused"]
+["entry",0,1,[],0,"read","a",[65536]]
+["entry",0,1,[],0,"write",65536,65536,[1,2,3,4,5,6,7,8]]
+["entry"] => !BadShape(Arity)
+["entry",32,0,0,8] => !BadShape(Arity)
+["entry",0,1,[],0,"refused",0] => !BadShape(Arity)
+["entry",0,1,[],0,"write",1,1,[0],0] => !BadShape(Arity)
+["entry",32,0,["x"],8,"x"] => !BadShape(Number)
+["entry",0,0,["x"],8,"x"] => !BadShape(Number)
+["entry",0,4294967296,[],0,"refused"] => !BadShape(Number)
+["entry",0,1,["x"],8,"x"] => !BadShape(Word)
+["entry",0,1,[],8,"x"] => !BadShape(Number)
+["entry",0,1,[],0,"read"] => !BadShape(Word)
+["entry",0,1,[],0,0] => !BadShape(Word)
+["entry",0,1,[],0,"write",0,0] => !BadShape(Word)
+["entry",0,1,[],0,"refused","A",0] => !BadShape(Word)
+["entry",0,1,[],0,"read",1,1,[0]] => !BadShape(Word)
+["entry",0,1,[],0,"read","A",0] => !Key(BadByte(0))
+["entry",0,1,[],0,"read",0,0] => !BadShape(Name)
+["entry",0,1,[],0,"read","a",0] => !BadShape(Form)
+["entry",0,1,[],0,"read","a",[]] => !BadShape(Form)
+["entry",0,1,[],0,"read","a",[0,0,0,0,0,0,0,0,0]] => !BadShape(Form)
+["entry",0,1,[],0,"read","a",[0,65537]] => !BadShape(Number)
+["entry",0,1,[],0,"read","a",[0,1.0]] => !BadShape(Number)
+["entry",0,1,[],0,"write",0,0,0] => !BadShape(Number)
+["entry",0,1,[],0,"write",65537,0,0] => !BadShape(Number)
+["entry",0,1,[],0,"write",1,0,0] => !BadShape(Number)
+["entry",0,1,[],0,"write",1,65537,0] => !BadShape(Number)
+["entry",0,1,[],0,"write",1,1,0] => !BadShape(Form)
+["entry",0,1,[],0,"write",1,1,[-1]] => !BadShape(Number)"#;
+
+#[test]
+fn entries(rt: HostRuntime) {
+    all_agree(&rt, rt.alloc(), ENTRIES);
+}
+
+/// Writes that are held.
+const HELD: &str = r#"["held",0,[0,1,1,[0,0],{"check":[],"merge":[],"update":[["put","room",1]]}]]
+["held",7,[7,65536,65536,[0,1,2,3,4,5,6,65536],{"check":[],"merge":[],"update":[]}]]
+["held",0,[1,2,3,[4],{}]] => ["held",0,[1,2,3,[4],{"check":[],"merge":[],"update":[]}]]
+["held",0] => !BadShape(Arity)
+["held",8,0,0] => !BadShape(Arity)
+["held",8,0] => !BadShape(Number)
+["held",0,0] => !BadShape(Form)
+["held",0,{}] => !BadShape(Form)
+["held",0,[]] => !BadShape(Arity)
+["held",0,[8,0,0,0]] => !BadShape(Arity)
+["held",0,[8,0,0,0,0,0]] => !BadShape(Arity)
+["held",0,[8,0,0,0,0]] => !BadShape(Number)
+["held",0,[0,0,0,0,0]] => !BadShape(Number)
+["held",0,[0,1,0,0,0]] => !BadShape(Number)
+["held",0,[0,1,1,0,0]] => !BadShape(Form)
+["held",0,[0,1,1,[],0]] => !BadShape(Form)
+["held",0,[0,1,1,["x"],0]] => !BadShape(Number)
+["held",0,[0,1,1,[0],0]] => !BadShape(Form)
+["held",0,[0,1,1,[0],{"update":[["put","A",1]]}]] => !Key(BadByte(0))"#;
+
+#[test]
+fn writes_that_are_held(rt: HostRuntime) {
+    all_agree(&rt, rt.alloc(), HELD);
 }
 
 /// Texts that are no JSON.

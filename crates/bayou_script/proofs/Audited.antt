@@ -8,8 +8,8 @@ use Rattle.std.specs.List.{cons_option}
 use Rattle.bayou_base.specs.declared.entry.Entry.{Entry}
 use Rattle.bayou_base.specs.declared.limits.TheConstants.{MAX_ENTRIES}
 use Rattle.bayou_lang.specs.declared.write.Write.{Write}
-use Rattle.bayou_text.specs.Said.{Said, servers, entry, held}
-use Rattle.bayou_script.specs.AuditFile.{audit_order, dump_of, entries_of, entry_told, write_told}
+use Rattle.bayou_text.specs.Said.{Said, entry, held}
+use Rattle.bayou_script.specs.AuditFile.{audit_order, dump_told, entries_told, entry_told, write_told}
 use Rattle.bayou_script.specs.Inner.AuditDraft.{Counts}
 use Rattle.bayou_script.specs.Script.{started, use_of}
 
@@ -28,13 +28,13 @@ both_true a b one other = sym (ap (λ x. x && b) one ∙ other)
 
 -- an entry has its place
 pub entry_placed : (number : ℕ) (front : List Said) (what : Entry) (counts : Option ℕ) (count : ℕ) → started front ≡ count → what.server.index < count
-    → unwrap_or counts count ≡ count → length (entries_of front) < MAX_ENTRIES → true ≡ audit_order number front (entry what counts)
+    → unwrap_or counts count ≡ count → length (entries_told front) < MAX_ENTRIES → true ≡ audit_order number front (entry what counts)
 entry_placed number front what counts count is within same room =
-    subst (λ n. true ≡ (nat_lt what.server.index n && (unwrap_or counts n == n && nat_lt (length (entries_of front)) MAX_ENTRIES))) (sym is)
-    (both_true (nat_lt what.server.index count) (unwrap_or counts count == count && nat_lt (length (entries_of front)) MAX_ENTRIES)
+    subst (λ n. true ≡ (nat_lt what.server.index n && (unwrap_or counts n == n && nat_lt (length (entries_told front)) MAX_ENTRIES))) (sym is)
+    (both_true (nat_lt what.server.index count) (unwrap_or counts count == count && nat_lt (length (entries_told front)) MAX_ENTRIES)
     (lt-ltb what.server.index count within)
-    (sym (both_true (unwrap_or counts count == count) (nat_lt (length (entries_of front)) MAX_ENTRIES) (eq-eqb (unwrap_or counts count) count same)
-    (lt-ltb (length (entries_of front)) MAX_ENTRIES room))))
+    (sym (both_true (unwrap_or counts count == count) (nat_lt (length (entries_told front)) MAX_ENTRIES) (eq-eqb (unwrap_or counts count) count same)
+    (lt-ltb (length (entries_told front)) MAX_ENTRIES room))))
 
 -- a Write that is held has its place
 pub held_placed : (number : ℕ) (front : List Said) (place : ℕ) (write : Write) (counts count : ℕ) → started front ≡ count → place < count
@@ -45,41 +45,41 @@ held_placed number front place write counts count is within accepted same =
     (sym (both_true (nat_lt write.wid.origin.index count) (counts == count) (lt-ltb write.wid.origin.index count accepted) (eq-eqb counts count same))))
 
 -- the entries with one line more
-pub entries_more : (front : List Said) (told : Said) → entries_of (front ++ told ∷ []) ≡ entries_of front ++ entries_of (told ∷ [])
+pub entries_more : (front : List Said) (told : Said) → entries_told (front ++ told ∷ []) ≡ entries_told front ++ entries_told (told ∷ [])
 entries_more front told = filter_map-append entry_told front (told ∷ [])
 
 -- what a server holds, with an entry more
-pub dump_same : (server : ℕ) (front : List Said) (what : Entry) (counts : Option ℕ) → dump_of server (front ++ entry what counts ∷ []) ≡ dump_of server front
-dump_same server front what counts = filter_map-append (write_told server) front (entry what counts ∷ []) ∙ append-nil (dump_of server front)
+pub dump_same : (server : ℕ) (front : List Said) (what : Entry) (counts : Option ℕ) → dump_told server (front ++ entry what counts ∷ []) ≡ dump_told server front
+dump_same server front what counts = filter_map-append (write_told server) front (entry what counts ∷ []) ∙ append-nil (dump_told server front)
 
 -- the lists of dumps
 abbrev pub lists_of : List (Vec Write) → List (List Write)
 lists_of dumps = map (λ dump. dump.items) dumps
 
-dump_of_held : (server : ℕ) (front : List Said) (place : ℕ) (write : Write) (counts : ℕ) (is : Bool) → (place == server) ≡ is
-    → dump_of server (front ++ held place write counts ∷ []) ≡ dump_of server front ++ cons_option (cond is (Some write) None) []
-dump_of_held server front place write counts is same =
-    filter_map-append (write_told server) front (held place write counts ∷ []) ∙ ap (λ b. dump_of server front ++ cons_option (cond b (Some write) None) []) same
+dump_told-held : (server : ℕ) (front : List Said) (place : ℕ) (write : Write) (counts : ℕ) (is : Bool) → (place == server) ≡ is
+    → dump_told server (front ++ held place write counts ∷ []) ≡ dump_told server front ++ cons_option (cond is (Some write) None) []
+dump_told-held server front place write counts is same =
+    filter_map-append (write_told server) front (held place write counts ∷ []) ∙ ap (λ b. dump_told server front ++ cons_option (cond b (Some write) None) []) same
 
 held_at : (dumps : List (List Write)) (dump : List Write) (count place : ℕ) (write : Write) (counts : ℕ) (front : List Said) → length dumps ≡ count → place < count
-    → ((server : ℕ) → server < count → get_or dumps server [] ≡ dump_of server front) → dump ≡ get_or dumps place [] ++ write ∷ []
+    → ((server : ℕ) → server < count → get_or dumps server [] ≡ dump_told server front) → dump ≡ get_or dumps place [] ++ write ∷ []
     → (server : ℕ) → server < count → (is : Bool) → (place == server) ≡ is
-    → get_or (set dumps place dump) server [] ≡ dump_of server (front ++ held place write counts ∷ [])
+    → get_or (set dumps place dump) server [] ≡ dump_told server (front ++ held place write counts ∷ [])
 held_at dumps dump count place write counts front each within known longer server below true same =
     let here = eqb-true place server same in
-    subst (λ at. get_or (set dumps place dump) at [] ≡ dump_of at front ++ write ∷ []) here
+    subst (λ at. get_or (set dumps place dump) at [] ≡ dump_told at front ++ write ∷ []) here
     (get_or-set_same dumps place dump [] (omega (arith, each, within)) ∙ longer ∙ ap (λ (l : List Write). l ++ write ∷ []) (known place within))
-    ∙ sym (dump_of_held server front place write counts true same)
+    ∙ sym (dump_told-held server front place write counts true same)
 held_at dumps dump count place write counts front each within known longer server below false same =
     let other : server ≢ place = λ e. eqb-false place server same (sym e) in
-    get_or-set_other dumps place server dump [] other ∙ known server below ∙ sym (append-nil (dump_of server front))
-    ∙ sym (dump_of_held server front place write counts false same)
+    get_or-set_other dumps place server dump [] other ∙ known server below ∙ sym (append-nil (dump_told server front))
+    ∙ sym (dump_told-held server front place write counts false same)
 
 -- what each server holds, with a Write more
 pub held_more : (dumps : List (Vec Write)) (dump was : Vec Write) (count place at : ℕ) (write : Write) (counts : ℕ) (front : List Said) → length dumps ≡ count
-    → place < count → at ≡ place → ((server : ℕ) → server < count → get_or (lists_of dumps) server [] ≡ dump_of server front)
+    → place < count → at ≡ place → ((server : ℕ) → server < count → get_or (lists_of dumps) server [] ≡ dump_told server front)
     → get_or dumps at was ≡ was → dump.items ≡ was.items ++ write ∷ []
-    → (server : ℕ) → server < count → get_or (lists_of (set dumps at dump)) server [] ≡ dump_of server (front ++ held place write counts ∷ [])
+    → (server : ℕ) → server < count → get_or (lists_of (set dumps at dump)) server [] ≡ dump_told server (front ++ held place write counts ∷ [])
 held_more dumps dump was count place at write counts front each within is known found longer server below =
     let here : get_or dumps place was ≡ was = subst (λ n. get_or dumps n was ≡ was) is found in
     let items = get_or-map (λ (d : Vec Write). d.items) dumps place was [] (omega (arith, each, within)) ∙ ap (λ (d : Vec Write). d.items) here in

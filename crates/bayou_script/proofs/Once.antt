@@ -8,7 +8,7 @@ use Rattle.bayou_text.specs.declared.line.LineFault.{LineFault}
 use Rattle.bayou_text.specs.Lines.{IsFaultOf}
 use Rattle.bayou_text.specs.Said.{Said, servers}
 use Rattle.bayou_text.specs.Table.{Spells}
-use Rattle.bayou_script.specs.AuditFile.{Evidence, IsAuditFile, audit_order, dump_of, entries_of}
+use Rattle.bayou_script.specs.AuditFile.{Evidence, IsAuditFile, audit_order, dump_told, entries_told}
 use Rattle.bayou_script.specs.declared.fault.ScriptFault.{ScriptFault}
 use Rattle.bayou_script.specs.Order.{Order, InOrderBy, nothing, skipped, added, HasFault, in_itself, misplaced, IsRefusedBy, at_line, at_end, kind_of}
 use Rattle.bayou_script.specs.Script.{IsScript, Plan, script_order}
@@ -88,12 +88,12 @@ one_evidence laws lines one other is also =
     let same = one_front audit_order laws lines (servers one.count is.most ∷ is.others) is.in_order lines (servers other.count also.most ∷ also.others) also.in_order refl in
     let counts : one.count ≡ other.count = cc in
     let others : is.others ≡ also.others = cc in
-    evidence_same one other counts (is.entries ∙ ap entries_of others ∙ sym also.entries)
+    evidence_same one other counts (is.entries ∙ ap entries_told others ∙ sym also.entries)
     (lists_same one.dumps other.dumps (is.one_each ∙ counts ∙ sym also.one_each)
     (λ k within.
     let here : k < one.count = omega (arith, within, is.one_each) in
     let there : k < other.count = omega (arith, here, counts) in
-    is.dumps k here ∙ ap (dump_of k) others ∙ sym (also.dumps k there)))
+    is.dumps k here ∙ ap (dump_told k) others ∙ sym (also.dumps k there)))
 
 -- ---- a line that stands among lines in order has no fault
 

@@ -1,5 +1,5 @@
 -- Audit files: what was served, and what was held, each line in its place.
-use Rattle.std.specs.Prelude.{◌≡◌, if◌then◌else◌, ℕ, ◌<◌, ◌==◌, Bool, false, ◌&&◌, List, [], ◌∷◌, Option, None, Some, length, map, nat_lt, slice_index_or, unwrap_or}
+use Rattle.std.specs.Prelude.{◌≡◌, if◌then◌else◌, ℕ, ◌<◌, ◌==◌, false, ◌&&◌, List, [], ◌∷◌, Option, None, Some, length, map, nat_lt, slice_index_or, unwrap_or}
 use Rattle.std.specs.List.{filter_map}
 use Rattle.bayou_base.specs.declared.entry.Entry.{Entry}
 use Rattle.bayou_base.specs.declared.limits.TheConstants.{MAX_ENTRIES}
@@ -27,12 +27,12 @@ write_told server (held place write counts) = if place == server then Some write
 write_told server other = None
 
 -- the entries, in the order of their lines
-abbrev pub entries_of : List Said → List Entry
-entries_of front = filter_map entry_told front
+abbrev pub entries_told : List Said → List Entry
+entries_told front = filter_map entry_told front
 
 -- what this server holds, in the order of the lines
-abbrev pub dump_of : ℕ → List Said → List Write
-dump_of server front = filter_map (write_told server) front
+abbrev pub dump_told : ℕ → List Said → List Write
+dump_told server front = filter_map (write_told server) front
 
 -- Whether a line of an audit file may say this behind what was said before: `servers` comes first, and once; an entry is of a
 -- server that there is, and one of so many at the most; what is held is held and was accepted by servers that there are; and
@@ -40,7 +40,7 @@ dump_of server front = filter_map (write_told server) front
 abbrev pub audit_order : Order
 audit_order number front (servers count most) = length front == 0
 audit_order number front (entry what counts) = nat_lt what.server.index (started front)
-    && (unwrap_or counts (started front) == started front && nat_lt (length (entries_of front)) MAX_ENTRIES)
+    && (unwrap_or counts (started front) == started front && nat_lt (length (entries_told front)) MAX_ENTRIES)
 audit_order number front (held place write counts) = nat_lt place (started front)
     && (nat_lt write.wid.origin.index (started front) && counts == started front)
 audit_order number front other = false
@@ -58,9 +58,9 @@ pub record IsAuditFile (lines : List (List ℕ)) (evidence : Evidence) : Type 0 
   pub most : Option ℕ
   pub others : List Said
   pub in_order : InAuditOrder lines (servers evidence.count most ∷ others)
-  pub entries : evidence.entries ≡ entries_of others
+  pub entries : evidence.entries ≡ entries_told others
   pub one_each : length evidence.dumps ≡ evidence.count
-  pub dumps : (server : ℕ) → server < evidence.count → slice_index_or evidence.dumps server [] ≡ dump_of server others
+  pub dumps : (server : ℕ) → server < evidence.count → slice_index_or evidence.dumps server [] ≡ dump_told server others
 
 -- the evidence of a file that was read
 abbrev pub evidence_of : AuditFile → Evidence

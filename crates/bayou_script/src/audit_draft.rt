@@ -22,7 +22,7 @@ pub(crate) struct AuditDraft {
 }
 
 impl AuditDraft {
-    ghost use Rattle.bayou_text.specs.Said.{Said, entry as entry_line, held as held_line, servers as servers_line};
+    ghost use Rattle.bayou_text.specs.Said.{Said, audit_said, entry as entry_line, held as held_line, servers as servers_line};
     ghost use Rattle.bayou_script.specs.declared.fault.Refusal.TheVariants.{OutOfMemory};
     ghost use Rattle.bayou_script.specs.AuditFile.{IsAuditFile, InAuditOrder, audit_order, evidence_of};
     ghost use Rattle.bayou_script.specs.Inner.AuditDraft.{IsAuditDraftOf};
@@ -93,6 +93,21 @@ impl AuditDraft {
         Ok(true)
     }
 
+    /// Adds what a line behind the first says, if that has its place.
+    fn add_told(&mut self, told: AuditLine) -> Result<bool, Refusal>
+        ensures { (number : ℕ) (front : List Said) → IsAuditDraftOf self.old front
+            → MatchResult result (HasAdded audit_order IsAuditDraftOf number front (audit_said told) self.new) (λ refusal. refusal ≡ OutOfMemory) }
+    {
+        match told {
+            AuditLine::Entry { entry, counts } => self.add_entry(entry, counts),
+            AuditLine::Held {
+                server,
+                write,
+                counts,
+            } => self.add_held(server, write, counts),
+        }
+    }
+
     /// The audit file of which this is all.
     pub fn finish(self) -> Result<AuditFile, Refusal>
         ensures { (lines : List (List ℕ)) (front : List Said) → InAuditOrder lines front → IsAuditDraftOf self front
@@ -120,14 +135,7 @@ impl Front for AuditDraft {
     fn add(&mut self, alloc: Global, _number: u64, line: Line) -> Result<bool, Refusal> {
         match line {
             Line::Servers { count, .. } => self.start(alloc, count),
-            Line::Audit(AuditLine::Entry { entry, counts }) => self.add_entry(entry, counts),
-            Line::Audit(
-                AuditLine::Held {
-                    server,
-                    write,
-                    counts,
-                },
-            ) => self.add_held(server, write, counts),
+            Line::Audit(told) => self.add_told(told),
             Line::Command(_) => Ok(false),
         }
     }

@@ -1,16 +1,18 @@
-//! Lines of JSON: what each line of a script says, and the one spelling of what is said.
+//! Lines of JSON: what each line of a script or of an audit file says, and the one spelling of what is said.
 //!
-//! Callers see a [`Line`] as what it says, `said`: a command with its numbers, its key or its program. `Spells` in
+//! Callers see a [`Line`] as what it says, `said`: a command with its numbers, its key or its program, the entry of an
+//! audit, or a Write that is held, with how many counts of its vector are told. `Spells` in
 //! `specs/Table` is the table of the lines: which JSON data spells which command, member by member. [`read_line`]
 //! answers exactly what the bytes spell, or the first fault, which `specs/Lines` and the files below it compute.
 //! `specs/Spelling` has one spelling of each line, which `bayou_text_writer` writes.
-//! A new command is an arm of [`Command`], of `line_in` or `trial_in` in the reader, of `line_json` in that writer, of `command_said`,
-//! `command_of` or `trial_of` and `line_json` in the grammar, of `LineIs` in the table, and of the ranges that its types
-//! keep.
+//! A new command is an arm of [`Command`], of `command_in` or a reader below it, of `line_json` in that writer, of
+//! `command_said`, `command_of` or what stands below it and `line_json` in the grammar, of `LineIs` in the table, and of
+//! the ranges that its types keep.
 //!
 //! A caller cuts its text into lines: a line feed is no part of one. Nothing is kept between two calls, so a refusal
-//! leaves nothing behind. Not promised here: that a line fits its place in a script (that a session was opened, or a
-//! server started), and that memory was short where [`LineFault::OutOfMemory`] is answered.
+//! leaves nothing behind. Not promised here: that a line fits its place in a script or an audit file (that a session was
+//! opened, a server started, or that a vector has a count for each server), and that memory was short where
+//! [`LineFault::OutOfMemory`] is answered.
 #![tactic(auto)]
 
 pub mod audit;

@@ -1,4 +1,3 @@
-use Rattle.std.proofs.Common.{◌∷◌}
 use Rattle.bayou_text.specs.Said.{servers}
 use Rattle.bayou_script.specs.AuditFile.{audit_order}
 use Rattle.bayou_script.proofs.Once.{LineLaws, not_refused, one_evidence, one_refusal}

@@ -1,4 +1,4 @@
-use Rattle.std.proofs.Common.{◌≡◌, ◌≢◌, ◌+◌, ◌==◌, ◌∙◌, List, [], ◌∷◌, ◌++◌, true, IsTrue, length, ap, refl, sym, subst, arith}
+use Rattle.std.proofs.Common.{◌≡◌, ◌≢◌, ◌==◌, ◌∙◌, [], ◌∷◌, ◌++◌, IsTrue, length, ap, refl, sym, subst, arith}
 use Rattle.std.proofs.lemmas.Grind.{common_steps}
 use Rattle.bayou_text.specs.Said.{said}
 use Rattle.bayou_script.specs.Order.{skipped, added, misplaced}

@@ -1,7 +1,6 @@
-use Rattle.std.proofs.Common.{◌≡◌, ◌<◌, ◌∙◌, ◌∷◌, ◌++◌, [], sym, ap, arith, append-nil}
-use Rattle.bayou_lang.specs.declared.write.Write.{Write}
+use Rattle.std.proofs.Common.{◌≡◌, ◌<◌, ◌∙◌, sym, ap, arith, append-nil}
 use Rattle.bayou_text.specs.Said.{held}
-use Rattle.bayou_script.specs.AuditFile.{entries_of}
+use Rattle.bayou_script.specs.AuditFile.{entries_told}
 use Rattle.bayou_script.proofs.Audited.{counts_more, entries_more, held_more, held_placed, started_are}
 use Rattle.bayou_script.proofs.audit_draft.AuditDraft.add_held.Goals as goal
 
@@ -17,7 +16,7 @@ returns c number front draft =
       place = held_placed number front place c.args.write c.args.counts count (started_are count front draft.counts) within accepted same;
       kept = λ _. record {
         counts = counts_more count front told (omega (arith, within)) draft.counts;
-        entries = draft.entries ∙ sym (append-nil (entries_of front)) ∙ sym (entries_more front told);
+        entries = draft.entries ∙ sym (append-nil (entries_told front)) ∙ sym (entries_more front told);
         dumps = held_more c.args.self.now.dumps.items c.push.new.self c.index_mut-dump.result.now count place c.from.result c.args.write c.args.counts front
             c.args.self.now.one_each within c.from.ensures draft.dumps (sym c.index_mut-dump.ensures.value) c.in_ok-push.ensures.items;
       };

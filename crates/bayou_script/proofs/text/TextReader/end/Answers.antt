@@ -1,7 +1,7 @@
 use Rattle.std.proofs.Common.{◌≡◌, ◌+◌, ◌∙◌, ◌∷◌, ◌++◌, [], length, ap, sym, subst}
 use Rattle.std.proofs.lemmas.Result.{err_from_is_err_and}
 use Rattle.bayou_script.specs.Inner.Taking.{FaultAt}
-use Rattle.bayou_script.specs.Order.{InOrderBy, lines_of}
+use Rattle.bayou_script.specs.Order.{InOrderBy}
 use Rattle.bayou_script.proofs.Cut.{Cuts-all, refused_last}
 use Rattle.bayou_script.proofs.text.TextReader.end.Goals as goal
 
