@@ -137,8 +137,6 @@ run_more old [] (told ∷ replies) mid event reply new run step = absurd run
 run_more old (first ∷ events) [] mid event reply new run step = absurd run
 run_more old (first ∷ events) (told ∷ replies) mid event reply new (next, one, rest) step = (next, one, run_more next events replies mid event reply new rest step)
 
-pub SoFar-none : (first : Machine) (state : State) (booking : Booking) → IsGood first → IsOf state first → IsBookOf booking first → SoFar first [] [] state booking
-SoFar-none first state booking good tied book = record { now = first; run = refl; good = good; count = refl; tied = tied; book = book }
 
 pub SoFar-more : (first : Machine) (events : List Event) (at : ℕ) (replies : List Reply) (state new : State) (booking new_booking : Booking) (event : Event) (reply : Reply) → at < length events → event ≡ get_or events at event
     → SoFar first (take at events) replies state booking → FollowsInBook state booking (λ machine next. Step machine event reply next) new new_booking
@@ -180,15 +178,7 @@ later_asks session sessions who differs =
     ] refl in
     ap (λ t. cond t (Some session.asks) (asks_of sessions who)) isnt
 
-pub asks_found : (list : List Told) (who at : ℕ) (session : Told) → at < length list → session ≡ get_or list at session → asks_of list who ≡ asks_of (drop at list) who → session.id.index ≡ who → asks_of list who ≡ Some session.asks
-asks_found list who at session inside is so_far named =
-    so_far ∙ ap (λ l. asks_of l who) (drop_next list at session inside is) ∙ first_asks session (drop (suc at) list) who named
 
-pub asks_over : (list : List Told) (who at : ℕ) (session : Told) → at < length list → session ≡ get_or list at session → asks_of list who ≡ asks_of (drop at list) who → session.id.index ≢ who
-    → asks_of list who ≡ asks_of (drop (at + 1) list) who
-asks_over list who at session inside is so_far differs =
-    let next : at + 1 ≡ suc at = omega arith in
-    so_far ∙ ap (λ l. asks_of l who) (drop_next list at session inside is) ∙ later_asks session (drop (suc at) list) who differs ∙ ap (λ n. asks_of (drop n list) who) (sym next)
 
 drop_end : {X : Type 0} (xs : List X) (k : ℕ) → length xs ≤ k → drop k xs ≡ []
 drop_end [] zero all = refl
@@ -196,21 +186,10 @@ drop_end [] (suc k) all = refl
 drop_end (x ∷ xs) zero all = absurd (omega (arith, all))
 drop_end (x ∷ xs) (suc k) all = drop_end xs k (omega (arith, all))
 
-pub asks_none : (list : List Told) (who at : ℕ) → length list ≤ at → asks_of list who ≡ asks_of (drop at list) who → asks_of list who ≡ None
-asks_none list who at all so_far = so_far ∙ ap (λ l. asks_of l who) (drop_end list at all)
 
 -- ---- dumps
 
-pub dumps_more : {D E : Type 0} (f : E → List Write) (dumps : List E) (dump : E) (servers : List (ServerState D)) (at : ℕ) (server : ServerState D) → at < length servers → server ≡ get_or servers at server → f dump ≡ server.core.held
-    → map f dumps ≡ map (λ (s : ServerState D). s.core.held) (take at servers) → map f (dumps ++ dump ∷ []) ≡ map (λ (s : ServerState D). s.core.held) (take (at + 1) servers)
-dumps_more f dumps dump servers at server inside is held so_far =
-    let held_of = λ (s : ServerState _). s.core.held in
-    map-append f dumps (dump ∷ []) ∙ ap (λ list. list ++ f dump ∷ []) so_far ∙ ap (λ h. map held_of (take at servers) ++ h ∷ []) held
-    ∙ sym (map-append held_of (take at servers) (server ∷ [])) ∙ ap (map held_of) (ap (λ s. take at servers ++ s ∷ []) is ∙ sym (take_more servers at server inside))
 
-pub dumps_all : {D E : Type 0} (f : E → List Write) (dumps : List E) (servers : List (ServerState D)) (at : ℕ) → length servers ≤ at → map f dumps ≡ map (λ (s : ServerState D). s.core.held) (take at servers)
-    → map f dumps ≡ map (λ (s : ServerState D). s.core.held) servers
-dumps_all f dumps servers at all so_far = so_far ∙ ap (map (λ (s : ServerState _). s.core.held)) (take_all at servers all)
 
 -- ---- as a run begins
 
