@@ -1,8 +1,7 @@
 -- Runs, event by event.
-use Rattle.std.proofs.Common.{◌≡◌, ◌≢◌, ℕ, zero, suc, ◌+◌, ◌<◌, ◌≤◌, cond, true, false, ◌==◌, List, [], ◌∷◌, ◌++◌, Option, None, Some, Result, Ok, Err, IfOk, map, length, get_or, take, drop, ap, sym, ◌∙◌, refl, subst, arith}
+use Rattle.std.proofs.Common.{◌≡◌, ℕ, ◌+◌, ◌<◌, ◌≤◌, List, [], ◌∷◌, ◌++◌, Option, None, Some, Result, Ok, Err, IfOk, map, length, get_or, take, ap, sym, ◌∙◌, refl, subst, arith}
 use Rattle.std.specs.Option.{option_map}
-use Rattle.std.proofs.lemmas.Bool.Decides.{nat_tests}
-use Rattle.std.proofs.lemmas.List.{get_or-map, length-map, length-replicate, map-append, take_all, take_more}
+use Rattle.std.proofs.lemmas.List.{get_or-map, length-map, length-replicate, take_all, take_more}
 use Rattle.std.proofs.lemmas.List.Elements.{All-nil}
 use Rattle.bayou_base.specs.declared.asks.Asks.{Asks}
 use Rattle.bayou_base.specs.declared.entry.Entry.{Entry}
@@ -20,7 +19,7 @@ use Rattle.bayou_world.specs.declared.state.State.{State}
 use Rattle.bayou_world.specs.Inner.Beginning.{AreFirstSeats, AreStarted, IsFirstSeat, Leaves, SoFar}
 use Rattle.bayou_world.specs.Inner.Booking.{Booking, FollowsInBook, IsBookOf}
 use Rattle.bayou_world.specs.Inner.Good.{IsGood}
-use Rattle.bayou_world.specs.Inner.Tie.{Follows, IsFlightOf, IsOf, IsSeatOf, IsTied, seat}
+use Rattle.bayou_world.specs.Inner.Tie.{Follows, IsFlightOf, IsSeatOf, IsTied, seat}
 use Rattle.bayou_world.specs.Invariant.{IsVectorOf}
 use Rattle.bayou_world.specs.Machine.{Machine, writes}
 use Rattle.bayou_world.specs.Runs.{Run, asks_of, first_machine, new_session, places_for}
@@ -137,7 +136,6 @@ run_more old [] (told ∷ replies) mid event reply new run step = absurd run
 run_more old (first ∷ events) [] mid event reply new run step = absurd run
 run_more old (first ∷ events) (told ∷ replies) mid event reply new (next, one, rest) step = (next, one, run_more next events replies mid event reply new rest step)
 
-
 pub SoFar-more : (first : Machine) (events : List Event) (at : ℕ) (replies : List Reply) (state new : State) (booking new_booking : Booking) (event : Event) (reply : Reply) → at < length events → event ≡ get_or events at event
     → SoFar first (take at events) replies state booking → FollowsInBook state booking (λ machine next. Step machine event reply next) new new_booking
     → SoFar first (take (at + 1) events) (replies ++ reply ∷ []) new new_booking
@@ -157,39 +155,6 @@ SoFar-more first events at replies state new booking new_booking event reply ins
 pub if_ok : {X E : Type 0} (P Q : X → Type 0) → ((x : X) → P x → Q x) → (result : Result X E) → IfOk result P → IfOk result Q
 if_ok P Q each (Ok x) is = each x is
 if_ok P Q each (Err error) is = is
-
--- ---- sessions and seats
-
-drop_next : {X : Type 0} (xs : List X) (k : ℕ) (x : X) → k < length xs → x ≡ get_or xs k x → drop k xs ≡ x ∷ drop (suc k) xs
-drop_next [] k x inside is = absurd (omega (arith, inside))
-drop_next (y ∷ ys) zero x inside is = ap (λ z. z ∷ ys) (sym is)
-drop_next (y ∷ ys) (suc k) x inside is = drop_next ys k x (omega (arith, inside)) is
-
-first_asks : (session : Told) (sessions : List Told) (who : ℕ) → session.id.index ≡ who → asks_of (session ∷ sessions) who ≡ Some session.asks
-first_asks session sessions who named =
-    let is : (session.id.index == who) ≡ true = grind (arith, nat_tests) in
-    ap (λ t. cond t (Some session.asks) (asks_of sessions who)) is
-
-later_asks : (session : Told) (sessions : List Told) (who : ℕ) → session.id.index ≢ who → asks_of (session ∷ sessions) who ≡ asks_of sessions who
-later_asks session sessions who differs =
-    let isnt : (session.id.index == who) ≡ false = elim (session.id.index == who) as (λ t. (session.id.index == who) ≡ t → t ≡ false) [
-      | true ↦ λ e. absurd (differs (grind (arith, nat_tests)))
-      | false ↦ λ e. refl
-    ] refl in
-    ap (λ t. cond t (Some session.asks) (asks_of sessions who)) isnt
-
-
-
-drop_end : {X : Type 0} (xs : List X) (k : ℕ) → length xs ≤ k → drop k xs ≡ []
-drop_end [] zero all = refl
-drop_end [] (suc k) all = refl
-drop_end (x ∷ xs) zero all = absurd (omega (arith, all))
-drop_end (x ∷ xs) (suc k) all = drop_end xs k (omega (arith, all))
-
-
--- ---- dumps
-
-
 
 -- ---- as a run begins
 
