@@ -3,7 +3,6 @@ use Rattle.std.proofs.Common.{◌≡◌, ◌≢◌, inl, inr, ◌⊎◌, ℕ, ze
 use Rattle.std.proofs.lemmas.Bool.{cases_lt}
 use Rattle.std.proofs.lemmas.Bool.Decides.{nat_tests}
 use Rattle.std.proofs.lemmas.List.{get_or_default, get_or-map, length-map}
-use Rattle.std.proofs.lemmas.List.Elements.{Contains-append_right}
 use Rattle.bayou_world.specs.Machine.{changed}
 
 -- what a list has stands between a front and a rest of it
@@ -18,9 +17,6 @@ Contains-here x xs = (0, omega arith, refl)
 
 pub Contains-later : {X : Type 0} (first : X) (xs : List X) (x : X) → Contains xs x → Contains (first ∷ xs) x
 Contains-later first xs x (k, within, is) = (suc k, omega (arith, within), is)
-
-pub Contains-middle : {X : Type 0} (before : List X) (x : X) (after : List X) → Contains (before ++ x ∷ after) x
-Contains-middle before x after = Contains-append_right before (x ∷ after) x (Contains-here x after)
 
 pub Contains-map : {X Y : Type 0} (f : X → Y) (xs : List X) (x : X) → Contains xs x → Contains (map f xs) (f x)
 Contains-map f [] x (k, within, is) = absurd (omega (arith, within))

@@ -1,8 +1,7 @@
 -- Runs, event by event.
-use Rattle.std.proofs.Common.{◌≡◌, ◌≢◌, ℕ, zero, suc, ◌+◌, ◌<◌, ◌≤◌, cond, true, false, ◌==◌, List, [], ◌∷◌, ◌++◌, Option, None, Some, Result, Ok, Err, IfOk, map, length, get_or, take, drop, ap, sym, ◌∙◌, refl, subst, arith}
+use Rattle.std.proofs.Common.{◌≡◌, ℕ, ◌+◌, ◌<◌, ◌≤◌, List, [], ◌∷◌, ◌++◌, Option, None, Some, Result, Ok, Err, IfOk, map, length, get_or, take, ap, sym, ◌∙◌, refl, subst, arith}
 use Rattle.std.specs.Option.{option_map}
-use Rattle.std.proofs.lemmas.Bool.Decides.{nat_tests}
-use Rattle.std.proofs.lemmas.List.{get_or-map, length-map, length-replicate, map-append, take_all, take_more}
+use Rattle.std.proofs.lemmas.List.{get_or-map, length-map, length-replicate, take_all, take_more}
 use Rattle.std.proofs.lemmas.List.Elements.{All-nil}
 use Rattle.bayou_base.specs.declared.asks.Asks.{Asks}
 use Rattle.bayou_base.specs.declared.entry.Entry.{Entry}
@@ -20,7 +19,7 @@ use Rattle.bayou_world.specs.declared.state.State.{State}
 use Rattle.bayou_world.specs.Inner.Beginning.{AreFirstSeats, AreStarted, IsFirstSeat, Leaves, SoFar}
 use Rattle.bayou_world.specs.Inner.Booking.{Booking, FollowsInBook, IsBookOf}
 use Rattle.bayou_world.specs.Inner.Good.{IsGood}
-use Rattle.bayou_world.specs.Inner.Tie.{Follows, IsFlightOf, IsOf, IsSeatOf, IsTied, seat}
+use Rattle.bayou_world.specs.Inner.Tie.{Follows, IsFlightOf, IsSeatOf, IsTied, seat}
 use Rattle.bayou_world.specs.Invariant.{IsVectorOf}
 use Rattle.bayou_world.specs.Machine.{Machine, writes}
 use Rattle.bayou_world.specs.Runs.{Run, asks_of, first_machine, new_session, places_for}
@@ -137,9 +136,6 @@ run_more old [] (told ∷ replies) mid event reply new run step = absurd run
 run_more old (first ∷ events) [] mid event reply new run step = absurd run
 run_more old (first ∷ events) (told ∷ replies) mid event reply new (next, one, rest) step = (next, one, run_more next events replies mid event reply new rest step)
 
-pub SoFar-none : (first : Machine) (state : State) (booking : Booking) → IsGood first → IsOf state first → IsBookOf booking first → SoFar first [] [] state booking
-SoFar-none first state booking good tied book = record { now = first; run = refl; good = good; count = refl; tied = tied; book = book }
-
 pub SoFar-more : (first : Machine) (events : List Event) (at : ℕ) (replies : List Reply) (state new : State) (booking new_booking : Booking) (event : Event) (reply : Reply) → at < length events → event ≡ get_or events at event
     → SoFar first (take at events) replies state booking → FollowsInBook state booking (λ machine next. Step machine event reply next) new new_booking
     → SoFar first (take (at + 1) events) (replies ++ reply ∷ []) new new_booking
@@ -159,58 +155,6 @@ SoFar-more first events at replies state new booking new_booking event reply ins
 pub if_ok : {X E : Type 0} (P Q : X → Type 0) → ((x : X) → P x → Q x) → (result : Result X E) → IfOk result P → IfOk result Q
 if_ok P Q each (Ok x) is = each x is
 if_ok P Q each (Err error) is = is
-
--- ---- sessions and seats
-
-drop_next : {X : Type 0} (xs : List X) (k : ℕ) (x : X) → k < length xs → x ≡ get_or xs k x → drop k xs ≡ x ∷ drop (suc k) xs
-drop_next [] k x inside is = absurd (omega (arith, inside))
-drop_next (y ∷ ys) zero x inside is = ap (λ z. z ∷ ys) (sym is)
-drop_next (y ∷ ys) (suc k) x inside is = drop_next ys k x (omega (arith, inside)) is
-
-first_asks : (session : Told) (sessions : List Told) (who : ℕ) → session.id.index ≡ who → asks_of (session ∷ sessions) who ≡ Some session.asks
-first_asks session sessions who named =
-    let is : (session.id.index == who) ≡ true = grind (arith, nat_tests) in
-    ap (λ t. cond t (Some session.asks) (asks_of sessions who)) is
-
-later_asks : (session : Told) (sessions : List Told) (who : ℕ) → session.id.index ≢ who → asks_of (session ∷ sessions) who ≡ asks_of sessions who
-later_asks session sessions who differs =
-    let isnt : (session.id.index == who) ≡ false = elim (session.id.index == who) as (λ t. (session.id.index == who) ≡ t → t ≡ false) [
-      | true ↦ λ e. absurd (differs (grind (arith, nat_tests)))
-      | false ↦ λ e. refl
-    ] refl in
-    ap (λ t. cond t (Some session.asks) (asks_of sessions who)) isnt
-
-pub asks_found : (list : List Told) (who at : ℕ) (session : Told) → at < length list → session ≡ get_or list at session → asks_of list who ≡ asks_of (drop at list) who → session.id.index ≡ who → asks_of list who ≡ Some session.asks
-asks_found list who at session inside is so_far named =
-    so_far ∙ ap (λ l. asks_of l who) (drop_next list at session inside is) ∙ first_asks session (drop (suc at) list) who named
-
-pub asks_over : (list : List Told) (who at : ℕ) (session : Told) → at < length list → session ≡ get_or list at session → asks_of list who ≡ asks_of (drop at list) who → session.id.index ≢ who
-    → asks_of list who ≡ asks_of (drop (at + 1) list) who
-asks_over list who at session inside is so_far differs =
-    let next : at + 1 ≡ suc at = omega arith in
-    so_far ∙ ap (λ l. asks_of l who) (drop_next list at session inside is) ∙ later_asks session (drop (suc at) list) who differs ∙ ap (λ n. asks_of (drop n list) who) (sym next)
-
-drop_end : {X : Type 0} (xs : List X) (k : ℕ) → length xs ≤ k → drop k xs ≡ []
-drop_end [] zero all = refl
-drop_end [] (suc k) all = refl
-drop_end (x ∷ xs) zero all = absurd (omega (arith, all))
-drop_end (x ∷ xs) (suc k) all = drop_end xs k (omega (arith, all))
-
-pub asks_none : (list : List Told) (who at : ℕ) → length list ≤ at → asks_of list who ≡ asks_of (drop at list) who → asks_of list who ≡ None
-asks_none list who at all so_far = so_far ∙ ap (λ l. asks_of l who) (drop_end list at all)
-
--- ---- dumps
-
-pub dumps_more : {D E : Type 0} (f : E → List Write) (dumps : List E) (dump : E) (servers : List (ServerState D)) (at : ℕ) (server : ServerState D) → at < length servers → server ≡ get_or servers at server → f dump ≡ server.core.held
-    → map f dumps ≡ map (λ (s : ServerState D). s.core.held) (take at servers) → map f (dumps ++ dump ∷ []) ≡ map (λ (s : ServerState D). s.core.held) (take (at + 1) servers)
-dumps_more f dumps dump servers at server inside is held so_far =
-    let held_of = λ (s : ServerState _). s.core.held in
-    map-append f dumps (dump ∷ []) ∙ ap (λ list. list ++ f dump ∷ []) so_far ∙ ap (λ h. map held_of (take at servers) ++ h ∷ []) held
-    ∙ sym (map-append held_of (take at servers) (server ∷ [])) ∙ ap (map held_of) (ap (λ s. take at servers ++ s ∷ []) is ∙ sym (take_more servers at server inside))
-
-pub dumps_all : {D E : Type 0} (f : E → List Write) (dumps : List E) (servers : List (ServerState D)) (at : ℕ) → length servers ≤ at → map f dumps ≡ map (λ (s : ServerState D). s.core.held) (take at servers)
-    → map f dumps ≡ map (λ (s : ServerState D). s.core.held) servers
-dumps_all f dumps servers at all so_far = so_far ∙ ap (map (λ (s : ServerState _). s.core.held)) (take_all at servers all)
 
 -- ---- as a run begins
 

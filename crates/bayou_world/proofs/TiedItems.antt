@@ -398,10 +398,3 @@ collect_beyond servers clients offers items told machine tied place offer lackin
       absurd (omega (arith, beyond, few_too))) refl refl,
   tied,
 )
-
-pub collect_no_memory : {D : Type 0} (servers : List (ServerState D)) (clients : List (Option Client)) (offers : List (List ℕ)) (items : List Write) (told : List Entry) (machine : Machine)
-    → IsTied servers clients offers items told machine → (place offer : ℕ) → place < length servers → offer < length offers
-    → (next : Machine) × Collects machine place offer replies.NoMemory next × IsTied servers clients offers items told next
-collect_no_memory servers clients offers items told machine tied place offer known inside =
-    let number : length offers ≡ length machine.offers = ap length tied.offers_are ∙ length-map machine.offers (λ (o : Offered). count_of o.database) in
-    (machine, Collects.no_memory (omega (arith, known, tied.many)) (omega (arith, inside, number)) refl refl, tied)

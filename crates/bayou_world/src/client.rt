@@ -1,5 +1,5 @@
 //! A session, and what is on its way to it.
-ghost use Rattle.std.specs.Prelude.{◌≡◌, ◌≢◌, ◌<◌, ◌↔◌, [], IfOk, IsSome, IsTrue, None};
+ghost use Rattle.std.specs.Prelude.{◌≡◌, ◌<◌, ◌↔◌, [], IfOk, IsSome, IsTrue, None};
 ghost use Rattle.bayou_base.specs.declared.limits.TheConstants.{MAX_PLACES};
 ghost use Rattle.bayou_server.specs.Reads.{Reads};
 ghost use Rattle.bayou_server.specs.Writes.{Writes};
@@ -35,7 +35,7 @@ fn what_seen(key: &Key, answer: &Result<Seen, Behind>) -> What
 {
     match answer {
         Ok(seen) => What::Read(key.copy(), seen.vector),
-        Err(_) => What::Refused,
+        Err(Behind { .. }) => What::Refused,
     }
 }
 
@@ -175,13 +175,6 @@ impl Client {
         ensures lost { self.new ≡ record self.old { flight = None } }
     {
         self.flight.take().is_some()
-    }
-
-    /// Whether an entry waits for the book.
-    pub fn waits(&self) -> bool
-        ensures { IsTrue result ↔ (self.now.waiting.items ≢ []) }
-    {
-        !self.waiting.is_empty()
     }
 
     /// The oldest entry that waits for the book.

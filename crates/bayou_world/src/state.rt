@@ -143,7 +143,8 @@ impl State {
         }
         let server = &self.servers[at];
         let most = server.limit() as usize;
-        let Ok(mut lacking) = server.lacking(alloc, &self.offers[offer], most) else {
+        let offered = &self.offers[offer];
+        let Ok(mut lacking) = server.lacking(alloc, offered, most) else {
             return Ok(Reply::NoMemory);
         };
         let first = self.items.len();

@@ -2,7 +2,7 @@
 use crate::fixtures::{put, room, server_id, session_id, sessions_of};
 use Said::{
     Accepted, Delivered, Dropped, Filed, Flown, Full, Gap, Had, Kept, New, ReadBehind, Seen,
-    Skipped, WriteBehind,
+    Skipped, Wanting, WriteBehind,
 };
 use Told::{Saw, Wrote};
 use bayou_audit::Totals;
@@ -16,11 +16,11 @@ use std::process::Abort;
 use std::test::Fail;
 
 /// The counts of the two servers.
-type Counts = [u32; 2];
+pub type Counts = [u32; 2];
 
 /// An event, of sessions and servers by their numbers. What is read and put is `room`.
 #[derive(Clone, Copy, Debug)]
-enum Act {
+pub enum Act {
     Read(u8, u8),
     Write(u8, u8, i64),
     Deliver(u8),
@@ -33,7 +33,7 @@ enum Act {
 
 /// A reply.
 #[derive(Clone, Copy, Debug, PartialEq, Eq)]
-enum Said {
+pub enum Said {
     Seen(Option<i64>, Counts),
     ReadBehind(Counts),
     /// Origin and seq, and what was held just before.
@@ -49,31 +49,33 @@ enum Said {
     Dropped,
     Filed,
     Skipped,
+    /// Memory was refused.
+    Wanting,
     Otherwise,
 }
 
 /// What was served.
 #[derive(Clone, Copy, Debug, PartialEq, Eq)]
-enum Told {
+pub enum Told {
     Saw(Counts),
     Wrote((u8, u32), Counts),
     Nothing,
 }
 
 /// An entry: its session, its place, its server, and what it tells.
-type Line = (u8, u32, u8, Told);
+pub type Line = (u8, u32, u8, Told);
 
 #[derive(Clone, Copy, Debug)]
-struct Script {
-    limit: u32,
+pub struct Script {
+    pub limit: u32,
     /// What the sessions ask for, from 0 on.
-    asks: &'static [Asks],
-    acts: &'static [(Act, Said)],
-    served: &'static [Line],
+    pub asks: &'static [Asks],
+    pub acts: &'static [(Act, Said)],
+    pub served: &'static [Line],
     /// Origin and seq of what each server holds.
-    dumps: [&'static [(u8, u32)]; 2],
+    pub dumps: [&'static [(u8, u32)]; 2],
     /// Reads, Writes and refusals in the book.
-    totals: (usize, usize, usize),
+    pub totals: (usize, usize, usize),
 }
 
 const NOTHING: Asks = Asks {
@@ -83,7 +85,7 @@ const NOTHING: Asks = Asks {
     mw: false,
 };
 
-const OWN_WRITES: Asks = Asks {
+pub const OWN_WRITES: Asks = Asks {
     ryw: true,
     mr: false,
     wfr: false,
@@ -266,7 +268,7 @@ fn number_in(value: &Option<Value>) -> Option<i64> {
     }
 }
 
-fn saying(reply: &Reply) -> Said {
+pub fn saying(reply: &Reply) -> Said {
     match reply {
         Reply::Read(Ok(seen)) => Seen(number_in(&seen.value), counts_of(&seen.vector)),
         Reply::Read(Err(Behind { vector })) => ReadBehind(counts_of(vector)),
@@ -276,10 +278,13 @@ fn saying(reply: &Reply) -> Said {
         ),
         Reply::Wrote(Err(WriteFault::Behind(vector))) => WriteBehind(counts_of(vector)),
         Reply::Wrote(Err(WriteFault::LogFull)) => Full,
+        Reply::Wrote(Err(WriteFault::OutOfMemory | WriteFault::Journal)) => Wanting,
         Reply::Took(Ok(Took::New)) => New,
         Reply::Took(Ok(Took::Had)) => Had,
         Reply::Took(Err(TakeFault::Gap)) => Gap,
         Reply::Took(Err(TakeFault::LogFull)) => Full,
+        Reply::Took(Err(TakeFault::OutOfMemory | TakeFault::Journal)) => Wanting,
+        Reply::NoMemory => Wanting,
         Reply::Kept(number) => Kept(*number),
         Reply::Flown { first, number } => Flown(*first, *number),
         Reply::Delivered => Delivered,
@@ -335,23 +340,31 @@ fn have_names(dumps: &[Vec<RestingWrite>], names: &[&'static [(u8, u32)]; 2]) ->
     }
 }
 
-fn play(rt: &impl Abort, alloc: Global, script: &Script) -> Result<History, AllocError> {
+pub fn events_of(
+    rt: &impl Abort,
+    alloc: Global,
+    script: &Script,
+) -> Result<Vec<Event>, AllocError> {
     let mut events = Vec::new(alloc);
     for (act, _) in script.acts {
         events.push(event_of(rt, alloc, *act)?)?;
     }
-    let sessions = sessions_of(rt, alloc, script.asks)?;
-    let limit = script.limit.min(100);
-    World::new(alloc, 2, limit, sessions.as_slice())?.run(alloc, events.as_slice())
+    Ok(events)
 }
 
-/// Whether replies, entries, dumps and totals are those of the script.
-fn leaves_what_it_says(
+pub fn play(
     rt: &impl Abort,
     alloc: Global,
     script: &Script,
-) -> Result<bool, AllocError> {
-    let history = play(rt, alloc, script)?;
+    events: &[Event],
+) -> Result<History, AllocError> {
+    let sessions = sessions_of(rt, alloc, script.asks)?;
+    let limit = script.limit.min(100);
+    World::new(alloc, 2, limit, sessions.as_slice())?.run(alloc, events)
+}
+
+/// Whether replies, entries, dumps and totals are those of the script.
+pub fn is_as_it_says(script: &Script, history: &History) -> bool {
     let (reads, writes, refusals) = script.totals;
     let totals = Totals {
         slips: 0,
@@ -359,12 +372,20 @@ fn leaves_what_it_says(
         writes,
         refusals,
     };
-    Ok(
-        are_said(history.replies.as_slice(), script.acts)
-            && are_lines(history.served.as_slice(), script.served)
-            && have_names(history.dumps.as_slice(), &script.dumps)
-            && history.totals == totals,
-    )
+    are_said(history.replies.as_slice(), script.acts)
+        && are_lines(history.served.as_slice(), script.served)
+        && have_names(history.dumps.as_slice(), &script.dumps)
+        && history.totals == totals
+}
+
+fn leaves_what_it_says(
+    rt: &impl Abort,
+    alloc: Global,
+    script: &Script,
+) -> Result<bool, AllocError> {
+    let events = events_of(rt, alloc, script)?;
+    let history = play(rt, alloc, script, events.as_slice())?;
+    Ok(is_as_it_says(script, &history))
 }
 
 #[test]

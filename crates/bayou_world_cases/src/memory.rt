@@ -1,0 +1,77 @@
+//! A run in which memory is refused.
+use crate::scripts::{Act, OWN_WRITES, Said, Script, Told, events_of, is_as_it_says, play, saying};
+use Said::{Accepted, Delivered, Dropped, Filed, Flown, Kept, New, Seen, Wanting};
+use bayou_world::{Event, Reply};
+use std::alloc::{AllocError, Global};
+use std::process::Abort;
+use std::test::Fail;
+
+/// Every event once.
+static EACH_EVENT: Script = Script {
+    limit: 100,
+    asks: &[OWN_WRITES],
+    acts: &[
+        (Act::Write(0, 0, 7), Accepted((0, 1), [0, 0])),
+        (Act::Deliver(0), Delivered),
+        (Act::Offer(1), Kept(0)),
+        (Act::Collect(0, 0), Flown(0, 1)),
+        (Act::Take(1, 0), New),
+        (Act::Read(0, 1), Seen(Some(7), [1, 0])),
+        (Act::Lose(0), Dropped),
+        (Act::File(0), Filed),
+    ],
+    served: &[(0, 1, 0, Told::Wrote((0, 1), [0, 0]))],
+    dumps: [&[(0, 1)], &[(0, 1)]],
+    totals: (0, 1, 0),
+};
+
+fn events_at_last(rt: &impl Abort, alloc: Global) -> Result<Vec<Event>, AllocError> {
+    match events_of(rt, alloc, &EACH_EVENT) {
+        Ok(events) => Ok(events),
+        Err(AllocError) => events_of(rt, alloc, &EACH_EVENT),
+    }
+}
+
+/// Whether the replies tell of want of memory, behind those of ample memory.
+fn are_cut_short(replies: &[Reply], acts: &[(Act, Said)]) -> bool {
+    let mut is_wanting = false;
+    let mut is_each = replies.len() == acts.len();
+    for (reply, (_, wanted)) in replies.iter().zip(acts.iter()) {
+        let said = saying(reply);
+        is_wanting = is_wanting || said == Wanting;
+        is_each = is_each && (is_wanting || said == *wanted);
+    }
+    is_each && is_wanting
+}
+
+/// Whether the run leaves what it leaves with ample memory.
+fn is_whole(rt: &impl Abort, alloc: Global, events: &[Event]) -> bool {
+    match play(rt, alloc, &EACH_EVENT, events) {
+        Ok(history) => is_as_it_says(&EACH_EVENT, &history),
+        Err(AllocError) => false,
+    }
+}
+
+/// Whether the run leaves what it leaves with ample memory: at once, or after want of memory, up to which it answered the same.
+fn is_run(rt: &impl Abort, alloc: Global, events: &[Event]) -> bool {
+    let is_want = match play(rt, alloc, &EACH_EVENT, events) {
+        Ok(history) => {
+            if is_as_it_says(&EACH_EVENT, &history) {
+                return true;
+            }
+            are_cut_short(history.replies.as_slice(), EACH_EVENT.acts)
+        }
+        Err(AllocError) => true,
+    };
+    is_want && is_whole(rt, alloc, events)
+}
+
+/// For runs in which any one allocation is refused: the answers are the same as ever up to want of memory, and all of them when the
+/// events are run again.
+#[test]
+fn one_want_of_memory_changes_no_other_answer(rt: HostRuntime) -> Result<(), Fail> {
+    let alloc = rt.alloc();
+    let events = events_at_last(&rt, alloc)?;
+    assert!(rt; is_run(&rt, alloc, events.as_slice()));
+    Ok(())
+}
