@@ -4,3 +4,4 @@ pub mod Gathered
 pub mod Read
 pub mod Runs
 pub mod Sequence
+pub mod Tasks

@@ -118,6 +118,30 @@ fn work_on<F: Files, W: Write>(
     }
 }
 
+/// Does a task on the input that it names.
+fn do_task<F: Files, R: Read, W: Write>(
+    alloc: Global,
+    task: Task,
+    files: &mut F,
+    input: &mut Channel<R, ()>,
+    output: &mut Output<W>,
+) -> Result<Ended, Fault>
+    ensures standard { input_of_asked (task_seen task.entry) ≡ standard → IfSome (R.remaining input.old.reader) (λ text.
+        Works (task_seen task.entry) text result (W.contents output.old.channel.writer) (W.contents output.new.channel.writer)) }
+    ensures named { (name : List ℕ) → input_of_asked (task_seen task.entry) ≡ file name
+        → WorksOn (F.opens name) (F.refuses name) ⟦<F::Reader as Read>⟧.remaining (task_seen task.entry) result (W.contents output.old.channel.writer) (W.contents output.new.channel.writer) }
+    ensures unread { ¬ (input_of_asked (task_seen task.entry) ≡ standard) → input.new ≡ input.old }
+    ensures read { input_of_asked (task_seen task.entry) ≡ standard → IfErr result (EndsReading input.new.read_failed input.new.turns_left) }
+    ensures written { IfErr result (EndsWriting output.new.channel.write_failed output.new.channel.turns_left) }
+    ensures turns { input.new.turns_left ≤ input.old.turns_left }
+    ensures paid { Pays (account W.contents output.old) (account W.contents output.new) (cut_lines result) }
+{
+    match source_of(task) {
+        Source::Standard => work(alloc, task, input, output),
+        Source::File(name) => work_on(alloc, task, name, files, output),
+    }
+}
+
 /// Does what the words say, of which the first is the program's own name, and gives the exit status.
 pub fn run_main<'a, S: AsStr, F: Files, R: Read, W: Write, E: Write>(
     alloc: Global,
@@ -147,10 +171,7 @@ pub fn run_main<'a, S: AsStr, F: Files, R: Read, W: Write, E: Write>(
 {
     match read_words(alloc, words) {
         Ok(task) => {
-            let ended = match source_of(task) {
-                Source::Standard => work(alloc, task, input, output),
-                Source::File(name) => work_on(alloc, task, name, files, output),
-            };
+            let ended = do_task(alloc, task, files, input, output);
             finish(errors, ended)
         }
         Err(Stop::Asked(text)) => show(output, errors, text.as_str()),
