@@ -1,8 +1,8 @@
 -- What words ask for, and what becomes of it.
-use Rattle.std.proofs.Common.{◌≡◌, ◌∙◌, ◌<◌, ℕ, Bool, List, [], Option, None, Some, IfSome, IfErr, Result, Ok, Err, inl, sym, refl, subst, arith}
+use Rattle.std.proofs.Common.{◌≡◌, ◌∙◌, ◌<◌, ℕ, Bool, List, [], Option, None, Some, IfSome, IfErr, Result, Ok, Err, ap, inl, sym, refl, subst, arith}
 use Rattle.std.proofs.KnownBytes.{Keeps-refl}
 use Rattle.clap.specs.Kinds.{IsAmong, Kinds}
-use Rattle.bayou_command.specs.Words.{AreMistaken, AskFor, AskForText, Asked, a_run, an_audit}
+use Rattle.bayou_command.specs.Words.{AreMistaken, AskFor, AskForText, Asked, Input as Named, a_run, an_audit, file, standard}
 use Rattle.bayou_streams.specs.Account.{Account, Pays}
 use Rattle.bayou_shell.specs.declared.ended.Ended.{Ended}
 use Rattle.bayou_shell.specs.declared.ended.Ended.TheVariants as ended
@@ -52,3 +52,11 @@ cut_none old new (Err Memory) status is few pays = absurd (omega (arith, is, few
 cut_none old new (Err Device) status is few pays = absurd (omega (arith, is, few))
 cut_none old new (Err Input) status is few pays = absurd (omega (arith, is, few))
 cut_none old new (Err Output) status is few pays = absurd (omega (arith, is, few))
+
+name_in : Named → List ℕ
+name_in standard = []
+name_in (file name) = name
+
+-- a file has one name
+pub same_name : (one other : List ℕ) → file one ≡ file other → one ≡ other
+same_name one other is = ap name_in is
