@@ -1,6 +1,33 @@
 //! Readers and writers that do what a system may do, and count their calls.
+ghost use Rattle.std.specs.Prelude.{ℕ, List};
+
+use bayou_shell::Files;
+use std::alloc::Global;
 use std::io;
 use std::io::{ErrorKind, Read, Write};
+
+/// Files in memory: their names and their bytes.
+#[derive(Drop)]
+pub struct FakeFiles<'a> {
+    pub files: &'a [(&'a str, &'a [u8])],
+}
+
+impl<'a> Files for FakeFiles<'a> {
+    type Reader = &'a [u8];
+
+    ghost opens = { λ name reader. Unit {0} };
+
+    ghost refuses = { λ name. Unit {0} };
+
+    fn open(&mut self, _alloc: Global, name: &str) -> io::Result<&'a [u8]> {
+        for (named, bytes) in self.files.iter() {
+            if *named == name {
+                return Ok(*bytes);
+            }
+        }
+        Err(io::Error::from(ErrorKind::NotFound))
+    }
+}
 
 /// A reader that is interrupted at each call but every `pace`-th, at which it gives a byte, and that fails at the call of this number.
 #[derive(Drop)]
