@@ -105,7 +105,7 @@ const COMMANDS: &str = r#"["servers",1]
 ["totals"]
 ["totals",0] => !BadShape(Arity)
 ["Read",0,0,"a"] => !BadShape(Command)
-["entry",0] => !BadShape(Command)
+["entry",0] => !BadShape(Arity)
 ["x"] => !BadShape(Command)
 [1] => !BadShape(Line)
 [] => !BadShape(Line)

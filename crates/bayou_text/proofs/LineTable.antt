@@ -1,5 +1,5 @@
 -- Lines that are read are so spelled, by the table; and those that are so spelled are read.
-use Rattle.std.proofs.Common.{◌≡◌, inl, inr, ℕ, ◌-◌, ◌<◌, ◌≤◌, List, [], ◌∷◌, length, None, Some, Ok, Err, IsUtf8, codes, ap, ◌∙◌, subst, arith}
+use Rattle.std.proofs.Common.{◌≡◌, inl, inr, ℕ, ◌-◌, ◌<◌, ◌≤◌, List, [], ◌∷◌, length, None, Some, Ok, Err, IsUtf8, codes, refl, ap, ◌∙◌, subst, arith}
 use Rattle.serde_json.specs.Data.{Data}
 use Rattle.serde_json.specs.Read.{read as json_of}
 use Rattle.bayou_base.specs.declared.limits.TheConstants.{SERVERS, SESSIONS, MAX_WRITES, MAX_LINE_BYTES, MAX_FUSE_CALLS, MAX_FUSE_KEPT, MAX_LOST_BYTES}
@@ -8,8 +8,10 @@ use Rattle.bayou_text.specs.declared.line.Shape.TheVariants.{Command}
 use Rattle.bayou_text.specs.declared.line.Shape.TheVariants as shape
 use Rattle.bayou_text.proofs.ProgramTable.{program_found, program_read}
 use Rattle.bayou_text.proofs.Readers.{bound, there, word_or, worded_of, listed_items, number_found, number_read, key_found, key_read, asks_found, asks_read}
+use Rattle.bayou_text.proofs.AuditTable.{entry_found, held_found, told_read, held_read}
 use Rattle.bayou_text.specs.Asks.{asks_in}
-use Rattle.bayou_text.specs.Lines.{servers_in, opening_in, writing_in, reading_in, alone_in, fusing_in, losing_in, trial_of, bare_in, asked_of, pulling_in, resending_in, exchange_of, command_of, line_in, text_line}
+use Rattle.bayou_text.specs.Audit.{entry_in, held_in}
+use Rattle.bayou_text.specs.Lines.{servers_in, opening_in, writing_in, reading_in, alone_in, fusing_in, losing_in, trial_of, bare_in, asked_of, pulling_in, resending_in, exchange_of, command_of, spoken_of, line_in, text_line}
 use Rattle.bayou_text.specs.Numbers.{count_in, limit_in, session_in, server_in, calls_in, kept_in, lost_in, cut_in}
 use Rattle.bayou_text.specs.Programs.{program_in}
 use Rattle.bayou_text.specs.Reading.{◌>>=◌, worded}
@@ -324,16 +326,26 @@ command_found d word parts s is e = elim
       ]
     ]
 
+spoken_found : (d : Data) (word : List ℕ) (parts : List Data) (s : Said) → d ≡ form word parts
+    → spoken_of word parts ≡ Ok s → LineIs d s
+spoken_found d word parts s is e = elim (word_or d word (codes "entry") parts (entry_in parts) _ s is e) [
+  | inl h ↦ entry_found d parts s h.0 h.1
+  | inr h ↦ elim (word_or d word (codes "held") parts (held_in parts) (command_of word parts) s is h) [
+    | inl i ↦ held_found d parts s i.0 i.1
+    | inr i ↦ command_found d word parts s is i
+  ]
+]
+
 pub line_found : (d : Data) (s : Said) → line_in d ≡ Ok s → LineIs d s
 unfolding line_in
 line_found d s e =
-    let some = there (λ parts. command_of parts.0 parts.1) (worded d) (BadShape shape.Line) s e in
-    command_found d some.0.0 some.0.1 s (worded_of d some.0 some.1) some.2
+    let some = there (λ parts. spoken_of parts.0 parts.1) (worded d) (BadShape shape.Line) s e in
+    spoken_found d some.0.0 some.0.1 s (worded_of d some.0 some.1) some.2
 
-formed : (word : List ℕ) (parts : List Data) (s : Said) → command_of word parts ≡ Ok s
+formed : (word : List ℕ) (parts : List Data) (s : Said) → spoken_of word parts ≡ Ok s
     → line_in (form word parts) ≡ Ok s
 unfolding line_in
-formed word parts s e = ap (command_of word) (listed_items parts) ∙ e
+formed word parts s e = ap (spoken_of word) (listed_items parts) ∙ e
 
 session_read : (d : Data) (n : ℕ) → NumberIs d n → n < SESSIONS → session_in d ≡ Ok n
 session_read d n is low = number_read 0 (SESSIONS - 1) d n is (omega arith) (omega arith)
@@ -420,8 +432,11 @@ line_read d totals is = rw is (formed (codes "totals") [] totals (λ i. Ok total
 line_read d judge is = rw is (formed (codes "judge") [] judge (λ i. Ok judge))
 line_read d survey is = rw is (formed (codes "survey") [] survey (λ i. Ok survey))
 line_read d book is = rw is (formed (codes "book") [] book (λ i. Ok book))
-line_read d (entry told counts) is = absurd is
-line_read d (held place item counts) is = absurd is
+line_read d (entry told counts) is =
+    let told_is = told_read d told told.what counts refl is in
+    rw told_is.1 (formed (codes "entry") told_is.0 (entry told counts) told_is.2)
+line_read d (held place item counts) is =
+    rw is.form_is (formed (codes "held") _ (held place item counts) (held_read d place item counts is))
 
 -- ---- bytes
 

@@ -1,5 +1,6 @@
 -- A list that is read from its front.
-use Rattle.std.proofs.Common.{◌≡◌, ℕ, ◌+◌, ◌<◌, List, [], ◌∷◌, ◌++◌, length, drop, map, get_or, Ok, Err, refl, ap, sym, ◌∙◌, append_assoc, append-nil, add-one, drop-cons}
+use Rattle.std.proofs.Common.{◌≡◌, ℕ, suc, ◌+◌, ◌<◌, ◌≤◌, List, [], ◌∷◌, ◌++◌, length, drop, map, get_or, Ok, Err, refl, ap, sym, ◌∙◌, append_assoc, append-nil, add-one, drop-cons, arith}
+use Rattle.std.proofs.lemmas.List.{drop_all}
 use Rattle.serde_json.specs.Data.{Data}
 use Rattle.bayou_text.specs.declared.line.LineFault.{LineFault}
 use Rattle.bayou_text.specs.declared.line.LineFault.TheVariants as fault
@@ -55,3 +56,15 @@ module _ {A V : Type 0} (one_in : Data → Parsed A) (seen : V → Data) where
   pub read_all : (values : List V) (i : ℕ) (front : List A) → drop i values ≡ [] → IsReadTo values i front
       → all_in one_in (map seen values) ≡ Ok front
   read_all values i front done so_far = so_far ∙ rw done (ap Ok (append-nil front))
+
+-- ---- a list by its members
+
+pub none_then : {A : Type 0} (parts : List A) (n : ℕ) → length parts ≤ n → drop n parts ≡ []
+none_then parts n all = drop_all n parts all
+
+pub item_then : {A : Type 0} (parts rest : List A) (i : ℕ) (a : A) → i < length parts → a ≡ get_or parts i a → drop (i + 1) parts ≡ rest
+    → drop i parts ≡ a ∷ rest
+item_then parts rest i a below is more =
+    let next : suc i ≡ i + 1 = omega arith in
+    let others : drop (suc i) parts ≡ rest = ap (λ n. drop n parts) next ∙ more in
+    rw (drop-cons parts i a below, ← is, others) refl

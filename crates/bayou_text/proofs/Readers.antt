@@ -227,10 +227,10 @@ says_of : (word : List ℕ) (d : Data) (o : Option (List ℕ)) → as_str d ≡ 
 says_of word d None was e = absurd (cc)
 says_of word d (Some text) was e = string_of d text was ∙ ap string (same_word text word e)
 
-says_is : (word : List ℕ) (d : Data) → says word d ≡ true → d ≡ string word
+pub says_is : (word : List ℕ) (d : Data) → says word d ≡ true → d ≡ string word
 says_is word d e = says_of word d (as_str d) refl e
 
-is_said : (word : List ℕ) (d : Data) → d ≡ string word → says word d ≡ true
+pub is_said : (word : List ℕ) (d : Data) → d ≡ string word → says word d ≡ true
 is_said word d e = rw e (own_word word)
 
 pub or_true : (a b : Bool) → (a || b) ≡ true → (a ≡ true) ⊎ (b ≡ true)

@@ -1,5 +1,7 @@
 pub mod Asks
+pub mod Audit
 pub mod Lines
+pub mod Names
 pub mod Numbers
 pub mod Parts
 pub mod Programs

@@ -9,6 +9,7 @@ use Rattle.bayou_text.specs.declared.line.LineFault.{LineFault}
 use Rattle.bayou_text.specs.declared.line.LineFault.TheVariants.{BadShape, NotJson, OutOfMemory}
 use Rattle.bayou_text.specs.declared.line.Shape.TheVariants.{Arity, Command, Line}
 use Rattle.bayou_text.specs.Asks.{asks_in}
+use Rattle.bayou_text.specs.Audit.{entry_in, held_in}
 use Rattle.bayou_text.specs.Numbers.{count_in, limit_in, session_in, server_in, calls_in, kept_in, lost_in, cut_in}
 use Rattle.bayou_text.specs.Programs.{program_in}
 use Rattle.bayou_text.specs.Reading.{Parsed, ◌>>=◌, worded}
@@ -132,8 +133,15 @@ command_of word parts =
     else (if bytes_eq word (codes "log") then (alone_in parts >>= λ at. Ok (log at))
     else exchange_of word parts))))
 
+-- the words of audit files, and those of scripts
+abbrev pub spoken_of : List ℕ → List Data → Parsed Said
+spoken_of word parts =
+    if bytes_eq word (codes "entry") then entry_in parts
+    else (if bytes_eq word (codes "held") then held_in parts
+    else command_of word parts)
+
 unfoldable pub line_in : Data → Parsed Said
-line_in d = ok_or (worded d) (BadShape Line) >>= λ parts. command_of parts.0 parts.1
+line_in d = ok_or (worded d) (BadShape Line) >>= λ parts. spoken_of parts.0 parts.1
 
 -- the line that a text is
 abbrev pub text_line : List ℕ → Parsed Said

@@ -3,7 +3,7 @@ use Rattle.std.specs.Prelude.{ℕ, ℤ, ◌-◌, nat_le, ◌&&◌, Ok, Err, opti
 use Rattle.std.specs.Option.{ok_or}
 use Rattle.serde_json.specs.Data.{Data}
 use Rattle.serde_json.specs.Find.{as_number, as_i64, as_u64}
-use Rattle.bayou_base.specs.declared.limits.TheConstants.{SERVERS, SESSIONS, MAX_WRITES, MAX_FUSE_CALLS, MAX_FUSE_KEPT, MAX_LOST_BYTES}
+use Rattle.bayou_base.specs.declared.limits.TheConstants.{SERVERS, SESSIONS, MAX_WRITES, MAX_FUSE_CALLS, MAX_FUSE_KEPT, MAX_LOST_BYTES, MAX_PLACES}
 use Rattle.bayou_text.specs.declared.line.LineFault.TheVariants.{BadShape}
 use Rattle.bayou_text.specs.declared.line.Shape.TheVariants.{Number}
 use Rattle.bayou_text.specs.Reading.{Parsed, ◌>>=◌}
@@ -46,6 +46,22 @@ lost_in = number_in 0 MAX_LOST_BYTES
 -- after how many Writes a stream is cut
 abbrev pub cut_in : Data → Parsed ℕ
 cut_in = number_in 0 MAX_WRITES
+
+-- the place of an operation in its session
+abbrev pub place_in : Data → Parsed ℕ
+place_in = number_in 1 MAX_PLACES
+
+-- the place of a Write among those of its server
+abbrev pub seq_in : Data → Parsed ℕ
+seq_in = number_in 1 MAX_WRITES
+
+-- the clock of a stamp
+abbrev pub clock_in : Data → Parsed ℕ
+clock_in = number_in 1 MAX_WRITES
+
+-- how many Writes of a server a vector counts
+abbrev pub tally_in : Data → Parsed ℕ
+tally_in = number_in 0 MAX_WRITES
 
 -- an integer of i64
 abbrev pub integer_in : Data → Parsed ℤ

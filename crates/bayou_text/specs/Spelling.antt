@@ -1,9 +1,12 @@
 -- The one spelling of each thing, as JSON data. Its text is compact, and an object's members stand by their names.
-use Rattle.std.specs.Prelude.{ℕ, Bool, List, [], ◌∷◌, ◌++◌, None, Some, codes, map, if◌then◌else◌}
+use Rattle.std.specs.Prelude.{ℕ, Bool, List, [], ◌∷◌, ◌++◌, None, Some, codes, map, take, unwrap_or, if◌then◌else◌}
 use Rattle.serde_json.specs.Data.{Data, number, unsigned, string, array, object, no_members, member}
 use Rattle.serde_json.specs.Find.{of_integer}
 use Rattle.serde_json.specs.View.{items_of}
 use Rattle.bayou_base.specs.declared.asks.Asks.{Asks}
+use Rattle.bayou_base.specs.declared.entry.Entry.{Entry}
+use Rattle.bayou_base.specs.declared.entry.What.{What}
+use Rattle.bayou_base.specs.declared.entry.What.TheVariants as what
 use Rattle.bayou_base.specs.declared.value.Value.{Value}
 use Rattle.bayou_base.specs.declared.value.Value.TheVariants.{Num, Text}
 use Rattle.bayou_lang.specs.declared.program.Term.{Term}
@@ -14,6 +17,7 @@ use Rattle.bayou_lang.specs.declared.program.Cond.{Cond}
 use Rattle.bayou_lang.specs.declared.program.Cond.TheVariants.{Equals, Absent, AtLeast}
 use Rattle.bayou_lang.specs.declared.program.Alt.{Alt}
 use Rattle.bayou_lang.specs.declared.program.Program.{Program}
+use Rattle.bayou_lang.specs.declared.write.Write.{Write}
 use Rattle.bayou_text.specs.Said.{Said, servers, session, write, read, log, fuse, lose, reopen, restart, pull, resend, totals, judge, survey, book, entry, held}
 
 -- an array that begins with a word
@@ -70,6 +74,31 @@ asks_json asks =
 abbrev pub count_json : ℕ → Data
 count_json n = number (unsigned n)
 
+-- so many of the counts
+abbrev pub vector_json : ℕ → List ℕ → Data
+vector_json n vector = list_json count_json (take n vector)
+
+-- what an entry begins with, and the word of what became of the operation
+abbrev pub head_json : Entry → List ℕ → List Data
+head_json told word =
+    string (codes "entry") ∷ count_json told.session.index ∷ count_json told.place ∷ asks_json told.asks ∷ count_json told.server.index
+    ∷ string word ∷ []
+
+abbrev pub told_json : Entry → What → ℕ → Data
+told_json told what.Refused n = array (items_of (head_json told (codes "refused")))
+told_json told (what.Read key vector) n = array (items_of (head_json told (codes "read") ++ string key ∷ vector_json n vector ∷ []))
+told_json told (what.Write wid stamp deps) n =
+    array (items_of (head_json told (codes "write") ++ count_json wid.seq ∷ count_json stamp.clock ∷ vector_json n deps ∷ []))
+
+-- [origin, seq, clock, deps, program]
+abbrev pub write_json : Write → ℕ → Data
+write_json item n =
+    array (items_of (count_json item.wid.origin.index ∷ count_json item.wid.seq ∷ count_json item.stamp.clock ∷ vector_json n item.deps
+    ∷ program_json item.program ∷ []))
+
+abbrev pub held_json : ℕ → Write → ℕ → Data
+held_json place item n = form (codes "held") (count_json place ∷ write_json item n ∷ [])
+
 abbrev pub line_json : Said → Data
 line_json (servers count None) = form (codes "servers") (count_json count ∷ [])
 line_json (servers count (Some limit)) = form (codes "servers") (count_json count ∷ count_json limit ∷ [])
@@ -90,5 +119,5 @@ line_json totals = form (codes "totals") []
 line_json judge = form (codes "judge") []
 line_json survey = form (codes "survey") []
 line_json book = form (codes "book") []
-line_json (entry told counts) = form (codes "entry") []
-line_json (held place item counts) = form (codes "held") []
+line_json (entry told counts) = told_json told told.what (unwrap_or counts 0)
+line_json (held place item counts) = held_json place item counts

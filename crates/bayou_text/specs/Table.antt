@@ -1,6 +1,6 @@
 -- The table of the lines (this project's own): which data spells which thing, member by member, with no word on how
 -- it is read.
-use Rattle.std.specs.Prelude.{◌≡◌, ◌<◌, ◌≤◌, ◌⊎◌, ◌↔◌, ℕ, ℤ, List, [], ◌∷◌, None, Some, codes, length, IsTrue, IsUtf8}
+use Rattle.std.specs.Prelude.{◌≡◌, ◌-◌, ◌<◌, ◌≤◌, ◌⊎◌, ◌↔◌, ℕ, ℤ, List, [], ◌∷◌, ◌++◌, Option, None, Some, codes, length, map, replicate, IsTrue, IsUtf8}
 use Rattle.std.specs.List.{AllByRecursion, AllZip, Contains}
 use Rattle.serde_json.specs.Data.{Data, Num, number, unsigned, string, array, object, Members}
 use Rattle.serde_json.specs.Find.{as_i64, get}
@@ -8,9 +8,14 @@ use Rattle.serde_json.specs.Read.{read as json_of}
 use Rattle.serde_json.specs.View.{items_of}
 use Rattle.bayou_base.specs.Text.{IsShort}
 use Rattle.bayou_base.specs.declared.asks.Asks.{Asks}
-use Rattle.bayou_base.specs.declared.limits.TheConstants.{SERVERS, SESSIONS, MAX_CONDITIONS, MAX_OPS, MAX_ALTERNATIVES, MAX_LINE_BYTES, MAX_LOST_BYTES, MAX_WRITES}
+use Rattle.bayou_base.specs.declared.entry.Entry.{Entry}
+use Rattle.bayou_base.specs.declared.entry.What.{What}
+use Rattle.bayou_base.specs.declared.entry.What.TheVariants as what
+use Rattle.bayou_base.specs.declared.limits.TheConstants.{SERVERS, SESSIONS, MAX_CONDITIONS, MAX_OPS, MAX_ALTERNATIVES, MAX_LINE_BYTES, MAX_LOST_BYTES, MAX_PLACES, MAX_WRITES}
+use Rattle.bayou_base.specs.declared.stamp.Stamp.{Stamp}
 use Rattle.bayou_base.specs.declared.value.Value.{Value}
 use Rattle.bayou_base.specs.declared.value.Value.TheVariants.{Num as Integer, Text}
+use Rattle.bayou_base.specs.declared.wid.Wid.{Wid}
 use Rattle.bayou_lang.specs.declared.program.Term.{Term}
 use Rattle.bayou_lang.specs.declared.program.Term.TheVariants.{Lit, Copy, Plus}
 use Rattle.bayou_lang.specs.declared.program.Op.{Op}
@@ -19,11 +24,12 @@ use Rattle.bayou_lang.specs.declared.program.Cond.{Cond}
 use Rattle.bayou_lang.specs.declared.program.Cond.TheVariants.{Equals, Absent, AtLeast}
 use Rattle.bayou_lang.specs.declared.program.Alt.{Alt}
 use Rattle.bayou_lang.specs.declared.program.Program.{Program}
+use Rattle.bayou_lang.specs.declared.write.Write.{Write}
 use Rattle.bayou_lang.specs.Ranges.{IsKey}
 use Rattle.bayou_text.specs.Ranges.{IsCount, IsLimit, IsFuse}
 use Rattle.bayou_text.specs.Reading.{names}
 use Rattle.bayou_text.specs.Said.{Said, servers, session, write, read, log, fuse, lose, reopen, restart, pull, resend, totals, judge, survey, book, entry, held}
-use Rattle.bayou_text.specs.Spelling.{form}
+use Rattle.bayou_text.specs.Spelling.{form, count_json}
 
 -- an integer, and no other number: 1.0 isn't one
 abbrev pub NumberIs : Data → ℕ → Type 0
@@ -214,6 +220,73 @@ pub record CutIs (d : Data) (to source items : ℕ) : Type 0 where
   pub items_are : NumberIs items_data items
   pub items_in_range : items ≤ MAX_WRITES
 
+-- an array of so many counts; the vector has them, and counts no Write of another server
+pub record VectorIs (d : Data) (vector : List ℕ) (n : ℕ) : Type 0 where
+  pub counts : List ℕ
+  pub array_is : d ≡ array (items_of (map count_json counts))
+  pub number_is : length counts ≡ n
+  pub number_in_range : IsCount n
+  pub counts_in_range : AllByRecursion (λ count. count ≤ MAX_WRITES) counts
+  pub vector_is : vector ≡ counts ++ replicate (SERVERS - n) 0
+
+-- ["entry", session, place, asks, server, word, ..]: what all entries have alike
+pub record EntryIs (word : List ℕ) (others : List Data) (d : Data) (told : Entry) : Type 0 where
+  pub session_data : Data
+  pub place_data : Data
+  pub asks_data : Data
+  pub server_data : Data
+  pub form_is : d ≡ form (codes "entry") (session_data ∷ place_data ∷ asks_data ∷ server_data ∷ string word ∷ others)
+  pub session_is : NumberIs session_data told.session.index
+  pub place_is : NumberIs place_data told.place
+  pub place_in_range : told.place ≤ MAX_PLACES
+  pub asks_are : AsksAre asks_data told.asks
+  pub server_is : NumberIs server_data told.server.index
+
+-- ["entry", session, place, asks, server, "read", key, vector]
+pub record ServedIs (d : Data) (told : Entry) (key vector : List ℕ) (n : ℕ) : Type 0 where
+  pub key_data : Data
+  pub vector_data : Data
+  pub entry_is : EntryIs (codes "read") (key_data ∷ vector_data ∷ []) d told
+  pub key_is : KeyIs key_data key
+  pub vector_is : VectorIs vector_data vector n
+
+-- ["entry", session, place, asks, server, "write", seq, clock, deps]: the Write is one of the entry's server
+pub record AcceptedIs (d : Data) (told : Entry) (wid : Wid) (stamp : Stamp) (deps : List ℕ) (n : ℕ) : Type 0 where
+  pub seq_data : Data
+  pub clock_data : Data
+  pub deps_data : Data
+  pub entry_is : EntryIs (codes "write") (seq_data ∷ clock_data ∷ deps_data ∷ []) d told
+  pub own_name : wid.origin ≡ told.server
+  pub seq_is : NumberIs seq_data wid.seq
+  pub own_stamp : stamp.origin ≡ told.server
+  pub clock_is : NumberIs clock_data stamp.clock
+  pub deps_are : VectorIs deps_data deps n
+
+-- an entry has a vector unless it tells of a refusal
+abbrev pub ToldIs : Data → Entry → What → Option ℕ → Type 0
+ToldIs d told what.Refused None = EntryIs (codes "refused") [] d told
+ToldIs d told (what.Read key vector) (Some n) = ServedIs d told key vector n
+ToldIs d told (what.Write wid stamp deps) (Some n) = AcceptedIs d told wid stamp deps n
+ToldIs d told _ _ = ⊥
+
+-- ["held", server, [origin, seq, clock, deps, program]]
+pub record HeldIs (d : Data) (place : ℕ) (write : Write) (n : ℕ) : Type 0 where
+  pub place_data : Data
+  pub origin_data : Data
+  pub seq_data : Data
+  pub clock_data : Data
+  pub deps_data : Data
+  pub program_data : Data
+  pub form_is : d ≡ form (codes "held")
+      (place_data ∷ array (items_of (origin_data ∷ seq_data ∷ clock_data ∷ deps_data ∷ program_data ∷ [])) ∷ [])
+  pub place_is : NumberIs place_data place
+  pub place_in_range : place < SERVERS
+  pub origin_is : NumberIs origin_data write.wid.origin.index
+  pub seq_is : NumberIs seq_data write.wid.seq
+  pub clock_is : NumberIs clock_data write.stamp.clock
+  pub deps_are : VectorIs deps_data write.deps n
+  pub program_is : ProgramIs program_data write.program
+
 abbrev pub LineIs : Data → Said → Type 0
 LineIs d (servers count None) = ServersIs d count
 LineIs d (servers count (Some limit)) = LimitedIs d count limit
@@ -232,8 +305,8 @@ LineIs d totals = d ≡ form (codes "totals") []
 LineIs d judge = d ≡ form (codes "judge") []
 LineIs d survey = d ≡ form (codes "survey") []
 LineIs d book = d ≡ form (codes "book") []
-LineIs d (entry told counts) = ⊥
-LineIs d (held place item counts) = ⊥
+LineIs d (entry told counts) = ToldIs d told told.what counts
+LineIs d (held place item counts) = HeldIs d place item counts
 
 -- bytes that say this: at most so many, UTF-8, and the JSON of a line
 pub record Spells (bytes : List ℕ) (s : Said) : Type 0 where

@@ -9,6 +9,7 @@ ghost use Rattle.bayou_text.specs.Table.{Spells};
 use crate::command::Command;
 use crate::line::{Line, LineFault, Shape};
 use crate::read::asks::asks_in;
+use crate::read::audit::{entry_in, held_in};
 use crate::read::exchange::exchange_in;
 use crate::read::number::{count_in, limit_in, server_in, session_in};
 use crate::read::program::program_in;
@@ -20,12 +21,14 @@ use std::str;
 
 mod asked;
 mod asks;
+mod audit;
 mod exchange;
 mod number;
 mod part;
 mod program;
 mod trial;
 mod value;
+mod vector;
 
 /// What a line says, which has no line feed, or its first fault. Numbers are as `serde_json` keeps them: `1.0`, `1e2`
 /// and `-0` are no integers. Of equal members of an object the last counts.
@@ -69,6 +72,18 @@ fn line_in(alloc: Global, json: &Value) -> Result<Line, LineFault>
     let Some((word, parts)) = worded(json) else {
         return Err(LineFault::BadShape(Shape::Line));
     };
+    if word == "entry" {
+        return entry_in(parts);
+    }
+    if word == "held" {
+        return held_in(alloc, parts);
+    }
+    command_in(alloc, word, parts)
+}
+
+fn command_in(alloc: Global, word: &str, parts: &[Value]) -> Result<Line, LineFault>
+    ensures { Gives said result (grammar.command_of word.now (map view parts.now)) }
+{
     if word == "servers" {
         return servers_in(parts);
     }

@@ -1,13 +1,16 @@
 -- What is spelled is read as what it says.
-use Rattle.std.proofs.Common.{◌≡◌, ℕ, ◌-◌, ◌<◌, ◌≤◌, ◌^◌, ℤ, pos, negsuc, Bool, true, false, nat_lt, List, [], ◌∷◌, map, length, None, Some, Ok, refl, arith, tests}
+use Rattle.std.proofs.Common.{◌≡◌, ℕ, ◌-◌, ◌<◌, ◌≤◌, ◌^◌, ℤ, pos, negsuc, Bool, true, false, nat_lt, List, [], ◌∷◌, ◌++◌, map, length, unwrap_or, Option, None, Some, codes, Ok, refl, arith, tests}
 use Rattle.std.proofs.lemmas.List.{length-map}
 use Rattle.std.specs.Int.{w64}
 use Rattle.std.specs.Int.RustNames.{FitsSigned}
 use Rattle.std.specs.List.{AllByRecursion}
-use Rattle.serde_json.specs.Data.{Data, number, string}
+use Rattle.serde_json.specs.Data.{Data, number, string, array}
 use Rattle.serde_json.specs.Find.{of_integer}
 use Rattle.serde_json.specs.View.{items_of}
 use Rattle.bayou_base.specs.declared.asks.Asks.{Asks}
+use Rattle.bayou_base.specs.declared.entry.Entry.{Entry}
+use Rattle.bayou_base.specs.declared.entry.What.{What}
+use Rattle.bayou_base.specs.declared.entry.What.TheVariants as what
 use Rattle.bayou_base.specs.declared.limits.TheConstants.{MAX_CONDITIONS, MAX_OPS, MAX_ALTERNATIVES, SERVERS, SESSIONS, MAX_WRITES, MAX_FUSE_CALLS, MAX_FUSE_KEPT, MAX_LOST_BYTES}
 use Rattle.bayou_base.specs.declared.server.ServerId.{ServerId}
 use Rattle.bayou_base.specs.declared.session.SessionId.{SessionId}
@@ -21,24 +24,29 @@ use Rattle.bayou_lang.specs.declared.program.Cond.{Cond}
 use Rattle.bayou_lang.specs.declared.program.Cond.TheVariants.{Equals, Absent, AtLeast}
 use Rattle.bayou_lang.specs.declared.program.Alt.{Alt}
 use Rattle.bayou_lang.specs.declared.program.Program.{Program}
+use Rattle.bayou_lang.specs.declared.write.Write.{Write}
 use Rattle.bayou_lang.specs.declared.program.ProgramFault.{ProgramFault}
 use Rattle.bayou_lang.specs.declared.program.ProgramFault.TheVariants.{TooManyConds, TooManyOps, TooManyAlts}
 use Rattle.bayou_text.specs.declared.audit.AuditLine.TheVariants as audit
 use Rattle.bayou_text.specs.declared.command.Command.TheVariants as command
 use Rattle.bayou_text.specs.declared.line.Line.{Line}
 use Rattle.bayou_text.specs.declared.line.Line.TheVariants as line
-use Rattle.bayou_text.proofs.Readers.{listed_items}
+use Rattle.bayou_text.proofs.LineTable.{line_read}
+use Rattle.bayou_text.proofs.ProgramTable.{program_found}
+use Rattle.bayou_text.proofs.Readers.{listed_items, asks_found}
+use Rattle.bayou_text_writer.proofs.Vectors.{vector_spelled}
 use Rattle.bayou_text.specs.Asks.{asks_in}
 use Rattle.bayou_text.specs.Lines.{line_in, servers_in, opening_in, writing_in, reading_in, alone_in, fusing_in, losing_in, trial_of, bare_in, asked_of, pulling_in, resending_in, exchange_of}
 use Rattle.bayou_text.specs.Numbers.{number_in, session_in, server_in, integer_in}
 use Rattle.bayou_text.specs.Parts.{named_in, keyed_in, term_in, op_in, cond_in}
 use Rattle.bayou_text.specs.Programs.{few_in, alt_in, program_in}
-use Rattle.bayou_lang.specs.Ranges.{IsKey, IsValue, IsTerm, IsOp, IsCond, AreAtMost, IsAlt, IsProgram}
-use Rattle.bayou_text.specs.Ranges.{IsReadable}
-use Rattle.bayou_text_writer.specs.Inner.Kept.{IsLine}
+use Rattle.bayou_lang.specs.Ranges.{IsKey, IsValue, IsTerm, IsOp, IsCond, AreAtMost, IsAlt, IsProgram, IsWrite}
+use Rattle.bayou_text.specs.Ranges.{IsCutTo, IsToldBy, IsReadable}
+use Rattle.bayou_text_writer.specs.Inner.Kept.{IsWhat, IsLine}
 use Rattle.bayou_text.specs.Reading.{Parsed, listed, all_in}
-use Rattle.bayou_text.specs.Said.{said}
-use Rattle.bayou_text.specs.Spelling.{count_json, value_json, term_json, op_json, cond_json, alt_json, program_json, asks_json, line_json}
+use Rattle.bayou_text.specs.Said.{entry, held, said}
+use Rattle.bayou_text.specs.Table.{EntryIs, ToldIs, HeldIs}
+use Rattle.bayou_text.specs.Spelling.{count_json, value_json, term_json, op_json, cond_json, alt_json, program_json, asks_json, vector_json, head_json, told_json, held_json, line_json}
 use Rattle.bayou_text.specs.Values.{key_in, value_in}
 
 number_again : (least most n : ℕ) → least ≤ n → n ≤ most → number_in least most (count_json n) ≡ Ok n
@@ -144,6 +152,66 @@ session_again who = number_again 0 (SESSIONS - 1) who.index (omega arith) (omega
 server_again : (place : ServerId) → server_in (count_json place.index) ≡ Ok place.index
 server_again place = number_again 0 (SERVERS - 1) place.index (omega arith) (omega (arith, place.in_range))
 
+-- ---- lines of audit files
+
+head_spelled : (told : Entry) (word : List ℕ) (others : List Data) → told.place < 2 ^ 32
+    → EntryIs word others (array (items_of (head_json told word ++ others))) told
+head_spelled told word others place = record {
+  session_data = count_json told.session.index;
+  place_data = count_json told.place;
+  asks_data = asks_json told.asks;
+  server_data = count_json told.server.index;
+  form_is = refl;
+  session_is = refl;
+  place_is = refl;
+  place_in_range = omega (arith, place);
+  asks_are = asks_found (asks_json told.asks) told.asks (asks_again told.asks);
+  server_is = refl;
+}
+
+told_spelled : (told : Entry) (became : What) (counts : Option ℕ) → told.place < 2 ^ 32 → IsWhat became → IsToldBy told.server became counts
+    → ToldIs (told_json told became (unwrap_or counts 0)) told became counts
+told_spelled told what.Refused None place kept readable = head_spelled told (codes "refused") [] place
+told_spelled told what.Refused (Some n) place kept readable = absurd readable
+told_spelled told (what.Read key vector) None place kept readable = absurd readable
+told_spelled told (what.Read key vector) (Some n) place kept readable = record {
+  key_data = string key;
+  vector_data = vector_json n vector;
+  entry_is = head_spelled told (codes "read") (string key ∷ vector_json n vector ∷ []) place;
+  key_is = (refl, kept.0);
+  vector_is = vector_spelled n vector kept.1 readable;
+}
+told_spelled told (what.Write wid stamp deps) None place kept readable = absurd readable
+told_spelled told (what.Write wid stamp deps) (Some n) place kept readable = record {
+  seq_data = count_json wid.seq;
+  clock_data = count_json stamp.clock;
+  deps_data = vector_json n deps;
+  entry_is = head_spelled told (codes "write") (count_json wid.seq ∷ count_json stamp.clock ∷ vector_json n deps ∷ []) place;
+  own_name = readable.0;
+  seq_is = refl;
+  own_stamp = readable.1;
+  clock_is = refl;
+  deps_are = vector_spelled n deps kept readable.2;
+}
+
+held_spelled : (place : ServerId) (item : Write) (n : ℕ) → IsWrite item → IsCutTo n item.deps → HeldIs (held_json place.index item n) place.index item n
+held_spelled place item n kept cut = record {
+  place_data = count_json place.index;
+  origin_data = count_json item.wid.origin.index;
+  seq_data = count_json item.wid.seq;
+  clock_data = count_json item.stamp.clock;
+  deps_data = vector_json n item.deps;
+  program_data = program_json item.program;
+  form_is = refl;
+  place_is = refl;
+  place_in_range = place.in_range;
+  origin_is = refl;
+  seq_is = refl;
+  clock_is = refl;
+  deps_are = vector_spelled n item.deps kept.0 cut;
+  program_is = program_found (program_json item.program) item.program (program_again item.program kept.1);
+}
+
 pub line_again : (l : Line) → IsLine l → IsReadable (said l) → line_in (line_json (said l)) ≡ Ok (said l)
 unfolding line_in servers_in opening_in writing_in reading_in alone_in fusing_in losing_in trial_of bare_in asked_of pulling_in resending_in exchange_of
 line_again (line.Servers count None) kept readable = rw (
@@ -180,5 +248,7 @@ line_again (line.Command command.Totals) kept readable = refl
 line_again (line.Command command.Judge) kept readable = refl
 line_again (line.Command command.Survey) kept readable = refl
 line_again (line.Command command.Book) kept readable = refl
-line_again (line.Audit (audit.Entry told counts)) kept readable = absurd readable
-line_again (line.Audit (audit.Held place item counts)) kept readable = absurd readable
+line_again (line.Audit (audit.Entry told counts)) kept readable =
+    line_read (told_json told told.what (unwrap_or counts 0)) (entry told counts) (told_spelled told told.what counts kept.0 kept.1 readable)
+line_again (line.Audit (audit.Held place item n)) kept readable =
+    line_read (held_json place.index item n) (held place.index item n) (held_spelled place item n kept readable)

@@ -1,14 +1,19 @@
 -- What is spelled is short enough for a line.
-use Rattle.std.proofs.Common.{◌≡◌, ℕ, ◌+◌, ◌*◌, ◌<◌, ◌≤◌, ◌^◌, ℤ, pos, negsuc, Bool, true, false, cond, List, [], ◌∷◌, ◌++◌, length, map, None, Some, codes, arith, tests, length-append, lit<, lit≤}
+use Rattle.std.proofs.Common.{◌≡◌, ℕ, ◌+◌, ◌*◌, ◌<◌, ◌≤◌, ◌^◌, ℤ, pos, negsuc, Bool, true, false, cond, List, [], ◌∷◌, ◌++◌, length, map, take, unwrap_or, None, Some, codes, arith, tests, length-append, lit<, lit≤}
 use Rattle.std.proofs.lemmas.Fmt.{length-decimal-le, length_signed_le}
+use Rattle.std.proofs.lemmas.List.{length-take}
 use Rattle.std.specs.List.{AllByRecursion}
 use Rattle.serde_json.proofs.OnLiterals.{serde_json_on_literals}
-use Rattle.serde_json.specs.Data.{Data, number, string}
+use Rattle.serde_json.specs.Data.{Data, number, string, array}
 use Rattle.serde_json.specs.Find.{of_integer}
 use Rattle.serde_json.specs.Written.{compact_text, items_text, comma_if}
 use Rattle.serde_json.specs.View.{items_of}
+use Rattle.bayou_base.specs.Vector.{AreCounts}
 use Rattle.bayou_base.specs.declared.asks.Asks.{Asks}
-use Rattle.bayou_base.specs.declared.limits.TheConstants.{MAX_KEY_BYTES, MAX_CONDITIONS, MAX_OPS, MAX_ALTERNATIVES, MAX_LINE_BYTES}
+use Rattle.bayou_base.specs.declared.entry.Entry.{Entry}
+use Rattle.bayou_base.specs.declared.entry.What.{What}
+use Rattle.bayou_base.specs.declared.entry.What.TheVariants as what
+use Rattle.bayou_base.specs.declared.limits.TheConstants.{MAX_KEY_BYTES, MAX_CONDITIONS, MAX_OPS, MAX_ALTERNATIVES, MAX_LINE_BYTES, MAX_WRITES}
 use Rattle.bayou_base.specs.declared.server.ServerId.{ServerId}
 use Rattle.bayou_base.specs.declared.value.Value.{Value}
 use Rattle.bayou_base.specs.declared.value.Value.TheVariants.{Num, Text}
@@ -20,16 +25,18 @@ use Rattle.bayou_lang.specs.declared.program.Cond.{Cond}
 use Rattle.bayou_lang.specs.declared.program.Cond.TheVariants.{Equals, Absent, AtLeast}
 use Rattle.bayou_lang.specs.declared.program.Alt.{Alt}
 use Rattle.bayou_lang.specs.declared.program.Program.{Program}
+use Rattle.bayou_lang.specs.declared.write.Write.{Write}
 use Rattle.std.specs.Int.{w64}
 use Rattle.std.specs.Int.RustNames.{FitsSigned}
 use Rattle.bayou_text.specs.declared.audit.AuditLine.TheVariants as audit
 use Rattle.bayou_text.specs.declared.command.Command.TheVariants as command
 use Rattle.bayou_text.specs.declared.line.Line.{Line}
 use Rattle.bayou_text.specs.declared.line.Line.TheVariants as line
-use Rattle.bayou_lang.specs.Ranges.{IsKey, IsValue, IsTerm, IsOp, IsCond, IsAlt, AreAtMost, IsProgram}
-use Rattle.bayou_text_writer.specs.Inner.Kept.{IsLine}
+use Rattle.bayou_lang.specs.Ranges.{IsKey, IsValue, IsTerm, IsOp, IsCond, IsAlt, AreAtMost, IsProgram, IsWrite}
+use Rattle.bayou_text_writer.specs.Inner.Kept.{IsLine, IsWhat}
 use Rattle.bayou_text.specs.Said.{said}
-use Rattle.bayou_text.specs.Spelling.{form, count_json, value_json, term_json, op_json, cond_json, alt_json, program_json, asks_json, list_json, line_json}
+use Rattle.bayou_text_writer.proofs.Vectors.{taken}
+use Rattle.bayou_text.specs.Spelling.{form, count_json, value_json, term_json, op_json, cond_json, alt_json, program_json, asks_json, list_json, vector_json, head_json, told_json, write_json, line_json}
 
 -- how long the text of some JSON is
 abbrev size : Data → ℕ
@@ -219,6 +226,69 @@ server_size word place short = omega (
   count_size place.index (omega (arith, place.in_range)),
 )
 
+vector_size : (n : ℕ) (vector : List ℕ) → AreCounts vector → size (vector_json n vector) ≤ 90
+vector_size n vector are =
+    let each = list_size (λ count. count ≤ MAX_WRITES) count_json 10 (λ count small. count_size count (omega (arith, small))) (take n vector)
+    (taken vector n are.in_range) in
+    omega (arith, each, length-take n vector, are.one_each)
+
+five_size : (a b c d e : Data) → size (array (items_of (a ∷ b ∷ c ∷ d ∷ e ∷ []))) ≤ size a + size b + size c + size d + size e + 6
+five_size a b c d e = simp length-append (omega arith)
+
+write_size : (item : Write) (n : ℕ) → IsWrite item → size (write_json item n) ≤ 41200
+write_size item n kept =
+    omega (
+      arith,
+      five_size (count_json item.wid.origin.index) (count_json item.wid.seq) (count_json item.stamp.clock) (vector_json n item.deps)
+          (program_json item.program),
+      count_size item.wid.origin.index (omega (arith, item.wid.origin.in_range)),
+      count_size item.wid.seq (omega (arith, item.wid.in_range)),
+      count_size item.stamp.clock (omega (arith, item.stamp.in_range)),
+      vector_size n item.deps kept.0,
+      program_size item.program kept.1,
+    )
+
+abbrev IsBrief : Data → Type 0
+IsBrief d = size d ≤ 200
+
+-- a few short things
+brief_size : (ds : List Data) → AllByRecursion IsBrief ds → size (list_json (λ d. d) ds) ≤ 201 * length ds + 2
+brief_size ds each = list_size IsBrief (λ d. d) 200 (λ d h. h) ds each
+
+head_brief : (told : Entry) (word : List ℕ) (others : List Data) → told.place < 2 ^ 32 → length word ≤ 7 → AllByRecursion IsBrief others
+    → AllByRecursion IsBrief (head_json told word ++ others)
+head_brief told word others place short rest = (
+  omega (arith, string_size (codes "entry")),
+  (
+    omega (arith, count_size told.session.index (omega (arith, told.session.in_range))),
+    (
+      omega (arith, count_size told.place place),
+      (
+        omega (arith, asks_size told.asks),
+        (omega (arith, count_size told.server.index (omega (arith, told.server.in_range))), (omega (arith, string_size word, short), rest)),
+      ),
+    ),
+  ),
+)
+
+told_size : (told : Entry) (became : What) (n : ℕ) → told.place < 2 ^ 32 → IsWhat became → size (told_json told became n) ≤ MAX_LINE_BYTES
+told_size told what.Refused n place kept =
+    let brief = head_brief told (codes "refused") [] place (lit≤ tt) tt in
+    omega (arith, brief_size (head_json told (codes "refused") ++ []) brief)
+told_size told (what.Read key vector) n place kept =
+    let others : List Data = string key ∷ vector_json n vector ∷ [] in
+    let last : AllByRecursion IsBrief others = (omega (arith, key_size key kept.0), (omega (arith, vector_size n vector kept.1), tt)) in
+    let brief = head_brief told (codes "read") others place (lit≤ tt) last in
+    omega (arith, brief_size (head_json told (codes "read") ++ others) brief)
+told_size told (what.Write wid stamp deps) n place kept =
+    let others : List Data = count_json wid.seq ∷ count_json stamp.clock ∷ vector_json n deps ∷ [] in
+    let last : AllByRecursion IsBrief others = (
+      omega (arith, count_size wid.seq (omega (arith, wid.in_range))),
+      (omega (arith, count_size stamp.clock (omega (arith, stamp.in_range))), (omega (arith, vector_size n deps kept), tt)),
+    ) in
+    let brief = head_brief told (codes "write") others place (lit≤ tt) last in
+    omega (arith, brief_size (head_json told (codes "write") ++ others) brief)
+
 -- no line that is written is too long to be read
 pub line_size : (l : Line) → IsLine l → size (line_json (said l)) ≤ MAX_LINE_BYTES
 line_size (line.Servers count None) kept = omega (
@@ -300,5 +370,11 @@ line_size (line.Command command.Totals) kept = omega (arith, form_none (codes "t
 line_size (line.Command command.Judge) kept = omega (arith, form_none (codes "judge"))
 line_size (line.Command command.Survey) kept = omega (arith, form_none (codes "survey"))
 line_size (line.Command command.Book) kept = omega (arith, form_none (codes "book"))
-line_size (line.Audit (audit.Entry told counts)) kept = omega (arith, form_none (codes "entry"))
-line_size (line.Audit (audit.Held place item counts)) kept = omega (arith, form_none (codes "held"))
+line_size (line.Audit (audit.Entry told counts)) kept = told_size told told.what (unwrap_or counts 0) kept.0 kept.1
+line_size (line.Audit (audit.Held place item counts)) kept =
+    omega (
+      arith,
+      form_two (codes "held") (count_json place.index) (write_json item counts),
+      count_size place.index (omega (arith, place.in_range)),
+      write_size item counts kept,
+    )

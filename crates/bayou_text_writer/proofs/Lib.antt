@@ -1,4 +1,5 @@
 pub mod Spelled
+pub mod Vectors
 pub mod Written
 pub mod Again
 pub mod Lengths

@@ -1,11 +1,14 @@
 -- What is spelled has no float, and nests no deeper than JSON is read.
-use Rattle.std.proofs.Common.{◌≡◌, ℕ, ◌+◌, ◌≤◌, max, ℤ, pos, negsuc, Bool, true, false, ◌||◌, List, [], ◌∷◌, ◌++◌, map, None, Some, codes, refl, arith}
+use Rattle.std.proofs.Common.{◌≡◌, ℕ, ◌+◌, ◌≤◌, max, ℤ, pos, negsuc, Bool, true, false, ◌||◌, List, [], ◌∷◌, ◌++◌, map, take, unwrap_or, None, Some, codes, refl, arith}
 use Rattle.serde_json.specs.Data.{Data, Items, number, string, array, depth, items_depth}
 use Rattle.serde_json.specs.Find.{of_integer}
 use Rattle.serde_json.specs.Written.{has_float, items_have_float}
 use Rattle.serde_json.specs.View.{items_of}
 use Rattle.std.specs.List.{AllByRecursion}
 use Rattle.bayou_base.specs.declared.asks.Asks.{Asks}
+use Rattle.bayou_base.specs.declared.entry.Entry.{Entry}
+use Rattle.bayou_base.specs.declared.entry.What.{What}
+use Rattle.bayou_base.specs.declared.entry.What.TheVariants as what
 use Rattle.bayou_base.specs.declared.value.Value.{Value}
 use Rattle.bayou_base.specs.declared.value.Value.TheVariants.{Num, Text}
 use Rattle.bayou_lang.specs.declared.program.Term.{Term}
@@ -16,8 +19,9 @@ use Rattle.bayou_lang.specs.declared.program.Cond.{Cond}
 use Rattle.bayou_lang.specs.declared.program.Cond.TheVariants.{Equals, Absent, AtLeast}
 use Rattle.bayou_lang.specs.declared.program.Alt.{Alt}
 use Rattle.bayou_lang.specs.declared.program.Program.{Program}
+use Rattle.bayou_lang.specs.declared.write.Write.{Write}
 use Rattle.bayou_text.specs.Said.{Said, servers, session, write, read, log, fuse, lose, reopen, restart, pull, resend, totals, judge, survey, book, entry, held}
-use Rattle.bayou_text.specs.Spelling.{form, word_if, count_json, value_json, term_json, op_json, cond_json, alt_json, program_json, asks_json, list_json, line_json}
+use Rattle.bayou_text.specs.Spelling.{form, word_if, count_json, value_json, term_json, op_json, cond_json, alt_json, program_json, asks_json, list_json, vector_json, head_json, told_json, write_json, line_json}
 
 -- no float, and at most so deep
 pub record IsPlainTo (most : ℕ) (d : Data) : Type 0 where
@@ -137,51 +141,84 @@ asks_plain asks =
     let mw = word_plain 0 asks.mw (codes "mw") in
     list 0 _ (joined 0 _ _ (joined 0 _ _ (joined 0 _ _ ryw mr) wfr) mw)
 
-server_plain : (word : List ℕ) (place : ℕ) → IsPlainTo 7 (form word (count_json place ∷ []))
-server_plain word place = formed 6 word (count_json place ∷ []) (count 6 place, tt)
+server_plain : (word : List ℕ) (place : ℕ) → IsPlainTo 8 (form word (count_json place ∷ []))
+server_plain word place = formed 7 word (count_json place ∷ []) (count 7 place, tt)
 
-pub line_plain : (s : Said) → IsPlainTo 7 (line_json s)
-line_plain (servers n None) = formed 6 _ (count_json n ∷ []) (count 6 n, tt)
-line_plain (servers n (Some limit)) = formed 6 _ (count_json n ∷ count_json limit ∷ []) (
-  count 6 n,
-  (count 6 limit, tt),
+vector_plain : (n : ℕ) (vector : List ℕ) → IsPlainTo 6 (vector_json n vector)
+vector_plain n vector = of_each 5 count_json (count 5) (take n vector)
+
+write_plain : (item : Write) (n : ℕ) → IsPlainTo 7 (write_json item n)
+write_plain item n = list 6
+    (count_json item.wid.origin.index ∷ count_json item.wid.seq ∷ count_json item.stamp.clock ∷ vector_json n item.deps
+    ∷ program_json item.program ∷ []) (
+      count 6 item.wid.origin.index,
+      (count 6 item.wid.seq, (count 6 item.stamp.clock, (vector_plain n item.deps, (program item.program, tt)))),
+    )
+
+head_plain : (told : Entry) (word : List ℕ) → AllByRecursion (IsPlainTo 7) (head_json told word)
+head_plain told word = (
+  text 7 (codes "entry"),
+  (
+    count 7 told.session.index,
+    (count 7 told.place, (higher 1 7 _ (omega arith) (asks_plain told.asks), (count 7 told.server.index, (text 7 word, tt)))),
+  ),
 )
-line_plain (session who asks) = formed 6 _ (count_json who ∷ asks_json asks ∷ []) (
-  count 6 who,
-  (higher 1 6 _ (omega arith) (asks_plain asks), tt),
+
+told_plain : (told : Entry) (became : What) (n : ℕ) → IsPlainTo 8 (told_json told became n)
+told_plain told what.Refused n = list 7 (head_json told (codes "refused")) (head_plain told (codes "refused"))
+told_plain told (what.Read key vector) n =
+    list 7 (head_json told (codes "read") ++ string key ∷ vector_json n vector ∷ [])
+    (joined 7 (head_json told (codes "read")) (string key ∷ vector_json n vector ∷ []) (head_plain told (codes "read"))
+    (text 7 key, (higher 6 7 _ (omega arith) (vector_plain n vector), tt)))
+told_plain told (what.Write wid stamp deps) n =
+    list 7 (head_json told (codes "write") ++ count_json wid.seq ∷ count_json stamp.clock ∷ vector_json n deps ∷ [])
+    (joined 7 (head_json told (codes "write")) (count_json wid.seq ∷ count_json stamp.clock ∷ vector_json n deps ∷ [])
+    (head_plain told (codes "write"))
+    (count 7 wid.seq, (count 7 stamp.clock, (higher 6 7 _ (omega arith) (vector_plain n deps), tt))))
+
+pub line_plain : (s : Said) → IsPlainTo 8 (line_json s)
+line_plain (servers n None) = formed 7 _ (count_json n ∷ []) (count 7 n, tt)
+line_plain (servers n (Some limit)) = formed 7 _ (count_json n ∷ count_json limit ∷ []) (
+  count 7 n,
+  (count 7 limit, tt),
+)
+line_plain (session who asks) = formed 7 _ (count_json who ∷ asks_json asks ∷ []) (
+  count 7 who,
+  (higher 1 7 _ (omega arith) (asks_plain asks), tt),
 )
 line_plain (write who place p) =
-    formed 6 _ (count_json who ∷ count_json place ∷ program_json p ∷ []) (
-      count 6 who,
-      (count 6 place, (program p, tt)),
+    formed 7 _ (count_json who ∷ count_json place ∷ program_json p ∷ []) (
+      count 7 who,
+      (count 7 place, (higher 6 7 _ (omega arith) (program p), tt)),
     )
 line_plain (read who place key) =
-    formed 6 _ (count_json who ∷ count_json place ∷ string key ∷ []) (
-      count 6 who,
-      (count 6 place, (text 6 key, tt)),
+    formed 7 _ (count_json who ∷ count_json place ∷ string key ∷ []) (
+      count 7 who,
+      (count 7 place, (text 7 key, tt)),
     )
 line_plain (log place) = server_plain (codes "log") place
 line_plain (fuse place calls kept) =
-    formed 6 _ (count_json place ∷ count_json calls ∷ count_json kept ∷ []) (
-      count 6 place,
-      (count 6 calls, (count 6 kept, tt)),
+    formed 7 _ (count_json place ∷ count_json calls ∷ count_json kept ∷ []) (
+      count 7 place,
+      (count 7 calls, (count 7 kept, tt)),
     )
-line_plain (lose place lost) = formed 6 _ (count_json place ∷ count_json lost ∷ []) (
-  count 6 place,
-  (count 6 lost, tt),
+line_plain (lose place lost) = formed 7 _ (count_json place ∷ count_json lost ∷ []) (
+  count 7 place,
+  (count 7 lost, tt),
 )
 line_plain (reopen place) = server_plain (codes "reopen") place
 line_plain (restart place) = server_plain (codes "restart") place
-line_plain (pull to source None) = formed 6 _ (count_json to ∷ count_json source ∷ []) (count 6 to, (count 6 source, tt))
+line_plain (pull to source None) = formed 7 _ (count_json to ∷ count_json source ∷ []) (count 7 to, (count 7 source, tt))
 line_plain (pull to source (Some items)) =
-    formed 6 _ (count_json to ∷ count_json source ∷ count_json items ∷ []) (
-      count 6 to,
-      (count 6 source, (count 6 items, tt)),
+    formed 7 _ (count_json to ∷ count_json source ∷ count_json items ∷ []) (
+      count 7 to,
+      (count 7 source, (count 7 items, tt)),
     )
-line_plain (resend to source) = formed 6 _ (count_json to ∷ count_json source ∷ []) (count 6 to, (count 6 source, tt))
-line_plain totals = formed 6 _ [] tt
-line_plain judge = formed 6 _ [] tt
-line_plain survey = formed 6 _ [] tt
-line_plain book = formed 6 _ [] tt
-line_plain (entry told counts) = formed 6 _ [] tt
-line_plain (held place item counts) = formed 6 _ [] tt
+line_plain (resend to source) = formed 7 _ (count_json to ∷ count_json source ∷ []) (count 7 to, (count 7 source, tt))
+line_plain totals = formed 7 _ [] tt
+line_plain judge = formed 7 _ [] tt
+line_plain survey = formed 7 _ [] tt
+line_plain book = formed 7 _ [] tt
+line_plain (entry told counts) = told_plain told told.what (unwrap_or counts 0)
+line_plain (held place item counts) =
+    formed 7 _ (count_json place ∷ write_json item counts ∷ []) (count 7 place, (write_plain item counts, tt))

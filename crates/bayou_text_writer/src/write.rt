@@ -10,6 +10,7 @@ ghost use Rattle.bayou_text.specs.Spelling as spelling;
 ghost use Rattle.bayou_text.specs.Table.{Spells};
 
 use crate::write::asks::asks_json;
+use crate::write::audit::{entry_json, held_json};
 use crate::write::program::program_json;
 use bayou_base::{ServerId, SessionId};
 use bayou_text::{AuditLine, Command, Line};
@@ -17,6 +18,7 @@ use serde_json::{Value, json};
 use std::alloc::{AllocError, Global};
 
 mod asks;
+mod audit;
 mod program;
 
 /// The one spelling of the line, with no line feed. Each member of a program is written, also an empty one.
@@ -160,7 +162,15 @@ fn line_json(alloc: Global, line: &Line) -> Result<Value, AllocError>
         Line::Command(Command::Judge) => numbers_json(alloc, "judge", &[]),
         Line::Command(Command::Survey) => numbers_json(alloc, "survey", &[]),
         Line::Command(Command::Book) => numbers_json(alloc, "book", &[]),
-        Line::Audit(AuditLine::Entry { .. }) => numbers_json(alloc, "entry", &[]),
-        Line::Audit(AuditLine::Held { .. }) => numbers_json(alloc, "held", &[]),
+        Line::Audit(AuditLine::Entry { entry, counts }) => {
+            entry_json(alloc, entry, counts.unwrap_or(0))
+        }
+        Line::Audit(
+            AuditLine::Held {
+                server,
+                write,
+                counts,
+            },
+        ) => held_json(alloc, *server, write, *counts),
     }
 }

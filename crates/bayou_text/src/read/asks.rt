@@ -9,7 +9,7 @@ use bayou_base::Asks;
 use serde_json::Value;
 
 /// Whether it is this text.
-fn says(json: &Value, word: &str) -> bool
+pub(crate) fn says(json: &Value, word: &str) -> bool
     ensures { result ≡ says word.now (view json.now) }
 {
     match json.as_str() {

@@ -6,7 +6,7 @@ ghost use Rattle.bayou_base.specs.declared.limits.TheConstants.{SERVERS, SESSION
 
 use crate::line::{LineFault, Shape};
 use bayou_base::limits::{MAX_FUSE_CALLS, MAX_FUSE_KEPT, MAX_LOST_BYTES};
-use bayou_base::{MAX_WRITES, SERVERS, SESSIONS, ServerId, SessionId};
+use bayou_base::{MAX_PLACES, MAX_WRITES, SERVERS, SESSIONS, ServerId, SessionId};
 use serde_json::Value;
 
 /// The integer of this range.
@@ -83,6 +83,38 @@ pub(crate) fn lost_in(json: &Value) -> Result<usize, LineFault>
 /// After how many Writes a stream is cut.
 pub(crate) fn cut_in(json: &Value) -> Result<u32, LineFault>
     ensures { result ≡ grammar.cut_in (view json.now) }
+{
+    Ok(number_in(json, 0, MAX_WRITES as u64)? as u32)
+}
+
+/// The place of an operation in its session.
+pub(crate) fn place_in(json: &Value) -> Result<u32, LineFault>
+    ensures value { result ≡ grammar.place_in (view json.now) }
+    ensures in_range { IfOk result (λ place. 0 < place) }
+{
+    Ok(number_in(json, 1, MAX_PLACES as u64)? as u32)
+}
+
+/// The place of a Write among those of its server.
+pub(crate) fn seq_in(json: &Value) -> Result<u32, LineFault>
+    ensures value { result ≡ grammar.seq_in (view json.now) }
+    ensures in_range { IfOk result (λ seq. (0 < seq) × (seq ≤ MAX_WRITES)) }
+{
+    Ok(number_in(json, 1, MAX_WRITES as u64)? as u32)
+}
+
+/// The clock of a stamp.
+pub(crate) fn clock_in(json: &Value) -> Result<u32, LineFault>
+    ensures value { result ≡ grammar.clock_in (view json.now) }
+    ensures in_range { IfOk result (λ clock. (0 < clock) × (clock ≤ MAX_WRITES)) }
+{
+    Ok(number_in(json, 1, MAX_WRITES as u64)? as u32)
+}
+
+/// How many Writes of a server a vector counts.
+pub(crate) fn tally_in(json: &Value) -> Result<u32, LineFault>
+    ensures value { result ≡ grammar.tally_in (view json.now) }
+    ensures in_range { IfOk result (λ count. count ≤ MAX_WRITES) }
 {
     Ok(number_in(json, 0, MAX_WRITES as u64)? as u32)
 }

@@ -1,6 +1,11 @@
 -- What the types of a line keep.
 use Rattle.std.specs.Prelude.{◌<◌, ◌^◌, IfSome, ⊤}
-use Rattle.bayou_lang.specs.Ranges.{IsKey, IsProgram}
+use Rattle.bayou_base.specs.Vector.{AreCounts}
+use Rattle.bayou_base.specs.declared.entry.What.{What}
+use Rattle.bayou_base.specs.declared.entry.What.TheVariants as what
+use Rattle.bayou_lang.specs.Ranges.{IsKey, IsProgram, IsWrite}
+use Rattle.bayou_text.specs.declared.audit.AuditLine.{AuditLine}
+use Rattle.bayou_text.specs.declared.audit.AuditLine.TheVariants as audit
 use Rattle.bayou_text.specs.declared.command.Command.{Command}
 use Rattle.bayou_text.specs.declared.command.Command.TheVariants as command
 use Rattle.bayou_text.specs.declared.line.Line.{Line}
@@ -23,8 +28,19 @@ IsCommand command.Judge = ⊤
 IsCommand command.Survey = ⊤
 IsCommand command.Book = ⊤
 
+-- what became of an operation
+abbrev pub IsWhat : What → Type 0
+IsWhat what.Refused = ⊤
+IsWhat (what.Read key vector) = IsKey key × AreCounts vector
+IsWhat (what.Write wid stamp deps) = AreCounts deps
+
+-- and each line of an audit file
+abbrev pub IsAudit : AuditLine → Type 0
+IsAudit (audit.Entry told counts) = (told.place < 2 ^ 32) × IsWhat told.what
+IsAudit (audit.Held place item counts) = IsWrite item
+
 -- and each line
 abbrev pub IsLine : Line → Type 0
 IsLine (line.Servers count limit) = (count < 2 ^ 32) × IfSome limit (λ most. most < 2 ^ 32)
 IsLine (line.Command command) = IsCommand command
-IsLine (line.Audit told) = ⊤
+IsLine (line.Audit told) = IsAudit told
