@@ -6,23 +6,30 @@ use std::alloc::Global;
 use std::io;
 use std::io::{ErrorKind, Read, Write};
 
-/// Files in memory: their names and their bytes.
+/// Files in memory: their names and their bytes. A reader of one gives a byte at each call, and fails at the call of this number.
 #[derive(Drop)]
 pub struct FakeFiles<'a> {
-    pub files: &'a [(&'a str, &'a [u8])],
+    pub files: &'a [(&'a str, &'a str)],
+    pub fails_at: u64,
 }
 
 impl<'a> Files for FakeFiles<'a> {
-    type Reader = &'a [u8];
+    type Reader = FakeReader<'a>;
 
     ghost opens = { λ name reader. Unit {0} };
 
     ghost refuses = { λ name. Unit {0} };
 
-    fn open(&mut self, _alloc: Global, name: &str) -> io::Result<&'a [u8]> {
-        for (named, bytes) in self.files.iter() {
+    fn open(&mut self, _alloc: Global, name: &str) -> io::Result<FakeReader<'a>> {
+        for (named, text) in self.files.iter() {
             if *named == name {
-                return Ok(*bytes);
+                return Ok(FakeReader {
+                    bytes: text.as_bytes(),
+                    is_endless: false,
+                    pace: 1,
+                    fails_at: self.fails_at,
+                    calls: 0,
+                });
             }
         }
         Err(io::Error::from(ErrorKind::NotFound))

@@ -22,7 +22,7 @@ pub fn roomy(alloc: Global) -> Result<Vec<u8>, AllocError> {
 pub fn call_on(
     alloc: Global,
     words: &[&str],
-    files: &[(&str, &[u8])],
+    files: &mut FakeFiles<'_>,
     input: &[u8],
 ) -> Result<Given, AllocError> {
     let mut output = roomy(alloc)?;
@@ -31,7 +31,7 @@ pub fn call_on(
     let status = run_main(
         alloc,
         words,
-        &mut FakeFiles { files },
+        files,
         &mut Channel::new(&mut reader, ()),
         &mut Output::new(&mut output),
         &mut Output::new(&mut errors),
@@ -45,7 +45,11 @@ pub fn call_on(
 
 /// Calls the program with these words over this input. There are no files.
 pub fn call(alloc: Global, words: &[&str], input: &[u8]) -> Result<Given, AllocError> {
-    call_on(alloc, words, &[], input)
+    let mut files = FakeFiles {
+        files: &[],
+        fails_at: 0,
+    };
+    call_on(alloc, words, &mut files, input)
 }
 
 /// Runs a script.

@@ -44,7 +44,10 @@ fn run(
     run_main(
         alloc,
         &["bayou", "run"],
-        &mut FakeFiles { files: &[] },
+        &mut FakeFiles {
+            files: &[],
+            fails_at: 0,
+        },
         &mut Channel::new(reader, ()),
         &mut Output::new(writer),
         &mut Output::new(errors),
@@ -247,7 +250,10 @@ fn pieces(rt: HostRuntime) -> Result<(), Fail> {
     let status = run_main(
         alloc,
         &["bayou", "run"],
-        &mut FakeFiles { files: &[] },
+        &mut FakeFiles {
+            files: &[],
+            fails_at: 0,
+        },
         &mut Channel::new(&mut reader, ()),
         &mut Output::new(&mut writer),
         &mut Output::new(&mut errors),
