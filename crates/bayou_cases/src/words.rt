@@ -24,7 +24,7 @@ static WORDS: [(&[&str], &str, &str, u8); 8] = [
         "unexpected argument 'other.jsonl'",
         2,
     ),
-    (&["bayou", "audit", "--help"], "[\"held\",S,", "", 0),
+    (&["bayou", "audit", "--help"], "[\"held\",S,[ORIGIN,", "", 0),
     (&["bayou", "audit"], "", "<FILE>", 2),
 ];
 
