@@ -37,7 +37,7 @@ static AUDITS: [Case; 14] = [
         status: 1,
     },
     Case {
-        name: "a read from a database that its server never had",
+        name: "a read from a database that its server never had (examples/audit/forged.jsonl)",
         script: r#"["servers",2]
 ["entry",0,1,[],0,"write",1,1,[0,0]]
 ["entry",0,2,[],1,"read","room",[0,1]]
@@ -48,7 +48,7 @@ static AUDITS: [Case; 14] = [
         status: 2,
     },
     Case {
-        name: "a Write with a clock that isn't one above its past",
+        name: "a Write with a clock that isn't one above its past (examples/audit/dump.jsonl)",
         script: r#"["servers",2]
 ["entry",0,1,[],0,"write",1,1,[0,0]]
 ["entry",0,2,[],1,"read","room",[0,0]]

@@ -68,11 +68,11 @@ order. I is a session (0 to 31), S a server. Below each form stands an example.
 
   ["servers",N]  ["servers",N,LIMIT]  there are servers 0 to N-1 (N 1 to 8); the limit says nothing here
       ["servers",2]
-  ["entry",I,PLACE,ASKS,S,"read",KEY,VECTOR]  session I read a key at server S, from the database that VECTOR counts
-      ["entry",0,2,["ryw"],1,"read","room",[0,0]]
   ["entry",I,PLACE,ASKS,S,"write",SEQ,CLOCK,VECTOR]  server S accepted a Write of session I, which got the name S:SEQ and this
                          clock; before it the server held what VECTOR counts
       ["entry",0,1,["ryw"],0,"write",1,1,[0,0]]
+  ["entry",I,PLACE,ASKS,S,"read",KEY,VECTOR]  session I read a key at server S, from the database that VECTOR counts
+      ["entry",0,2,["ryw"],1,"read","room",[0,0]]
   ["entry",I,PLACE,ASKS,S,"refused"]  server S refused session I
       ["entry",0,3,["ryw"],1,"refused"]
   ["held",S,[ORIGIN,SEQ,CLOCK,VECTOR,PROGRAM]]  server S holds the Write ORIGIN:SEQ with this clock, before which its origin held
