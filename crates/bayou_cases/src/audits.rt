@@ -167,18 +167,13 @@ fn audit(alloc: Global, text: &[u8]) -> Result<Given, AllocError> {
     call(alloc, &["bayou", "audit", "-"], text)
 }
 
-/// Calls the program for the file of this name, where one file is that has this text. Nothing stands on the standard input.
-fn call_for(alloc: Global, command: &str, name: &str, text: &str) -> Result<Given, AllocError> {
-    let mut files = FakeFiles {
-        files: &[("other.jsonl", "["), ("file.jsonl", text)],
-        fails_at: 0,
-    };
-    call_on(alloc, &["bayou", command, name], &mut files, b"")
-}
-
 /// Whether the audit file is answered as it is written, by its name and on the standard input.
 fn is_audited(alloc: Global, case: &Case) -> Result<bool, AllocError> {
-    let named = call_for(alloc, "audit", "file.jsonl", case.script)?;
+    let mut files = FakeFiles {
+        files: &[("other.jsonl", "["), ("file.jsonl", case.script)],
+        fails_at: 0,
+    };
+    let named = call_on(alloc, &["bayou", "audit", "file.jsonl"], &mut files, b"")?;
     let on_input = audit(alloc, case.script.as_bytes())?;
     Ok(case.is_whole(&named) && case.is_whole(&on_input))
 }
