@@ -11,6 +11,7 @@ use std::process::ExitCode;
 use std::{env, io};
 
 /// The files of this machine, of whose content nothing is known.
+#[derive(Drop)]
 struct HostFiles<'a> {
     rt: &'a HostRuntime,
 }

@@ -8,7 +8,7 @@ const BEGIN: &str = "[\"servers\",1]\n[\"session\",0,[]]\n";
 const BEGIN_TWO: &str = "[\"servers\",2]\n[\"session\",0,[]]\n";
 
 /// Whether the fault is told, with nothing before it; or none is, where there is none to tell.
-fn has_told(given: &Given, fault: &str) -> bool {
+pub fn has_told(given: &Given, fault: &str) -> bool {
     let is_told = given.errors.as_slice() == fault.as_bytes();
     if fault.is_empty() {
         return is_told && given.status == 0;
@@ -89,7 +89,8 @@ fn lines_at_their_borders(rt: HostRuntime) -> Result<(), Fail> {
     Ok(())
 }
 
-/// Lines that have one of two servers send its Writes to the other, or to itself.
+/// Lines that have one of two servers send its Writes to the other, or to itself; lines that ask for what was served; and lines of an audit
+/// file, which have no place in a script.
 const EXCHANGES: &str = r#"["pull",0,1]
 ["pull",0,0] => out of place
 ["pull",1,1] => out of place
@@ -115,7 +116,17 @@ const EXCHANGES: &str = r#"["pull",0,1]
 ["resend",0,8] => bad shape
 ["resend",1,0,1] => bad shape
 ["totals"]
-["totals",0] => bad shape"#;
+["totals",0] => bad shape
+["judge"]
+["judge",0] => bad shape
+["survey"]
+["survey",0] => bad shape
+["book"]
+["book",0] => bad shape
+["entry",0,1,[],0,"refused"] => out of place
+["entry",0,0,[],0,"refused"] => bad shape
+["held",0,[0,1,1,[0,0],{}]] => out of place
+["held",0,[0,1,1,[0,0]]] => bad shape"#;
 
 #[test]
 fn exchanges_at_their_borders(rt: HostRuntime) -> Result<(), Fail> {

@@ -1,6 +1,40 @@
 //! Readers and writers that do what a system may do, and count their calls.
+ghost use Rattle.std.specs.Prelude.{ℕ, List};
+
+use bayou_shell::Files;
+use std::alloc::Global;
 use std::io;
 use std::io::{ErrorKind, Read, Write};
+
+/// Files in memory: their names and their bytes. A reader of one gives a byte at each call, and fails at the call of this number.
+#[derive(Drop)]
+pub struct FakeFiles<'a> {
+    pub files: &'a [(&'a str, &'a str)],
+    pub fails_at: u64,
+}
+
+impl<'a> Files for FakeFiles<'a> {
+    type Reader = FakeReader<'a>;
+
+    ghost opens = { λ name reader. Unit {0} };
+
+    ghost refuses = { λ name. Unit {0} };
+
+    fn open(&mut self, _alloc: Global, name: &str) -> io::Result<FakeReader<'a>> {
+        for (named, text) in self.files.iter() {
+            if *named == name {
+                return Ok(FakeReader {
+                    bytes: text.as_bytes(),
+                    is_endless: false,
+                    pace: 1,
+                    fails_at: self.fails_at,
+                    calls: 0,
+                });
+            }
+        }
+        Err(io::Error::from(ErrorKind::NotFound))
+    }
+}
 
 /// A reader that is interrupted at each call but every `pace`-th, at which it gives a byte, and that fails at the call of this number.
 #[derive(Drop)]

@@ -1,3 +1,5 @@
+//! The program over memory.
+use crate::fakes::FakeFiles;
 use bayou_shell::run_main;
 use bayou_streams::{Channel, Output};
 use std::alloc::{AllocError, Global};
@@ -16,14 +18,20 @@ pub fn roomy(alloc: Global) -> Result<Vec<u8>, AllocError> {
     Vec::with_capacity(alloc, 4096)
 }
 
-/// Calls the program with these words over this input.
-pub fn call(alloc: Global, words: &[&str], input: &[u8]) -> Result<Given, AllocError> {
+/// Calls the program with these words over these files and this input.
+pub fn call_on(
+    alloc: Global,
+    words: &[&str],
+    files: &mut FakeFiles<'_>,
+    input: &[u8],
+) -> Result<Given, AllocError> {
     let mut output = roomy(alloc)?;
     let mut errors = roomy(alloc)?;
     let mut reader = input;
     let status = run_main(
         alloc,
         words,
+        files,
         &mut Channel::new(&mut reader, ()),
         &mut Output::new(&mut output),
         &mut Output::new(&mut errors),
@@ -33,6 +41,15 @@ pub fn call(alloc: Global, words: &[&str], input: &[u8]) -> Result<Given, AllocE
         errors,
         status,
     })
+}
+
+/// Calls the program with these words over this input. There are no files.
+pub fn call(alloc: Global, words: &[&str], input: &[u8]) -> Result<Given, AllocError> {
+    let mut files = FakeFiles {
+        files: &[],
+        fails_at: 0,
+    };
+    call_on(alloc, words, &mut files, input)
 }
 
 /// Runs a script.

@@ -199,7 +199,7 @@ static CASES: [Case; 32] = [
     },
     Case {
         name: "a command that there isn't yet",
-        script: "[\"servers\",1]\n[\"judge\"]\n",
+        script: "[\"servers\",1]\n[\"phase\"]\n",
         output: "",
         fault: "bayou: line 2: bad shape\n",
         status: 2,
@@ -326,7 +326,7 @@ static CASES: [Case; 32] = [
 
 impl Case {
     /// Whether it was given what it is with memory enough.
-    fn is_whole(&self, given: &Given) -> bool {
+    pub fn is_whole(&self, given: &Given) -> bool {
         given.output.as_slice() == self.output.as_bytes()
             && given.errors.as_slice() == self.fault.as_bytes()
             && given.status == self.status

@@ -1,5 +1,5 @@
 //! The program over readers and writers that are slow, fail, or never end.
-use crate::fakes::{FakeReader, FakeWriter, Pieces};
+use crate::fakes::{FakeFiles, FakeReader, FakeWriter, Pieces};
 use crate::memory::roomy;
 use bayou_shell::run_main;
 use bayou_streams::{Channel, Output};
@@ -44,6 +44,10 @@ fn run(
     run_main(
         alloc,
         &["bayou", "run"],
+        &mut FakeFiles {
+            files: &[],
+            fails_at: 0,
+        },
         &mut Channel::new(reader, ()),
         &mut Output::new(writer),
         &mut Output::new(errors),
@@ -246,6 +250,10 @@ fn pieces(rt: HostRuntime) -> Result<(), Fail> {
     let status = run_main(
         alloc,
         &["bayou", "run"],
+        &mut FakeFiles {
+            files: &[],
+            fails_at: 0,
+        },
         &mut Channel::new(&mut reader, ()),
         &mut Output::new(&mut writer),
         &mut Output::new(&mut errors),

@@ -12,18 +12,20 @@ fn has(text: &[u8], part: &str) -> bool {
 }
 
 /// Words, what is found in the output and in the errors, and the status.
-static WORDS: [(&[&str], &str, &str, u8); 6] = [
-    (&["bayou", "--help"], "bayou run < FILE", "", 0),
+static WORDS: [(&[&str], &str, &str, u8); 8] = [
+    (&["bayou", "--help"], "bayou run FILE", "", 0),
     (&["bayou", "run", "--help"], "[\"servers\",N,LIMIT]", "", 0),
     (&["bayou", "--version"], "bayou 0.", "", 0),
     (&["bayou"], "", "Usage: bayou <COMMAND>", 2),
     (&["bayou", "walk"], "", "unrecognized subcommand 'walk'", 2),
     (
-        &["bayou", "run", "script.jsonl"],
+        &["bayou", "run", "script.jsonl", "other.jsonl"],
         "",
-        "unexpected argument 'script.jsonl'",
+        "unexpected argument 'other.jsonl'",
         2,
     ),
+    (&["bayou", "audit", "--help"], "[\"held\",S,[ORIGIN,", "", 0),
+    (&["bayou", "audit"], "", "<FILE>", 2),
 ];
 
 #[test]

@@ -16,36 +16,88 @@ use clap::{Arg, ArgMatches, Command, Error};
 use std::alloc::{AllocError, Global};
 use std::convert::AsStr;
 
-const ABOUT: &str = "A replicated store in the manner of Bayou, driven by scripts.";
+const ABOUT: &str =
+    "A replicated store in the manner of Bayou, driven by scripts, and an auditor of what such stores served.";
 
 const EXAMPLE: &str =
-    r#"A script is a text of JSON lines. This one starts a server, opens a session, writes and reads:
+    r#"A script is a text of JSON lines. This one starts two servers, opens a session, writes at one server and reads at the other:
 
-  ["servers",1]
+  ["servers",2]
   ["session",0,[]]
   ["write",0,0,{"update":[["put","room",1]]}]
-  ["read",0,0,"room"]
+  ["read",0,1,"room"]
 
 Put it into a file and call: bayou run FILE
 It prints:
 
-  0 wrote 0:1 clock 1 deps 0
-  0 read room num 1 at 1
+  0 wrote 0:1 clock 1 deps 0,0
+  0 read room none at 0,0
 
-`bayou run --help` has each line of a script. Exit status: 0 the script was run; 2 the script or the command line is refused;
-3 memory, a device, the input or the output failed. docs/TROUBLE.md says what to do about each fault; examples/ has scripts
-to begin from."#;
+An audit file is a text of JSON lines too: what sessions were served, and what servers hold. Of what the script did it is
+
+  ["servers",2]
+  ["entry",0,1,[],0,"write",1,1,[0,0]]
+  ["entry",0,2,[],1,"read","room",[0,0]]
+  ["held",0,[0,1,1,[0,0],{"check":[],"merge":[],"update":[["put","room",1]]}]]
+
+which the script's line ["book"] prints. Put it into a file and call: bayou audit FILE
+It prints the verdict, and for each session what became of each guarantee, asked for or not:
+
+  clean
+  survey 0 ryw broken 1 2 1 0:1 mr ok wfr ok mw ok
+
+The session didn't read its own Write: its read at place 2, at server 1, lacks the Write 0:1 of place 1. It asked for nothing, so
+the verdict is clean.
+
+`bayou run --help` has each line of a script, `bayou audit --help` each line of an audit file. Exit status: 0 nothing is wrong; 1 a
+verdict is broken; 2 the input or the command line is refused, or a verdict is; 3 memory, a device, the input or the output failed.
+docs/TROUBLE.md says what to do about each fault; examples/ has scripts and audit files to begin from."#;
 
 const RUN_ABOUT: &str = "Reads a script, checks it, and prints a line for each answer.";
 
 const RUN_FILE: &str = "The script; without it, and where it is -, the standard input";
 
-const AUDIT_ABOUT: &str = "Reads entries and dumps, and says whether each session had what it asked for.";
+const AUDIT_ABOUT: &str =
+    "Reads entries and dumps, and says whether each session had what it asked for.";
 
 const AUDIT_FILE: &str = "The audit file; where it is -, the standard input";
 
 const AUDIT_FORM: &str =
-    r#"AUDITFORM"#;
+    r#"Each line is a JSON array, and an empty line is skipped. The first says how many servers there are; the others follow in any
+order. I is a session (0 to 31), S a server. Below each form stands an example.
+
+  ["servers",N]  ["servers",N,LIMIT]  there are servers 0 to N-1 (N 1 to 8); the limit says nothing here
+      ["servers",2]
+  ["entry",I,PLACE,ASKS,S,"write",SEQ,CLOCK,VECTOR]  server S accepted a Write of session I, which got the name S:SEQ and this
+                         clock; before it the server held what VECTOR counts
+      ["entry",0,1,["ryw"],0,"write",1,1,[0,0]]
+  ["entry",I,PLACE,ASKS,S,"read",KEY,VECTOR]  session I read a key at server S, from the database that VECTOR counts
+      ["entry",0,2,["ryw"],1,"read","room",[0,0]]
+  ["entry",I,PLACE,ASKS,S,"refused"]  server S refused session I
+      ["entry",0,3,["ryw"],1,"refused"]
+  ["held",S,[ORIGIN,SEQ,CLOCK,VECTOR,PROGRAM]]  server S holds the Write ORIGIN:SEQ with this clock, before which its origin held
+                         what VECTOR counts; the lines of a server stand in the order in which it received the Writes
+      ["held",0,[0,1,1,[0,0],{"update":[["put","room",1]]}]]
+
+PLACE  the number of the operation among those that the session tried (1 to 4294967295), which rises in the file
+ASKS   what the session asks for, any of "ryw", "mr", "wfr", "mw"; the same in each of its entries
+VECTOR N counts (0 to 65536): for each server, how many of its Writes are held
+SEQ and CLOCK are 1 to 65536; a KEY and a PROGRAM are as in a script (bayou run --help). At most 65536 entries; any number held.
+
+The verdict is printed first:
+  clean                  each session had what it asked for
+  broken G session I places A B server S wid O:Q  it hadn't: the operations at places A and B of session I break G, since server S
+                         hadn't the Write O:Q, or had it too late
+  judge refused dump S A no server can hold this: the Write at place A (from 0 on) of what server S holds doesn't fit
+  judge refused forged E no such server can have answered this: the entry of number E, from 0 on
+Then, unless it is refused, a line for each session that has an entry: `survey I ryw X mr X wfr X mw X`, X being `ok`, or
+`broken A B S O:Q`, asked for or not.
+
+Nothing is printed before the whole file was read and found good. What is wrong is told on standard error, in one line.
+Exit status: 0 clean; 1 broken; 2 the verdict, the file or the command line is refused; 3 memory, the input or the output failed.
+
+Pages: docs/AUDIT.md (how to write such a file, and what a verdict means), docs/GUARANTEES.md (what a session may ask for),
+docs/FORMATS.md (lines in and out), docs/TROUBLE.md (what to do about each fault), examples/README.md (audit files)."#;
 
 const RUN_FORM: &str =
     r#"Each line is a JSON array, and an empty line is skipped. The first starts the servers; the others follow in any order. I is a
@@ -77,6 +129,12 @@ session (0 to 31), S a server. Below each form stands an example.
       ["resend",1,0]
   ["totals"]             how many reads, Writes and refusals were filed in the book of what was served
       ["totals"]
+  ["judge"]              whether each session had what it asked for so far, told from that book and what the servers hold now
+      ["judge"]
+  ["survey"]             what became of each guarantee in each session so far, asked for or not
+      ["survey"]
+  ["book"]               prints the audit file of the run so far: that book, and what the servers hold (bayou audit --help)
+      ["book"]
 
 PROGRAM is {"check":[COND,..],"update":[OP,..],"merge":[{"when":[COND,..],"ops":[OP,..]},..]}; a list may be missing.
 Where every COND of check holds, update is applied, whole or not at all; else the first part of merge that fits.
@@ -86,12 +144,12 @@ TERM  VALUE  ["copy",KEY]  ["plus",KEY,NUMBER]
 A KEY has 1 to 32 bytes of a-z 0-9 . _ - /; a VALUE is an integer, or a text of up to 32 bytes.
 
 Nothing is printed before the whole script was read and found good. What is wrong is told on standard error, in one line.
-Exit status: 0 the script was run; 2 the script or the command line is refused; 3 memory, a device as the script begins, the
-input or the output failed.
+Exit status: 0 the script was run; 1 a verdict (judge) was broken; 2 the script or the command line is refused, or a verdict or a
+survey was; 3 memory, a device as the script begins, the input or the output failed.
 
 Pages: docs/LANGUAGE.md (programs), docs/GUARANTEES.md (what a session may ask for), docs/FORMATS.md (lines in and out),
-docs/RECOVERY.md (fuse, reopen, restart), docs/ANTI-ENTROPY.md (pull, resend), docs/BOOK.md (totals), docs/TROUBLE.md (what to do about each fault),
-examples/README.md (scripts)."#;
+docs/RECOVERY.md (fuse, reopen, restart), docs/ANTI-ENTROPY.md (pull, resend), docs/BOOK.md (totals, judge, survey, book),
+docs/TROUBLE.md (what to do about each fault), examples/README.md (scripts)."#;
 
 /// Where an input comes from.
 #[derive(Clone, Copy, Debug, PartialEq, Eq)]

@@ -1,8 +1,7 @@
 -- What words ask for, and what becomes of it.
-use Rattle.std.proofs.Common.{◌≡◌, ◌∙◌, ◌<◌, ℕ, Bool, List, [], Option, None, Some, IfSome, IfErr, Result, Ok, Err, inl, sym, refl, subst, arith}
+use Rattle.std.proofs.Common.{◌≡◌, ◌∙◌, ◌<◌, ℕ, Bool, List, [], Option, None, Some, IfSome, IfErr, Result, Ok, Err, ap, inl, sym, refl, subst, arith}
 use Rattle.std.proofs.KnownBytes.{Keeps-refl}
-use Rattle.clap.specs.Kinds.{IsAmong, Kinds}
-use Rattle.bayou_command.specs.Words.{AreMistaken, AskFor, AskForText, Asked, a_run, an_audit}
+use Rattle.bayou_command.specs.Words.{AskFor, Asked, Input as Named, a_run, an_audit, file, standard}
 use Rattle.bayou_streams.specs.Account.{Account, Pays}
 use Rattle.bayou_shell.specs.declared.ended.Ended.{Ended}
 use Rattle.bayou_shell.specs.declared.ended.Ended.TheVariants as ended
@@ -15,14 +14,6 @@ use Rattle.bayou_shell.specs.Turns.{EndsReading, EndsWriting, cut_lines}
 -- words ask for one thing
 pub asked_once : (words : List (List ℕ)) (one other : Asked) → AskFor words one → AskFor words other → one ≡ other
 asked_once words one other first second = sym first.entered ∙ second.entered
-
--- words that ask for a text ask for nothing else
-pub text_alone : (words : List (List ℕ)) (asked : Asked) → AskFor words asked → AskForText words → ⊥
-text_alone words asked is text = subst (λ (kinds : Kinds). IsAmong text.kind kinds) is.good text.among
-
--- nor do those that are a mistake
-pub mistaken_alone : (words : List (List ℕ)) (asked : Asked) → AskFor words asked → AreMistaken words → ⊥
-mistaken_alone words asked is wrong = subst (λ (kinds : Kinds). IsAmong wrong.kind kinds) is.good wrong.among
 
 -- it ended so
 pub works_so : (known : Option (List ℕ)) (asked : Asked) (result : Result Ended Fault) (status : ℕ) (old new : Option (List ℕ)) (read_fails write_fails : Bool) (reads writes : ℕ)
@@ -44,11 +35,10 @@ pub works_unread : (known : Option (List ℕ)) (asked : Asked) (status : ℕ) (c
 works_unread None asked status contents read_fails write_fails reads writes is = tt
 works_unread (Some text) asked status contents read_fails write_fails reads writes is = (Err Memory, kept asked text contents, is, tt, tt)
 
--- a run that ended well cut no line
-pub cut_none : (old new : Account) (result : Result Ended Fault) (status : ℕ) → status ≡ exit_status result → status < 2 → Pays old new (cut_lines result) → Pays old new 0
-cut_none old new (Ok done) status is few pays = pays
-cut_none old new (Err (Line number fault)) status is few pays = absurd (omega (arith, is, few))
-cut_none old new (Err Memory) status is few pays = absurd (omega (arith, is, few))
-cut_none old new (Err Device) status is few pays = absurd (omega (arith, is, few))
-cut_none old new (Err Input) status is few pays = absurd (omega (arith, is, few))
-cut_none old new (Err Output) status is few pays = absurd (omega (arith, is, few))
+abbrev name_in : Named → List ℕ
+name_in standard = []
+name_in (file name) = name
+
+-- a file has one name
+pub same_name : (one other : List ℕ) → file one ≡ file other → one ≡ other
+same_name one other is = ap name_in is

@@ -1,0 +1,637 @@
+//! Audit files, and the scripts that judge, survey and print one.
+use crate::borders::has_told;
+use crate::fakes::FakeFiles;
+use crate::memory::{Given, call, call_on, joined, run};
+use crate::scripts::{Case, is_answered};
+use std::alloc::{AllocError, Global};
+use std::str;
+use std::test::Fail;
+
+/// The file that a script prints of which a session wrote at one server and read at another.
+const FIRST: &str = r#"["servers",2]
+["entry",0,1,[],0,"write",1,1,[0,0]]
+["entry",0,2,[],1,"read","room",[0,0]]
+["held",0,[0,1,1,[0,0],{"check":[],"merge":[],"update":[["put","room",1]]}]]
+"#;
+
+const FIRST_PRINTED: &str = "clean\nsurvey 0 ryw broken 1 2 1 0:1 mr ok wfr ok mw ok\n";
+
+/// Audit files, as cases of which the script is the file.
+static AUDITS: [Case; 14] = [
+    Case {
+        name: "a read without the session's own Write, which didn't ask for it",
+        script: FIRST,
+        output: FIRST_PRINTED,
+        fault: "",
+        status: 0,
+    },
+    Case {
+        name: "the same, of a session that asked for it (examples/audit/read_your_writes.jsonl)",
+        script: r#"["servers",2]
+["entry",0,1,["ryw"],0,"write",1,1,[0,0]]
+["entry",0,2,["ryw"],1,"read","room",[0,0]]
+["held",0,[0,1,1,[0,0],{"update":[["put","room",1]]}]]
+"#,
+        output: "broken ryw session 0 places 1 2 server 1 wid 0:1\nsurvey 0 ryw broken 1 2 1 0:1 mr ok wfr ok mw ok\n",
+        fault: "",
+        status: 1,
+    },
+    Case {
+        name: "a read from a database that its server never had (examples/audit/forged.jsonl)",
+        script: r#"["servers",2]
+["entry",0,1,[],0,"write",1,1,[0,0]]
+["entry",0,2,[],1,"read","room",[0,1]]
+["held",0,[0,1,1,[0,0],{"update":[["put","room",1]]}]]
+"#,
+        output: "judge refused forged 1\n",
+        fault: "",
+        status: 2,
+    },
+    Case {
+        name: "a Write with a clock that isn't one above its past (examples/audit/dump.jsonl)",
+        script: r#"["servers",2]
+["entry",0,1,[],0,"write",1,1,[0,0]]
+["entry",0,2,[],1,"read","room",[0,0]]
+["held",0,[0,1,2,[0,0],{"update":[["put","room",1]]}]]
+"#,
+        output: "judge refused dump 0 0\n",
+        fault: "",
+        status: 2,
+    },
+    Case {
+        name: "a read that goes back (examples/audit/monotonic_reads.jsonl)",
+        script: r#"["servers",2]
+["entry",1,1,[],0,"write",1,1,[0,0]]
+["entry",0,1,["mr"],0,"read","room",[1,0]]
+["entry",0,2,["mr"],1,"read","room",[0,0]]
+["held",0,[0,1,1,[0,0],{"update":[["put","room",1]]}]]
+"#,
+        output: "broken mr session 0 places 1 2 server 1 wid 0:1\nsurvey 0 ryw ok mr broken 1 2 1 0:1 wfr ok mw ok\nsurvey 1 ryw ok mr ok wfr ok mw ok\n",
+        fault: "",
+        status: 1,
+    },
+    Case {
+        name: "an answer that is held before its question (examples/audit/writes_follow_reads.jsonl)",
+        script: r#"["servers",2]
+["entry",1,1,[],0,"write",1,1,[0,0]]
+["entry",0,1,["wfr"],0,"read","question",[1,0]]
+["entry",0,2,["wfr"],1,"write",1,1,[0,0]]
+["held",0,[0,1,1,[0,0],{"update":[["put","question","when"]]}]]
+["held",1,[1,1,1,[0,0],{"update":[["put","answer","noon"]]}]]
+["held",1,[0,1,1,[0,0],{"update":[["put","question","when"]]}]]
+"#,
+        output: "broken wfr session 0 places 1 2 server 1 wid 0:1\nsurvey 0 ryw ok mr ok wfr broken 1 2 1 0:1 mw ok\nsurvey 1 ryw ok mr ok wfr ok mw ok\n",
+        fault: "",
+        status: 1,
+    },
+    Case {
+        name: "a second Write that is held without the first (examples/audit/monotonic_writes.jsonl)",
+        script: r#"["servers",2]
+["entry",0,1,["mw"],0,"write",1,1,[0,0]]
+["entry",0,2,["mw"],1,"write",1,1,[0,0]]
+["held",0,[0,1,1,[0,0],{"update":[["put","door","closed"]]}]]
+["held",1,[1,1,1,[0,0],{"update":[["put","alarm","on"]]}]]
+"#,
+        output: "broken mw session 0 places 1 2 server 1 wid 0:1\nsurvey 0 ryw ok mr ok wfr ok mw broken 1 2 1 0:1\n",
+        fault: "",
+        status: 1,
+    },
+    Case {
+        name: "all four, each kept (examples/audit/clean.jsonl)",
+        script: r#"["servers",2]
+["entry",0,1,["ryw","mr","wfr","mw"],0,"write",1,1,[0,0]]
+["entry",0,2,["ryw","mr","wfr","mw"],1,"refused"]
+["entry",0,3,["ryw","mr","wfr","mw"],1,"read","room",[1,0]]
+["entry",0,4,["ryw","mr","wfr","mw"],1,"write",1,2,[1,0]]
+["held",0,[0,1,1,[0,0],{"update":[["put","room",1]]}]]
+["held",1,[0,1,1,[0,0],{"update":[["put","room",1]]}]]
+["held",1,[1,1,2,[1,0],{"update":[["put","room",2]]}]]
+"#,
+        output: "clean\nsurvey 0 ryw ok mr ok wfr ok mw ok\n",
+        fault: "",
+        status: 0,
+    },
+    Case {
+        name: "two breaches: that of the lesser session is told, though it stands behind; held lines stand among the entries",
+        script: r#"["servers",2]
+["held",0,[0,1,1,[0,0],{}]]
+["entry",31,1,["mr"],0,"read","a",[1,0]]
+["entry",31,2,["mr"],1,"read","a",[0,0]]
+["held",0,[0,2,2,[1,0],{}]]
+["entry",2,7,["ryw","mr"],0,"read","a",[2,0]]
+["entry",2,4294967295,["mr","ryw","mr"],0,"read","a",[1,0]]
+"#,
+        output: "broken mr session 2 places 7 4294967295 server 0 wid 0:2\nsurvey 2 ryw ok mr broken 7 4294967295 0 0:2 wfr ok mw ok\nsurvey 31 ryw ok mr broken 1 2 1 0:1 wfr ok mw ok\n",
+        fault: "",
+        status: 1,
+    },
+    Case {
+        name: "a session whose one entry is a refusal",
+        script: "[\"servers\",1]\n\n[\"entry\",5,1,[],0,\"refused\"]",
+        output: "clean\nsurvey 5 ryw ok mr ok wfr ok mw ok\n",
+        fault: "",
+        status: 0,
+    },
+    Case {
+        name: "no entry, and nothing held; a limit says nothing",
+        script: "[\"servers\",8,1]\n",
+        output: "clean\n",
+        fault: "",
+        status: 0,
+    },
+    Case {
+        name: "more Writes than the limit, which says nothing",
+        script: "[\"servers\",1,1]\n[\"held\",0,[0,1,1,[0],{}]]\n[\"held\",0,[0,2,2,[1],{}]]\n",
+        output: "clean\n",
+        fault: "",
+        status: 0,
+    },
+    Case {
+        name: "a place that isn't above the session's last",
+        script: "[\"servers\",1]\n[\"entry\",0,2,[],0,\"refused\"]\n[\"entry\",1,1,[],0,\"refused\"]\n[\"entry\",0,2,[],0,\"refused\"]\n",
+        output: "judge refused forged 2\n",
+        fault: "",
+        status: 2,
+    },
+    Case {
+        name: "a name of which two servers hold different Writes",
+        script: "[\"servers\",2]\n[\"held\",0,[0,1,1,[0,0],{}]]\n[\"held\",1,[1,1,1,[0,0],{}]]\n[\"held\",1,[0,1,1,[0,0],{\"update\":[[\"del\",\"a\"]]}]]\n",
+        output: "judge refused dump 1 1\n",
+        fault: "",
+        status: 2,
+    },
+];
+
+/// Audits the text on the standard input.
+fn audit(alloc: Global, text: &[u8]) -> Result<Given, AllocError> {
+    call(alloc, &["bayou", "audit", "-"], text)
+}
+
+/// Whether the audit file is answered as it is written, by its name and on the standard input.
+fn is_audited(alloc: Global, case: &Case) -> Result<bool, AllocError> {
+    let mut files = FakeFiles {
+        files: &[("other.jsonl", "["), ("file.jsonl", case.script)],
+        fails_at: 0,
+    };
+    let named = call_on(alloc, &["bayou", "audit", "file.jsonl"], &mut files, b"")?;
+    let on_input = audit(alloc, case.script.as_bytes())?;
+    Ok(case.is_whole(&named) && case.is_whole(&on_input))
+}
+
+#[test]
+fn worked_audits(rt: HostRuntime) -> Result<(), Fail> {
+    for case in AUDITS.iter() {
+        assert!(rt; is_audited(rt.alloc(), case)?, "{}", case.name);
+    }
+    Ok(())
+}
+
+/// Scripts that judge, survey and print an audit file. No session of a run is broken in what it asks for: a verdict `broken`, and with it
+/// the status 1, comes of audit files alone.
+static SCRIPTS: [Case; 5] = [
+    Case {
+        name: "the file of a Write and a read elsewhere",
+        script: r#"["servers",2,100]
+["session",0,[]]
+["write",0,0,{"update":[["put","room",1]]}]
+["read",0,1,"room"]
+["book"]
+"#,
+        output: r#"0 wrote 0:1 clock 1 deps 0,0
+0 read room none at 0,0
+["servers",2]
+["entry",0,1,[],0,"write",1,1,[0,0]]
+["entry",0,2,[],1,"read","room",[0,0]]
+["held",0,[0,1,1,[0,0],{"check":[],"merge":[],"update":[["put","room",1]]}]]
+"#,
+        fault: "",
+        status: 0,
+    },
+    Case {
+        name: "its verdict and its survey, and both again once the server has the Write",
+        script: r#"["servers",2,100]
+["session",0,[]]
+["judge"]
+["survey"]
+["write",0,0,{"update":[["put","room",1]]}]
+["read",0,1,"room"]
+["judge"]
+["survey"]
+["pull",1,0]
+["read",0,1,"room"]
+["judge"]
+["survey"]
+"#,
+        output: r#"clean
+0 wrote 0:1 clock 1 deps 0,0
+0 read room none at 0,0
+clean
+survey 0 ryw broken 1 2 1 0:1 mr ok wfr ok mw ok
+pulled 1 had 0
+0 read room num 1 at 1,0
+clean
+survey 0 ryw broken 1 2 1 0:1 mr ok wfr ok mw ok
+"#,
+        fault: "",
+        status: 0,
+    },
+    Case {
+        name: "a server that is stopped, of which what it held counts, and that has lost it once it runs",
+        script: r#"["servers",1,100]
+["session",0,["ryw"]]
+["write",0,0,{"update":[["put","a",1]]}]
+["lose",0,101]
+["fuse",0,2,5]
+["restart",0]
+["read",0,0,"a"]
+["judge"]
+["survey"]
+["book"]
+["restart",0]
+["read",0,0,"a"]
+["survey"]
+["judge"]
+["book"]
+["totals"]
+"#,
+        output: r#"0 wrote 0:1 clock 1 deps 0
+restart refused journal
+0 lost
+clean
+survey 0 ryw ok mr ok wfr ok mw ok
+["servers",1]
+["entry",0,1,["ryw"],0,"write",1,1,[0]]
+["held",0,[0,1,1,[0],{"check":[],"merge":[],"update":[["put","a",1]]}]]
+restarted 0 holds 0 dropped 5
+0 refused behind at 0
+judge refused forged 0
+judge refused forged 0
+["servers",1]
+["entry",0,1,["ryw"],0,"write",1,1,[0]]
+["entry",0,3,["ryw"],0,"refused"]
+totals reads 0 writes 1 refusals 1 slips 0
+"#,
+        fault: "",
+        status: 2,
+    },
+    Case {
+        name: "a survey that is refused makes the status too; a clean verdict behind it doesn't unmake it",
+        script: r#"["servers",1,100]
+["session",0,[]]
+["session",1,[]]
+["write",0,0,{}]
+["lose",0,1]
+["restart",0]
+["survey"]
+["fuse",0,2,0]
+["write",1,0,{}]
+["reopen",0]
+["judge"]
+"#,
+        output: "0 wrote 0:1 clock 1 deps 0\nrestarted 0 holds 0 dropped 77\njudge refused forged 0\n1 refused journal\nreopened 0 adopted 0:1\nclean\n",
+        fault: "",
+        status: 2,
+    },
+    Case {
+        name: "the book of nothing",
+        script: "[\"servers\",8]\n[\"book\"]\n[\"judge\"]\n[\"survey\"]\n",
+        output: "[\"servers\",8]\nclean\n",
+        fault: "",
+        status: 0,
+    },
+];
+
+#[test]
+fn worked_verdicts_of_scripts(rt: HostRuntime) -> Result<(), Fail> {
+    for case in SCRIPTS.iter() {
+        assert!(rt; is_answered(rt.alloc(), case)?, "{}", case.name);
+    }
+    Ok(())
+}
+
+/// Scripts, and how many of their sessions have an entry.
+static BOOKED: [(&str, usize); 3] = [
+    (
+        r#"["servers",3,100]
+["session",0,["ryw","mr","wfr","mw"]]
+["session",7,["mr"]]
+["session",31,["wfr"]]
+["write",0,0,{"check":[["absent","room/9"]],"update":[["put","room/9","ä \"9\""]],"merge":[{"when":[["atleast","n",-3]],"ops":[["del","n"]]}]}]
+["pull",1,0]
+["write",7,2,{"update":[["put","a",["copy","room/9"]]]}]
+["pull",1,2]
+["read",0,1,"a"]
+["write",0,1,{"update":[["put","b",["plus","n",9223372036854775807]]]}]
+["read",0,2,"b"]
+["pull",2,1]
+["read",0,2,"b"]
+["read",7,2,"b"]
+["read",7,0,"b"]
+["book"]
+"#,
+        2,
+    ),
+    (
+        r#"["servers",2,2]
+["session",0,["ryw","mr","wfr","mw"]]
+["session",1,[]]
+["write",0,0,{}]
+["write",1,1,{}]
+["pull",1,0]
+["pull",0,1]
+["write",0,0,{}]
+["fuse",0,1,0]
+["restart",0]
+["read",1,0,"a"]
+["read",0,1,"a"]
+["book"]
+"#,
+        2,
+    ),
+    ("[\"servers\",1]\n[\"book\"]\n", 0),
+];
+
+/// Whether the audit file that the script prints last is clean, and has a line of the survey for each of so many sessions.
+fn comes_back(alloc: Global, script: &str, sessions: usize) -> Result<bool, AllocError> {
+    let given = run(alloc, script.as_bytes())?;
+    let Ok(printed) = str::from_utf8(given.output.as_slice()) else {
+        return Ok(false);
+    };
+    let Some((_, rest)) = printed.split_once("[\"servers\",") else {
+        return Ok(false);
+    };
+    let file = joined(alloc, &[b"[\"servers\",", rest.as_bytes()])?;
+    let told = audit(alloc, &file)?;
+    let Ok(lines) = str::from_utf8(told.output.as_slice()) else {
+        return Ok(false);
+    };
+    let Some(survey) = lines.strip_prefix("clean\n") else {
+        return Ok(false);
+    };
+    Ok(survey.lines().count() == sessions && told.status == 0)
+}
+
+#[test]
+fn books_that_are_audited(rt: HostRuntime) -> Result<(), Fail> {
+    for (script, sessions) in BOOKED.iter() {
+        assert!(rt; comes_back(rt.alloc(), script, *sessions)?, "{script}");
+    }
+    Ok(())
+}
+
+/// Second lines of an audit file of two servers, and what each is told, where it is told anything.
+const LINES: &str = r#"["entry",0,1,[],0,"refused"]
+["entry",0,1,[],0,"refused" => not JSON
+["entry",31,4294967295,["ryw"],1,"refused"]
+["entry",32,1,[],0,"refused"] => bad shape
+["entry",0,0,[],0,"refused"] => bad shape
+["entry",0,4294967296,[],0,"refused"] => bad shape
+["entry",0,1,["RYW"],0,"refused"] => bad shape
+["entry",0,1,[],2,"refused"] => out of place
+["entry",0,1,[],8,"refused"] => bad shape
+["entry",0,1,[],0,"lost"] => bad shape
+["entry",0,1,[],0,"refused",0] => bad shape
+["entry",0,1,[],0] => bad shape
+["entry",0,1,[],0,"read","room",[0,0]]
+["entry",0,1,[],0,"write","room",[0,0]] => bad shape
+["entry",0,1,[],0,"read","Room",[0,0]] => bad key
+["entry",0,1,[],0,"read",7,[0,0]] => bad shape
+["entry",0,1,[],0,"read","room",[]] => bad shape
+["entry",0,1,[],0,"read","room",[0]] => out of place
+["entry",0,1,[],0,"read","room",[0,0,0]] => out of place
+["entry",0,1,[],0,"read","room",[0,0,0,0,0,0,0,0]] => out of place
+["entry",0,1,[],0,"read","room",[0,0,0,0,0,0,0,0,0]] => bad shape
+["entry",0,1,[],0,"read","room",[0,-1]] => bad shape
+["entry",0,1,[],0,"read","room",[0,65537]] => bad shape
+["entry",0,1,[],0,"read","room",0] => bad shape
+["entry",0,1,[],0,"write",0,1,[0,0]] => bad shape
+["entry",0,1,[],0,"write",1,65537,[0,0]] => bad shape
+["entry",0,1,[],0,"write",1,1,[0]] => out of place
+["entry",0,1,[],0,"read",1,1,[0,0]] => bad shape
+["held",0,[0,1,1,[0,0],{}]]
+["held",1,[0,1,1,[0,0],{"check":[["absent","a"]]}]]
+["held",2,[0,1,1,[0,0],{}]] => out of place
+["held",8,[0,1,1,[0,0],{}]] => bad shape
+["held",0,[2,1,1,[0,0],{}]] => out of place
+["held",0,[8,1,1,[0,0],{}]] => bad shape
+["held",0,[0,1,1,[0],{}]] => out of place
+["held",0,[0,0,1,[0,0],{}]] => bad shape
+["held",0,[0,1,0,[0,0],{}]] => bad shape
+["held",0,[0,1,1,[0,0]]] => bad shape
+["held",0,{}] => bad shape
+["held",0] => bad shape
+["held",0,[0,1,1,[0,0],{"update":[["put","Room",1]]}]] => bad key
+["held",0,[0,1,1,[0,0],{"merge":[{},{},{},{},{}]}]] => bad program
+["servers",2] => out of place
+["servers",9] => bad shape
+["session",0,[]] => out of place
+["write",0,0,{}] => out of place
+["read",0,0,"a"] => out of place
+["pull",0,1] => out of place
+["totals"] => out of place
+["judge"] => out of place
+["survey"] => out of place
+["book"] => out of place
+["phase"] => bad shape"#;
+
+/// Whether the row's line is told so behind the servers.
+fn is_so(alloc: Global, row: &str) -> Result<bool, AllocError> {
+    let (line, told) = row.split_once(" => ").unwrap_or((row, ""));
+    let file = joined(alloc, &[b"[\"servers\",2]\n", line.as_bytes()])?;
+    let given = audit(alloc, &file)?;
+    if told.is_empty() {
+        return Ok(has_told(&given, ""));
+    }
+    let fault = format!(in alloc; "bayou: line 2: {told}\n")?;
+    Ok(has_told(&given, fault.as_str()))
+}
+
+#[test]
+fn lines_of_audit_files(rt: HostRuntime) -> Result<(), Fail> {
+    for row in LINES.lines() {
+        assert!(rt; is_so(rt.alloc(), row)?, "{row}");
+    }
+    Ok(())
+}
+
+/// What stands in front, a piece that stands behind it so many times, what stands last, and what is printed and told. The last file has as
+/// many entries as it may, all of one place, and the one before it one more; lines above the 65,536th have their place.
+static WHOLE: [(&str, &str, usize, &str, &str, &str); 9] = [
+    ("", "", 0, "", "", "bayou: line 1: out of place\n"),
+    ("", "\n", 3, "", "", "bayou: line 1: out of place\n"),
+    (
+        "\n",
+        "",
+        0,
+        "[\"entry\",0,1,[],0,\"refused\"]\n[\"servers\",1]\n",
+        "",
+        "bayou: line 2: out of place\n",
+    ),
+    (
+        "",
+        "",
+        0,
+        "[\"held\",0,[0,1,1,[0],{}]]\n",
+        "",
+        "bayou: line 1: out of place\n",
+    ),
+    (
+        "[\"session\",0,[]]\n",
+        "",
+        0,
+        "{",
+        "",
+        "bayou: line 1: out of place\n",
+    ),
+    (
+        "[\"servers\",1]\n",
+        "[\"entry\",0,1,[],0,\"refused\"]\n",
+        2,
+        "[\"held\",0,[0,1,1,[1],{}]]\n{",
+        "",
+        "bayou: line 5: not JSON\n",
+    ),
+    (
+        "[\"servers\",1]\n",
+        "\n",
+        65_540,
+        "[\"held\",0,[0,1,1,[0],{}]]\n[\"entry\",0,1,[],0,\"read\",\"a\",[1]]\n",
+        "clean\nsurvey 0 ryw ok mr ok wfr ok mw ok\n",
+        "",
+    ),
+    (
+        "[\"servers\",1]\n",
+        "[\"entry\",0,1,[],0,\"refused\"]\n",
+        65_537,
+        "{",
+        "",
+        "bayou: line 65538: out of place\n",
+    ),
+    (
+        "[\"servers\",1]\n",
+        "[\"entry\",0,1,[],0,\"refused\"]\n",
+        65_536,
+        "[\"held\",0,[0,1,1,[0],{}]]\n",
+        "judge refused forged 1\n",
+        "",
+    ),
+];
+
+/// The piece so many times between these two.
+fn repeated(
+    alloc: Global,
+    front: &str,
+    piece: &str,
+    count: usize,
+    back: &str,
+) -> Result<Vec<u8>, AllocError> {
+    let mut file = front.as_bytes().to_vec(alloc)?;
+    for _ in 0..count {
+        file.extend_from_slice(piece.as_bytes())?;
+    }
+    file.extend_from_slice(back.as_bytes())?;
+    Ok(file)
+}
+
+/// Whether the audit of the file prints this and tells that.
+fn is_answer(alloc: Global, file: &[u8], printed: &str, told: &str) -> Result<bool, AllocError> {
+    let given = audit(alloc, file)?;
+    Ok(given.output.as_slice() == printed.as_bytes() && given.errors.as_slice() == told.as_bytes())
+}
+
+#[test]
+fn audit_files_as_a_whole(rt: HostRuntime) -> Result<(), Fail> {
+    let alloc = rt.alloc();
+    for (front, piece, count, back, printed, told) in WHOLE.iter() {
+        let file = repeated(alloc, front, piece, *count, back)?;
+        assert!(rt;
+            is_answer(alloc, &file, printed, told)?,
+            "{front}, {count}: {printed}{told}"
+        );
+    }
+    Ok(())
+}
+
+const SCRIPT: &str = "[\"servers\",1]\n[\"session\",0,[]]\n[\"read\",0,0,\"x\"]\n";
+
+const SCRIPT_PRINTED: &str = "0 read x none at 0\n";
+
+/// Commands and what they are to do, the number of the call at which the file's reader fails, and what is printed and told, and the status.
+/// On the standard input stands a script.
+static NAMED: [(&[&str], u64, &str, &str, u8); 9] = [
+    (&["bayou", "run"], 1, SCRIPT_PRINTED, "", 0),
+    (&["bayou", "run", "-"], 1, SCRIPT_PRINTED, "", 0),
+    (&["bayou", "run", "script.jsonl"], 0, SCRIPT_PRINTED, "", 0),
+    (&["bayou", "run", "absent"], 0, "", "bayou: input\n", 3),
+    (
+        &["bayou", "run", "script.jsonl"],
+        7,
+        "",
+        "bayou: input\n",
+        3,
+    ),
+    (
+        &["bayou", "run", "audit.jsonl"],
+        0,
+        "",
+        "bayou: line 2: out of place\n",
+        2,
+    ),
+    (&["bayou", "audit", "audit.jsonl"], 0, FIRST_PRINTED, "", 0),
+    (&["bayou", "audit", "absent"], 0, "", "bayou: input\n", 3),
+    (
+        &["bayou", "audit", "audit.jsonl"],
+        100,
+        "",
+        "bayou: input\n",
+        3,
+    ),
+];
+
+/// Whether the call ends so.
+fn ends_so(
+    alloc: Global,
+    words: &[&str],
+    fails_at: u64,
+    printed: &str,
+    told: &str,
+    status: u8,
+) -> Result<bool, AllocError> {
+    let mut files = FakeFiles {
+        files: &[("audit.jsonl", FIRST), ("script.jsonl", SCRIPT)],
+        fails_at,
+    };
+    let given = call_on(alloc, words, &mut files, SCRIPT.as_bytes())?;
+    let is_printed = given.output.as_slice() == printed.as_bytes();
+    let is_told = given.errors.as_slice() == told.as_bytes();
+    Ok(is_printed && is_told && given.status == status)
+}
+
+#[test]
+fn files_that_are_named(rt: HostRuntime) -> Result<(), Fail> {
+    for (words, fails_at, printed, told, status) in NAMED.iter() {
+        assert!(rt;
+            ends_so(rt.alloc(), words, *fails_at, printed, told, *status)?,
+            "{printed}{told}"
+        );
+    }
+    Ok(())
+}
+
+/// This is for runs in which any one allocation is refused: the file is answered as ever, or the audit ends for want of memory behind a
+/// front of what it prints.
+fn ends_well(alloc: Global, case: &Case) -> Result<bool, AllocError> {
+    let given = audit(alloc, case.script.as_bytes())?;
+    let has_ended = given.errors.as_slice() == b"bayou: memory\n".as_slice()
+        && given.status == 3
+        && case.output.as_bytes().starts_with(given.output.as_slice());
+    Ok(case.is_whole(&given) || has_ended)
+}
+
+#[test]
+fn want_of_memory_over_the_worked_audits(rt: HostRuntime) -> Result<(), Fail> {
+    for case in AUDITS.iter() {
+        assert!(rt; ends_well(rt.alloc(), case)?, "{}", case.name);
+    }
+    Ok(())
+}
