@@ -33,7 +33,7 @@ pub struct Filing<K: Ledgers> {
 impl<K: Ledgers> Model for Filing<K> {
     ghost use Rattle.std.specs.Prelude.{◌≡◌};
     ghost use Rattle.bayou_machine.specs.declared.answer.Answer.TheVariants.{Booked};
-ghost use Rattle.bayou_machine.specs.Filed.{Filings};
+    ghost use Rattle.bayou_machine.specs.Filed.{Filings};
     ghost use Rattle.bayou_machine.specs.Inner.Filing.{AreOfSessions};
 
     ghost Value = { Filings };
@@ -231,7 +231,12 @@ impl<K: Ledgers> Filing<K> {
         ensures { IfOk result (IsJudged (audited store.now self.now)) }
     {
         let file = self.book(alloc, store)?;
-        match judge(alloc, file.count, file.entries.as_slice(), file.dumps.as_slice()) {
+        match judge(
+            alloc,
+            file.count,
+            file.entries.as_slice(),
+            file.dumps.as_slice(),
+        ) {
             Err(Refusal::OutOfMemory) => Err(AllocError),
             told => Ok(Answer::Judged(told)),
         }
@@ -242,7 +247,12 @@ impl<K: Ledgers> Filing<K> {
         ensures { IfOk result (IsSurveyed (audited store.now self.now)) }
     {
         let file = self.book(alloc, store)?;
-        match survey(alloc, file.count, file.entries.as_slice(), file.dumps.as_slice()) {
+        match survey(
+            alloc,
+            file.count,
+            file.entries.as_slice(),
+            file.dumps.as_slice(),
+        ) {
             Err(Refusal::OutOfMemory) => Err(AllocError),
             told => Ok(Answer::Surveyed(told)),
         }

@@ -52,10 +52,7 @@ pub(crate) fn refused_line(alloc: Global, refusal: &Refusal) -> Result<String, A
 }
 
 /// The line of the verdict, or of why there is none. Of want of memory nothing is told.
-pub fn verdict_line(
-    alloc: Global,
-    verdict: &Result<Verdict, Refusal>,
-) -> Result<String, AllocError>
+pub fn verdict_line(alloc: Global, verdict: &Result<Verdict, Refusal>) -> Result<String, AllocError>
     ensures { IfOk result (λ line. string_bytes line ≡ verdict_text verdict.now) }
 {
     match verdict {

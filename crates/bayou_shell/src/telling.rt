@@ -128,13 +128,7 @@ fn write_parts<W: Write>(
             output,
             waiting,
         ),
-        Answer::Surveyed(Ok(list)) => write_each(
-            alloc,
-            &Survey,
-            list.as_slice(),
-            output,
-            waiting,
-        ),
+        Answer::Surveyed(Ok(list)) => write_each(alloc, &Survey, list.as_slice(), output, waiting),
         Answer::Booked(file) => write_book(alloc, file, output, waiting),
         Answer::Done
         | Answer::Wrote { .. }
