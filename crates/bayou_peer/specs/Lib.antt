@@ -1,3 +1,4 @@
+pub mod AtNode
 pub mod First
 pub mod Inner
 pub mod Lent

@@ -1,0 +1,16 @@
+use Rattle.std.proofs.Common.{subst}
+use Rattle.bayou_node.proofs.Keeps.{reopening_keeps}
+use Rattle.bayou_node.specs.Books.{Booked, StillHolds}
+use Rattle.bayou_node.proofs.held.Held.reopen.Goals as goal
+
+-- src/held.rt:178:24
+pub returns-in_err-reopened-clause-keeps : goal.returns-in_err-reopened-clause-keeps
+returns-in_err-reopened-clause-keeps g c =
+    subst (λ (held : Booked g.row.D.Denot). StillHolds held.server.core c.reopen.new.self.core) c.self.view_is
+    (reopening_keeps c.self.inside.server.core c.reopen.result c.reopen.new.self.core c.reopen.ensures.reopens)
+
+-- src/held.rt:167:5
+pub returns-clause-keeps : goal.returns-clause-keeps
+returns-clause-keeps g c =
+    subst (λ (held : Booked g.row.D.Denot). StillHolds held.server.core c.reopen.new.self.core) c.self.view_is
+    (reopening_keeps c.self.inside.server.core c.reopen.result c.reopen.new.self.core c.reopen.ensures.reopens)

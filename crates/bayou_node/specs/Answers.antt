@@ -1,0 +1,34 @@
+-- What a server behind its lock answers. Between two calls other threads may have called it, so what stood behind the lock is told by what
+-- is true of it whenever the lock is free.
+use Rattle.std.specs.Prelude.{◌≡◌, ℕ, ◌+◌, ◌<◌, ◌≤◌, List, Result, Ok, Err, slice_index}
+use Rattle.bayou_base.specs.declared.answer.Accepted.{Accepted}
+use Rattle.bayou_base.specs.Vector.{Dominates}
+use Rattle.bayou_server.specs.declared.fault.WriteFault.{WriteFault}
+use Rattle.bayou_server.specs.Server.{Core, IsSoundServer, own_count}
+
+-- what may be behind the lock: it is this server, it is sound, and it has made no fewer Writes itself than it had as its node was made
+pub record MayBeKept (server stored : ℕ) (core : Core) : Type 0 where
+  pub whose : core.id ≡ server
+  pub sound : IsSoundServer core
+  pub own : stored ≤ own_count core
+
+-- it is so in something that may be behind the lock
+abbrev pub InSome : (server stored : ℕ) → (Core → Type 0) → Type 0
+InSome server stored IsSo = (core : Core) × MayBeKept server stored core × IsSo core
+
+-- a step that leads from something that may be behind the lock to something that may be
+abbrev pub BySome : (server stored : ℕ) → (Core → Core → Type 0) → Type 0
+BySome server stored Steps = (old new : Core) × MayBeKept server stored old × MayBeKept server stored new × Steps old new
+
+-- The accepted Write is the server's own, it is the next behind all that its server held, which has all that the session needs (Terry et
+-- al. 1994), and its seq is above the number of those that were accepted for the desk before.
+pub record IsAccepted (server : ℕ) (need : List ℕ) (paid : ℕ) (accepted : Accepted) : Type 0 where
+  pub own : accepted.wid.origin.index ≡ server
+  pub covered : Dominates accepted.deps need
+  pub next : accepted.wid.seq ≡ slice_index accepted.deps server + 1
+  pub above : paid < accepted.wid.seq
+
+-- what is paid to a desk: one for an accepted Write, and nothing for a refusal
+abbrev pub Pays : (old : ℕ) → Result Accepted WriteFault → (new : ℕ) → Type 0
+Pays old (Ok accepted) new = new ≡ old + 1
+Pays old (Err fault) new = new ≡ old

@@ -1,0 +1,176 @@
+ghost use Rattle.std.specs.Prelude.{◌≡◌, ◌≤◌, ◌<◌, ℕ, IfOk, MatchResult, length, take};
+ghost use Rattle.bayou_base.specs.Vector.{Dominates};
+ghost use Rattle.bayou_lang.specs.Writes.{count_of, lacking_of};
+ghost use Rattle.bayou_log.specs.Listing.{listing_of};
+ghost use Rattle.bayou_node.specs.Answers.{BySome, InSome, IsAccepted, Pays};
+ghost use Rattle.bayou_node.specs.Books.{AreNewDesks, IsBlankOf};
+ghost use Rattle.bayou_node.specs.Settles.{IsNodeSettled};
+ghost use Rattle.bayou_server.specs.Reads.{Reads};
+ghost use Rattle.bayou_server.specs.Reopens.{Reopens};
+ghost use Rattle.bayou_server.specs.Server.{own_count};
+ghost use Rattle.bayou_server.specs.Takes.{Takes};
+ghost use Rattle.bayou_server.specs.Writes.{Writes};
+
+use crate::desk::{Desk, Desks};
+use crate::held::Held;
+use crate::settled::{DeskMissing, NotMade, Settled};
+use bayou_base::{Accepted, Key, Seen, ServerId, Vector};
+use bayou_device::Device;
+use bayou_lang::{RestingProgram, RestingWrite};
+use bayou_log::Listed;
+use bayou_server::{Behind, ReopenFault, Reopened, Server, TakeFault, Took, WriteFault};
+use std::alloc::{AllocError, Global};
+use std::marker::Model;
+use std::sync::ledger::Blank;
+use std::sync::{Mutex, Wait};
+
+/// A server behind its lock, which threads share. Each call takes the lock once, and may wait for it.
+#[derive(Drop)]
+pub struct Node<D, L: Desks> {
+    held: Mutex<Held<D, L>>,
+    id: ServerId,
+}
+
+impl<D, L: Desks> Model for Node<D, L> {
+    ghost use Rattle.std.specs.Prelude.{◌≡◌};
+    ghost use Rattle.bayou_base.specs.declared.server.ServerId.{ServerId as Name};
+
+    ghost Value = { Name };
+
+    ghost view = { λ n. n.id };
+
+    ghost invariant = { λ n. n.id.index ≡ L.server };
+}
+
+impl<D: Device, L: Desks> Node<D, L> {
+    /// The server behind a lock, and so many desks.
+    pub fn new(
+        alloc: Global,
+        blank: Blank,
+        server: Server<D>,
+        desks: u32,
+    ) -> Result<(Self, Vec<Desk<L>>), NotMade<D>>
+        requires blank { IsBlankOf blank L.name L.parts desks }
+        requires whose { (server.core.id ≡ L.server) × (own_count server.core ≡ L.stored) }
+        ensures made { MatchResult result
+            (λ made. (made.0.index ≡ server.core.id) × AreNewDesks desks made.1.items)
+            (λ left. left.server ≡ server) }
+    {
+        let id = server.id();
+        let (held, desks) = Held::new(alloc, blank, server, desks)?;
+        Ok((
+            Node {
+                held: Mutex::new(held),
+                id,
+            },
+            desks,
+        ))
+    }
+
+    /// Which server it has. This takes no lock.
+    pub fn id(&self) -> ServerId
+        ensures { (result ≡ self.now) × (result.index ≡ L.server) }
+    {
+        self.id
+    }
+
+    /// As [`Held::read`].
+    pub fn read<R: Wait>(&self, rt: &R, need: &Vector, key: &Key) -> Result<Seen, Behind>
+        ensures reads { InSome L.server L.stored (λ core. Reads core need.now key.now result) }
+        ensures covered { IfOk result (λ seen. Dominates seen.vector need.now) }
+    {
+        self.held.lock(rt).read(need, key)
+    }
+
+    /// As [`Held::write`].
+    pub fn write<R: Wait>(
+        &self,
+        rt: &R,
+        alloc: Global,
+        desk: &mut Desk<L>,
+        need: &Vector,
+        program: RestingProgram,
+    ) -> Result<Accepted, WriteFault>
+        ensures writes { BySome L.server L.stored (λ old new. Writes old need.now program result new) }
+        ensures accepted { IfOk result (IsAccepted L.server need.now desk.old) }
+        ensures pays { Pays desk.old result desk.new }
+    {
+        self.held.lock(rt).write(alloc, desk, need, program)
+    }
+
+    /// What its server holds, at some time during the call.
+    pub fn offer<R: Wait>(&self, rt: &R) -> Vector
+        ensures { InSome L.server L.stored (λ core. result ≡ count_of core.held) }
+    {
+        self.held.lock(rt).vector()
+    }
+
+    /// As [`Held::lacking`].
+    pub fn lacking<R: Wait>(
+        &self,
+        rt: &R,
+        alloc: Global,
+        counts: &Vector,
+        max: usize,
+    ) -> Result<Vec<RestingWrite>, AllocError>
+        ensures value { InSome L.server L.stored (λ core. IfOk result (λ writes. writes.items ≡ take max (lacking_of counts.now core.held))) }
+        ensures few { IfOk result (λ writes. length writes.items ≤ max) }
+    {
+        self.held.lock(rt).lacking(alloc, counts, max)
+    }
+
+    /// As [`Held::take`].
+    pub fn take<R: Wait>(
+        &self,
+        rt: &R,
+        alloc: Global,
+        write: RestingWrite,
+    ) -> Result<Took, TakeFault>
+        ensures { BySome L.server L.stored (λ old new. Takes old write result new) }
+    {
+        self.held.lock(rt).take(alloc, write)
+    }
+
+    /// As [`Held::reopen`].
+    pub fn reopen<R: Wait>(&self, rt: &R, alloc: Global) -> Result<Reopened, ReopenFault>
+        ensures { BySome L.server L.stored (λ old new. Reopens old result new) }
+    {
+        self.held.lock(rt).reopen(alloc)
+    }
+
+    /// As [`Held::listing`].
+    pub fn listing<R: Wait>(&self, rt: &R, alloc: Global) -> Result<Vec<Listed>, AllocError>
+        ensures { InSome L.server L.stored (λ core. IfOk result (λ list. list.items ≡ listing_of core.held)) }
+    {
+        self.held.lock(rt).listing(alloc)
+    }
+
+    /// As [`Held::dump`].
+    pub fn dump<R: Wait>(&self, rt: &R, alloc: Global) -> Result<Vec<RestingWrite>, AllocError>
+        ensures { InSome L.server L.stored (λ core. IfOk result (λ writes. writes.items ≡ core.held)) }
+    {
+        self.held.lock(rt).dump(alloc)
+    }
+
+    /// What the books come to, where all desks are back; the server is dropped, and its device with it. Else node and desks come back.
+    pub fn settle(self, desks: Vec<Desk<L>>) -> Result<Settled, DeskMissing<Self, L>>
+        ensures { MatchResult result
+            (IsNodeSettled L.server L.stored L.parts desks.items)
+            (λ left. (length desks.items < L.parts) × (left.node ≡ self) × (left.desks.items ≡ desks.items)) }
+    {
+        let Node { held, id } = self;
+        match held.into_inner().settle(desks) {
+            Ok(settled) => Ok(settled),
+            Err(left) => {
+                let DeskMissing { node, desks } = left;
+                Err(DeskMissing {
+                    node: Node {
+                        held: Mutex::new(node),
+                        id,
+                    },
+                    desks,
+                })
+            }
+        }
+    }
+}

@@ -1,0 +1,141 @@
+//! Two nodes are served at once: while a Write waits at the device of one, a read at the other is answered.
+ghost use Rattle.std.specs.Prelude.{◌≡◌};
+ghost use Rattle.bayou_node.specs.Books.{IsBlankOf};
+ghost use Rattle.bayou_server.specs.Server.{own_count};
+
+use crate::fixtures::{Served, begun, key, put, served};
+use bayou_base::Vector;
+use bayou_device::{Device, Gate, MemoryDevice};
+use bayou_node::{Desk, Desks, Node};
+use bayou_server::Server;
+use std::alloc::Global;
+use std::marker::Brand;
+use std::process::Abort;
+use std::sync::Wait;
+use std::sync::atomic::{AtomicU64, Ordering};
+use std::sync::ledger::Blank;
+use std::test::Fail;
+use std::thread;
+use std::thread::Threads;
+use std::time::{Clock, Duration};
+
+/// Nobody has come yet.
+const SHUT: u64 = 0;
+
+const OPEN: u64 = 1;
+
+/// Nobody came in time.
+const GIVEN_UP: u64 = 2;
+
+/// A gate that holds each append until it is open, for at most 10,000 sleeps of a millisecond.
+struct HoldingGate<'a, C> {
+    state: &'a AtomicU64,
+    clock: &'a C,
+}
+
+impl<C> Drop for HoldingGate<'_, C> {
+    fn drop(self) {
+        let HoldingGate { state: _, clock: _ } = self;
+    }
+}
+
+impl<C: Clock> Gate for HoldingGate<'_, C> {
+    fn pass(&self, _held: usize) {
+        for _ in 0..10_000_u32 {
+            if self.state.load(Ordering::SeqCst) != SHUT {
+                return;
+            }
+            thread::sleep(self.clock, Duration::from_millis(1));
+        }
+        self.state.store(GIVEN_UP, Ordering::SeqCst);
+    }
+}
+
+/// A server whose appends are held.
+type HeldUp<'a, C> = Server<MemoryDevice<HoldingGate<'a, C>>>;
+
+/// Whether a Write is accepted at the node, however long its device holds it up.
+fn is_written<C: Clock, L: Desks, R: Wait + Abort>(
+    rt: &R,
+    alloc: Global,
+    node: &Node<MemoryDevice<HoldingGate<'_, C>>, L>,
+    desk: &mut Desk<L>,
+) -> bool {
+    let Ok(program) = put(rt, 1).rest(alloc) else {
+        return false;
+    };
+    node.write(rt, alloc, desk, &Vector::zero(), program).is_ok()
+}
+
+/// Whether a read is answered, before anybody was given up. Then the gate is opened.
+fn is_read<D: Device, M: Desks, R: Wait + Abort>(
+    rt: &R,
+    node: &Node<D, M>,
+    state: &AtomicU64,
+) -> bool {
+    let is_answered = node.read(rt, &Vector::zero(), &key(rt, "a")).is_ok();
+    let was_held = state.load(Ordering::SeqCst) == SHUT;
+    state.store(OPEN, Ordering::SeqCst);
+    is_answered && was_held
+}
+
+/// Whether both are answered.
+fn serves_both<'a, C, L, M, R>(
+    rt: &R,
+    alloc: Global,
+    state: &AtomicU64,
+    first: Blank,
+    slow: HeldUp<'a, C>,
+    second: Blank,
+    quick: Served,
+) -> bool
+where
+    C: Clock + Sync,
+    L: Desks + Send + Sync,
+    M: Desks + Send + Sync,
+    R: Threads + Wait + Abort + Sync,
+    requires slow { IsBlankOf first L.name L.parts 1 × (slow.core.id ≡ L.server) × (own_count slow.core ≡ L.stored) }
+    requires quick { IsBlankOf second M.name M.parts 1 × (quick.core.id ≡ M.server) × (own_count quick.core ≡ M.stored) }
+{
+    let Ok((slow, mut desks)) = Node::<_, L>::new(alloc, first, slow, 1) else {
+        return false;
+    };
+    let Ok((quick, _)) = Node::<_, M>::new(alloc, second, quick, 1) else {
+        return false;
+    };
+    let Some(mut desk) = desks.pop() else {
+        return false;
+    };
+    let (lent, beside) = (&slow, &quick);
+    let (is_put, is_seen) = thread::join(
+        rt,
+        move || is_written(rt, alloc, lent, &mut desk),
+        move || is_read(rt, beside, state),
+    );
+    is_put && is_seen
+}
+
+#[test]
+fn a_write_that_waits_at_one_node_holds_up_no_read_at_another(rt: HostRuntime) -> Result<(), Fail> {
+    let alloc = rt.alloc();
+    let state = AtomicU64::new(OPEN);
+    let gate = HoldingGate {
+        state: &state,
+        clock: &rt,
+    };
+    let slow = begun(&rt, alloc, 0, MemoryDevice::new(alloc, gate))?;
+    let quick = served(&rt, alloc, 1)?;
+    // The header of the journal was appended as the server began; what is appended from now on is held.
+    state.store(SHUT, Ordering::SeqCst);
+    let are_served = serves_both::<HostRuntime, Brand, Brand, HostRuntime>(
+        &rt,
+        alloc,
+        &state,
+        Blank::new(1),
+        slow,
+        Blank::new(1),
+        quick,
+    );
+    assert!(rt; are_served && state.load(Ordering::SeqCst) == OPEN);
+    Ok(())
+}

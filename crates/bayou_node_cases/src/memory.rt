@@ -1,0 +1,232 @@
+//! Want of memory at a node.
+ghost use Rattle.std.specs.Prelude.{◌≡◌};
+ghost use Rattle.bayou_node.specs.Books.{IsBlankOf};
+ghost use Rattle.bayou_server.specs.Server.{own_count};
+
+use crate::fixtures::{Memory, Served, put, served, vector};
+use bayou_base::{ServerId, Stamp, Vector, Wid};
+use bayou_lang::Write;
+use bayou_node::{Desk, Desks, Node, Settled};
+use bayou_server::{ReopenFault, TakeFault, Took, WriteFault};
+use std::alloc::Global;
+use std::marker::Brand;
+use std::process::Abort;
+use std::sync::Wait;
+use std::sync::ledger::Blank;
+use std::test::Fail;
+
+/// What became of the programs.
+#[derive(Clone, Copy)]
+struct Made {
+    accepted: u32,
+    adopted: u32,
+}
+
+fn writes<L: Desks, R: Wait + Abort>(
+    rt: &R,
+    alloc: Global,
+    node: &Node<Memory, L>,
+    desk: &mut Desk<L>,
+) -> Result<u32, WriteFault> {
+    let program = put(rt, 1).rest(alloc)?;
+    let accepted = node.write(rt, alloc, desk, &Vector::zero(), program)?;
+    Ok(accepted.wid.seq)
+}
+
+/// Whether a reopening adopts the Write in doubt, tried again where memory was refused; or nothing where it isn't up then.
+fn adopts<L: Desks, R: Wait>(rt: &R, alloc: Global, node: &Node<Memory, L>) -> Option<bool> {
+    let reopened = match node.reopen(rt, alloc) {
+        Err(ReopenFault::OutOfMemory) => node.reopen(rt, alloc),
+        answer => answer,
+    };
+    Some(reopened.ok()?.adopted.is_some())
+}
+
+/// The program once more; or, where its Write is in doubt, a reopening, and the program once more where that forgets the Write.
+fn writes_again<L: Desks, R: Wait + Abort>(
+    rt: &R,
+    alloc: Global,
+    node: &Node<Memory, L>,
+    desk: &mut Desk<L>,
+    fault: WriteFault,
+) -> Option<Made> {
+    let is_adopted = match fault {
+        WriteFault::Journal => adopts(rt, alloc, node)?,
+        _ => false,
+    };
+    if is_adopted {
+        return Some(Made {
+            accepted: 0,
+            adopted: 1,
+        });
+    }
+    match writes(rt, alloc, node, desk) {
+        Ok(_) => Some(Made {
+            accepted: 1,
+            adopted: 0,
+        }),
+        Err(WriteFault::Journal) if adopts(rt, alloc, node)? => Some(Made {
+            accepted: 0,
+            adopted: 1,
+        }),
+        Err(_) => None,
+    }
+}
+
+/// What becomes of a program that is tried until its Write is held.
+fn writes_at_last<L: Desks, R: Wait + Abort>(
+    rt: &R,
+    alloc: Global,
+    node: &Node<Memory, L>,
+    desk: &mut Desk<L>,
+) -> Option<Made> {
+    match writes(rt, alloc, node, desk) {
+        Ok(_) => Some(Made {
+            accepted: 1,
+            adopted: 0,
+        }),
+        Err(fault) => writes_again(rt, alloc, node, desk, fault),
+    }
+}
+
+/// The second server's first Write, which held nothing.
+fn foreign(rt: &impl Abort) -> Write {
+    let server = ServerId::new(1).expect(rt, "no server");
+    Write {
+        wid: Wid::new(server, 1).expect(rt, "no name"),
+        stamp: Stamp::new(1, server).expect(rt, "no stamp"),
+        deps: Vector::zero(),
+        program: put(rt, 9),
+    }
+}
+
+fn takes<L: Desks, R: Wait + Abort>(
+    rt: &R,
+    alloc: Global,
+    node: &Node<Memory, L>,
+) -> Result<Took, TakeFault> {
+    node.take(rt, alloc, foreign(rt).rest(alloc)?)
+}
+
+/// Whether the second server's Write is taken, tried again where that was refused; one in doubt is settled first.
+fn takes_at_last<L: Desks, R: Wait + Abort>(rt: &R, alloc: Global, node: &Node<Memory, L>) -> bool {
+    match takes(rt, alloc, node) {
+        Ok(took) => took == Took::New,
+        Err(TakeFault::Journal) => {
+            adopts(rt, alloc, node).is_some() && takes(rt, alloc, node).is_ok()
+        }
+        Err(_) => takes(rt, alloc, node) == Ok(Took::New),
+    }
+}
+
+/// How many Writes the node lists, dumps, and sends to a server that holds nothing.
+fn told<L: Desks, R: Wait>(rt: &R, alloc: Global, node: &Node<Memory, L>) -> Option<[usize; 3]> {
+    Some([
+        node.listing(rt, alloc).ok()?.len(),
+        node.dump(rt, alloc).ok()?.len(),
+        node.lacking(rt, alloc, &Vector::zero(), 100).ok()?.len(),
+    ])
+}
+
+/// What becomes of three programs, one after another, and then whether the second server's Write is taken, and all are told.
+fn goes<L: Desks, R: Wait + Abort>(
+    rt: &R,
+    alloc: Global,
+    node: &Node<Memory, L>,
+    desk: &mut Desk<L>,
+) -> Option<Made> {
+    let first = writes_at_last(rt, alloc, node, desk)?;
+    let second = writes_at_last(rt, alloc, node, desk)?;
+    let third = writes_at_last(rt, alloc, node, desk)?;
+    let is_taken = takes_at_last(rt, alloc, node);
+    let are_told = told(rt, alloc, node) == Some([4; 3]) || told(rt, alloc, node) == Some([4; 3]);
+    if !is_taken || !are_told {
+        return None;
+    }
+    Some(Made {
+        accepted: first.accepted.min(1) + second.accepted.min(1) + third.accepted.min(1),
+        adopted: first.adopted.min(1) + second.adopted.min(1) + third.adopted.min(1),
+    })
+}
+
+/// Room for one desk, asked for again where it was refused.
+fn room<L: Desks>(alloc: Global) -> Option<Vec<Desk<L>>> {
+    match Vec::with_capacity(alloc, 1) {
+        Ok(room) => Some(room),
+        Err(_) => Vec::with_capacity(alloc, 1).ok(),
+    }
+}
+
+/// Whether the node, whose one desk this is, comes to what was made.
+fn settles<L: Desks>(
+    rt: &impl Abort,
+    alloc: Global,
+    node: Node<Memory, L>,
+    desk: Desk<L>,
+    made: Made,
+) -> bool {
+    let Some(mut desks) = room(alloc) else {
+        return false;
+    };
+    if desks.push(desk).is_err() {
+        return false;
+    }
+    let expected = Settled {
+        accepted: made.accepted,
+        adopted: made.adopted,
+        vector: vector(rt, 3, 1),
+    };
+    match node.settle(desks) {
+        Ok(settled) => settled == expected,
+        Err(_) => false,
+    }
+}
+
+/// Whether a new node goes so, and comes to what was made; or the server, where there was no memory for its desk.
+fn goes_of<L: Desks, R: Wait + Abort>(
+    rt: &R,
+    alloc: Global,
+    blank: Blank,
+    server: Served,
+) -> Result<bool, Served>
+    requires blank { IsBlankOf blank L.name L.parts 1 }
+    requires whose { (server.core.id ≡ L.server) × (own_count server.core ≡ L.stored) }
+{
+    let (node, mut desks) = match Node::<_, L>::new(alloc, blank, server, 1) {
+        Ok(made) => made,
+        Err(left) => return Err(left.server),
+    };
+    let Some(mut desk) = desks.pop() else {
+        return Ok(false);
+    };
+    match goes(rt, alloc, &node, &mut desk) {
+        Some(made) => Ok(settles(rt, alloc, node, desk, made)),
+        None => Ok(false),
+    }
+}
+
+/// Once more, with the server that came back.
+fn goes_again(rt: &HostRuntime, alloc: Global, server: Served) -> bool {
+    match goes_of::<Brand, HostRuntime>(rt, alloc, Blank::new(1), server) {
+        Ok(is_so) => is_so,
+        Err(_) => false,
+    }
+}
+
+/// For runs in which any one allocation is refused: what was acknowledged is kept and counted, and what was refused can be done again.
+/// The second program's Write is added and not synced where all memory is given.
+#[test]
+fn one_want_of_memory_costs_a_node_nothing(rt: HostRuntime) -> Result<(), Fail> {
+    let alloc = rt.alloc();
+    let mut server = match served(&rt, alloc, 0) {
+        Ok(server) => server,
+        Err(_) => served(&rt, alloc, 0)?,
+    };
+    server.device().fuse(4, 0);
+    let is_so = match goes_of::<Brand, HostRuntime>(&rt, alloc, Blank::new(1), server) {
+        Ok(is_so) => is_so,
+        Err(server) => goes_again(&rt, alloc, server),
+    };
+    assert!(rt; is_so);
+    Ok(())
+}
