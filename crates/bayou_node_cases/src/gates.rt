@@ -28,15 +28,10 @@ const OPEN: u64 = 1;
 const GIVEN_UP: u64 = 2;
 
 /// A gate that holds each append until it is open, for at most 10,000 sleeps of a millisecond.
+#[derive(Drop)]
 struct HoldingGate<'a, C> {
     state: &'a AtomicU64,
     clock: &'a C,
-}
-
-impl<C> Drop for HoldingGate<'_, C> {
-    fn drop(self) {
-        let HoldingGate { state: _, clock: _ } = self;
-    }
 }
 
 impl<C: Clock> Gate for HoldingGate<'_, C> {

@@ -20,14 +20,9 @@ const LISTS: u32 = 100;
 const CALLS: u32 = 60;
 
 /// Numbers that look as if they were thrown (a linear congruential generator with the constants of Numerical Recipes).
+#[derive(Drop)]
 struct Dice {
     state: u32,
-}
-
-impl Drop for Dice {
-    fn drop(self) {
-        let Dice { state: _ } = self;
-    }
 }
 
 impl Dice {
@@ -81,7 +76,7 @@ fn program(rt: &impl Abort, dice: &mut Dice) -> Program {
     }
 }
 
-fn call(rt: &impl Abort, dice: &mut Dice) -> Call {
+fn any_call(rt: &impl Abort, dice: &mut Dice) -> Call {
     match dice.throw(14) {
         0 | 1 => Call::Read(need(rt, dice)),
         2..=5 => Call::Write(need(rt, dice), program(rt, dice)),
@@ -95,23 +90,13 @@ fn call(rt: &impl Abort, dice: &mut Dice) -> Call {
 }
 
 /// A node with its one desk, and the server beside it.
+#[derive(Drop)]
 struct Pair<L: Desks> {
     node: Node<Memory, L>,
     desk: Desk<L>,
     server: Served,
     /// How many programs were accepted.
     accepted: u32,
-}
-
-impl<L: Desks> Drop for Pair<L> {
-    fn drop(self) {
-        let Pair {
-            node: _,
-            desk: _,
-            server: _,
-            accepted: _,
-        } = self;
-    }
 }
 
 fn reads_alike<L: Desks, R: Wait + Abort>(rt: &R, pair: &Pair<L>, need: &Vector) -> bool {
@@ -239,7 +224,7 @@ fn go_alike<L: Desks, R: Wait + Abort>(
     let mut dice = Dice { state: number };
     let mut are_alike = true;
     for _ in 0..CALLS {
-        let call = call(rt, &mut dice);
+        let call = any_call(rt, &mut dice);
         are_alike &= answers_alike(rt, alloc, &mut pair, &call);
     }
     are_alike && dumps_alike(rt, alloc, &pair) && settles_alike(alloc, pair)
@@ -255,18 +240,17 @@ fn fused(rt: &impl Abort, alloc: Global, number: u32) -> Option<Served> {
 }
 
 /// The same of a new node and a new server.
-fn goes(rt: &HostRuntime, number: u32) -> bool {
-    let alloc = rt.alloc();
+fn goes<R: Wait + Abort>(rt: &R, alloc: Global, number: u32) -> bool {
     let (Some(server), Some(beside)) = (fused(rt, alloc, number), fused(rt, alloc, number)) else {
         return false;
     };
-    go_alike::<Brand, HostRuntime>(rt, alloc, Blank::new(1), server, beside, number)
+    go_alike::<Brand, R>(rt, alloc, Blank::new(1), server, beside, number)
 }
 
 #[test]
 fn a_node_answers_as_a_server_does(rt: HostRuntime) -> Result<(), Fail> {
     for number in 0..LISTS {
-        assert!(rt; goes(&rt, number), "{number}");
+        assert!(rt; goes(&rt, rt.alloc(), number), "{number}");
     }
     Ok(())
 }

@@ -206,8 +206,8 @@ fn goes_of<L: Desks, R: Wait + Abort>(
 }
 
 /// Once more, with the server that came back.
-fn goes_again(rt: &HostRuntime, alloc: Global, server: Served) -> bool {
-    match goes_of::<Brand, HostRuntime>(rt, alloc, Blank::new(1), server) {
+fn goes_again<R: Wait + Abort>(rt: &R, alloc: Global, server: Served) -> bool {
+    match goes_of::<Brand, R>(rt, alloc, Blank::new(1), server) {
         Ok(is_so) => is_so,
         Err(_) => false,
     }

@@ -12,6 +12,7 @@ use std::marker::Model;
 use std::sync::Wait;
 
 /// A node, and the runtime by which each call waits for its lock. Between two calls the lock is free.
+#[derive(Drop)]
 pub(crate) struct AtNode<'a, D, L: Desks, R> {
     pub(crate) node: &'a Node<D, L>,
     pub(crate) rt: &'a R,
