@@ -7,6 +7,8 @@ mod fakes;
 #[cfg(test)]
 mod items;
 #[cfg(test)]
+mod nodes;
+#[cfg(test)]
 mod pulls;
 #[cfg(test)]
 mod serves;

@@ -227,7 +227,7 @@ impl<D: Device, L: Desks> Held<D, L> {
         if desks.len() < self.desks {
             return Err(DeskMissing { node: self, desks });
         }
-        let vector = self.server.vector();
+        let vector = self.vector();
         let own = own_writes(&self.server);
         let Held {
             server: _,

@@ -59,7 +59,8 @@ fn is_written<C: Clock, L: Desks, R: Wait + Abort>(
     let Ok(program) = put(rt, 1).rest(alloc) else {
         return false;
     };
-    node.write(rt, alloc, desk, &Vector::zero(), program).is_ok()
+    node.write(rt, alloc, desk, &Vector::zero(), program)
+        .is_ok()
 }
 
 /// Whether a read is answered, before anybody was given up. Then the gate is opened.

@@ -52,7 +52,7 @@ enum Call {
 /// A Write of the second server, which held its own alone. It may come too soon, twice, or with a program that is another's.
 fn foreign(rt: &impl Abort, dice: &mut Dice) -> Write {
     let server = ServerId::new(1).expect(rt, "no server");
-    let seq = dice.throw(6) + 1;
+    let seq = dice.throw(6).saturating_add(1);
     let number = i64::from(seq) + i64::from(dice.throw(8) / 7);
     Write {
         wid: Wid::new(server, seq).expect(rt, "no name"),

@@ -149,37 +149,26 @@ fn goes<L: Desks, R: Wait + Abort>(
     })
 }
 
-/// Room for one desk, asked for again where it was refused.
-fn room<L: Desks>(alloc: Global) -> Option<Vec<Desk<L>>> {
-    match Vec::with_capacity(alloc, 1) {
-        Ok(room) => Some(room),
-        Err(_) => Vec::with_capacity(alloc, 1).ok(),
-    }
+fn is_as_made(rt: &impl Abort, settled: Settled, made: Made) -> bool {
+    settled
+        == Settled {
+            accepted: made.accepted,
+            adopted: made.adopted,
+            vector: vector(rt, 3, 1),
+        }
 }
 
-/// Whether the node, whose one desk this is, comes to what was made.
+/// Whether the node, whose desks these are, comes to what was made.
 fn settles<L: Desks>(
     rt: &impl Abort,
-    alloc: Global,
     node: Node<Memory, L>,
-    desk: Desk<L>,
+    desks: Vec<Desk<L>>,
     made: Made,
 ) -> bool {
-    let Some(mut desks) = room(alloc) else {
+    let Ok(settled) = node.settle(desks) else {
         return false;
     };
-    if desks.push(desk).is_err() {
-        return false;
-    }
-    let expected = Settled {
-        accepted: made.accepted,
-        adopted: made.adopted,
-        vector: vector(rt, 3, 1),
-    };
-    match node.settle(desks) {
-        Ok(settled) => settled == expected,
-        Err(_) => false,
-    }
+    is_as_made(rt, settled, made)
 }
 
 /// Whether a new node goes so, and comes to what was made; or the server, where there was no memory for its desk.
@@ -199,10 +188,12 @@ fn goes_of<L: Desks, R: Wait + Abort>(
     let Some(mut desk) = desks.pop() else {
         return Ok(false);
     };
-    match goes(rt, alloc, &node, &mut desk) {
-        Some(made) => Ok(settles(rt, alloc, node, desk, made)),
-        None => Ok(false),
-    }
+    let Some(made) = goes(rt, alloc, &node, &mut desk) else {
+        return Ok(false);
+    };
+    // Its place in the list is there.
+    let is_back = desks.push(desk).is_ok();
+    Ok(is_back && settles(rt, node, desks, made))
 }
 
 /// Once more, with the server that came back.

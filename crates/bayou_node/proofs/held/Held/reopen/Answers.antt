@@ -1,4 +1,4 @@
-use Rattle.std.proofs.Common.{subst}
+use Rattle.std.proofs.Common.{rules, subst}
 use Rattle.bayou_node.proofs.Keeps.{reopening_keeps}
 use Rattle.bayou_node.specs.Books.{Booked, StillHolds}
 use Rattle.bayou_node.proofs.held.Held.reopen.Goals as goal
@@ -14,3 +14,15 @@ pub returns-clause-keeps : goal.returns-clause-keeps
 returns-clause-keeps g c =
     subst (λ (held : Booked g.row.D.Denot). StillHolds held.server.core c.reopen.new.self.core) c.self.view_is
     (reopening_keeps c.self.inside.server.core c.reopen.result c.reopen.new.self.core c.reopen.ensures.reopens)
+
+-- src/held.rt:167:5
+pub invariant_of-self-2 : goal.invariant_of-self-2
+invariant_of-self-2 g c = search rules
+
+-- src/held.rt:167:5
+pub returns-clause-counts : goal.returns-clause-counts
+returns-clause-counts g c = search rules
+
+-- src/held.rt:167:5
+pub returns-clause-exact : goal.returns-clause-exact
+returns-clause-exact g c = search rules

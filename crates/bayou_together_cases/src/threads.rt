@@ -1,0 +1,228 @@
+//! Eight threads at three nodes.
+ghost use Rattle.std.specs.Prelude.{◌≡◌};
+ghost use Rattle.bayou_node.specs.Books.{IsBlankOf};
+ghost use Rattle.bayou_server.specs.Server.{own_count};
+
+use crate::hands::{Dice, Hand, Three, reopens, works};
+use crate::meetings::{Memory, meets};
+use bayou_base::ServerId;
+use bayou_device::{MemoryDevice, OpenGate};
+use bayou_node::{Desk, Desks, Node, Settled};
+use bayou_server::{Server, StartFault};
+use std::alloc::{AllocError, Global};
+use std::marker::Brand;
+use std::process::Abort;
+use std::sync::Wait;
+use std::sync::ledger::Blank;
+use std::test::Fail;
+use std::thread;
+use std::thread::Threads;
+
+/// How many threads there are.
+const THREADS: u32 = 8;
+
+/// The desks of the threads at one node.
+type Row<L> = Vec<Desk<L>>;
+
+/// One server of three. Its device fails at this call.
+fn begun(
+    rt: &impl Abort,
+    alloc: Global,
+    index: u8,
+    fails_at: u32,
+) -> Result<Server<Memory>, StartFault> {
+    let id = ServerId::new(index % 3).expect(rt, "no server");
+    let device = MemoryDevice::new(alloc, OpenGate);
+    let (mut server, _) = match Server::start(alloc, id, 3, 60_000, device) {
+        Ok(started) => started,
+        Err(refused) => return Err(refused.fault),
+    };
+    server.device().fuse(fails_at.max(1), 40);
+    Ok(server)
+}
+
+/// A hand for each thread.
+fn hands<L: Desks, M: Desks, N: Desks>(
+    alloc: Global,
+    rows: (Row<L>, Row<M>, Row<N>),
+) -> Result<Vec<Hand<L, M, N>>, AllocError> {
+    let (mut firsts, mut seconds, mut thirds) = rows;
+    let mut hands = Vec::with_capacity(alloc, THREADS as usize)?;
+    for state in 0..THREADS {
+        let (Some(first), Some(second), Some(third)) = (firsts.pop(), seconds.pop(), thirds.pop())
+        else {
+            return Ok(hands);
+        };
+        hands.push(Hand {
+            first,
+            second,
+            third,
+            accepted: [0; 3],
+            done: 0,
+            is_so: true,
+            dice: Dice { state },
+        })?;
+    }
+    Ok(hands)
+}
+
+/// What the threads say in the end.
+#[derive(Clone, Copy)]
+struct Sums {
+    accepted: [u32; 3],
+    done: u32,
+    is_so: bool,
+}
+
+impl Sums {
+    fn add(&mut self, accepted: [u32; 3], done: u32, is_so: bool) {
+        self.done = self.done.saturating_add(done);
+        self.is_so &= is_so;
+        for (sum, number) in self.accepted.iter_mut().zip(accepted) {
+            *sum = sum.saturating_add(number);
+        }
+    }
+}
+
+/// The desks again, and what the threads say.
+fn laid_down<L: Desks, M: Desks, N: Desks>(
+    alloc: Global,
+    hands: Vec<Hand<L, M, N>>,
+) -> Result<((Row<L>, Row<M>, Row<N>), Sums), AllocError> {
+    let mut rows = (Vec::new(alloc), Vec::new(alloc), Vec::new(alloc));
+    let mut sums = Sums {
+        accepted: [0; 3],
+        done: 0,
+        is_so: true,
+    };
+    for hand in hands {
+        sums.add(hand.accepted, hand.done, hand.is_so);
+        rows.0.push(hand.first)?;
+        rows.1.push(hand.second)?;
+        rows.2.push(hand.third)?;
+    }
+    Ok((rows, sums))
+}
+
+/// Whether all three are up, and hold the same, once each has met the others.
+fn come_together<L: Desks, M: Desks, N: Desks, R: Wait>(
+    rt: &R,
+    alloc: Global,
+    three: &Three<'_, L, M, N>,
+) -> bool {
+    let are_up = reopens(rt, alloc, three.first)
+        && reopens(rt, alloc, three.second)
+        && reopens(rt, alloc, three.third);
+    let have_met = meets(rt, alloc, three.first, three.second)
+        && meets(rt, alloc, three.first, three.third)
+        && meets(rt, alloc, three.second, three.first)
+        && meets(rt, alloc, three.third, three.first);
+    are_up && have_met && hold_the_same(rt, alloc, three)
+}
+
+/// Whether the three list the same Writes, with the same outcomes.
+fn hold_the_same<L: Desks, M: Desks, N: Desks, R: Wait>(
+    rt: &R,
+    alloc: Global,
+    three: &Three<'_, L, M, N>,
+) -> bool {
+    let (Ok(first), Ok(second), Ok(third)) = (
+        three.first.listing(rt, alloc),
+        three.second.listing(rt, alloc),
+        three.third.listing(rt, alloc),
+    ) else {
+        return false;
+    };
+    first.as_slice() == second.as_slice() && second.as_slice() == third.as_slice()
+}
+
+/// Whether what a node comes to is what the threads counted, and all of its own Writes.
+fn adds_up(settled: &Settled, accepted: u32, own: u32) -> bool {
+    settled.accepted == accepted && own == settled.accepted.saturating_add(settled.adopted)
+}
+
+/// How many Writes of this server are held.
+fn count_at(rt: &impl Abort, settled: &Settled, index: u8) -> u32 {
+    settled
+        .vector
+        .get(ServerId::new(index % 3).expect(rt, "no server"))
+}
+
+/// Whether the three are settled, each with what the threads counted.
+fn settle<L: Desks, M: Desks, N: Desks>(
+    rt: &impl Abort,
+    nodes: (Node<Memory, L>, Node<Memory, M>, Node<Memory, N>),
+    rows: (Row<L>, Row<M>, Row<N>),
+    accepted: [u32; 3],
+) -> bool {
+    let Ok(first) = nodes.0.settle(rows.0) else {
+        return false;
+    };
+    let Ok(second) = nodes.1.settle(rows.1) else {
+        return false;
+    };
+    let Ok(third) = nodes.2.settle(rows.2) else {
+        return false;
+    };
+    first.vector == second.vector
+        && second.vector == third.vector
+        && adds_up(&first, accepted[0], count_at(rt, &first, 0))
+        && adds_up(&second, accepted[1], count_at(rt, &second, 1))
+        && adds_up(&third, accepted[2], count_at(rt, &third, 2))
+}
+
+/// What eight threads at three new nodes come to.
+fn work_together<L, M, N, R>(
+    rt: &R,
+    alloc: Global,
+    blanks: (Blank, Blank, Blank),
+    servers: (Server<Memory>, Server<Memory>, Server<Memory>),
+) -> Result<bool, AllocError>
+where
+    L: Desks + Send + Sync,
+    M: Desks + Send + Sync,
+    N: Desks + Send + Sync,
+    R: Threads + Wait + Abort + Sync,
+    requires first { IsBlankOf blanks.0 L.name L.parts THREADS × (servers.0.core.id ≡ L.server) × (own_count servers.0.core ≡ L.stored) }
+    requires second { IsBlankOf blanks.1 M.name M.parts THREADS × (servers.1.core.id ≡ M.server) × (own_count servers.1.core ≡ M.stored) }
+    requires third { IsBlankOf blanks.2 N.name N.parts THREADS × (servers.2.core.id ≡ N.server) × (own_count servers.2.core ≡ N.stored) }
+{
+    let Ok((first, firsts)) = Node::<_, L>::new(alloc, blanks.0, servers.0, THREADS) else {
+        return Ok(false);
+    };
+    let Ok((second, seconds)) = Node::<_, M>::new(alloc, blanks.1, servers.1, THREADS) else {
+        return Ok(false);
+    };
+    let Ok((third, thirds)) = Node::<_, N>::new(alloc, blanks.2, servers.2, THREADS) else {
+        return Ok(false);
+    };
+    let three = &Three {
+        first: &first,
+        second: &second,
+        third: &third,
+    };
+    let hands = hands(alloc, (firsts, seconds, thirds))?;
+    let done = thread::map_vec(rt, hands, &|hand| works(rt, alloc, three, hand))?;
+    let (rows, sums) = laid_down(alloc, done)?;
+    let are_one = come_together(rt, alloc, three);
+    let add_up = settle(rt, (first, second, third), rows, sums.accepted);
+    Ok(sums.done == 10_000 && sums.is_so && are_one && add_up)
+}
+
+#[test]
+fn eight_threads_at_three_nodes_keep_exact_books(rt: HostRuntime) -> Result<(), Fail> {
+    let alloc = rt.alloc();
+    let servers = (
+        begun(&rt, alloc, 0, 100)?,
+        begun(&rt, alloc, 1, 201)?,
+        begun(&rt, alloc, 2, 302)?,
+    );
+    let blanks = (
+        Blank::new(u64::from(THREADS)),
+        Blank::new(u64::from(THREADS)),
+        Blank::new(u64::from(THREADS)),
+    );
+    let is_so = work_together::<Brand, Brand, Brand, HostRuntime>(&rt, alloc, blanks, servers)?;
+    assert!(rt; is_so);
+    Ok(())
+}
