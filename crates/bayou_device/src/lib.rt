@@ -11,11 +11,13 @@
 #![tactic(auto)]
 
 pub mod device;
+pub mod file;
 pub mod fuse;
 pub mod gate;
 pub mod memory;
 
 pub use device::{Device, Failed, ReadFault};
+pub use file::FileDevice;
 pub use fuse::Fuse;
 pub use gate::{Gate, OpenGate};
 pub use memory::MemoryDevice;

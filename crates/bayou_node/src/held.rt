@@ -1,4 +1,5 @@
 ghost use Rattle.std.specs.Prelude.{◌≡◌, ◌≤◌, ◌<◌, ◌+◌, IfOk, MatchResult, length, slice_index, sum, take};
+ghost use Rattle.bayou_base.specs.declared.limits.TheConstants.{MAX_WRITES};
 ghost use Rattle.bayou_lang.specs.Writes.{count_of, lacking_of};
 ghost use Rattle.bayou_log.specs.Listing.{listing_of};
 ghost use Rattle.bayou_node.specs.Answers.{IsAccepted, Pays};
@@ -212,8 +213,11 @@ impl<D: Device, L: Desks> Held<D, L> {
     /// As [`Server::dump`].
     pub fn dump(&self, alloc: Global) -> Result<Vec<RestingWrite>, AllocError>
         ensures value { IfOk result (λ writes. writes.items ≡ self.now.server.core.held) }
+        ensures few { IfOk result (λ writes. length writes.items ≤ MAX_WRITES) }
         ensures exact { IsExact L.server L.stored self.now }
     {
+        // The limit, below which all that is held stays, is within its range.
+        let _limit = self.server.limit();
         self.server.dump(alloc)
     }
 

@@ -1,5 +1,6 @@
 ghost use Rattle.std.specs.Prelude.{◌≡◌, ◌≤◌, ◌<◌, ℕ, IfOk, MatchResult, length, take};
 ghost use Rattle.bayou_base.specs.Vector.{Dominates};
+ghost use Rattle.bayou_base.specs.declared.limits.TheConstants.{MAX_WRITES};
 ghost use Rattle.bayou_lang.specs.Writes.{count_of, lacking_of};
 ghost use Rattle.bayou_log.specs.Listing.{listing_of};
 ghost use Rattle.bayou_node.specs.Answers.{BySome, InSome, IsAccepted, Pays};
@@ -147,7 +148,8 @@ impl<D: Device, L: Desks> Node<D, L> {
 
     /// As [`Held::dump`].
     pub fn dump<R: Wait>(&self, rt: &R, alloc: Global) -> Result<Vec<RestingWrite>, AllocError>
-        ensures { InSome L.server L.stored (λ core. IfOk result (λ writes. writes.items ≡ core.held)) }
+        ensures value { InSome L.server L.stored (λ core. IfOk result (λ writes. writes.items ≡ core.held)) }
+        ensures few { IfOk result (λ writes. length writes.items ≤ MAX_WRITES) }
     {
         self.held.lock(rt).dump(alloc)
     }

@@ -5,7 +5,7 @@ use Rattle.bayou_base.specs.declared.limits.TheConstants.{READ_BYTES}
 use Rattle.bayou_peer.specs.declared.fault.Fault.{Fault}
 use Rattle.bayou_peer.specs.declared.fault.Fault.TheVariants as faults
 use Rattle.bayou_peer.specs.First.{FrameRead, StopsInTime}
-use Rattle.bayou_peer.specs.Inner.Framing.{IsReadFault}
+use Rattle.bayou_peer.specs.Framing.{IsReadFault}
 use Rattle.bayou_wire.specs.Stream.{IsPartial}
 
 -- a fault that isn't told by the end of the input is a fault wherever that is

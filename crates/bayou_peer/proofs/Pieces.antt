@@ -3,7 +3,7 @@ use Rattle.std.proofs.Common.{rules, arith, ◌≡◌, ◌<◌, ℕ, zero, suc, 
 use Rattle.std.specs.List.{AllByRecursion}
 use Rattle.std.proofs.lemmas.List.{drop_more}
 use Rattle.std.specs.Prelude.{is_some, MatchOption}
-use Rattle.bayou_peer.specs.Inner.Framing.{Comes}
+use Rattle.bayou_peer.specs.Framing.{Comes}
 use Rattle.bayou_wire.specs.declared.fault.Fault.{Fault}
 use Rattle.bayou_wire.specs.declared.frame.Frame.{Frame}
 use Rattle.bayou_wire.specs.declared.stream.FeedFault.TheVariants as feeds

@@ -10,7 +10,7 @@ use Rattle.bayou_base.specs.declared.limits.TheConstants.{MAX_TURNS, READ_BYTES}
 use Rattle.bayou_peer.specs.declared.fault.Fault.{Fault}
 use Rattle.bayou_peer.specs.declared.fault.Fault.TheVariants as faults
 use Rattle.bayou_peer.specs.declared.fault.Fault.TheVariants.{BadFrame}
-use Rattle.bayou_peer.specs.Inner.Framing.{IsReadFault}
+use Rattle.bayou_peer.specs.Framing.{IsReadFault}
 use Rattle.bayou_peer.specs.declared.fault.PullFault.{PullFault}
 use Rattle.bayou_peer.specs.declared.fault.PullFault.TheVariants.{Stream, Refused}
 use Rattle.bayou_peer.specs.declared.pulling.Pulled.{Pulled}
@@ -157,7 +157,7 @@ frame_size : (frame : Frame) → 3 ≤ length (spelling frame)
 unfolding spelling
 frame_size frame = omega arith
 
-frames_size : (frames : List Frame) → 3 * length frames ≤ length (spellings frames)
+pub frames_size : (frames : List Frame) → 3 * length frames ≤ length (spellings frames)
 frames_size [] = omega arith
 frames_size (frame ∷ frames) = omega (arith, frame_size frame, frames_size frames, length-append (spelling frame) (spellings frames))
 

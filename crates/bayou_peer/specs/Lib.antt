@@ -1,5 +1,6 @@
 pub mod AtNode
 pub mod First
+pub mod Framing
 pub mod Inner
 pub mod Lent
 pub mod Meeting

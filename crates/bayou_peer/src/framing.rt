@@ -3,7 +3,7 @@ ghost use Rattle.std.specs.Prelude.{◌≡◌, ◌<◌, ◌≤◌, true, ℕ, Li
 ghost use Rattle.std.specs.Io.{ReadsAtMost};
 ghost use Rattle.std.specs.Io.KnownBytes.{Appends, ReadConsumes};
 ghost use Rattle.bayou_peer.specs.declared.fault.Fault.TheVariants.{OutOfMemory};
-ghost use Rattle.bayou_peer.specs.Inner.Framing.{Comes, IsReadFault};
+ghost use Rattle.bayou_peer.specs.Framing.{Comes, IsReadFault};
 ghost use Rattle.bayou_peer.specs.Stopping.{IsSendFault, Stops};
 ghost use Rattle.bayou_streams.specs.Written.{AppendsFront};
 ghost use Rattle.bayou_wire.specs.Stream.{IsPartial};
@@ -15,7 +15,7 @@ use std::alloc::Global;
 use std::io::{Read, Write};
 
 /// Writes the whole text. Where it ends in a fault, a front of the text was written.
-pub(crate) fn send<R, W: Write>(channel: &mut Channel<R, W>, text: &[u8]) -> Result<(), Fault>
+pub fn send<R, W: Write>(channel: &mut Channel<R, W>, text: &[u8]) -> Result<(), Fault>
     ensures whole { OnOk result (Appends (W.contents channel.old.writer) (W.contents channel.new.writer) text.now) }
     ensures part { AppendsFront (W.contents channel.old.writer) (W.contents channel.new.writer) text.now }
     ensures fault { IfErr result IsSendFault }
@@ -38,10 +38,7 @@ pub(crate) fn send<R, W: Write>(channel: &mut Channel<R, W>, text: &[u8]) -> Res
 
 /// Reads the next bytes into the front of the piece, and tells how many they are: none only at the end, or where the piece has
 /// no room.
-pub(crate) fn read_piece<R: Read, W>(
-    channel: &mut Channel<R, W>,
-    piece: &mut [u8],
-) -> Result<usize, Fault>
+pub fn read_piece<R: Read, W>(channel: &mut Channel<R, W>, piece: &mut [u8]) -> Result<usize, Fault>
     ensures bound { ReadsAtMost result piece.new }
     ensures size { length piece.new ≡ length piece.old }
     ensures bytes { ReadConsumes (R.remaining channel.old.reader) (R.remaining channel.new.reader) result piece.new }
@@ -63,9 +60,9 @@ pub(crate) fn read_piece<R: Read, W>(
 
 /// What a piece gave: the frames that are whole now, and whether what is behind them has a fault.
 #[derive(Drop)]
-pub(crate) struct Came {
-    pub(crate) frames: Vec<Frame>,
-    pub(crate) is_bad: bool,
+pub struct Came {
+    pub frames: Vec<Frame>,
+    pub is_bad: bool,
 }
 
 // No frame, and a fault.
@@ -79,7 +76,7 @@ fn bad_at_once(alloc: Global) -> Came
 }
 
 /// Feeds the piece where no fault came before, so that a fault is told with the frames before it.
-pub(crate) fn feed_piece(alloc: Global, frames: &mut Frames, piece: &[u8]) -> Result<Came, Fault>
+pub fn feed_piece(alloc: Global, frames: &mut Frames, piece: &[u8]) -> Result<Came, Fault>
     ensures comes { (held : List ℕ) → IsPartial held → frames.old ≡ Some held → IfOk result (λ came. Comes held piece.now came.frames.items came.is_bad frames.new) }
     ensures refused { IfErr result (λ fault. (fault ≡ OutOfMemory) × (frames.new ≡ frames.old)) }
 {

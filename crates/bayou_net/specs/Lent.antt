@@ -1,0 +1,66 @@
+-- What becomes of a server that is lent to serve, and of a node with a desk.
+use Rattle.std.specs.Prelude.{◌≡◌, ℕ, List, None, Some, Result, IfOk, OnOk}
+use Rattle.bayou_base.specs.declared.answer.Accepted.{Accepted}
+use Rattle.bayou_device.specs.declared.device.Device.{Ghosts}
+use Rattle.bayou_journal.specs.Opening.{KeepsChains}
+use Rattle.bayou_lang.specs.declared.program.Program.{Program}
+use Rattle.bayou_lang.specs.declared.write.Write.{Write}
+use Rattle.bayou_net.specs.Serving.{Steps}
+use Rattle.bayou_node.specs.Answers.{BySome, InSome, IsAccepted, Pays}
+use Rattle.bayou_server.specs.declared.answer.Reopened.{Reopened}
+use Rattle.bayou_server.specs.declared.answer.Took.{Took}
+use Rattle.bayou_server.specs.declared.fault.ReopenFault.{ReopenFault}
+use Rattle.bayou_server.specs.declared.fault.TakeFault.{TakeFault}
+use Rattle.bayou_server.specs.declared.fault.WriteFault.{WriteFault}
+use Rattle.bayou_server.specs.Reads.{Reads}
+use Rattle.bayou_server.specs.Reopens.{Reopens}
+use Rattle.bayou_server.specs.Server.{IsSoundServer, ServerState}
+use Rattle.bayou_server.specs.Stored.{IsStored, OpensInCalls, ReopensJournal, StoresWrite}
+use Rattle.bayou_server.specs.Takes.{Takes}
+use Rattle.bayou_server.specs.Writes.{Writes}
+
+-- a server, a program, what it answers, and the server then: what it holds and how its device stands
+pub record WritesAt {D : Type 0} (d : Ghosts D) (old : ServerState D) (need : List ℕ) (program : Program) (answer : Result Accepted WriteFault) (new : ServerState D) : Type 0 where
+  pub writes : Writes old.core need program answer new.core
+  pub sound : IsSoundServer old.core × IsSoundServer new.core
+  pub stores : StoresWrite d old answer new
+  pub stored : d.is_modelled → OnOk answer (IsStored d old → IsStored d new)
+  pub safe : d.is_modelled → KeepsChains (d.kept old.device) (d.kept new.device)
+  pub calls : d.leads_to 2 old.device new.device
+
+-- the same of a reopening
+pub record ReopensAt {D : Type 0} (d : Ghosts D) (old : ServerState D) (answer : Result Reopened ReopenFault) (new : ServerState D) : Type 0 where
+  pub reopens : Reopens old.core answer new.core
+  pub sound : IsSoundServer old.core × IsSoundServer new.core
+  pub opens : ReopensJournal d old answer new
+  pub stored : d.is_modelled → OnOk answer (IsStored d new)
+  pub safe : d.is_modelled → KeepsChains (d.kept old.device) (d.kept new.device)
+  pub calls : OpensInCalls d old.core.id old.device new.device
+
+-- how a server serves
+abbrev pub server_steps : {D : Type 0} → Ghosts D → Steps (ServerState D)
+server_steps d = record {
+  list = λ server. Some server.core.held;
+  reads = λ server need key answer. Reads server.core need key answer;
+  writes = λ old need program answer new. WritesAt d old need program answer new;
+  reopens = λ old answer new. ReopensAt d old answer new;
+}
+
+-- a program at a node, by one who has a desk that was paid so much
+pub record DeskWrites (server stored : ℕ) (paid : ℕ) (need : List ℕ) (program : Program) (answer : Result Accepted WriteFault) (then : ℕ) : Type 0 where
+  pub writes : BySome server stored (λ old new. Writes old need program answer new)
+  pub accepted : IfOk answer (IsAccepted server need paid)
+  pub pays : Pays paid answer then
+
+-- A node serves who has a desk there: what is told of it is how much the desk was paid. Each answer is one that something gives which may be
+-- behind the lock.
+abbrev pub desk_steps : (server stored : ℕ) → Steps ℕ
+desk_steps server stored = record {
+  list = λ paid. None;
+  reads = λ paid need key answer. InSome server stored (λ core. Reads core need key answer);
+  writes = λ paid need program answer then. DeskWrites server stored paid need program answer then;
+  reopens = λ paid answer then. BySome server stored (λ old new. Reopens old answer new) × (then ≡ paid);
+}
+
+abbrev pub DeskTakes : (server stored : ℕ) → ℕ → Write → Result Took TakeFault → ℕ → Type 0
+DeskTakes server stored paid given answer then = BySome server stored (λ old new. Takes old given answer new) × (then ≡ paid)

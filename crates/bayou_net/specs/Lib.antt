@@ -1,0 +1,4 @@
+pub mod Inner
+pub mod Lent
+pub mod Replies
+pub mod Serving

@@ -1,0 +1,114 @@
+//! A node that is lent to serve, for whoever has a desk there.
+ghost use Rattle.std.specs.Prelude.{◌≡◌, ◌≤◌, ℕ, List, IfErr};
+ghost use Rattle.std.specs.Io.KnownBytes.{Consumes, IsAtEnd};
+ghost use Rattle.bayou_net.specs.Lent.{DeskTakes, DeskWrites, desk_steps};
+ghost use Rattle.bayou_net.specs.Serving.{ServeEnds};
+ghost use Rattle.bayou_node.specs.Answers.{BySome, InSome};
+ghost use Rattle.bayou_peer.specs.Stopping.{Stops};
+ghost use Rattle.bayou_server.specs.Reads.{Reads};
+ghost use Rattle.bayou_server.specs.Reopens.{Reopens};
+
+use crate::gate::RequestGate;
+use crate::served::Served;
+use crate::serving::serve_on;
+use bayou_base::{Accepted, Key, Seen, Vector};
+use bayou_device::Device;
+use bayou_lang::{RestingProgram, RestingWrite};
+use bayou_node::{Desk, Desks, Node};
+use bayou_peer::{Fault, Replica};
+use bayou_server::{Behind, ReopenFault, Reopened, TakeFault, Took, WriteFault};
+use bayou_streams::Channel;
+use std::alloc::{AllocError, Global};
+use std::io::{Read, Write};
+use std::marker::Model;
+use std::sync::Wait;
+
+/// A node, a desk at it, and the runtime by which each call waits for its lock. Between two calls the lock is free.
+#[derive(Drop)]
+pub(crate) struct AtDesk<'a, D, L: Desks, T> {
+    node: &'a Node<D, L>,
+    desk: Desk<L>,
+    rt: &'a T,
+}
+
+impl<'a, D, L: Desks, T> Model for AtDesk<'a, D, L, T> {
+    ghost use Rattle.std.specs.Prelude.{ℕ};
+
+    ghost Value = { ℕ };
+
+    ghost view = { λ a. a.desk };
+}
+
+impl<D: Device, L: Desks, T: Wait> Replica for AtDesk<'_, D, L, T> {
+    ghost use Rattle.std.specs.Prelude.{None};
+
+    ghost list = { λ _. None };
+
+    ghost takes = { DeskTakes L.server L.stored };
+
+    fn offer(&mut self) -> Vector {
+        self.node.offer(self.rt)
+    }
+
+    fn lacking(
+        &mut self,
+        alloc: Global,
+        counts: &Vector,
+        most: usize,
+    ) -> Result<Vec<RestingWrite>, AllocError> {
+        self.node.lacking(self.rt, alloc, counts, most)
+    }
+
+    fn take(&mut self, alloc: Global, write: RestingWrite) -> Result<Took, TakeFault> {
+        self.node.take(self.rt, alloc, write)
+    }
+}
+
+impl<D: Device, L: Desks, T: Wait> Served for AtDesk<'_, D, L, T> {
+    ghost reads = { λ paid need key answer. InSome L.server L.stored (λ core. Reads core need key answer) };
+
+    ghost writes = { DeskWrites L.server L.stored };
+
+    ghost reopens = { λ paid answer then. BySome L.server L.stored (λ old new. Reopens old answer new) × (then ≡ paid) };
+
+    fn read(&mut self, need: &Vector, key: &Key) -> Result<Seen, Behind> {
+        self.node.read(self.rt, need, key)
+    }
+
+    fn write(
+        &mut self,
+        alloc: Global,
+        need: &Vector,
+        program: RestingProgram,
+    ) -> Result<Accepted, WriteFault> {
+        self.node
+            .write(self.rt, alloc, &mut self.desk, need, program)
+    }
+
+    fn reopen(&mut self, alloc: Global) -> Result<Reopened, ReopenFault> {
+        self.node.reopen(self.rt, alloc)
+    }
+
+    fn dump(&mut self, alloc: Global) -> Result<Vec<RestingWrite>, AllocError> {
+        self.node.dump(self.rt, alloc)
+    }
+}
+
+/// As [`serve_on`], at a node: the desk comes back, paid for each program that was accepted.
+pub fn serve<D: Device, L: Desks, G: RequestGate, R: Read, W: Write, T: Wait>(
+    rt: &T,
+    alloc: Global,
+    node: &Node<D, L>,
+    desk: Desk<L>,
+    gate: &G,
+    channel: &mut Channel<R, W>,
+) -> (Result<u32, Fault>, Desk<L>)
+    ensures serves { (read : List ℕ) × Consumes (R.remaining channel.old.reader) (R.remaining channel.new.reader) read
+        × ServeEnds (desk_steps L.server L.stored) desk result.1 read (W.contents channel.old.writer) (W.contents channel.new.writer) (IsAtEnd (R.remaining channel.new.reader)) result.0 }
+    ensures stopped { IfErr result.0 (Stops channel.new.read_failed channel.new.write_failed channel.new.turns_left) }
+    ensures turns { channel.new.turns_left ≤ channel.old.turns_left }
+{
+    let mut at_desk = AtDesk { node, desk, rt };
+    let answer = serve_on(alloc, &mut at_desk, gate, channel);
+    (answer, at_desk.desk)
+}

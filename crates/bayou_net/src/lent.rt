@@ -1,0 +1,43 @@
+//! A server that is lent to serve.
+ghost use Rattle.std.specs.Prelude.{◌≡◌};
+ghost use Rattle.bayou_net.specs.Lent.{ReopensAt, WritesAt};
+ghost use Rattle.bayou_server.specs.Reads.{Reads};
+
+use crate::served::Served;
+use bayou_base::{Accepted, Key, Seen, Vector};
+use bayou_device::Device;
+use bayou_lang::{RestingProgram, RestingWrite};
+use bayou_server::{Behind, ReopenFault, Reopened, Server, WriteFault};
+use std::alloc::{AllocError, Global};
+
+impl<D: Device> Served for Server<D> {
+    ghost reads = { λ server need key answer. Reads server.core need key answer };
+
+    ghost writes = { λ old need program answer new. WritesAt D.Device old need program answer new };
+
+    ghost reopens = { λ old answer new. ReopensAt D.Device old answer new };
+
+    fn read(&mut self, need: &Vector, key: &Key) -> Result<Seen, Behind> {
+        Server::read(self, need, key)
+    }
+
+    fn write(
+        &mut self,
+        alloc: Global,
+        need: &Vector,
+        program: RestingProgram,
+    ) -> Result<Accepted, WriteFault> {
+        Server::write(self, alloc, need, program)
+    }
+
+    fn reopen(&mut self, alloc: Global) -> Result<Reopened, ReopenFault> {
+        Server::reopen(self, alloc)
+    }
+
+    fn dump(&mut self, alloc: Global) -> Result<Vec<RestingWrite>, AllocError> {
+        // What it holds stays below its limit, which is within its range.
+        let _limit = self.limit();
+        let _sound = self.receipts();
+        Server::dump(self, alloc)
+    }
+}

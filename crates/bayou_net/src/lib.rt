@@ -1,0 +1,21 @@
+//! Requests over streams: what a server does of what it is asked, and what it replies.
+//!
+//! Callers see something that is [`Served`] as a `Steps`: the Writes that it holds, where it tells them, and how it answers a read, a
+//! program and a reopening. [`serve_on`] is lent one, and a channel (`bayou_streams`): it does each request in its order and writes its
+//! reply, until the input ends between two frames. [`serve`] does so at a node (`bayou_node`), for whoever has a desk there.
+//!
+//! Callers owe nothing: strangers may send any bytes, and what is no request ends the connection without a reply. Want of memory is an
+//! answer, or a reply, only where a growth was refused. It isn't promised that a stream gives or takes anything.
+#![tactic(auto)]
+
+pub mod at_desk;
+pub mod gate;
+pub mod lent;
+mod replying;
+pub mod served;
+pub mod serving;
+
+pub use at_desk::serve;
+pub use gate::{NoGate, RequestGate};
+pub use served::Served;
+pub use serving::serve_on;

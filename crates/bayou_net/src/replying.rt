@@ -1,0 +1,180 @@
+//! What is done of one request, and the bytes of its reply.
+ghost use Rattle.std.specs.Prelude.{◌≡◌, ◌≢◌, ◌≤◌, ◌↔◌, ℕ, List, Err, IfOk, IfSome, IsTrue, length};
+ghost use Rattle.bayou_base.specs.declared.limits.TheConstants.{MAX_WRITES};
+ghost use Rattle.bayou_net.specs.Replies.{read_reply, reopen_reply, write_reply};
+ghost use Rattle.bayou_net.specs.Serving.{IsRequest, Serves};
+ghost use Rattle.bayou_peer.specs.Spelled.{answer_bytes};
+ghost use Rattle.bayou_wire.specs.declared.frame.Frame.TheVariants as frames;
+ghost use Rattle.bayou_wire.specs.declared.frame.Refusal.TheVariants as refusals;
+ghost use Rattle.bayou_wire.specs.Stream.{spelling};
+
+use crate::served::Served;
+use bayou_base::{Accepted, Key, Seen, Vector};
+use bayou_lang::{Program, RestingWrite};
+use bayou_peer::gather;
+use bayou_server::{Behind, ReopenFault, Reopened, WriteFault};
+use bayou_wire::{Frame, Refusal, encode_frame};
+use std::alloc::{AllocError, Global};
+
+/// Whether the frame asks for something.
+pub(crate) fn is_request(frame: &Frame) -> bool
+    ensures { IsTrue result ↔ IsRequest frame.now }
+{
+    match frame {
+        Frame::Read(..) | Frame::Write(..) | Frame::Reopen | Frame::Dump | Frame::Offer(_) => true,
+        Frame::Seen(_)
+        | Frame::Accepted(_)
+        | Frame::Refused(_)
+        | Frame::Reopened(_)
+        | Frame::Item(_)
+        | Frame::End(_) => false,
+    }
+}
+
+fn told_read(answer: Result<Seen, Behind>) -> Frame
+    ensures { result ≡ read_reply answer }
+{
+    match answer {
+        Ok(seen) => Frame::Seen(seen),
+        Err(behind) => Frame::Refused(Refusal::Behind(behind.vector)),
+    }
+}
+
+fn write_refused(fault: WriteFault) -> Frame
+    ensures { result ≡ write_reply (Err fault) }
+{
+    let refusal = match fault {
+        WriteFault::Down => Refusal::Down,
+        WriteFault::Behind(vector) => Refusal::Behind(vector),
+        WriteFault::LogFull => Refusal::LogFull,
+        WriteFault::OutOfMemory => Refusal::OutOfMemory,
+        WriteFault::Journal => Refusal::Journal,
+    };
+    Frame::Refused(refusal)
+}
+
+fn told_write(answer: Result<Accepted, WriteFault>) -> Frame
+    ensures { result ≡ write_reply answer }
+{
+    match answer {
+        Ok(accepted) => Frame::Accepted(accepted),
+        Err(fault) => write_refused(fault),
+    }
+}
+
+fn reopen_refused(fault: ReopenFault) -> Frame
+    ensures { result ≡ reopen_reply (Err fault) }
+{
+    let refusal = match fault {
+        ReopenFault::NotDown => Refusal::NotDown,
+        ReopenFault::Journal(_) => Refusal::Journal,
+        ReopenFault::Lost => Refusal::Lost,
+        ReopenFault::BadRecord(at) => Refusal::BadRecord(at),
+        ReopenFault::OutOfMemory => Refusal::OutOfMemory,
+    };
+    Frame::Refused(refusal)
+}
+
+fn told_reopen(answer: Result<Reopened, ReopenFault>) -> Frame
+    ensures { result ≡ reopen_reply answer }
+{
+    match answer {
+        Ok(reopened) => Frame::Reopened(reopened.adopted),
+        Err(fault) => reopen_refused(fault),
+    }
+}
+
+// The bytes of the frame.
+fn encoded(alloc: Global, frame: &Frame) -> Result<Vec<u8>, AllocError>
+    ensures { IfOk result (λ text. text.items ≡ spelling frame.now) }
+{
+    let text = encode_frame(alloc, frame)?;
+    Ok(text)
+}
+
+// The Items of the Writes, and an End of their number.
+fn dumped(alloc: Global, writes: &[RestingWrite]) -> Result<Vec<u8>, AllocError>
+    requires { length writes.now ≤ MAX_WRITES }
+    ensures { IfOk result (λ text. text.items ≡ answer_bytes writes.now) }
+{
+    let mut text = gather(alloc, writes)?;
+    let end = encoded(alloc, &Frame::End(writes.len() as u32))?;
+    text.extend_from_slice(&end)?;
+    Ok(text)
+}
+
+fn wanting(alloc: Global) -> Result<Vec<u8>, AllocError>
+    ensures { IfOk result (λ text. text.items ≡ spelling (frames.Refused refusals.OutOfMemory)) }
+{
+    encoded(alloc, &Frame::Refused(Refusal::OutOfMemory))
+}
+
+fn of_read<S: Served>(
+    alloc: Global,
+    served: &mut S,
+    need: &Vector,
+    key: &Key,
+) -> Result<Vec<u8>, AllocError>
+    ensures { (reply : List ℕ) × Serves (record { list = S.list; reads = S.reads; writes = S.writes; reopens = S.reopens }) served.old (frames.Read need.now key.now) reply served.new
+        × IfOk result (λ text. text.items ≡ reply) }
+{
+    let frame = told_read(served.read(need, key));
+    encoded(alloc, &frame)
+}
+
+fn of_write<S: Served>(
+    alloc: Global,
+    served: &mut S,
+    need: &Vector,
+    program: &Program,
+) -> Result<Vec<u8>, AllocError>
+    ensures { (reply : List ℕ) × Serves (record { list = S.list; reads = S.reads; writes = S.writes; reopens = S.reopens }) served.old (frames.Write need.now program.now) reply served.new
+        × IfOk result (λ text. text.items ≡ reply) }
+{
+    let Ok(resting) = program.rest(alloc) else {
+        return wanting(alloc);
+    };
+    let frame = told_write(served.write(alloc, need, resting));
+    encoded(alloc, &frame)
+}
+
+fn of_reopen<S: Served>(alloc: Global, served: &mut S) -> Result<Vec<u8>, AllocError>
+    ensures { (reply : List ℕ) × Serves (record { list = S.list; reads = S.reads; writes = S.writes; reopens = S.reopens }) served.old frames.Reopen reply served.new
+        × IfOk result (λ text. text.items ≡ reply) }
+{
+    let frame = told_reopen(served.reopen(alloc));
+    encoded(alloc, &frame)
+}
+
+fn of_dump<S: Served>(alloc: Global, served: &mut S) -> Result<Vec<u8>, AllocError>
+    ensures { (reply : List ℕ) × Serves (record { list = S.list; reads = S.reads; writes = S.writes; reopens = S.reopens }) served.old frames.Dump reply served.new
+        × IfOk result (λ text. text.items ≡ reply) }
+{
+    let Ok(writes) = served.dump(alloc) else {
+        return wanting(alloc);
+    };
+    let Ok(text) = dumped(alloc, &writes) else {
+        return wanting(alloc);
+    };
+    Ok(text)
+}
+
+/// Does the request, which is no Offer, and gives the bytes of its reply. Where there is no memory for those it was done all the same.
+pub(crate) fn reply_to<S: Served>(
+    alloc: Global,
+    served: &mut S,
+    request: &Frame,
+) -> Result<Vec<u8>, AllocError>
+    requires request { IsRequest request.now }
+    requires no_offer { (counts : List ℕ) → request.now ≢ frames.Offer counts }
+    ensures { (reply : List ℕ) × Serves (record { list = S.list; reads = S.reads; writes = S.writes; reopens = S.reopens }) served.old request.now reply served.new
+        × IfOk result (λ text. text.items ≡ reply) }
+{
+    match request {
+        Frame::Read(need, key) => of_read(alloc, served, need, key),
+        Frame::Write(need, program) => of_write(alloc, served, need, program),
+        Frame::Reopen => of_reopen(alloc, served),
+        Frame::Dump => of_dump(alloc, served),
+        _ => unreachable!(),
+    }
+}

@@ -1,0 +1,12 @@
+//! Tests of requests over streams, and of journals in files, each through the public calls of the crates below the shell. What is expected
+//! comes from outside of the program: from literals and from the pages of docs/.
+#![tactic(auto)]
+
+#[cfg(test)]
+mod desks;
+#[cfg(test)]
+mod files;
+#[cfg(test)]
+mod streams;
+#[cfg(test)]
+mod words;

@@ -1,0 +1,211 @@
+//! A server that is asked over a stream: what it answers, byte for byte, whatever pieces the requests come in.
+use crate::words::{bytes_of, is_said};
+use bayou_base::ServerId;
+use bayou_device::{MemoryDevice, OpenGate};
+use bayou_net::{NoGate, serve_on};
+use bayou_peer::Fault;
+use bayou_server::Server;
+use bayou_streams::Channel;
+use std::alloc::Global;
+use std::io;
+use std::io::{ErrorKind, Read, Write};
+use std::process::Abort;
+use std::test::Fail;
+
+type Served = Server<MemoryDevice<OpenGate>>;
+
+/// What a new server, which may hold two Writes, is sent, how serving ends, and what it writes. Nothing behind a fault is looked at.
+const STREAMS: &str = " => Ok(0)
+0023 01 <none> 0161 => Ok(1) 0022 11 00 <none>
+0023 01 <one> 0161 => Ok(1) 0022 13 02 <none>
+0031 02 <none> <put-1> => Ok(1) 002a 12 00 00000001 00000001 <none>
+0031 02 <one> <put-1> => Ok(1) 0022 13 02 <none>
+0031 02 <none> <put-1> 0023 01 <one> 0161 => Ok(2) 002a 12 00 00000001 00000001 <none> 002a 11 01 0000000000000001 <one>
+0031 02 <none> <put-1> 0031 02 <one> <put-1> 0031 02 <none> <put-1> => Ok(3) 002a 12 00 00000001 00000001 <none> 002a 12 00 00000002 00000002 <one> 0002 13 03
+0001 03 => Ok(1) 0002 13 05
+0001 04 => Ok(1) 0005 16 00000000
+0031 02 <none> <put-1> 0001 04 => Ok(2) 002a 12 00 00000001 00000001 <none> 003a 15 00 00000001 00000001 <none> <put-1> 0005 16 00000001
+0031 02 <none> <put-1> 0021 05 <none> 0021 05 <one> => Ok(3) 002a 12 00 00000001 00000001 <none> 003a 15 00 00000001 00000001 <none> <put-1> 0005 16 00000001 0005 16 00000000
+00 => Err(Cut)
+0023 01 <none> 01 => Err(Cut)
+0001 03 00 => Err(Cut) 0002 13 05
+2001 => Err(BadFrame)
+0001 07 => Err(BadFrame)
+0000 => Err(BadFrame)
+0024 01 <none> 0161 00 => Err(BadFrame)
+0005 16 00000000 => Err(BadFrame)
+0002 14 00 => Err(BadFrame)
+0022 11 00 <none> => Err(BadFrame)
+002a 12 00 00000001 00000001 <none> => Err(BadFrame)
+0002 13 05 => Err(BadFrame)
+003a 15 00 00000001 00000001 <none> <put-1> => Err(BadFrame)
+0001 03 0002 14 00 0001 03 => Err(BadFrame) 0002 13 05";
+
+/// A reader that gives at most so many bytes at a call, and fails at the call of this number.
+#[derive(Drop)]
+struct Slow<'a> {
+    bytes: &'a [u8],
+    most: usize,
+    fails_at: u32,
+    calls: u32,
+}
+
+impl Read for Slow<'_> {
+    fn read(&mut self, buf: &mut [u8]) -> io::Result<usize> {
+        self.calls = self.calls.saturating_add(1);
+        if self.calls == self.fails_at {
+            return Err(io::Error::from(ErrorKind::Other));
+        }
+        let count = self.bytes.len().min(self.most).min(buf.len());
+        let (front, rest) = self.bytes.split_at(count);
+        buf[..count].copy_from_slice(front);
+        self.bytes = rest;
+        Ok(count)
+    }
+}
+
+/// A writer that counts its calls, and fails at the call of this number.
+#[derive(Drop)]
+struct Counting {
+    bytes: Vec<u8>,
+    fails_at: u32,
+    calls: u32,
+}
+
+impl Write for Counting {
+    fn write(&mut self, buf: &[u8]) -> io::Result<usize> {
+        self.calls = self.calls.saturating_add(1);
+        if self.calls == self.fails_at {
+            return Err(io::Error::from(ErrorKind::BrokenPipe));
+        }
+        self.bytes.extend_from_slice(buf)?;
+        Ok(buf.len())
+    }
+
+    fn flush(&mut self) -> io::Result<()> {
+        Ok(())
+    }
+}
+
+/// The first of two servers, which holds nothing.
+fn begun(rt: &impl Abort, alloc: Global) -> Option<Served> {
+    let id = ServerId::new(0).expect(rt, "no server");
+    let device = MemoryDevice::new(alloc, OpenGate);
+    match Server::start(alloc, id, 2, 2, device) {
+        Ok((server, _)) => Some(server),
+        Err(_) => None,
+    }
+}
+
+/// Whether that is what is printed of the answer, and then the bytes that were written.
+fn is_told(alloc: Global, answer: Result<u32, Fault>, written: &[u8], expected: &str) -> bool {
+    let Ok(told) = format!(in alloc; "{answer:?}") else {
+        return false;
+    };
+    let Some(rest) = expected.strip_prefix(told.as_str()) else {
+        return false;
+    };
+    is_said(alloc, rest, written)
+}
+
+/// Whether a new server, which is sent this in pieces of at most so many bytes, ends so.
+fn serves(rt: &impl Abort, alloc: Global, sent: &[u8], most: usize, expected: &str) -> bool {
+    let Some(mut server) = begun(rt, alloc) else {
+        return false;
+    };
+    let reader = Slow {
+        bytes: sent,
+        most,
+        fails_at: 0,
+        calls: 0,
+    };
+    let mut channel = Channel::new(reader, Vec::new(alloc));
+    let answer = serve_on(alloc, &mut server, &NoGate, &mut channel);
+    is_told(alloc, answer, &channel.into_parts().1, expected)
+}
+
+/// Whether a row holds, whatever pieces its stream comes in.
+fn holds(rt: &impl Abort, alloc: Global, row: &str) -> bool {
+    let (text, expected) = row.split_once(" => ").unwrap_or((row, row));
+    let Some(sent) = bytes_of(alloc, text) else {
+        return false;
+    };
+    let mut is_so = true;
+    for most in [1, 36, 4096] {
+        is_so &= serves(rt, alloc, &sent, most, expected);
+    }
+    is_so
+}
+
+#[test]
+fn requests_are_answered_byte_for_byte(rt: HostRuntime) -> Result<(), Fail> {
+    for row in STREAMS.lines() {
+        assert!(rt; holds(&rt, rt.alloc(), row), "{row}");
+    }
+    Ok(())
+}
+
+/// A Write and a read of it, in 90 bytes.
+const TWO: &str = "0031 02 <none> <put-1> 0023 01 <one> 0161";
+
+/// How many calls of the reader, thirty bytes each, a server makes, how it ends, and how many bytes of replies it writes, where the call of
+/// this number fails. The Write is whole at the second call, and the read at the third.
+fn ends_reading(rt: &impl Abort, alloc: Global, fails_at: u32) -> bool {
+    let (Some(mut server), Some(sent)) = (begun(rt, alloc), bytes_of(alloc, TWO)) else {
+        return false;
+    };
+    let reader = Slow {
+        bytes: &sent,
+        most: 30,
+        fails_at,
+        calls: 0,
+    };
+    let mut channel = Channel::new(reader, Vec::new(alloc));
+    let answer = serve_on(alloc, &mut server, &NoGate, &mut channel);
+    let written = channel.into_parts().1.len();
+    let (expected, count) = match fails_at {
+        1 | 2 => (Err(Fault::Read), 0),
+        3 => (Err(Fault::Read), 44),
+        4 => (Err(Fault::Read), 88),
+        _ => (Ok(2), 88),
+    };
+    answer == expected && written == count
+}
+
+#[test]
+fn each_read_of_requests_may_fail(rt: HostRuntime) -> Result<(), Fail> {
+    for fails_at in 1..6_u32 {
+        assert!(rt; ends_reading(&rt, rt.alloc(), fails_at), "call {fails_at}");
+    }
+    Ok(())
+}
+
+/// The same of its writer: one call writes a reply, and a request whose reply wasn't written was done.
+fn ends_writing(rt: &impl Abort, alloc: Global, fails_at: u32) -> bool {
+    let (Some(mut server), Some(sent)) = (begun(rt, alloc), bytes_of(alloc, TWO)) else {
+        return false;
+    };
+    let writer = Counting {
+        bytes: Vec::new(alloc),
+        fails_at,
+        calls: 0,
+    };
+    let mut channel = Channel::new(sent.as_slice(), writer);
+    let answer = serve_on(alloc, &mut server, &NoGate, &mut channel);
+    let writer = channel.into_parts().1;
+    let (expected, count, calls) = match fails_at {
+        1 => (Err(Fault::Write), 0, 1),
+        2 => (Err(Fault::Write), 44, 2),
+        _ => (Ok(2), 88, 2),
+    };
+    let is_so = answer == expected && writer.bytes.len() == count && writer.calls == calls;
+    is_so && server.receipts().len() == 1
+}
+
+#[test]
+fn each_write_of_replies_may_fail(rt: HostRuntime) -> Result<(), Fail> {
+    for fails_at in 1..4_u32 {
+        assert!(rt; ends_writing(&rt, rt.alloc(), fails_at), "call {fails_at}");
+    }
+    Ok(())
+}

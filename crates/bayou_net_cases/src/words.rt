@@ -1,0 +1,45 @@
+//! Streams of requests and replies, said in words.
+use std::alloc::Global;
+
+/// Vectors that count nothing, the first server's first Write, and its first two; and the program that puts 1 at `a`.
+static WORDS: [(&str, &str); 4] = [
+    (
+        "<none>",
+        "0000000000000000000000000000000000000000000000000000000000000000",
+    ),
+    (
+        "<one>",
+        "0000000100000000000000000000000000000000000000000000000000000000",
+    ),
+    (
+        "<two>",
+        "0000000200000000000000000000000000000000000000000000000000000000",
+    ),
+    ("<put-1>", "00010101610101000000000000000100"),
+];
+
+/// The bytes of a word: those of what it names, or those that it says in hexadecimal.
+fn word_bytes(alloc: Global, word: &str) -> Option<Vec<u8>> {
+    match WORDS.iter().find(|(name, _)| *name == word) {
+        Some((_, said)) => hex::decode(alloc, said).ok(),
+        None => hex::decode(alloc, word).ok(),
+    }
+}
+
+/// The bytes of the words, one behind the other.
+pub fn bytes_of(alloc: Global, text: &str) -> Option<Vec<u8>> {
+    let mut bytes = Vec::new(alloc);
+    for word in text.split(' ') {
+        let behind = word_bytes(alloc, word)?;
+        bytes.extend_from_slice(&behind).ok()?;
+    }
+    Some(bytes)
+}
+
+/// Whether the text says these bytes.
+pub fn is_said(alloc: Global, text: &str, bytes: &[u8]) -> bool {
+    match bytes_of(alloc, text) {
+        Some(said) => said.as_slice() == bytes,
+        None => false,
+    }
+}
