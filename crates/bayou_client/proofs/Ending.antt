@@ -1,0 +1,58 @@
+-- How a request over a link ends.
+use Rattle.std.proofs.Common.{inl, inr, ◌≡◌, Bool, true, false, ℕ, List, [], Option, Result, Ok, Err, refl, sym, not}
+use Rattle.std.specs.Io.KnownBytes.{Appends}
+use Rattle.std.proofs.lemmas.List.{append-nil}
+use Rattle.bayou_client.specs.declared.fault.LinkFault.{LinkFault}
+use Rattle.bayou_client.specs.declared.fault.LinkFault.TheVariants.{Lost, BadFrame, Refused, OutOfMemory}
+use Rattle.bayou_client.specs.declared.reading.Reply.{Reply}
+use Rattle.bayou_client.specs.Exchange.{Asks, IsGone, Judges, LinkEnds}
+use Rattle.bayou_client.specs.Inner.Exchanging.{Exchanges, Opens}
+use Rattle.bayou_client.specs.Inner.Faults.{told_fault}
+use Rattle.bayou_client.specs.Inner.Taking.{ReplyRead}
+use Rattle.bayou_peer.specs.declared.fault.Fault.{Fault}
+use Rattle.bayou_peer.specs.declared.fault.Fault.TheVariants as faults
+use Rattle.bayou_peer.specs.Stopping.{IsSendFault, Stops}
+use Rattle.bayou_streams.specs.Written.{AppendsFront}
+
+-- the request wasn't sent whole
+pub unsent : (many : Bool) (request : List ℕ) (before after : Option (List ℕ)) (was : Bool) (read_failed write_failed : Bool) (turns_left : ℕ) (is_end : Type 0) (fault : Fault) → was ≡ false
+    → IsSendFault fault → Stops read_failed write_failed turns_left fault → AppendsFront before after request
+    → Exchanges many request before after [] was true (IsGone read_failed write_failed turns_left is_end) (Err (told_fault fault))
+unsent many request before after was rf wf turns is_end faults.Read was_open is stops front = absurd is
+unsent many request before after was rf wf turns is_end faults.Write was_open is stops front = (refl, inr (was_open, inr (inl stops), inl (front, refl)))
+unsent many request before after was rf wf turns is_end faults.Cut was_open is stops front = absurd is
+unsent many request before after was rf wf turns is_end faults.BadFrame was_open is stops front = absurd is
+unsent many request before after was rf wf turns is_end faults.TooManyTurns was_open is stops front = (refl, inr (was_open, inr (inr (inl stops)), inl (front, refl)))
+unsent many request before after was rf wf turns is_end faults.OutOfMemory was_open is stops front = (was_open, inr (refl, front))
+
+-- the request was sent, and no whole reply came
+pub unheard : (many : Bool) (request : List ℕ) (before after : Option (List ℕ)) (read : List ℕ) (was : Bool) (read_failed write_failed : Bool) (turns_left : ℕ) (is_end : Type 0) (fault : Fault) → was ≡ false
+    → ReplyRead many read is_end (Err fault) → Stops read_failed write_failed turns_left fault → Appends before after request
+    → Exchanges many request before after read was true (IsGone read_failed write_failed turns_left is_end) (Err (told_fault fault))
+unheard many request before after read was rf wf turns is_end faults.Read was_open less stops sent = (refl, inr (was_open, inl stops, inr (sent, less)))
+unheard many request before after read was rf wf turns is_end faults.Write was_open less stops sent = absurd less
+unheard many request before after read was rf wf turns is_end faults.Cut was_open less stops sent = (refl, inr (was_open, inr (inr (inr less.0)), inr (sent, less.1)))
+unheard many request before after read was rf wf turns is_end faults.BadFrame was_open none stops sent = (was_open, refl, sent, none)
+unheard many request before after read was rf wf turns is_end faults.TooManyTurns was_open less stops sent = (refl, inr (was_open, inr (inr (inl stops)), inr (sent, less)))
+unheard many request before after read was rf wf turns is_end faults.OutOfMemory was_open less stops sent = (was_open, inr (refl, (request, [], sym (append-nil request), sent)))
+
+-- no whole reply was received
+pub fails : {A : Type 0} (asks : Asks A) (request : List ℕ) (before after : Option (List ℕ)) (read : List ℕ) (was is : Bool) (gone : Type 0) (fault : LinkFault)
+    → Exchanges asks.many request before after read was is gone (Err fault) → LinkEnds asks request before after read was is gone (Err fault)
+fails asks request before after read was is gone Lost h = h
+fails asks request before after read was is gone BadFrame h = (h.0, h.1, h.2, inl h.3)
+fails asks request before after read was is gone (Refused refusal) h = absurd h
+fails asks request before after read was is gone OutOfMemory h = h
+
+-- a whole reply was received, and judged
+pub judged : {A : Type 0} (asks : Asks A) (request : List ℕ) (before after : Option (List ℕ)) (read : List ℕ) (was mid is opened : Bool) (gone : Type 0) (reply : Reply) (told : Result A LinkFault)
+    → Exchanges asks.many request before after read was mid gone (Ok reply) → Judges asks reply.writes.items reply.last told → Opens told opened → is ≡ not opened
+    → LinkEnds asks request before after read was is gone told
+judged asks request before after read was mid is opened gone reply (Ok answer) h judges opens closed =
+    (h.0, rw (closed, opens) refl, h.1, (reply.writes.items, reply.last, h.2, judges))
+judged asks request before after read was mid is opened gone reply (Err (Refused refusal)) h judges opens closed =
+    (h.0, rw (closed, opens) refl, h.1, (reply.writes.items, reply.last, h.2, judges))
+judged asks request before after read was mid is opened gone reply (Err BadFrame) h judges opens closed =
+    (h.0, rw (closed, opens) refl, h.1, inr (reply.writes.items, reply.last, h.2, judges))
+judged asks request before after read was mid is opened gone reply (Err Lost) h judges opens closed = absurd judges
+judged asks request before after read was mid is opened gone reply (Err OutOfMemory) h judges opens closed = absurd judges

@@ -1,0 +1,4 @@
+pub mod Exchanging
+pub mod Faults
+pub mod Spending
+pub mod Taking

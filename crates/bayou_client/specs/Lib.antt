@@ -1,0 +1,4 @@
+pub mod Exchange
+pub mod Inner
+pub mod Operating
+pub mod Replies

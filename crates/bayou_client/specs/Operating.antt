@@ -1,0 +1,87 @@
+-- What becomes of a session, of its share and of the book as it reads or writes over a link (Terry et al. 1994; the book is this project's own).
+use Rattle.std.specs.Prelude.{◌≡◌, ℕ, Bool, List, [], Option, Result, Ok, Err}
+use Rattle.bayou_audit.specs.Totals.{Shared, counted}
+use Rattle.bayou_base.specs.declared.answer.Accepted.{Accepted}
+use Rattle.bayou_base.specs.declared.answer.Seen.{Seen}
+use Rattle.bayou_base.specs.declared.entry.Entry.{Entry}
+use Rattle.bayou_base.specs.declared.entry.What.{What}
+use Rattle.bayou_base.specs.declared.entry.What.TheVariants as whats
+use Rattle.bayou_base.specs.declared.server.ServerId.{ServerId}
+use Rattle.bayou_client.specs.declared.fault.ClientFault.{ClientFault}
+use Rattle.bayou_client.specs.declared.fault.ClientFault.TheVariants.{AuditFull, Link}
+use Rattle.bayou_client.specs.declared.fault.LinkFault.TheVariants.{Lost, BadFrame, Refused, OutOfMemory}
+use Rattle.bayou_client.specs.Exchange.{Asks, LinkEnds, asks_read, asks_write}
+use Rattle.bayou_lang.specs.declared.program.Program.{Program}
+use Rattle.bayou_session.specs.Needs.{Told, after_read, after_write, one_place_more, read_need, write_need}
+use Rattle.bayou_wire.specs.declared.frame.Frame.TheVariants as frames
+use Rattle.bayou_wire.specs.Stream.{spelling}
+
+-- a session, and its share of the book
+pub record Sharing : Type 0 where
+  pub session : Told
+  pub share : Shared
+
+-- an entry of an operation of this session, at this place of it, at this server
+pub record IsEntryOf (session : Told) (server : ServerId) (place : ℕ) (what : What) (entry : Entry) : Type 0 where
+  pub session_is : entry.session ≡ session.id
+  pub place_is : entry.place ≡ place
+  pub asks_are : entry.asks ≡ session.asks
+  pub server_is : entry.server ≡ server
+  pub what_is : entry.what ≡ what
+
+-- one entry more of this kind is counted
+abbrev pub with_entered : What → Shared → Shared
+with_entered what share = record share { totals = counted what share.totals }
+
+-- An operation of a session: what it asks for, the request, what the session is told by an answer, and what is entered of it.
+pub record Operation (A : Type 0) : Type 1 where
+  pub asks : Asks A
+  pub request : List ℕ
+  pub tells : Told → A → Told
+  pub what : A → What
+
+abbrev pub read_what : (key : List ℕ) → Seen → What
+read_what key seen = whats.Read key seen.vector
+
+abbrev pub write_what : Accepted → What
+write_what accepted = whats.Write accepted.wid accepted.stamp accepted.deps
+
+-- the session's need is sent, and a read saw what its server held
+abbrev pub reading : Told → (key : List ℕ) → Operation Seen
+reading session key = record {
+  asks = asks_read (read_need session);
+  request = spelling (frames.Read (read_need session) key);
+  tells = after_read;
+  what = read_what key;
+}
+
+abbrev pub writing : Told → ServerId → Program → Operation Accepted
+writing session server program = record {
+  asks = asks_write (write_need session) server;
+  request = spelling (frames.Write (write_need session) program);
+  tells = after_write;
+  what = write_what;
+}
+
+-- How an operation ends: the session has begun a place, and is told just what a reply that answers the request says, which is entered. A
+-- refusal is entered, and nothing is told. Where no such reply came, the session's two vectors are as they were, and nothing is entered.
+-- Where the book is full, nothing is done.
+abbrev pub Operates : {A : Type 0} → Operation A → (old new : Sharing) → (before after : Option (List ℕ)) → (read : List ℕ) → (was_closed is_closed : Bool) → (gone : Type 0)
+    → Result A ClientFault → Type 0
+Operates operation old new before after read was_closed is_closed gone (Ok answer) =
+    LinkEnds operation.asks operation.request before after read was_closed is_closed gone (Ok answer)
+    × (new.session ≡ operation.tells (one_place_more old.session) answer) × (new.share ≡ with_entered (operation.what answer) old.share)
+Operates operation old new before after read was_closed is_closed gone (Err (Link (Refused refusal))) =
+    LinkEnds operation.asks operation.request before after read was_closed is_closed gone (Err (Refused refusal))
+    × (new.session ≡ one_place_more old.session) × (new.share ≡ with_entered whats.Refused old.share)
+Operates operation old new before after read was_closed is_closed gone (Err (Link Lost)) =
+    LinkEnds operation.asks operation.request before after read was_closed is_closed gone (Err Lost)
+    × (new.session ≡ one_place_more old.session) × (new.share ≡ old.share)
+Operates operation old new before after read was_closed is_closed gone (Err (Link BadFrame)) =
+    LinkEnds operation.asks operation.request before after read was_closed is_closed gone (Err BadFrame)
+    × (new.session ≡ one_place_more old.session) × (new.share ≡ old.share)
+Operates operation old new before after read was_closed is_closed gone (Err (Link OutOfMemory)) =
+    LinkEnds operation.asks operation.request before after read was_closed is_closed gone (Err OutOfMemory)
+    × (new.session ≡ one_place_more old.session) × (new.share ≡ old.share)
+Operates operation old new before after read was_closed is_closed gone (Err AuditFull) =
+    (new ≡ old) × (is_closed ≡ was_closed) × (after ≡ before) × (read ≡ [])

@@ -1,0 +1,160 @@
+//! One whole reply from a channel.
+ghost use Rattle.std.specs.Prelude.{◌≡◌, ◌≢◌, ◌≤◌, ◌∷◌, ◌++◌, [], true, ℕ, List, None, Some, IfErr, IfSome, OnOk};
+ghost use Rattle.std.specs.Io.KnownBytes.{Consumes, IsAtEnd};
+ghost use Rattle.std.specs.List.{AllByRecursion};
+ghost use Rattle.bayou_client.specs.Inner.Taking.{ReplyRead, Takes, TakesItems, TakesPiece};
+ghost use Rattle.bayou_client.specs.Replies.{Begins, IsLast};
+ghost use Rattle.bayou_peer.specs.declared.fault.Fault.TheVariants.{OutOfMemory};
+ghost use Rattle.bayou_peer.specs.First.{IsFeedFault};
+ghost use Rattle.bayou_peer.specs.Stopping.{Stops};
+ghost use Rattle.bayou_wire.specs.declared.frame.Frame.TheVariants.{Item};
+ghost use Rattle.bayou_wire.specs.Spelling.{IsFrame};
+ghost use Rattle.bayou_wire.specs.Stream.{IsPartial, spelling, spellings};
+
+use bayou_base::limits::READ_BYTES;
+use bayou_lang::{RestingWrite, Write as Held};
+use bayou_peer::{Fault, feed_piece, read_piece};
+use bayou_streams::Channel;
+use bayou_wire::{Frame, Frames};
+use std::alloc::Global;
+use std::io::Read;
+
+/// A reply: Items, where they are asked for, and a last frame.
+#[derive(Drop)]
+pub(crate) struct Reply {
+    pub(crate) writes: Vec<RestingWrite>,
+    pub(crate) last: Frame,
+}
+
+// Keeps the Write of an Item.
+fn keep(alloc: Global, write: &Held, writes: &mut Vec<RestingWrite>) -> Result<(), Fault>
+    ensures kept { OnOk result (writes.new.items ≡ writes.old.items ++ write.now ∷ []) }
+    ensures refused { IfErr result (λ fault. fault ≡ OutOfMemory) }
+{
+    let Ok(resting) = write.rest(alloc) else {
+        return Err(Fault::OutOfMemory);
+    };
+    if writes.push(resting).is_err() {
+        return Err(Fault::OutOfMemory);
+    }
+    Ok(())
+}
+
+// The Write of an Item, where Items are asked for. Any other frame ends a reply.
+fn item_of(frame: &Frame, many: bool) -> Option<&Held>
+    ensures item { IfSome result (λ write. (many ≡ true) × (frame.now ≡ Item write.now)) }
+    ensures last { result ≡ None → IsFrame frame.now → IsLast many frame.now }
+{
+    match frame {
+        Frame::Item(write) if many => Some(write),
+        _ => None,
+    }
+}
+
+// Takes frames behind which there is more: each is an Item, or what came is no reply.
+fn take_items(
+    alloc: Global,
+    frames: &[Frame],
+    writes: &mut Vec<RestingWrite>,
+    many: bool,
+) -> Result<(), Fault>
+    ensures takes { (read behind : List ℕ) → behind ≢ [] → AllByRecursion IsFrame frames.now → Begins many read writes.old.items (spellings frames.now ++ behind)
+        → TakesItems many read behind writes.new.items result }
+    ensures fault { IfErr result IsFeedFault }
+{
+    for frame in frames {
+        let Some(write) = item_of(frame, many) else {
+            return Err(Fault::BadFrame);
+        };
+        keep(alloc, write, writes)?;
+    }
+    Ok(())
+}
+
+// Takes the frame behind which no other came: an Item is kept, and any other frame is the last of the reply.
+fn take_frame(
+    alloc: Global,
+    frame: Frame,
+    writes: &mut Vec<RestingWrite>,
+    many: bool,
+) -> Result<Option<Frame>, Fault>
+    ensures takes { (read behind : List ℕ) → IsFrame frame → Begins many read writes.old.items (spelling frame ++ behind)
+        → Takes many read behind writes.new.items result }
+    ensures fault { IfErr result IsFeedFault }
+{
+    let Some(write) = item_of(&frame, many) else {
+        return Ok(Some(frame));
+    };
+    keep(alloc, write, writes)?;
+    Ok(None)
+}
+
+// Takes the frames that came, and gives the last of the reply where it is among them. Nothing may stand behind it.
+fn take_came(
+    alloc: Global,
+    frames: &mut Vec<Frame>,
+    writes: &mut Vec<RestingWrite>,
+    many: bool,
+) -> Result<Option<Frame>, Fault>
+    ensures takes { (read behind : List ℕ) → AllByRecursion IsFrame frames.old.items → Begins many read writes.old.items (spellings frames.old.items ++ behind)
+        → Takes many read behind writes.new.items result }
+    ensures fault { IfErr result IsFeedFault }
+{
+    let Some(newest) = frames.pop() else {
+        return Ok(None);
+    };
+    take_items(alloc, frames, writes, many)?;
+    take_frame(alloc, newest, writes, many)
+}
+
+// Takes a piece of what comes, and gives the last frame of the reply once the reply is whole.
+fn take_piece(
+    alloc: Global,
+    frames: &mut Frames,
+    piece: &[u8],
+    writes: &mut Vec<RestingWrite>,
+    many: bool,
+) -> Result<Option<Frame>, Fault>
+    ensures takes { (read held : List ℕ) → IsPartial held → frames.old ≡ Some held → Begins many read writes.old.items held
+        → TakesPiece many (read ++ piece.now) frames.new writes.new.items result }
+    ensures fault { IfErr result IsFeedFault }
+{
+    let mut came = feed_piece(alloc, frames, piece)?;
+    let last = take_came(alloc, &mut came.frames, writes, many)?;
+    if came.is_bad {
+        return Err(Fault::BadFrame);
+    }
+    let Some(last) = last else {
+        return Ok(None);
+    };
+    if !frames.is_between() {
+        return Err(Fault::BadFrame);
+    }
+    Ok(Some(last))
+}
+
+/// Reads until one reply is whole, of which nothing may come behind.
+pub(crate) fn read_reply<R: Read, W>(
+    alloc: Global,
+    channel: &mut Channel<R, W>,
+    many: bool,
+) -> Result<Reply, Fault>
+    ensures reads { (read : List ℕ) × Consumes (R.remaining channel.old.reader) (R.remaining channel.new.reader) read
+        × ReplyRead many read (IsAtEnd (R.remaining channel.new.reader)) result }
+    ensures stopped { IfErr result (Stops channel.new.read_failed channel.new.write_failed channel.new.turns_left) }
+    ensures turns { channel.new.turns_left ≤ channel.old.turns_left }
+    ensures other { (channel.new.writer ≡ channel.old.writer) × (channel.new.write_failed ≡ channel.old.write_failed) }
+{
+    let mut frames = Frames::new(alloc);
+    let mut writes = Vec::new(alloc);
+    let mut piece = [0; READ_BYTES];
+    loop {
+        let count = read_piece(channel, &mut piece)?;
+        if count == 0 {
+            return Err(Fault::Cut);
+        }
+        if let Some(last) = take_piece(alloc, &mut frames, &piece[..count], &mut writes, many)? {
+            return Ok(Reply { writes, last });
+        }
+    }
+}
