@@ -11,11 +11,13 @@
 pub mod at_desk;
 pub mod gate;
 pub mod lent;
+pub mod listening;
 mod replying;
 pub mod served;
 pub mod serving;
 
 pub use at_desk::serve;
 pub use gate::{NoGate, RequestGate};
+pub use listening::{Broken, Ended, ListenFault, listen};
 pub use served::Served;
 pub use serving::serve_on;
