@@ -27,7 +27,7 @@ use Rattle.bayou_server.proofs.Deciding.{BeginsNone, one_list}
 -- what the journal's laws say of a torn one
 abbrev pub OpensHonestly : Type 0
 OpensHonestly = (version server : ℕ) (bodies : List (List ℕ)) (body : List ℕ) (count : ℕ) (found : List (List ℕ)) (dropped : ℕ) → AreBodies bodies → IsBody body
-    → Finds version server (torn version server bodies body count) found dropped → IsHonest bodies body found
+    → Finds version server (torn version server bodies body count) found dropped → IsHonest bodies (Some body) found
 
 abbrev pub AppendTears : Type 0
 AppendTears = (version server : ℕ) (bodies : List (List ℕ)) (body after : List ℕ) → FailsToAdd AddsFront (entry (chain_end version server bodies) body) (journal version server bodies) after
@@ -91,11 +91,11 @@ not_of_another id held doubt bytes one other =
     let tenth : other.owner ≡ id = ap (λ (l : List ℕ). get_or l 9 0) (sym other.begins.1 ∙ one.is) in other.another tenth
 
 -- what is found in it begins with what was held, and has nothing else behind that but the Write in doubt
-begins : (id : ℕ) (held : List Write) (doubt : Write) (bytes : List ℕ) (found : List (List ℕ)) (one : IsTorn id held doubt bytes) → IsHonest one.bodies one.body found → BeginsWithHeld held found
+begins : (id : ℕ) (held : List Write) (doubt : Write) (bytes : List ℕ) (found : List (List ℕ)) (one : IsTorn id held doubt bytes) → IsHonest one.bodies (Some one.body) found → BeginsWithHeld held found
 begins id held doubt bytes found one (inl same) = record { front = one.bodies; more = []; stores = one.before; split = same ∙ sym (append-nil one.bodies) }
 begins id held doubt bytes found one (inr same) = record { front = one.bodies; more = one.body ∷ []; stores = one.before; split = same }
 
-nothing_other : (id : ℕ) (held : List Write) (doubt : Write) (bytes : List ℕ) (found : List (List ℕ)) (one : IsTorn id held doubt bytes) → IsHonest one.bodies one.body found → HasOther held doubt found → ⊥
+nothing_other : (id : ℕ) (held : List Write) (doubt : Write) (bytes : List ℕ) (found : List (List ℕ)) (one : IsTorn id held doubt bytes) → IsHonest one.bodies (Some one.body) found → HasOther held doubt found → ⊥
 nothing_other id held doubt bytes found one (inl same) other = other.not_held (same ∙ one.before)
 nothing_other id held doubt bytes found one (inr same) other = other.not_adopted (same ∙ one.after)
 
@@ -161,6 +161,6 @@ starts_honestly opens none law laws id held doubt bytes found dropped writes all
     bodies : HasBodies one.bodies one.body
     bodies = has_bodies law laws held doubt one all is
 
-    by : IsHonest one.bodies one.body found → AreHonest held doubt writes
+    by : IsHonest one.bodies (Some one.body) found → AreHonest held doubt writes
     by (inl same) = inl (one_list none writes held every all (sym stores ∙ same ∙ one.before))
     by (inr same) = inr (one_list none writes (held ++ doubt ∷ []) every (All-push IsWrite held doubt all is) (sym stores ∙ same ∙ one.after))
