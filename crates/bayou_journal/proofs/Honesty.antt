@@ -213,6 +213,23 @@ whole_is_honest d version server bodies doubt device whole = record {
   recoverable = of_found version server bodies doubt bodies (d.content device) (the_same bodies doubt bodies refl) whole.whole;
 }
 
+-- an opening that succeeds leaves the device honest for what was added before it too
+front_of_found : (version server : ℕ) (bodies : List (List ℕ)) (doubt : Option (List ℕ)) (found : List (List ℕ)) → IsHonest bodies doubt found → BeginsWith (journal version server bodies) (journal version server found)
+front_of_found version server bodies None found same = ([], ap (journal version server) same ∙ sym (append-nil (journal version server bodies)))
+front_of_found version server bodies (Some body) found (inl same) = ([], ap (journal version server) same ∙ sym (append-nil (journal version server bodies)))
+front_of_found version server bodies (Some body) found (inr more) =
+    (entry (chain_end version server bodies) body, ap (journal version server) more ∙ journal-push version server bodies body)
+
+pub honest_again : {D : Type 0} (d : Ghosts D) (version server : ℕ) (bodies : List (List ℕ)) (doubt : Option (List ℕ)) (old new : D) (found : Found) (last : List ℕ) → d.is_modelled → AreBodies bodies → IfSome doubt IsBody
+    → IsHonestDevice d version server bodies doubt old → HasOpened d version server old new found last → IsHonestDevice d version server bodies doubt new
+honest_again d version server bodies doubt old new found last modelled are is honest opened =
+    let one = opens_honestly d version server bodies doubt old new found last modelled are is honest opened in
+    let front = front_of_found version server bodies doubt found.bodies one.0 in
+    record {
+      kept = inr (front.0, one.1.synced ∙ one.1.whole ∙ front.1);
+      recoverable = of_found version server bodies doubt found.bodies (d.content new) one.0 one.1.whole;
+    }
+
 pub append_honestly : {D : Type 0} (d : Ghosts D) (version server : ℕ) (bodies : List (List ℕ)) (body : List ℕ) (old new : D) → OnlyTears d → AreBodies bodies → IsBody body → IsWhole d version server bodies old
     → FailsToAdd d.may_leave (entry (chain_end version server bodies) body) (d.content old) (d.content new) → KeepsChains (d.kept old) (d.kept new) → IsHonestDevice d version server bodies (Some body) new
 append_honestly d version server bodies body old new tears are is whole fails keeps =

@@ -76,6 +76,8 @@ pub fn an_honest_device_opens_honestly<D: Device>()
     ensures opened { (version server : ℕ) (bodies : List (List ℕ)) (doubt : Option (List ℕ)) (old new : D) (found : Found) (last : List ℕ) → D.is_modelled → AreBodies bodies → IfSome doubt IsBody
         → IsHonestDevice D.Device version server bodies doubt old → HasOpened D.Device version server old new found last
         → IsHonest bodies doubt found.bodies × IsWhole D.Device version server found.bodies new }
+    ensures again { (version server : ℕ) (bodies : List (List ℕ)) (doubt : Option (List ℕ)) (old new : D) (found : Found) (last : List ℕ) → D.is_modelled → AreBodies bodies → IfSome doubt IsBody
+        → IsHonestDevice D.Device version server bodies doubt old → HasOpened D.Device version server old new found last → IsHonestDevice D.Device version server bodies doubt new }
     ensures passing { (version server : ℕ) (bodies : List (List ℕ)) (doubt : Option (List ℕ)) (old new : D) (fault : OpenFault) → D.is_modelled → AreBodies bodies → IfSome doubt IsBody
         → IsHonestDevice D.Device version server bodies doubt old → HasRefused D.Device version server old new fault → IsPassing fault }
     ensures refused { (version server : ℕ) (bodies : List (List ℕ)) (doubt : Option (List ℕ)) (old new : D) (fault : OpenFault) → OnlyTears D.Device → AreBodies bodies → IfSome doubt IsBody
