@@ -5,6 +5,7 @@ use Rattle.std.proofs.lemmas.Bool.{cases_order}
 use Rattle.std.proofs.lemmas.List.{append-nil, take_all, take_at}
 use Rattle.bayou_device.specs.Device.{BeginsWith}
 use Rattle.bayou_device.specs.Memory.{AddsFront}
+use Rattle.bayou_device.specs.MemoryDevice.{memory_device}
 use Rattle.bayou_device.specs.declared.device.Device.{Ghosts}
 use Rattle.bayou_journal.specs.Chain.{AreBodies, IsBody, IsLongestChain, NoEntry, chain_end, entries, entry, first_link, header, journal, link}
 use Rattle.bayou_journal.specs.Laws.Chain.{AreBodies-push, chain_end-push, journal-push, longest_is_one}
@@ -121,22 +122,25 @@ of_found version server bodies (Some body) found after (inr more) is =
     let end = chain_end version server bodies in
     inr (entry end body, is ∙ ap (journal version server) more ∙ journal-push version server bodies body, inr ([], sym (append-nil (entry end body)), no_entry (link end body)))
 
-pub torn_recovers : (version server : ℕ) (bodies : List (List ℕ)) (body : List ℕ) (count : ℕ) → AreBodies bodies → IsBody body → IsRecoverable version server bodies (Some body) (torn version server bodies body count)
-torn_recovers version server bodies body count are is = by (cases_order count (length one))
+-- a front of the entry of the body in doubt is no other entry
+pub front_is_no_other : (before body : List ℕ) (count : ℕ) → IsBody body → NoOtherEntry before (Some body) (take count (entry before body))
+front_is_no_other before body count is = by (cases_order count (length one))
   where
-    end : List ℕ
-    end = chain_end version server bodies
-
     one : List ℕ
-    one = entry end body
+    one = entry before body
 
-    whole : length one ≤ count → IsRecoverable version server bodies (Some body) (torn version server bodies body count)
-    whole long = inr (take count one, refl, inr ([], take_all count one long ∙ sym (append-nil one), no_entry (link end body)))
+    whole : length one ≤ count → NoOtherEntry before (Some body) (take count one)
+    whole long = inr ([], take_all count one long ∙ sym (append-nil one), no_entry (link before body))
 
-    by : (count ≡ length one) ⊎ ((count < length one) ⊎ (length one < count)) → IsRecoverable version server bodies (Some body) (torn version server bodies body count)
+    by : (count ≡ length one) ⊎ ((count < length one) ⊎ (length one < count)) → NoOtherEntry before (Some body) (take count one)
     by (inl same) = whole (omega (arith, same))
-    by (inr (inl short)) = inr (take count one, refl, inl (no_part end body count is short))
+    by (inr (inl short)) = inl (no_part before body count is short)
     by (inr (inr long)) = whole (omega (arith, long))
+
+pub torn_recovers : (version server : ℕ) (bodies : List (List ℕ)) (body : List ℕ) (count : ℕ) → AreBodies bodies → IsBody body → IsRecoverable version server bodies (Some body) (torn version server bodies body count)
+torn_recovers version server bodies body count are is =
+    let end = chain_end version server bodies in
+    inr (take count (entry end body), refl, front_is_no_other end body count is)
 
 -- an opening that fails leaves a recoverable journal so
 stays : (version server : ℕ) (bodies : List (List ℕ)) (doubt : Option (List ℕ)) (before after : List ℕ) → AreBodies bodies → IfSome doubt IsBody
@@ -266,3 +270,20 @@ kept_passes d version server bodies old new OtherServer keeps modelled begins re
     let other = refused.1 modelled in
     let tenth : other.owner ≡ server = ap (λ (l : List ℕ). get_or l 9 0) (sym other.begins.1 ∙ front.1) in
     other.another tenth
+
+pub kept_and_tail : {D : Type 0} (d : Ghosts D) (version server : ℕ) (bodies : List (List ℕ)) (doubt : Option (List ℕ)) (device : D) (tail : List ℕ) → d.kept device ≡ journal version server bodies
+    → d.content device ≡ d.kept device ++ tail → NoOtherEntry (chain_end version server bodies) doubt tail → IsHonestDevice d version server bodies doubt device
+kept_and_tail d version server bodies doubt device tail keeps behind none = record {
+  kept = inr ([], keeps ∙ sym (append-nil (journal version server bodies)));
+  recoverable = inr (tail, behind ∙ ap (λ (l : List ℕ). l ++ tail) keeps, none);
+}
+
+pub the_same_device : {D : Type 0} (d : Ghosts D) (version server : ℕ) (bodies : List (List ℕ)) (doubt : Option (List ℕ)) (device other : D) → d.content other ≡ d.content device → d.kept other ≡ d.kept device
+    → IsHonestDevice d version server bodies doubt device → IsHonestDevice d version server bodies doubt other
+the_same_device d version server bodies doubt device other content kept honest = record {
+  kept = subst (λ (k : List ℕ). (bodies ≡ []) ⊎ BeginsWith (journal version server bodies) k) (sym kept) honest.kept;
+  recoverable = subst (λ (b : List ℕ). IsRecoverable version server bodies doubt b) (sym content) honest.recoverable;
+}
+
+pub memory_tears : OnlyTears memory_device
+memory_tears = record { modelled = tt; adds_front = λ piece before after left. left }

@@ -4,7 +4,8 @@ ghost use Rattle.std.specs.Prelude.{◌≡◌, ◌<◌, ◌≤◌, ◌++◌, ◌
 ghost use Rattle.bayou_device.specs.Device.{BeginsWith};
 ghost use Rattle.bayou_device.specs.Memory.{AddsFront};
 ghost use Rattle.bayou_journal.specs.Chain.{AreBodies, IsBody, IsLongestChain, chain_end, entry, journal};
-ghost use Rattle.bayou_journal.specs.Honest.{IsHonest, IsHonestDevice, IsPassing, IsRecoverable, IsWhole, OnlyTears, torn};
+ghost use Rattle.bayou_device.specs.MemoryDevice.{memory_device};
+ghost use Rattle.bayou_journal.specs.Honest.{IsHonest, IsHonestDevice, IsPassing, IsRecoverable, IsWhole, NoOtherEntry, OnlyTears, torn};
 ghost use Rattle.bayou_journal.specs.Opened.{Found};
 ghost use Rattle.bayou_journal.specs.Opening.{FailsToAdd, FailsToOpen, Finds, HasOpened, HasRefused, IsForeign, IsOfAnother, KeepsChains};
 ghost use Rattle.bayou_journal.specs.declared.fault.OpenFault.{OpenFault};
@@ -104,4 +105,19 @@ pub fn what_is_kept_is_found<D: Device>()
         → BeginsWith (journal version server bodies) (D.kept old) → HasOpened D.Device version server old new found last → (more : List (List ℕ)) × (found.bodies ≡ bodies ++ more) }
     ensures passing { (version server : ℕ) (bodies : List (List ℕ)) (old new : D) (fault : OpenFault) → D.is_modelled
         → BeginsWith (journal version server bodies) (D.kept old) → HasRefused D.Device version server old new fault → IsPassing fault }
+{}
+
+/// A device that keeps a journal is honest by what stands behind that, as after a crash: where no entry goes on from it but that of
+/// the body in doubt, as in a front of that entry. Nothing else of a device decides whether it is.
+pub fn what_stands_behind_the_kept_decides<D: Device>()
+    ensures honest { (version server : ℕ) (bodies : List (List ℕ)) (doubt : Option (List ℕ)) (device : D) (tail : List ℕ) → D.kept device ≡ journal version server bodies
+        → D.content device ≡ D.kept device ++ tail → NoOtherEntry (chain_end version server bodies) doubt tail → IsHonestDevice D.Device version server bodies doubt device }
+    ensures front { (before body : List ℕ) (count : ℕ) → IsBody body → NoOtherEntry before (Some body) (take count (entry before body)) }
+    ensures same { (version server : ℕ) (bodies : List (List ℕ)) (doubt : Option (List ℕ)) (device other : D) → D.content other ≡ D.content device → D.kept other ≡ D.kept device
+        → IsHonestDevice D.Device version server bodies doubt device → IsHonestDevice D.Device version server bodies doubt other }
+{}
+
+/// A failed call of a device in memory does no more than to tear.
+pub fn a_device_in_memory_only_tears()
+    ensures { OnlyTears memory_device }
 {}

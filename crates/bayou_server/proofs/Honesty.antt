@@ -369,7 +369,7 @@ whole_of_device d law laws core device left bodies modelled sound one opens =
     let reads = reads_of d laws core device sound one in
     whole_list core reads.one.bodies reads.one.body bodies sound reads.one.stores reads.one.stores_doubt (found_in d law device left bodies modelled reads opens)
 
-refusal_of : (fault : JournalFault) → IsPassing (open_fault fault) → IsHonestRefusal (starting.Journal fault)
+pub refusal_of : (fault : JournalFault) → IsPassing (open_fault fault) → IsHonestRefusal (starting.Journal fault)
 refusal_of Device passing = tt
 refusal_of NotAJournal passing = passing
 refusal_of OtherServer passing = passing

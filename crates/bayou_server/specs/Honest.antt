@@ -73,3 +73,14 @@ IsHonestRefusal (starting.Journal OtherServer) = ⊥
 IsHonestRefusal (starting.BadRecord at) = ⊥
 IsHonestRefusal (starting.Gap at) = ⊥
 IsHonestRefusal starting.LogFull = ⊥
+
+-- A reopening doesn't say that the journal lost a Write that was held, or isn't the server's.
+abbrev pub LosesNothing : Result Reopened ReopenFault → Type 0
+LosesNothing (Ok reopened) = Unit {0}
+LosesNothing (Err reopening.NotDown) = Unit {0}
+LosesNothing (Err (reopening.Journal Device)) = Unit {0}
+LosesNothing (Err (reopening.BadRecord at)) = Unit {0}
+LosesNothing (Err reopening.OutOfMemory) = Unit {0}
+LosesNothing (Err (reopening.Journal NotAJournal)) = ⊥
+LosesNothing (Err (reopening.Journal OtherServer)) = ⊥
+LosesNothing (Err reopening.Lost) = ⊥

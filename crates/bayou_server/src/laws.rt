@@ -1,12 +1,16 @@
 //! Laws of starts and reopenings: over a device that the clauses model, the bytes decide; and laws of servers whose device calls
 //! fail. Each is the contract of a function that does nothing.
-ghost use Rattle.std.specs.Prelude.{◌≡◌, ℕ, List, [], Option, Some, Result, All};
+ghost use Rattle.std.specs.Prelude.{◌≡◌, ℕ, List, [], ◌++◌, Option, Some, Result, All};
 ghost use Rattle.bayou_base.specs.declared.answer.Accepted.{Accepted};
 ghost use Rattle.bayou_base.specs.declared.wid.Wid.{Wid};
 ghost use Rattle.bayou_lang.specs.declared.program.Program.{Program};
 ghost use Rattle.bayou_lang.specs.declared.write.Write.{Write};
+ghost use Rattle.bayou_server.specs.declared.fault.JournalFault.{JournalFault};
 ghost use Rattle.bayou_server.specs.declared.fault.StartFault.{StartFault};
-ghost use Rattle.bayou_journal.specs.Chain.{AreBodies, IsBody};
+ghost use Rattle.bayou_server.specs.declared.fault.StartFault.TheVariants.{Journal};
+ghost use Rattle.bayou_device.specs.Device.{BeginsWith};
+ghost use Rattle.bayou_journal.specs.Chain.{AreBodies, IsBody, journal};
+ghost use Rattle.bayou_journal.specs.declared.format.TheConstants.{VERSION};
 ghost use Rattle.bayou_journal.specs.Opening.{KeepsChains};
 ghost use Rattle.bayou_lang.specs.Ranges.{IsWrite};
 ghost use Rattle.bayou_wire.specs.Spelling.{write_bytes};
@@ -15,9 +19,9 @@ ghost use Rattle.bayou_server.specs.declared.fault.ReopenFault.{ReopenFault};
 ghost use Rattle.bayou_server.specs.declared.answer.Took.{Took};
 ghost use Rattle.bayou_server.specs.declared.fault.TakeFault.{TakeFault};
 ghost use Rattle.bayou_server.specs.declared.fault.WriteFault.{WriteFault};
-ghost use Rattle.bayou_server.specs.Honest.{AreHonest, IsHonestAnswer, IsHonestDevice, IsHonestRefusal, IsHonestServer, OnlyTears};
+ghost use Rattle.bayou_server.specs.Honest.{AreHonest, IsHonestAnswer, IsHonestDevice, IsHonestRefusal, IsHonestServer, LosesNothing, OnlyTears};
 ghost use Rattle.bayou_server.specs.Reopens.{Recovers, Reopens};
-ghost use Rattle.bayou_server.specs.Server.{Core, IsSoundServer, ServerState};
+ghost use Rattle.bayou_server.specs.Server.{Core, IsSoundServer, ServerState, with_device};
 ghost use Rattle.bayou_server.specs.Starts.{FailsToStart, Starts, StartsOn, StopsAtEntry};
 ghost use Rattle.bayou_server.specs.Stored.{BeginsWithHeld, HasOther, IsStored, OpensWith, OpensWithWrites, ReopensJournal, Stores, StoresTaken, StoresWrite};
 ghost use Rattle.bayou_server.specs.Takes.{Takes};
@@ -26,6 +30,7 @@ ghost use Rattle.bayou_server.specs.Writes.{Writes};
 use bayou_device::Device;
 use bayou_journal::laws::{
     a_failed_append_leaves_an_honest_device, an_honest_device_opens_honestly, what_is_found_is_one,
+    what_is_kept_is_found, what_stands_behind_the_kept_decides,
 };
 use bayou_wire::laws::{a_write_is_spelled_by_a_body, no_write_begins_another};
 
@@ -141,6 +146,32 @@ pub fn an_honest_server_has_an_honest_device<D: Device>()
     ensures { (server : ServerState D) → IsHonestServer D.Device server → IsHonestDevice D.Device server.core.id server.core.held server.core.doubt server.device }
 {
     a_failed_append_leaves_an_honest_device::<D>();
+}
+
+/// Only what a read of its device gives, and what that keeps, decide whether a server is honest.
+pub fn what_its_device_holds_decides<D: Device>()
+    ensures { (server : ServerState D) (other : D) → D.content other ≡ D.content server.device → D.kept other ≡ D.kept server.device
+        → IsHonestServer D.Device server → IsHonestServer D.Device (with_device server other) }
+{
+    what_stands_behind_the_kept_decides::<D>();
+}
+
+/// Whatever a failed call or a crash leaves behind what is kept: where the entries of the Writes held are kept, no reopening says that
+/// one is lost, and a start holds them, before all others; neither says that the journal is another server's, or none.
+pub fn what_is_kept_is_never_lost<D: Device>()
+    ensures reopened { (bodies : List (List ℕ)) (result : Result Reopened ReopenFault) (old new : ServerState D) → D.is_modelled → IsSoundServer old.core
+        → Stores bodies old.core.held → BeginsWith (journal VERSION old.core.id bodies) (D.kept old.device)
+        → ReopensJournal D.Device old result new → LosesNothing result }
+    ensures started { (bodies : List (List ℕ)) (held : List Write) (id count limit dropped : ℕ) (device : D) (server : ServerState D) → D.is_modelled → All IsWrite held
+        → Stores bodies held → BeginsWith (journal VERSION id bodies) (D.kept device)
+        → Starts id count limit server.core → StartsOn D.Device device server dropped → (more : List Write) × (server.core.held ≡ held ++ more) }
+    ensures refused { (bodies : List (List ℕ)) (id count limit : ℕ) (device left : D) (fault : JournalFault) → D.is_modelled
+        → BeginsWith (journal VERSION id bodies) (D.kept device)
+        → FailsToStart D.Device id count limit device left (Journal fault) → IsHonestRefusal (Journal fault) }
+{
+    what_is_kept_is_found::<D>();
+    a_write_is_a_body();
+    no_write_begins_another();
 }
 
 /// What a journal stores is of one list of Writes.
