@@ -287,3 +287,10 @@ the_same_device d version server bodies doubt device other content kept honest =
 
 pub memory_tears : OnlyTears memory_device
 memory_tears = record { modelled = tt; adds_front = λ piece before after left. left }
+
+pub added_whole : {D : Type 0} (d : Ghosts D) (version server : ℕ) (bodies : List (List ℕ)) (body : List ℕ) (old new : D) → IsWhole d version server bodies old
+    → d.content new ≡ d.content old ++ entry (chain_end version server bodies) body → d.kept new ≡ d.content new → IsWhole d version server (bodies ++ body ∷ []) new
+added_whole d version server bodies body old new whole behind synced = record {
+  whole = behind ∙ ap (λ (l : List ℕ). l ++ entry (chain_end version server bodies) body) whole.whole ∙ sym (journal-push version server bodies body);
+  synced = synced;
+}

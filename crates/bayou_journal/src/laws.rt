@@ -88,11 +88,13 @@ pub fn an_honest_device_opens_honestly<D: Device>()
     what_is_found_is_not_refused();
 }
 
-/// A device with a journal and nothing else, all of it kept, is honest; and where an append to it fails, it is honest for the same
-/// bodies and the one that was to be added.
-pub fn a_failed_append_leaves_an_honest_device<D: Device>()
+/// A device with a journal and nothing else, all of it kept, is honest; an append to it that succeeds leaves it so, with one body more;
+/// and where one fails, it is honest for the same bodies and the one that was to be added.
+pub fn an_append_leaves_an_honest_device<D: Device>()
     ensures whole { (version server : ℕ) (bodies : List (List ℕ)) (doubt : Option (List ℕ)) (device : D)
         → IsWhole D.Device version server bodies device → IsHonestDevice D.Device version server bodies doubt device }
+    ensures added { (version server : ℕ) (bodies : List (List ℕ)) (body : List ℕ) (old new : D) → IsWhole D.Device version server bodies old
+        → D.content new ≡ D.content old ++ entry (chain_end version server bodies) body → D.kept new ≡ D.content new → IsWhole D.Device version server (bodies ++ body ∷ []) new }
     ensures failed { (version server : ℕ) (bodies : List (List ℕ)) (body : List ℕ) (old new : D) → OnlyTears D.Device → AreBodies bodies → IsBody body → IsWhole D.Device version server bodies old
         → FailsToAdd D.may_leave (entry (chain_end version server bodies) body) (D.content old) (D.content new) → KeepsChains (D.kept old) (D.kept new)
         → IsHonestDevice D.Device version server bodies (Some body) new }

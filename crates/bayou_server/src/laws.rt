@@ -29,7 +29,7 @@ ghost use Rattle.bayou_server.specs.Writes.{Writes};
 
 use bayou_device::Device;
 use bayou_journal::laws::{
-    a_failed_append_leaves_an_honest_device, an_honest_device_opens_honestly, what_is_found_is_one,
+    an_append_leaves_an_honest_device, an_honest_device_opens_honestly, what_is_found_is_one,
     what_is_kept_is_found, what_stands_behind_the_kept_decides,
 };
 use bayou_wire::laws::{a_write_is_spelled_by_a_body, no_write_begins_another};
@@ -103,7 +103,7 @@ pub fn an_honest_server_stays_honest<D: Device>()
         → IsHonestServer D.Device old → Takes old.core given result new.core → StoresTaken D.Device old result new → KeepsChains (D.kept old.device) (D.kept new.device)
         → IsHonestServer D.Device new }
 {
-    a_failed_append_leaves_an_honest_device::<D>();
+    an_append_leaves_an_honest_device::<D>();
     a_write_is_a_body();
 }
 
@@ -118,7 +118,7 @@ pub fn an_honest_server_is_reopened_honestly<D: Device>()
         → Reopens old.core result new.core → ReopensJournal D.Device old result new → KeepsChains (D.kept old.device) (D.kept new.device) → IsHonestServer D.Device new }
 {
     an_honest_device_opens_honestly::<D>();
-    a_failed_append_leaves_an_honest_device::<D>();
+    an_append_leaves_an_honest_device::<D>();
     a_write_is_a_body();
 }
 
@@ -145,7 +145,7 @@ pub fn a_start_on_an_honest_device_is_honest<D: Device>()
 pub fn an_honest_server_has_an_honest_device<D: Device>()
     ensures { (server : ServerState D) → IsHonestServer D.Device server → IsHonestDevice D.Device server.core.id server.core.held server.core.doubt server.device }
 {
-    a_failed_append_leaves_an_honest_device::<D>();
+    an_append_leaves_an_honest_device::<D>();
 }
 
 /// Only what a read of its device gives, and what that keeps, decide whether a server is honest.
