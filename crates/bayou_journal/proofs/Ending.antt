@@ -57,7 +57,7 @@ finds_all version server bytes bodies dropped (inr old) edition owner others are
     )
 
 -- bytes that begin with a front, which begins with another
-begins_on : (front middle bytes : List ℕ) → BeginsWith front middle → BeginsWith middle bytes → BeginsWith front bytes
+pub begins_on : (front middle bytes : List ℕ) → BeginsWith front middle → BeginsWith middle bytes → BeginsWith front bytes
 begins_on front middle bytes one two = (one.0 ++ two.0, two.1 ∙ ap (λ (l : List ℕ). l ++ two.0) one.1 ∙ append_assoc front one.0 two.0)
 
 -- a front that a cut doesn't reach

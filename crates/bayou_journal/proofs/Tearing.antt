@@ -1,5 +1,5 @@
 -- What a torn journal opens as.
-use Rattle.std.proofs.Common.{◌≡◌, ◌⊎◌, inl, inr, ℕ, suc, ◌<◌, ◌≤◌, List, [], ◌∷◌, ◌++◌, length, take, drop, refl, sym, ◌∙◌, ap, arith, append_assoc, length-append, length-drop, take-append-drop}
+use Rattle.std.proofs.Common.{◌≡◌, ◌⊎◌, inl, inr, ℕ, Some, suc, ◌<◌, ◌≤◌, List, [], ◌∷◌, ◌++◌, length, take, drop, refl, sym, ◌∙◌, ap, arith, append_assoc, length-append, length-drop, take-append-drop}
 use Rattle.std.proofs.lemmas.Bool.{cases_order}
 use Rattle.std.proofs.lemmas.List.{append-nil, append_cancel_left, take_all}
 use Rattle.bayou_device.specs.Device.{BeginsWith}
@@ -10,7 +10,7 @@ use Rattle.bayou_journal.specs.Honest.{IsHonest, torn}
 use Rattle.bayou_journal.specs.Opening.{FailsToAdd, FailsToOpen, Finds}
 use Rattle.bayou_journal.proofs.Ending.{new_begins_not}
 
-some_entry : (before body : List ℕ) → 2 ≤ length (entry before body)
+pub some_entry : (before body : List ℕ) → 2 ≤ length (entry before body)
 some_entry before body = let long : length (entry before body) ≡ suc (suc (length (body ++ link before body))) = refl in omega (arith, long)
 
 -- nothing begins with an entry
@@ -18,7 +18,7 @@ pub no_entry : (before : List ℕ) → NoEntry before []
 no_entry before other is begins = omega (arith, some_entry before other, ap length begins.1, length-append (entry before other) begins.0)
 
 -- a front of an entry is none
-no_part : (before body : List ℕ) (count : ℕ) → IsBody body → count < length (entry before body) → NoEntry before (take count (entry before body))
+pub no_part : (before body : List ℕ) (count : ℕ) → IsBody body → count < length (entry before body) → NoEntry before (take count (entry before body))
 no_part before body count is short other is_other begins =
     let one = entry before body in
     let whole : entry before other ++ (begins.0 ++ drop count one) ≡ one ++ [] =
@@ -47,17 +47,17 @@ not_new : (version server : ℕ) (bodies : List (List ℕ)) (body : List ℕ) (c
 not_new version server bodies body count = (take count (entry (chain_end version server bodies) body), refl)
 
 pub opens_honestly : (version server : ℕ) (bodies : List (List ℕ)) (body : List ℕ) (count : ℕ) (found : List (List ℕ)) (dropped : ℕ) → AreBodies bodies → IsBody body
-    → Finds version server (torn version server bodies body count) found dropped → IsHonest bodies body found
+    → Finds version server (torn version server bodies body count) found dropped → IsHonest bodies (Some body) found
 opens_honestly version server bodies body count found dropped are is (inl new) = absurd (new_begins_not version (torn version server bodies body count) version server bodies new.front (not_new version server bodies body count))
 opens_honestly version server bodies body count found dropped are is (inr old) = by (cases_order count (length (entry (chain_end version server bodies) body)))
   where
-    part : count < length (entry (chain_end version server bodies) body) → IsHonest bodies body found
+    part : count < length (entry (chain_end version server bodies) body) → IsHonest bodies (Some body) found
     part short = inl (longest_is_one version server (torn version server bodies body count) found bodies old.rest (take count (entry (chain_end version server bodies) body)) old.chain (torn_in_part version server bodies body count are is short)).0
 
-    whole : length (entry (chain_end version server bodies) body) ≤ count → IsHonest bodies body found
+    whole : length (entry (chain_end version server bodies) body) ≤ count → IsHonest bodies (Some body) found
     whole long = inr (longest_is_one version server (torn version server bodies body count) found (bodies ++ body ∷ []) old.rest [] old.chain (torn_whole version server bodies body count are is long)).0
 
-    by : (count ≡ length (entry (chain_end version server bodies) body)) ⊎ ((count < length (entry (chain_end version server bodies) body)) ⊎ (length (entry (chain_end version server bodies) body) < count)) → IsHonest bodies body found
+    by : (count ≡ length (entry (chain_end version server bodies) body)) ⊎ ((count < length (entry (chain_end version server bodies) body)) ⊎ (length (entry (chain_end version server bodies) body) < count)) → IsHonest bodies (Some body) found
     by (inl same) = whole (omega (arith, same))
     by (inr (inl short)) = part short
     by (inr (inr long)) = whole (omega (arith, long))
@@ -73,7 +73,7 @@ front_of_chain version server bytes bodies longest rest are begins chain =
     let front = front_of_longest (first_link version server) bodies longest begins.0 rest are chain.sizes chain.longest tails in
     (front.more, front.is)
 
-no_front : (before after : List ℕ) → AddsFront [] before after → after ≡ before
+pub no_front : (before after : List ℕ) → AddsFront [] before after → after ≡ before
 no_front before after left = left.1 ∙ ap (λ (l : List ℕ). before ++ l) (take_all left.0 [] (omega arith)) ∙ append-nil before
 
 -- what a failed append leaves behind a journal
@@ -97,6 +97,6 @@ opening_tears version server bodies body count after are is (inr (inr left)) =
     one : List ℕ
     one = entry (chain_end version server bodies) body
 
-    by : {found : List (List ℕ)} → IsHonest bodies body found → after ≡ journal version server found → (left : ℕ) × (after ≡ torn version server bodies body left)
+    by : {found : List (List ℕ)} → IsHonest bodies (Some body) found → after ≡ journal version server found → (left : ℕ) × (after ≡ torn version server bodies body left)
     by (inl same) left_is = (0, left_is ∙ ap (journal version server) same ∙ sym (append-nil (journal version server bodies)))
     by (inr more) left_is = (length one, left_is ∙ ap (journal version server) more ∙ sym (whole_entry version server bodies body (length one) (omega arith)))

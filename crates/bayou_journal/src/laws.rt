@@ -1,11 +1,16 @@
-//! Laws of a journal's bytes, each the contract of a function that does nothing.
+//! Laws of a journal's bytes, and of devices whose calls fail, each the contract of a function that does nothing.
 
-ghost use Rattle.std.specs.Prelude.{◌≡◌, ◌<◌, ◌≤◌, ◌++◌, ◌∷◌, [], ℕ, List, length, take};
+ghost use Rattle.std.specs.Prelude.{◌≡◌, ◌<◌, ◌≤◌, ◌++◌, ◌∷◌, [], ℕ, IfSome, List, Option, Some, length, take};
 ghost use Rattle.bayou_device.specs.Device.{BeginsWith};
 ghost use Rattle.bayou_device.specs.Memory.{AddsFront};
 ghost use Rattle.bayou_journal.specs.Chain.{AreBodies, IsBody, IsLongestChain, chain_end, entry, journal};
-ghost use Rattle.bayou_journal.specs.Honest.{IsHonest, torn};
-ghost use Rattle.bayou_journal.specs.Opening.{FailsToAdd, FailsToOpen, Finds, IsForeign, IsOfAnother};
+ghost use Rattle.bayou_device.specs.MemoryDevice.{memory_device};
+ghost use Rattle.bayou_journal.specs.Honest.{IsHonest, IsHonestDevice, IsPassing, IsRecoverable, IsWhole, NoOtherEntry, OnlyTears, torn};
+ghost use Rattle.bayou_journal.specs.Opened.{Found};
+ghost use Rattle.bayou_journal.specs.Opening.{FailsToAdd, FailsToOpen, Finds, HasOpened, HasRefused, IsForeign, IsOfAnother, KeepsChains};
+ghost use Rattle.bayou_journal.specs.declared.fault.OpenFault.{OpenFault};
+
+use bayou_device::Device;
 
 /// The longest chain is one.
 pub fn longest_chain_is_one()
@@ -38,7 +43,7 @@ pub fn a_torn_journal_opens_honestly()
     ensures whole { (version server : ℕ) (bodies : List (List ℕ)) (body : List ℕ) (count : ℕ) → AreBodies bodies → IsBody body → length (entry (chain_end version server bodies) body) ≤ count
         → IsLongestChain version server (torn version server bodies body count) (bodies ++ body ∷ []) [] }
     ensures honest { (version server : ℕ) (bodies : List (List ℕ)) (body : List ℕ) (count : ℕ) (found : List (List ℕ)) (dropped : ℕ) → AreBodies bodies → IsBody body
-        → Finds version server (torn version server bodies body count) found dropped → IsHonest bodies body found }
+        → Finds version server (torn version server bodies body count) found dropped → IsHonest bodies (Some body) found }
 {}
 
 /// Over a device that at a failed call may only add a front of its piece, as one in memory does, a journal whose append
@@ -48,4 +53,73 @@ pub fn a_fault_leaves_a_torn_journal()
         → (count : ℕ) × (after ≡ torn version server bodies body count) }
     ensures opening { (version server : ℕ) (bodies : List (List ℕ)) (body : List ℕ) (count : ℕ) (after : List ℕ) → AreBodies bodies → IsBody body
         → FailsToOpen AddsFront version server (torn version server bodies body count) after → (left : ℕ) × (after ≡ torn version server bodies body left) }
+{}
+
+/// A torn journal is recoverable: no entry goes on in it but that of the body whose append tore it.
+pub fn a_torn_journal_is_recoverable()
+    ensures { (version server : ℕ) (bodies : List (List ℕ)) (body : List ℕ) (count : ℕ) → AreBodies bodies → IsBody body
+        → IsRecoverable version server bodies (Some body) (torn version server bodies body count) }
+{}
+
+/// An opening of a recoverable journal is honest: it finds the bodies that were added, or those and the one in doubt, and never
+/// anything else; and there is something that it finds.
+pub fn a_recoverable_journal_opens_honestly()
+    ensures honest { (version server : ℕ) (bodies : List (List ℕ)) (doubt : Option (List ℕ)) (bytes : List ℕ) (found : List (List ℕ)) (dropped : ℕ) → AreBodies bodies → IfSome doubt IsBody
+        → IsRecoverable version server bodies doubt bytes → Finds version server bytes found dropped → IsHonest bodies doubt found }
+    ensures found { (version server : ℕ) (bodies : List (List ℕ)) (doubt : Option (List ℕ)) (bytes : List ℕ) → AreBodies bodies → IfSome doubt IsBody
+        → IsRecoverable version server bodies doubt bytes → (found : List (List ℕ)) × (dropped : ℕ) × Finds version server bytes found dropped }
+{}
+
+/// An opening of an honest device is honest, and leaves the journal of what it found and nothing else, all of it kept. It is
+/// refused for a device call or for memory alone; and over a device whose failed calls do no more than to tear, the device is
+/// honest then as it was before.
+pub fn an_honest_device_opens_honestly<D: Device>()
+    ensures opened { (version server : ℕ) (bodies : List (List ℕ)) (doubt : Option (List ℕ)) (old new : D) (found : Found) (last : List ℕ) → D.is_modelled → AreBodies bodies → IfSome doubt IsBody
+        → IsHonestDevice D.Device version server bodies doubt old → HasOpened D.Device version server old new found last
+        → IsHonest bodies doubt found.bodies × IsWhole D.Device version server found.bodies new }
+    ensures again { (version server : ℕ) (bodies : List (List ℕ)) (doubt : Option (List ℕ)) (old new : D) (found : Found) (last : List ℕ) → D.is_modelled → AreBodies bodies → IfSome doubt IsBody
+        → IsHonestDevice D.Device version server bodies doubt old → HasOpened D.Device version server old new found last → IsHonestDevice D.Device version server bodies doubt new }
+    ensures passing { (version server : ℕ) (bodies : List (List ℕ)) (doubt : Option (List ℕ)) (old new : D) (fault : OpenFault) → D.is_modelled → AreBodies bodies → IfSome doubt IsBody
+        → IsHonestDevice D.Device version server bodies doubt old → HasRefused D.Device version server old new fault → IsPassing fault }
+    ensures refused { (version server : ℕ) (bodies : List (List ℕ)) (doubt : Option (List ℕ)) (old new : D) (fault : OpenFault) → OnlyTears D.Device → AreBodies bodies → IfSome doubt IsBody
+        → IsHonestDevice D.Device version server bodies doubt old → HasRefused D.Device version server old new fault → KeepsChains (D.kept old) (D.kept new)
+        → IsHonestDevice D.Device version server bodies doubt new }
+{
+    what_is_found_is_not_refused();
+}
+
+/// A device with a journal and nothing else, all of it kept, is honest; an append to it that succeeds leaves it so, with one body more;
+/// and where one fails, it is honest for the same bodies and the one that was to be added.
+pub fn an_append_leaves_an_honest_device<D: Device>()
+    ensures whole { (version server : ℕ) (bodies : List (List ℕ)) (doubt : Option (List ℕ)) (device : D)
+        → IsWhole D.Device version server bodies device → IsHonestDevice D.Device version server bodies doubt device }
+    ensures added { (version server : ℕ) (bodies : List (List ℕ)) (body : List ℕ) (old new : D) → IsWhole D.Device version server bodies old
+        → D.content new ≡ D.content old ++ entry (chain_end version server bodies) body → D.kept new ≡ D.content new → IsWhole D.Device version server (bodies ++ body ∷ []) new }
+    ensures failed { (version server : ℕ) (bodies : List (List ℕ)) (body : List ℕ) (old new : D) → OnlyTears D.Device → AreBodies bodies → IsBody body → IsWhole D.Device version server bodies old
+        → FailsToAdd D.may_leave (entry (chain_end version server bodies) body) (D.content old) (D.content new) → KeepsChains (D.kept old) (D.kept new)
+        → IsHonestDevice D.Device version server bodies (Some body) new }
+{}
+
+/// Whatever a failed call or a crash leaves behind what is kept: an opening finds each body whose entry is kept, before all others,
+/// and is refused for a device call or for memory alone.
+pub fn what_is_kept_is_found<D: Device>()
+    ensures opened { (version server : ℕ) (bodies : List (List ℕ)) (old new : D) (found : Found) (last : List ℕ) → D.is_modelled → AreBodies bodies
+        → BeginsWith (journal version server bodies) (D.kept old) → HasOpened D.Device version server old new found last → (more : List (List ℕ)) × (found.bodies ≡ bodies ++ more) }
+    ensures passing { (version server : ℕ) (bodies : List (List ℕ)) (old new : D) (fault : OpenFault) → D.is_modelled
+        → BeginsWith (journal version server bodies) (D.kept old) → HasRefused D.Device version server old new fault → IsPassing fault }
+{}
+
+/// A device that keeps a journal is honest by what stands behind that, as after a crash: where no entry goes on from it but that of
+/// the body in doubt, as in a front of that entry. Nothing else of a device decides whether it is.
+pub fn what_stands_behind_the_kept_decides<D: Device>()
+    ensures honest { (version server : ℕ) (bodies : List (List ℕ)) (doubt : Option (List ℕ)) (device : D) (tail : List ℕ) → D.kept device ≡ journal version server bodies
+        → D.content device ≡ D.kept device ++ tail → NoOtherEntry (chain_end version server bodies) doubt tail → IsHonestDevice D.Device version server bodies doubt device }
+    ensures front { (before body : List ℕ) (count : ℕ) → IsBody body → NoOtherEntry before (Some body) (take count (entry before body)) }
+    ensures same { (version server : ℕ) (bodies : List (List ℕ)) (doubt : Option (List ℕ)) (device other : D) → D.content other ≡ D.content device → D.kept other ≡ D.kept device
+        → IsHonestDevice D.Device version server bodies doubt device → IsHonestDevice D.Device version server bodies doubt other }
+{}
+
+/// A failed call of a device in memory does no more than to tear.
+pub fn a_device_in_memory_only_tears()
+    ensures { OnlyTears memory_device }
 {}

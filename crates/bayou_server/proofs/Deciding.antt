@@ -18,13 +18,13 @@ use Rattle.bayou_server.proofs.Adding.{bodies_of-push}
 abbrev pub BeginsNone : Type 0
 BeginsNone = (a b : Write) (x y : List ℕ) → IsWrite a → IsWrite b → write_bytes a ++ x ≡ write_bytes b ++ y → (a ≡ b) × (x ≡ y)
 
-one_write : BeginsNone → (a b : Write) → IsWrite a → IsWrite b → write_bytes a ≡ write_bytes b → a ≡ b
+pub one_write : BeginsNone → (a b : Write) → IsWrite a → IsWrite b → write_bytes a ≡ write_bytes b → a ≡ b
 one_write law a b is_a is_b same = (law a b [] [] is_a is_b (ap (λ (l : List ℕ). l ++ []) same)).0
 
-first_of_all : (write : Write) (writes : List Write) → All IsWrite (write ∷ writes) → IsWrite write
+pub first_of_all : (write : Write) (writes : List Write) → All IsWrite (write ∷ writes) → IsWrite write
 first_of_all write writes all = all 0 write (omega arith)
 
-rest_of_all : (write : Write) (writes : List Write) → All IsWrite (write ∷ writes) → All IsWrite writes
+pub rest_of_all : (write : Write) (writes : List Write) → All IsWrite (write ∷ writes) → All IsWrite writes
 rest_of_all write writes all = λ k d within. all (suc k) d (omega arith)
 
 -- bodies are of one list of Writes

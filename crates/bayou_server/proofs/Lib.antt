@@ -4,6 +4,7 @@ pub mod Deciding
 pub mod Entries
 pub mod Following
 pub mod Honesty
+pub mod Keeping
 pub mod Recovering
 pub mod SameWrite
 pub mod Steps

@@ -1,41 +1,86 @@
--- A server whose journal an append may have torn, and that it is recovered honestly: this project's own.
-use Rattle.std.specs.Prelude.{◌≡◌, ◌⊎◌, ℕ, List, [], ◌∷◌, ◌++◌, Result, Ok, Err}
-use Rattle.bayou_device.specs.Memory.{AddsFront}
+-- A server over a device whose calls may fail, and that it is recovered honestly: this project's own.
+use Rattle.std.specs.Prelude.{◌≡◌, ◌⊎◌, ℕ, List, [], ◌∷◌, ◌++◌, Option, None, Some, Result, Ok, Err}
 use Rattle.bayou_device.specs.declared.device.Device.{Ghosts}
-use Rattle.bayou_journal.specs.Honest.{torn}
+use Rattle.bayou_journal.specs.Honest as journals
 use Rattle.bayou_journal.specs.declared.format.TheConstants.{VERSION}
 use Rattle.bayou_lang.specs.declared.write.Write.{Write}
 use Rattle.bayou_server.specs.declared.answer.Reopened.{Reopened}
 use Rattle.bayou_server.specs.declared.fault.JournalFault.TheVariants.{Device, NotAJournal, OtherServer}
 use Rattle.bayou_server.specs.declared.fault.ReopenFault.{ReopenFault}
-use Rattle.bayou_server.specs.declared.fault.ReopenFault.TheVariants.{NotDown, Journal, Lost, BadRecord, OutOfMemory}
+use Rattle.bayou_server.specs.declared.fault.ReopenFault.TheVariants as reopening
+use Rattle.bayou_server.specs.declared.fault.StartFault.{StartFault}
+use Rattle.bayou_server.specs.declared.fault.StartFault.TheVariants as starting
+use Rattle.bayou_server.specs.Server.{ServerState}
 use Rattle.bayou_server.specs.Stored.{Stores}
 
 -- The clauses say what the device holds, and a call of it that fails adds no more than a front of its piece.
-pub record IsHonestDevice {D : Type 0} (d : Ghosts D) : Type 0 where
-  pub modelled : d.is_modelled
-  pub adds_front : (piece before after : List ℕ) → d.may_leave piece before after → AddsFront piece before after
+abbrev pub OnlyTears : {D : Type 0} → Ghosts D → Type 0
+OnlyTears d = journals.OnlyTears d
 
--- the bytes are the journal of the Writes held, and behind it a front of the entry of the Write in doubt
-pub record IsTorn (id : ℕ) (held : List Write) (doubt : Write) (bytes : List ℕ) : Type 0 where
+-- behind the bodies of the Writes held, that of the Write in doubt stands for it, if one is in doubt
+abbrev pub StoresDoubt : (bodies : List (List ℕ)) → Option (List ℕ) → (held : List Write) → Option Write → Type 0
+StoresDoubt bodies None held None = Unit {0}
+StoresDoubt bodies (Some body) held (Some doubt) = Stores (bodies ++ body ∷ []) (held ++ doubt ∷ [])
+StoresDoubt bodies None held (Some doubt) = ⊥
+StoresDoubt bodies (Some body) held None = ⊥
+
+-- The device is honest for the server's Writes: the entries of those held are kept, and no other entry goes on from them but that
+-- of the Write in doubt, if one is.
+pub record IsHonestDevice {D : Type 0} (d : Ghosts D) (id : ℕ) (held : List Write) (doubt : Option Write) (device : D) : Type 0 where
   pub bodies : List (List ℕ)
-  pub body : List ℕ
-  pub count : ℕ
-  pub before : Stores bodies held
-  pub after : Stores (bodies ++ body ∷ []) (held ++ doubt ∷ [])
-  pub is : bytes ≡ torn VERSION id bodies body count
+  pub body : Option (List ℕ)
+  pub stores : Stores bodies held
+  pub stores_doubt : StoresDoubt bodies body held doubt
+  pub honest : journals.IsHonestDevice d VERSION id bodies body device
 
--- the Writes are those that were held, or those and the one that was in doubt
-abbrev pub AreHonest : (held : List Write) → (doubt : Write) → List Write → Type 0
-AreHonest held doubt writes = (writes ≡ held) ⊎ (writes ≡ held ++ doubt ∷ [])
+-- the device has the server's journal, with the Writes held and nothing else, all of it kept
+pub record IsWholeDevice {D : Type 0} (d : Ghosts D) (id : ℕ) (held : List Write) (device : D) : Type 0 where
+  pub bodies : List (List ℕ)
+  pub stores : Stores bodies held
+  pub whole : journals.IsWhole d VERSION id bodies device
 
--- a reopening of a torn journal succeeds, or a device call failed, or memory was refused
+-- what a server that is up has on its device, and one that is down
+abbrev pub IsLeft : {D : Type 0} → Ghosts D → (id : ℕ) → (held : List Write) → Option Write → (device : D) → Type 0
+IsLeft d id held None device = IsWholeDevice d id held device
+IsLeft d id held (Some doubt) device = IsHonestDevice d id held (Some doubt) device
+
+-- The server is over an honest device: while it is up a whole one.
+abbrev pub IsHonestServer : {D : Type 0} → Ghosts D → ServerState D → Type 0
+IsHonestServer d server = IsLeft d server.core.id server.core.held server.core.doubt server.device
+
+-- the Writes are those that were held, or those and the one that was in doubt, if one was
+abbrev pub AreHonest : (held : List Write) → (doubt : Option Write) → List Write → Type 0
+AreHonest held None writes = writes ≡ held
+AreHonest held (Some doubt) writes = (writes ≡ held) ⊎ (writes ≡ held ++ doubt ∷ [])
+
+-- A reopening over an honest device succeeds, or a device call failed, or memory was refused, or the server was up.
 abbrev pub IsHonestAnswer : Result Reopened ReopenFault → Type 0
 IsHonestAnswer (Ok reopened) = Unit {0}
-IsHonestAnswer (Err (Journal Device)) = Unit {0}
-IsHonestAnswer (Err OutOfMemory) = Unit {0}
-IsHonestAnswer (Err NotDown) = ⊥
-IsHonestAnswer (Err (Journal NotAJournal)) = ⊥
-IsHonestAnswer (Err (Journal OtherServer)) = ⊥
-IsHonestAnswer (Err Lost) = ⊥
-IsHonestAnswer (Err (BadRecord at)) = ⊥
+IsHonestAnswer (Err reopening.NotDown) = Unit {0}
+IsHonestAnswer (Err (reopening.Journal Device)) = Unit {0}
+IsHonestAnswer (Err reopening.OutOfMemory) = Unit {0}
+IsHonestAnswer (Err (reopening.Journal NotAJournal)) = ⊥
+IsHonestAnswer (Err (reopening.Journal OtherServer)) = ⊥
+IsHonestAnswer (Err reopening.Lost) = ⊥
+IsHonestAnswer (Err (reopening.BadRecord at)) = ⊥
+
+-- and a start on one that is refused, for the first two alone
+abbrev pub IsHonestRefusal : StartFault → Type 0
+IsHonestRefusal (starting.Journal Device) = Unit {0}
+IsHonestRefusal starting.OutOfMemory = Unit {0}
+IsHonestRefusal (starting.Journal NotAJournal) = ⊥
+IsHonestRefusal (starting.Journal OtherServer) = ⊥
+IsHonestRefusal (starting.BadRecord at) = ⊥
+IsHonestRefusal (starting.Gap at) = ⊥
+IsHonestRefusal starting.LogFull = ⊥
+
+-- A reopening doesn't say that the journal lost a Write that was held, or isn't the server's.
+abbrev pub LosesNothing : Result Reopened ReopenFault → Type 0
+LosesNothing (Ok reopened) = Unit {0}
+LosesNothing (Err reopening.NotDown) = Unit {0}
+LosesNothing (Err (reopening.Journal Device)) = Unit {0}
+LosesNothing (Err (reopening.BadRecord at)) = Unit {0}
+LosesNothing (Err reopening.OutOfMemory) = Unit {0}
+LosesNothing (Err (reopening.Journal NotAJournal)) = ⊥
+LosesNothing (Err (reopening.Journal OtherServer)) = ⊥
+LosesNothing (Err reopening.Lost) = ⊥

@@ -1,25 +1,36 @@
-//! Laws of starts and reopenings: over a device that the clauses model, the bytes decide. Each is the contract of a function
-//! that does nothing.
-ghost use Rattle.std.specs.Prelude.{◌≡◌, ℕ, List, [], Option, Some, Result, Err, All, MatchResult};
+//! Laws of starts and reopenings: over a device that the clauses model, the bytes decide; and laws of servers whose device calls
+//! fail. Each is the contract of a function that does nothing.
+ghost use Rattle.std.specs.Prelude.{◌≡◌, ℕ, List, [], ◌++◌, Option, Some, Result, All};
+ghost use Rattle.bayou_base.specs.declared.answer.Accepted.{Accepted};
 ghost use Rattle.bayou_base.specs.declared.wid.Wid.{Wid};
+ghost use Rattle.bayou_lang.specs.declared.program.Program.{Program};
 ghost use Rattle.bayou_lang.specs.declared.write.Write.{Write};
+ghost use Rattle.bayou_server.specs.declared.fault.JournalFault.{JournalFault};
 ghost use Rattle.bayou_server.specs.declared.fault.StartFault.{StartFault};
-ghost use Rattle.bayou_journal.specs.Chain.{AreBodies, IsBody};
+ghost use Rattle.bayou_server.specs.declared.fault.StartFault.TheVariants.{Journal};
+ghost use Rattle.bayou_device.specs.Device.{BeginsWith};
+ghost use Rattle.bayou_journal.specs.Chain.{AreBodies, IsBody, journal};
+ghost use Rattle.bayou_journal.specs.declared.format.TheConstants.{VERSION};
+ghost use Rattle.bayou_journal.specs.Opening.{KeepsChains};
 ghost use Rattle.bayou_lang.specs.Ranges.{IsWrite};
 ghost use Rattle.bayou_wire.specs.Spelling.{write_bytes};
 ghost use Rattle.bayou_server.specs.declared.answer.Reopened.{Reopened};
 ghost use Rattle.bayou_server.specs.declared.fault.ReopenFault.{ReopenFault};
-ghost use Rattle.bayou_server.specs.declared.fault.TakeFault.TheVariants as taking;
-ghost use Rattle.bayou_server.specs.declared.fault.WriteFault.TheVariants.{Journal};
-ghost use Rattle.bayou_server.specs.Honest.{AreHonest, IsHonestAnswer, IsHonestDevice, IsTorn};
+ghost use Rattle.bayou_server.specs.declared.answer.Took.{Took};
+ghost use Rattle.bayou_server.specs.declared.fault.TakeFault.{TakeFault};
+ghost use Rattle.bayou_server.specs.declared.fault.WriteFault.{WriteFault};
+ghost use Rattle.bayou_server.specs.Honest.{AreHonest, IsHonestAnswer, IsHonestDevice, IsHonestRefusal, IsHonestServer, LosesNothing, OnlyTears};
 ghost use Rattle.bayou_server.specs.Reopens.{Recovers, Reopens};
-ghost use Rattle.bayou_server.specs.Server.{IsSoundServer, ServerState};
-ghost use Rattle.bayou_server.specs.Starts.{Starts, StartsOn, StopsAtEntry};
+ghost use Rattle.bayou_server.specs.Server.{Core, IsSoundServer, ServerState, with_device};
+ghost use Rattle.bayou_server.specs.Starts.{FailsToStart, Starts, StartsOn, StopsAtEntry};
 ghost use Rattle.bayou_server.specs.Stored.{BeginsWithHeld, HasOther, IsStored, OpensWith, OpensWithWrites, ReopensJournal, Stores, StoresTaken, StoresWrite};
+ghost use Rattle.bayou_server.specs.Takes.{Takes};
+ghost use Rattle.bayou_server.specs.Writes.{Writes};
 
 use bayou_device::Device;
 use bayou_journal::laws::{
-    a_fault_leaves_a_torn_journal, a_torn_journal_opens_honestly, what_is_found_is_one,
+    an_append_leaves_an_honest_device, an_honest_device_opens_honestly, what_is_found_is_one,
+    what_is_kept_is_found, what_stands_behind_the_kept_decides,
 };
 use bayou_wire::laws::{a_write_is_spelled_by_a_body, no_write_begins_another};
 
@@ -82,35 +93,83 @@ pub fn a_write_is_a_body()
     a_write_is_spelled_by_a_body();
 }
 
-/// Over an honest device that had the journal of the Writes held, a Write that is refused for the journal leaves it torn, be it
-/// the server's own or another's.
-pub fn a_write_in_doubt_leaves_a_torn_journal<D: Device>()
-    ensures written { (old new : ServerState D) → IsHonestDevice D.Device → IsStored D.Device old → StoresWrite D.Device old (Err Journal) new
-        → (doubt : Write) × (new.core.doubt ≡ Some doubt) × IsTorn old.core.id old.core.held doubt (D.content new.device) }
-    ensures taken { (old new : ServerState D) → IsHonestDevice D.Device → IsStored D.Device old → StoresTaken D.Device old (Err taking.Journal) new
-        → (doubt : Write) × (new.core.doubt ≡ Some doubt) × IsTorn old.core.id old.core.held doubt (D.content new.device) }
+/// Over a device whose failed calls do no more than to tear, a program and a given Write leave an honest server honest, whatever is
+/// answered: while it is up its device is whole, and where the Write comes to be in doubt, honest.
+pub fn an_honest_server_stays_honest<D: Device>()
+    ensures written { (need : List ℕ) (program : Program) (result : Result Accepted WriteFault) (old new : ServerState D) → OnlyTears D.Device → IsSoundServer old.core → IsSoundServer new.core
+        → IsHonestServer D.Device old → Writes old.core need program result new.core → StoresWrite D.Device old result new → KeepsChains (D.kept old.device) (D.kept new.device)
+        → IsHonestServer D.Device new }
+    ensures taken { (given : Write) (result : Result Took TakeFault) (old new : ServerState D) → OnlyTears D.Device → IsSoundServer old.core → IsSoundServer new.core
+        → IsHonestServer D.Device old → Takes old.core given result new.core → StoresTaken D.Device old result new → KeepsChains (D.kept old.device) (D.kept new.device)
+        → IsHonestServer D.Device new }
 {
-    a_fault_leaves_a_torn_journal();
-}
-
-/// A reopening of a torn journal is honest: it gives what was held, or that and the Write in doubt; or a device call failed, or
-/// memory was refused, and the journal is torn still. It is never lost, and never has a bad record.
-pub fn a_torn_journal_is_reopened_honestly<D: Device>()
-    ensures { (old new : ServerState D) (doubt : Write) (result : Result Reopened ReopenFault) → IsHonestDevice D.Device → IsSoundServer old.core → old.core.doubt ≡ Some doubt
-        → IsTorn old.core.id old.core.held doubt (D.content old.device) → Reopens old.core result new.core → ReopensJournal D.Device old result new
-        → IsHonestAnswer result × MatchResult result (λ _. AreHonest old.core.held doubt new.core.held) (λ _. IsTorn old.core.id old.core.held doubt (D.content new.device)) }
-{
-    a_torn_journal_opens_honestly();
-    a_fault_leaves_a_torn_journal();
+    an_append_leaves_an_honest_device::<D>();
     a_write_is_a_body();
 }
 
-/// A start on a torn journal is honest.
-pub fn a_start_on_a_torn_journal_is_honest<D: Device>()
-    ensures { (id count limit dropped : ℕ) (held : List Write) (doubt : Write) (device : D) (server : ServerState D) → IsHonestDevice D.Device → All IsWrite held → IsWrite doubt
-        → IsTorn id held doubt (D.content device) → Starts id count limit server.core → StartsOn D.Device device server dropped → AreHonest held doubt server.core.held }
+/// A reopening of an honest server is honest: it gives what was held, or that and the Write in doubt. It is refused for a device call
+/// or for memory alone, where the server isn't up: it is never lost, and never has a bad record. Over a device whose failed calls do
+/// no more than to tear, the server is honest then, whatever is answered.
+pub fn an_honest_server_is_reopened_honestly<D: Device>()
+    ensures answer { (result : Result Reopened ReopenFault) (old new : ServerState D) → D.is_modelled → IsSoundServer old.core → IsHonestServer D.Device old
+        → Reopens old.core result new.core → ReopensJournal D.Device old result new → IsHonestAnswer result }
+    ensures held { (adopted : Option Wid) (old new : Core) → Recovers old adopted new → AreHonest old.held old.doubt new.held }
+    ensures left { (result : Result Reopened ReopenFault) (old new : ServerState D) → OnlyTears D.Device → IsSoundServer old.core → IsHonestServer D.Device old
+        → Reopens old.core result new.core → ReopensJournal D.Device old result new → KeepsChains (D.kept old.device) (D.kept new.device) → IsHonestServer D.Device new }
 {
-    a_torn_journal_opens_honestly();
+    an_honest_device_opens_honestly::<D>();
+    an_append_leaves_an_honest_device::<D>();
+    a_write_is_a_body();
+}
+
+/// A start on an honest device is honest: it holds what was held, or that and the Write in doubt, and is over a whole device. It is
+/// refused for a device call or for memory alone: its journal is no other server's and none that isn't one, and has no bad record, no
+/// gap, and no Write too many. Over a device whose failed calls do no more than to tear, the device is honest then as it was before.
+pub fn a_start_on_an_honest_device_is_honest<D: Device>()
+    ensures held { (old : Core) (dropped : ℕ) (device : D) (server : ServerState D) → D.is_modelled → IsSoundServer old → IsHonestDevice D.Device old.id old.held old.doubt device
+        → Starts old.id old.count old.limit server.core → StartsOn D.Device device server dropped → AreHonest old.held old.doubt server.core.held }
+    ensures whole { (id count limit dropped : ℕ) (device : D) (server : ServerState D) → D.is_modelled
+        → Starts id count limit server.core → StartsOn D.Device device server dropped → IsHonestServer D.Device server }
+    ensures refusal { (old : Core) (device left : D) (fault : StartFault) → D.is_modelled → IsSoundServer old → IsHonestDevice D.Device old.id old.held old.doubt device
+        → FailsToStart D.Device old.id old.count old.limit device left fault → IsHonestRefusal fault }
+    ensures left { (old : Core) (device left : D) (fault : StartFault) → OnlyTears D.Device → IsSoundServer old → IsHonestDevice D.Device old.id old.held old.doubt device
+        → FailsToStart D.Device old.id old.count old.limit device left fault → KeepsChains (D.kept device) (D.kept left)
+        → IsHonestDevice D.Device old.id old.held old.doubt left }
+{
+    an_honest_device_opens_honestly::<D>();
+    a_write_is_a_body();
+    no_write_begins_another();
+}
+
+/// The device of an honest server is honest, be the server up or down.
+pub fn an_honest_server_has_an_honest_device<D: Device>()
+    ensures { (server : ServerState D) → IsHonestServer D.Device server → IsHonestDevice D.Device server.core.id server.core.held server.core.doubt server.device }
+{
+    an_append_leaves_an_honest_device::<D>();
+}
+
+/// Only what a read of its device gives, and what that keeps, decide whether a server is honest.
+pub fn what_its_device_holds_decides<D: Device>()
+    ensures { (server : ServerState D) (other : D) → D.content other ≡ D.content server.device → D.kept other ≡ D.kept server.device
+        → IsHonestServer D.Device server → IsHonestServer D.Device (with_device server other) }
+{
+    what_stands_behind_the_kept_decides::<D>();
+}
+
+/// Whatever a failed call or a crash leaves behind what is kept: where the entries of the Writes held are kept, no reopening says that
+/// one is lost, and a start holds them, before all others; neither says that the journal is another server's, or none.
+pub fn what_is_kept_is_never_lost<D: Device>()
+    ensures reopened { (bodies : List (List ℕ)) (result : Result Reopened ReopenFault) (old new : ServerState D) → D.is_modelled → IsSoundServer old.core
+        → Stores bodies old.core.held → BeginsWith (journal VERSION old.core.id bodies) (D.kept old.device)
+        → ReopensJournal D.Device old result new → LosesNothing result }
+    ensures started { (bodies : List (List ℕ)) (held : List Write) (id count limit dropped : ℕ) (device : D) (server : ServerState D) → D.is_modelled → All IsWrite held
+        → Stores bodies held → BeginsWith (journal VERSION id bodies) (D.kept device)
+        → Starts id count limit server.core → StartsOn D.Device device server dropped → (more : List Write) × (server.core.held ≡ held ++ more) }
+    ensures refused { (bodies : List (List ℕ)) (id count limit : ℕ) (device left : D) (fault : JournalFault) → D.is_modelled
+        → BeginsWith (journal VERSION id bodies) (D.kept device)
+        → FailsToStart D.Device id count limit device left (Journal fault) → IsHonestRefusal (Journal fault) }
+{
+    what_is_kept_is_found::<D>();
     a_write_is_a_body();
     no_write_begins_another();
 }

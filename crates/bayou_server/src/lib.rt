@@ -19,7 +19,8 @@
 //! reopening never takes away what was acknowledged: where the journal hasn't got all of it, the server stays down, and
 //! goes on serving what it holds. Over a device that the clauses model, each start and reopening that succeeds leaves there
 //! the journal of the Writes held and nothing else, and an accepted or taken Write keeps that. `laws` says that the bytes
-//! decide.
+//! decide, and that over a device whose failed calls add no more than a front of their piece a server is recovered honestly,
+//! however many calls fail.
 //!
 //! A caller starts a server whose identifier is below the number of servers, and doesn't run two on one device. Through
 //! [`Server::device`] a caller may do to the device what it likes: a server that is up adds its entries behind whatever is

@@ -1,0 +1,11 @@
+use Rattle.bayou_journal.proofs.Honesty.{front_is_no_other, kept_and_tail, the_same_device}
+use Rattle.bayou_journal.proofs.laws.what_stands_behind_the_kept_decides.Goals as goal
+
+pub returns-clause-honest : goal.returns-clause-honest
+returns-clause-honest g c = kept_and_tail g.D.Device
+
+pub returns-clause-front : goal.returns-clause-front
+returns-clause-front g c = front_is_no_other
+
+pub returns-clause-same : goal.returns-clause-same
+returns-clause-same g c = the_same_device g.D.Device
