@@ -43,11 +43,11 @@ const STREAMS: &str = " => Ok(0)
 
 /// A reader that gives at most so many bytes at a call, and fails at the call of this number.
 #[derive(Drop)]
-struct Slow<'a> {
-    bytes: &'a [u8],
-    most: usize,
-    fails_at: u32,
-    calls: u32,
+pub struct Slow<'a> {
+    pub bytes: &'a [u8],
+    pub most: usize,
+    pub fails_at: u32,
+    pub calls: u32,
 }
 
 impl Read for Slow<'_> {
@@ -66,10 +66,10 @@ impl Read for Slow<'_> {
 
 /// A writer that counts its calls, and fails at the call of this number.
 #[derive(Drop)]
-struct Counting {
-    bytes: Vec<u8>,
-    fails_at: u32,
-    calls: u32,
+pub struct Counting {
+    pub bytes: Vec<u8>,
+    pub fails_at: u32,
+    pub calls: u32,
 }
 
 impl Write for Counting {

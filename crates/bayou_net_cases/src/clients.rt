@@ -1,0 +1,257 @@
+//! A session that reads and writes over a link, whatever is replied to it.
+ghost use Rattle.std.specs.Prelude.{◌≡◌};
+ghost use Rattle.bayou_audit.specs.Blanks.{AreBlanksOf, named};
+
+use crate::streams::{Counting, Slow};
+use crate::words::{bytes_of, is_said};
+use bayou_audit::{AuditBook, Blanks, Four, Ledgers, Totals};
+use bayou_base::{Asks, Key, SERVERS, Seen, ServerId, SessionId, Value, Vector};
+use bayou_client::{Client, ClientFault, Link, LinkFault};
+use bayou_lang::{Op, Program, Term};
+use bayou_session::Session;
+use std::alloc::Global;
+use std::marker::Brand;
+use std::process::Abort;
+use std::sync::Wait;
+use std::sync::ledger::{Blank, Ledger};
+use std::test::Fail;
+
+/// What a session that needs the first server's first Write sends and is replied, as it reads `a` or puts 1 there at the first server, how
+/// that ends, and what the book then counts: reads, Writes and refusals.
+const REPLIES: &str = "read 0022 11 00 <one> => served 1 0 0
+read 0022 11 00 <two> => served 1 0 0
+read 002a 11 01 0000000000000001 <one> => served 1 0 0
+read 0022 13 02 <none> => Refused 0 0 1
+read 0002 13 03 => Refused 0 0 1
+read 0022 11 00 <none> => BadFrame 0 0 0
+read 002a 12 00 00000002 00000002 <one> => BadFrame 0 0 0
+read 0002 14 00 => BadFrame 0 0 0
+read 0005 16 00000000 => BadFrame 0 0 0
+read 003a 15 00 00000001 00000001 <none> <put-1> => BadFrame 0 0 0
+read 0023 01 <one> 0161 => BadFrame 0 0 0
+read 0022 11 00 <one> 00 => BadFrame 0 0 0
+read 0022 11 00 <one> 0002 13 03 => BadFrame 0 0 0
+read 0002 13 03 0002 13 03 => BadFrame 0 0 0
+read 0000 => BadFrame 0 0 0
+read  => Lost 0 0 0
+read 0022 => Lost 0 0 0
+write 002a 12 00 00000002 00000002 <one> => served 0 1 0
+write 002a 12 00 00000003 00000009 <two> => served 0 1 0
+write 0022 13 02 <none> => Refused 0 0 1
+write 0002 13 03 => Refused 0 0 1
+write 002a 12 00 00000001 00000001 <none> => BadFrame 0 0 0
+write 002a 12 01 00000002 00000002 <one> => BadFrame 0 0 0
+write 0022 11 00 <one> => BadFrame 0 0 0
+write 002a 12 00 00000002 00000002 <one> 0022 11 00 <one> => BadFrame 0 0 0
+write 002a 12 00 00000002 00000002 => Lost 0 0 0";
+
+/// What is sent for the two.
+const READ: &str = "0023 01 <one> 0161";
+
+const WRITE: &str = "0031 02 <one> <put-1>";
+
+fn blanks() -> Blanks
+    ensures slips { result.slips.parts ≡ 1 }
+    ensures reads { result.reads.parts ≡ 1 }
+    ensures writes { result.writes.parts ≡ 1 }
+    ensures refusals { result.refusals.parts ≡ 1 }
+{
+    Blanks {
+        slips: Blank::new(1),
+        reads: Blank::new(1),
+        writes: Blank::new(1),
+        refusals: Blank::new(1),
+    }
+}
+
+/// A session that asks for everything and has read from the first server's first Write.
+fn reader_before(rt: &impl Abort, id: SessionId) -> Session
+    ensures { result.id ≡ id }
+{
+    let mut counts = [0; SERVERS];
+    counts[0] = 1;
+    let asks = Asks {
+        ryw: true,
+        mr: true,
+        wfr: true,
+        mw: true,
+    };
+    let mut session = Session::new(id, asks);
+    session.saw(&Seen {
+        value: None,
+        vector: Vector::from_counts(counts).expect(rt, "no vector"),
+    });
+    session
+}
+
+fn put(rt: &impl Abort) -> Program {
+    let key = Key::new("a").expect(rt, "no key");
+    let op = Op::Put(key, Term::Lit(Value::Num(1)));
+    Program::new(&[], &[op], &[]).expect(rt, "no program")
+}
+
+fn word_of(fault: ClientFault) -> &'static str {
+    match fault {
+        ClientFault::AuditFull => "AuditFull",
+        ClientFault::Link(LinkFault::Lost) => "Lost",
+        ClientFault::Link(LinkFault::BadFrame) => "BadFrame",
+        ClientFault::Link(LinkFault::OutOfMemory) => "OutOfMemory",
+        ClientFault::Link(LinkFault::Refused(_)) => "Refused",
+    }
+}
+
+/// What a session was told as it tried an operation, and what then stood in the book.
+#[derive(Drop)]
+struct Told {
+    word: &'static str,
+    totals: Totals,
+    is_closed: bool,
+}
+
+/// The session reads `a`, or puts 1 there, at the first server.
+fn operates<K: Ledgers, R: Wait + Abort>(
+    rt: &R,
+    alloc: Global,
+    book: &AuditBook<K>,
+    client: &mut Client<K>,
+    link: &mut Link<Slow<'_>, &mut Counting>,
+    is_read: bool,
+) -> Told {
+    let server = ServerId::new(0).expect(rt, "no server");
+    let key = Key::new("a").expect(rt, "no key");
+    if client.left() == 0 {
+        rt.abort();
+    }
+    let fault = if is_read {
+        client.read(rt, alloc, book, link, server, &key).err()
+    } else {
+        client.write(rt, alloc, book, link, server, put(rt)).err()
+    };
+    Told {
+        word: fault.map_or("served", word_of),
+        totals: book.totals(rt),
+        is_closed: link.is_closed(),
+    }
+}
+
+/// Two operations of a session over one link, the second of which has no reply any more, and what was sent for both.
+#[derive(Drop)]
+struct Tried {
+    first: Told,
+    second: Told,
+    sent: Vec<u8>,
+    /// Whether the session needs what it needed before.
+    is_as_before: bool,
+    /// Whether the entries of the book are of this session, at its first place.
+    is_first: bool,
+}
+
+fn tries<S, T, U, V, R>(
+    rt: &R,
+    alloc: Global,
+    blanks: Blanks,
+    is_read: bool,
+    reader: Slow<'_>,
+    write_fails_at: u32,
+) -> Option<Tried>
+where
+    S: Ledger + Send + Sync,
+    T: Ledger + Send + Sync,
+    U: Ledger + Send + Sync,
+    V: Ledger + Send + Sync,
+    R: Wait + Abort,
+    requires blanks { AreBlanksOf blanks (named S.name S.parts) (named T.name T.parts) (named U.name U.parts) (named V.name V.parts) 1 }
+{
+    let Ok((book, mut shares)) = AuditBook::<Four<S, T, U, V>>::new(alloc, blanks, 1, 2) else {
+        return None;
+    };
+    let share = shares.pop()?;
+    let session = reader_before(rt, share.session());
+    let mut client = Client::new(session, share);
+    let mut writer = Counting {
+        bytes: Vec::new(alloc),
+        fails_at: write_fails_at,
+        calls: 0,
+    };
+    let mut link = Link::new(reader, &mut writer);
+    let first = operates(rt, alloc, &book, &mut client, &mut link, is_read);
+    let second = operates(rt, alloc, &book, &mut client, &mut link, is_read);
+    drop(link);
+    let entries = book.entries(rt, alloc).ok()?;
+    let now = client.parts().0;
+    Some(Tried {
+        first,
+        second,
+        sent: writer.bytes,
+        is_as_before: now.need_read() == session.need_read()
+            && now.need_write() == session.need_write(),
+        is_first: entries.iter().all(|entry| {
+            entry.place == 1
+                && entry.session.index == 0
+                && entry.server.index == 0
+                && entry.asks == session.asks()
+        }),
+    })
+}
+
+/// Whether this was told, and nothing is told over the link any more if no answer came.
+fn is_tried(alloc: Global, tried: &Tried, is_read: bool, expected: &str) -> bool {
+    let totals = &tried.first.totals;
+    let Ok(told) = format!(in alloc;
+        "{} {} {} {}",
+        tried.first.word, totals.reads, totals.writes, totals.refusals
+    ) else {
+        return false;
+    };
+    let is_answered = expected.starts_with("served") || expected.starts_with("Refused");
+    let request = if is_read { READ } else { WRITE };
+    let Some(request) = bytes_of(alloc, request) else {
+        return false;
+    };
+    let sent = if is_answered { 2 } else { 1 };
+    told.as_str() == expected
+        && totals.slips == 0
+        && tried.second.totals == *totals
+        && tried.first.is_closed != is_answered
+        && tried.second.word == "Lost"
+        && tried.second.is_closed
+        && tried.sent.len() == sent * request.len()
+        && tried.sent.starts_with(request.as_slice())
+        && (tried.is_as_before || expected.starts_with("served"))
+        && tried.is_first
+}
+
+fn row_holds<R: Wait + Abort>(rt: &R, alloc: Global, row: &str, most: usize) -> bool {
+    let Some((said, expected)) = row.split_once(" => ") else {
+        return false;
+    };
+    let Some((request, reply)) = said.split_once(' ') else {
+        return false;
+    };
+    let Some(reply) = bytes_of(alloc, reply) else {
+        return false;
+    };
+    let is_read = request == "read";
+    let reader = Slow {
+        bytes: &reply,
+        most,
+        fails_at: 0,
+        calls: 0,
+    };
+    let tried = tries::<Brand, Brand, Brand, Brand, R>(rt, alloc, blanks(), is_read, reader, 0);
+    match tried {
+        Some(tried) => is_tried(alloc, &tried, is_read, expected),
+        None => false,
+    }
+}
+
+#[test]
+fn a_session_is_told_what_answers_it(rt: HostRuntime) -> Result<(), Fail> {
+    let alloc = rt.alloc();
+    for row in REPLIES.lines() {
+        for most in [1, 36, 4096] {
+            assert!(rt; row_holds(&rt, alloc, row, most), "{row}");
+        }
+    }
+    Ok(())
+}
