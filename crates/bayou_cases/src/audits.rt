@@ -432,7 +432,8 @@ const LINES: &str = r#"["entry",0,1,[],0,"refused"]
 ["judge"] => out of place
 ["survey"] => out of place
 ["book"] => out of place
-["phase"] => bad shape"#;
+["phase"] => out of place
+["phase",1] => bad shape"#;
 
 /// Whether the row's line is told so behind the servers.
 fn is_so(alloc: Global, row: &str) -> Result<bool, AllocError> {

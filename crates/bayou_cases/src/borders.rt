@@ -123,6 +123,8 @@ const EXCHANGES: &str = r#"["pull",0,1]
 ["survey",0] => bad shape
 ["book"]
 ["book",0] => bad shape
+["phase"]
+["phase",1] => bad shape
 ["entry",0,1,[],0,"refused"] => out of place
 ["entry",0,0,[],0,"refused"] => bad shape
 ["held",0,[0,1,1,[0,0],{}]] => out of place

@@ -12,7 +12,7 @@ pub struct Case {
     pub status: u8,
 }
 
-static CASES: [Case; 32] = [
+static CASES: [Case; 35] = [
     Case {
         name: "a Write is read again (examples/first.jsonl)",
         script: r#"["servers",1,100]
@@ -198,11 +198,51 @@ static CASES: [Case; 32] = [
         status: 0,
     },
     Case {
-        name: "a command that there isn't yet",
-        script: "[\"servers\",1]\n[\"phase\"]\n",
+        name: "a command that there isn't",
+        script: "[\"servers\",1]\n[\"phases\"]\n",
         output: "",
         fault: "bayou: line 2: bad shape\n",
         status: 2,
+    },
+    Case {
+        name: "a phase before the servers",
+        script: "[\"phase\"]\n[\"servers\",1]\n",
+        output: "",
+        fault: "bayou: line 1: out of place\n",
+        status: 2,
+    },
+    Case {
+        name: "phases change nothing, and print nothing (examples/phases.jsonl)",
+        script: r#"["servers",2,100]
+["session",0,["ryw"]]
+["phase"]
+["write",0,0,{"update":[["put","room",1]]}]
+["phase"]
+["phase"]
+["pull",1,0]
+["phase"]
+["read",0,1,"room"]
+["totals"]
+["judge"]
+["phase"]
+"#,
+        output: "0 wrote 0:1 clock 1 deps 0,0\npulled 1 had 0\n0 read room num 1 at 1,0\ntotals reads 1 writes 1 refusals 0 slips 0\nclean\n",
+        fault: "",
+        status: 0,
+    },
+    Case {
+        name: "the same without the phases",
+        script: r#"["servers",2,100]
+["session",0,["ryw"]]
+["write",0,0,{"update":[["put","room",1]]}]
+["pull",1,0]
+["read",0,1,"room"]
+["totals"]
+["judge"]
+"#,
+        output: "0 wrote 0:1 clock 1 deps 0,0\npulled 1 had 0\n0 read room num 1 at 1,0\ntotals reads 1 writes 1 refusals 0 slips 0\nclean\n",
+        fault: "",
+        status: 0,
     },
     Case {
         name: "eight puts",

@@ -135,6 +135,8 @@ session (0 to 31), S a server. Below each form stands an example.
       ["survey"]
   ["book"]               prints the audit file of the run so far: that book, and what the servers hold (bayou audit --help)
       ["book"]
+  ["phase"]              ends a phase; nothing happens here, and nothing is printed
+      ["phase"]
 
 PROGRAM is {"check":[COND,..],"update":[OP,..],"merge":[{"when":[COND,..],"ops":[OP,..]},..]}; a list may be missing.
 Where every COND of check holds, update is applied, whole or not at all; else the first part of merge that fits.

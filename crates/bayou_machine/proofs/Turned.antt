@@ -1,6 +1,6 @@
 -- What a turn is made of.
 use Rattle.std.proofs.Common.{◌≡◌, ℕ, Option, None, Some, sym, subst}
-use Rattle.bayou_text.specs.Said.{Said, servers, session, write, read, log, fuse, lose, reopen, restart, pull, resend, totals, judge, survey, book, entry, held}
+use Rattle.bayou_text.specs.Said.{Said, servers, session, write, read, log, fuse, lose, reopen, restart, pull, resend, totals, judge, survey, book, phase, entry, held}
 use Rattle.bayou_machine.specs.declared.answer.Answer.{Answer}
 use Rattle.bayou_machine.specs.Filed.{operation_of}
 use Rattle.bayou_machine.specs.Run.{Audited, Does, Leaves, Tries, Turn}
@@ -23,6 +23,7 @@ tries_turn old new who place totals answer is tries = absurd (cc)
 tries_turn old new who place judge answer is tries = absurd (cc)
 tries_turn old new who place survey answer is tries = absurd (cc)
 tries_turn old new who place book answer is tries = absurd (cc)
+tries_turn old new who place phase answer is tries = absurd (cc)
 tries_turn old new who place (entry what counts) answer is tries = absurd (cc)
 tries_turn old new who place (held at written counts) answer is tries = absurd (cc)
 
@@ -42,5 +43,6 @@ leaves_turn old new totals answer is leaves = absurd leaves.step
 leaves_turn old new judge answer is leaves = absurd leaves.step
 leaves_turn old new survey answer is leaves = absurd leaves.step
 leaves_turn old new book answer is leaves = absurd leaves.step
+leaves_turn old new phase answer is leaves = leaves
 leaves_turn old new (entry what counts) answer is leaves = absurd leaves.step
 leaves_turn old new (held at written counts) answer is leaves = absurd leaves.step

@@ -12,7 +12,7 @@ use Rattle.bayou_judge.specs.declared.verdict.Verdict.{Verdict}
 use Rattle.bayou_judge.specs.Answers.{Judges, SurveyAnswer}
 use Rattle.bayou_judge.specs.History.{lists_of}
 use Rattle.bayou_session.specs.Needs.{Told, new_session}
-use Rattle.bayou_text.specs.Said.{Said, servers, session, write, read, log, fuse, lose, reopen, restart, pull, resend, totals, judge, survey, book, entry, held}
+use Rattle.bayou_text.specs.Said.{Said, servers, session, write, read, log, fuse, lose, reopen, restart, pull, resend, totals, judge, survey, book, phase, entry, held}
 use Rattle.bayou_script.specs.declared.audit.AuditFile.{AuditFile}
 use Rattle.bayou_script.specs.Script.{Plan}
 use Rattle.bayou_machine.specs.declared.answer.Answer.{Answer}
@@ -92,6 +92,7 @@ Step old totals answer new = ⊥
 Step old judge answer new = ⊥
 Step old survey answer new = ⊥
 Step old book answer new = ⊥
+Step old phase answer new = (new ≡ old) × (answer ≡ Done)
 Step old (entry what counts) answer new = ⊥
 Step old (held place written counts) answer new = ⊥
 
@@ -120,6 +121,7 @@ TakesMemory totals = ⊥
 TakesMemory judge = Unit {0}
 TakesMemory survey = Unit {0}
 TakesMemory book = Unit {0}
+TakesMemory phase = ⊥
 TakesMemory (entry what counts) = ⊥
 TakesMemory (held place written counts) = ⊥
 

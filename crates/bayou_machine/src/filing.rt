@@ -126,7 +126,8 @@ fn operation_of(command: &Command) -> Option<(SessionId, ServerId)>
         | Command::Totals
         | Command::Judge
         | Command::Survey
-        | Command::Book => None,
+        | Command::Book
+        | Command::Phase => None,
     }
 }
 

@@ -129,6 +129,7 @@ impl Store {
                 Ok(Answer::Exchanged(self.pull(alloc, to, from, cut)))
             }
             Command::Resend { to, from } => Ok(Answer::Exchanged(self.resend(alloc, to, from))),
+            Command::Phase => Ok(Answer::Done),
             Command::Totals | Command::Judge | Command::Survey | Command::Book => unreachable!(),
         }
     }

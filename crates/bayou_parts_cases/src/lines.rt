@@ -179,9 +179,12 @@ fn exchanges(rt: HostRuntime) {
 const ENTRIES: &str = r#"["judge"]
 ["survey"]
 ["book"]
+["phase"]
 ["judge",0] => !BadShape(Arity)
 ["survey",[]] => !BadShape(Arity)
 ["book",null] => !BadShape(Arity)
+["phase",1] => !BadShape(Arity)
+["phases"] => !BadShape(Command)
 ["entry",0,1,[],0,"write",1,1,[0,0]]
 ["entry",0,2,[],1,"read","room",[0,0]]
 ["entry",31,4294967295,["ryw","mr","wfr","mw"],7,"refused"]

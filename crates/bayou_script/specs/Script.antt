@@ -3,7 +3,7 @@ use Rattle.std.specs.Prelude.{◌≡◌, if◌then◌else◌, ℕ, ◌==◌, Boo
 use Rattle.std.specs.List.{list_all, list_any}
 use Rattle.std.specs.Option.{is_some}
 use Rattle.bayou_base.specs.declared.limits.TheConstants.{DEFAULT_LIMIT, MAX_LINES}
-use Rattle.bayou_text.specs.Said.{Said, servers, session, write, read, log, fuse, lose, reopen, restart, pull, resend, totals, judge, survey, book, entry, held}
+use Rattle.bayou_text.specs.Said.{Said, servers, session, write, read, log, fuse, lose, reopen, restart, pull, resend, totals, judge, survey, book, phase, entry, held}
 use Rattle.bayou_script.specs.declared.fault.Refusal.{Refusal}
 use Rattle.bayou_script.specs.declared.fault.ScriptFault.{ScriptFault}
 use Rattle.bayou_script.specs.Order.{InOrderBy, IsRefusedBy, Order, RefusedBy}
@@ -45,6 +45,7 @@ use_of totals = of_none
 use_of judge = of_none
 use_of survey = of_none
 use_of book = of_none
+use_of phase = of_none
 use_of (entry told counts) = of_none
 use_of (held place item counts) = of_none
 

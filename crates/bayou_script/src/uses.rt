@@ -75,10 +75,11 @@ pub(crate) fn used_by(command: &Command) -> Uses
         | Command::Reopen { server }
         | Command::Restart { server } => at_server(None, *server),
         Command::Pull { to, from, .. } | Command::Resend { to, from } => between(*to, *from),
-        Command::Totals | Command::Judge | Command::Survey | Command::Book => Uses {
-            opens: None,
-            session: None,
-            servers: Places::Nowhere,
-        },
+        Command::Totals | Command::Judge | Command::Survey | Command::Book | Command::Phase =>
+            Uses {
+                opens: None,
+                session: None,
+                servers: Places::Nowhere,
+            },
     }
 }

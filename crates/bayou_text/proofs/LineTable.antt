@@ -15,7 +15,7 @@ use Rattle.bayou_text.specs.Lines.{servers_in, opening_in, writing_in, reading_i
 use Rattle.bayou_text.specs.Numbers.{count_in, limit_in, session_in, server_in, calls_in, kept_in, lost_in, cut_in}
 use Rattle.bayou_text.specs.Programs.{program_in}
 use Rattle.bayou_text.specs.Reading.{◌>>=◌, worded}
-use Rattle.bayou_text.specs.Said.{Said, servers, session, write, read, log, fuse, lose, reopen, restart, pull, resend, totals, judge, survey, book, entry, held}
+use Rattle.bayou_text.specs.Said.{Said, servers, session, write, read, log, fuse, lose, reopen, restart, pull, resend, totals, judge, survey, book, phase, entry, held}
 use Rattle.bayou_text.specs.Spelling.{form}
 use Rattle.bayou_text.specs.Table.{BetweenIs, NumberIs, AtServer, ServerIs, ProgramIs, KeyIs, LineIs, Spells}
 use Rattle.bayou_text.specs.Values.{key_in}
@@ -285,9 +285,12 @@ asked_found d word parts s is e = elim (word_or d word (codes "totals") parts (b
     | inl i ↦ bare_found judge s (codes "judge") d parts (λ h. h) i.0 i.1
     | inr i ↦ elim (word_or d word (codes "survey") parts (bare_in survey parts) _ s is i) [
       | inl j ↦ bare_found survey s (codes "survey") d parts (λ h. h) j.0 j.1
-      | inr j ↦ elim (word_or d word (codes "book") parts (bare_in book parts) (trial_of word parts) s is j) [
+      | inr j ↦ elim (word_or d word (codes "book") parts (bare_in book parts) _ s is j) [
         | inl k ↦ bare_found book s (codes "book") d parts (λ h. h) k.0 k.1
-        | inr k ↦ trial_found d word parts s is k
+        | inr k ↦ elim (word_or d word (codes "phase") parts (bare_in phase parts) (trial_of word parts) s is k) [
+          | inl l ↦ bare_found phase s (codes "phase") d parts (λ h. h) l.0 l.1
+          | inr l ↦ trial_found d word parts s is l
+        ]
       ]
     ]
   ]
@@ -432,6 +435,7 @@ line_read d totals is = rw is (formed (codes "totals") [] totals (λ i. Ok total
 line_read d judge is = rw is (formed (codes "judge") [] judge (λ i. Ok judge))
 line_read d survey is = rw is (formed (codes "survey") [] survey (λ i. Ok survey))
 line_read d book is = rw is (formed (codes "book") [] book (λ i. Ok book))
+line_read d phase is = rw is (formed (codes "phase") [] phase (λ i. Ok phase))
 line_read d (entry told counts) is =
     let told_is = told_read d told told.what counts refl is in
     rw told_is.1 (formed (codes "entry") told_is.0 (entry told counts) told_is.2)

@@ -13,7 +13,7 @@ use Rattle.bayou_text.specs.Audit.{entry_in, held_in}
 use Rattle.bayou_text.specs.Numbers.{count_in, limit_in, session_in, server_in, calls_in, kept_in, lost_in, cut_in}
 use Rattle.bayou_text.specs.Programs.{program_in}
 use Rattle.bayou_text.specs.Reading.{Parsed, ◌>>=◌, worded}
-use Rattle.bayou_text.specs.Said.{Said, servers, session, write, read, log, fuse, lose, reopen, restart, pull, resend, totals, judge, survey, book}
+use Rattle.bayou_text.specs.Said.{Said, servers, session, write, read, log, fuse, lose, reopen, restart, pull, resend, totals, judge, survey, book, phase}
 use Rattle.bayou_text.specs.Values.{key_in}
 
 -- ["servers", count] and ["servers", count, limit], behind the word
@@ -103,19 +103,20 @@ resending_in (to ∷ source ∷ []) = do
   Ok (resend at other)
 resending_in _ = Err (BadShape Arity)
 
--- ["totals"], ["judge"], ["survey"] and ["book"]
+-- ["totals"], ["judge"], ["survey"], ["book"] and ["phase"]
 unfoldable pub bare_in : Said → List Data → Parsed Said
 bare_in what [] = Ok what
 bare_in what _ = Err (BadShape Arity)
 
--- what is asked of the whole run
+-- what is asked of the whole run, and the end of a phase of it
 unfoldable pub asked_of : List ℕ → List Data → Parsed Said
 asked_of word parts =
     if bytes_eq word (codes "totals") then bare_in totals parts
     else (if bytes_eq word (codes "judge") then bare_in judge parts
     else (if bytes_eq word (codes "survey") then bare_in survey parts
     else (if bytes_eq word (codes "book") then bare_in book parts
-    else trial_of word parts)))
+    else (if bytes_eq word (codes "phase") then bare_in phase parts
+    else trial_of word parts))))
 
 -- what two servers do
 unfoldable pub exchange_of : List ℕ → List Data → Parsed Said

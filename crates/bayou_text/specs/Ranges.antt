@@ -5,7 +5,7 @@ use Rattle.bayou_base.specs.declared.entry.What.{What}
 use Rattle.bayou_base.specs.declared.entry.What.TheVariants as what
 use Rattle.bayou_base.specs.declared.limits.TheConstants.{MAX_WRITES, SERVERS, MAX_FUSE_CALLS, MAX_FUSE_KEPT, MAX_LOST_BYTES}
 use Rattle.bayou_base.specs.declared.server.ServerId.{ServerId}
-use Rattle.bayou_text.specs.Said.{Said, servers, session, write, read, log, fuse, lose, reopen, restart, pull, resend, totals, judge, survey, book, entry, held}
+use Rattle.bayou_text.specs.Said.{Said, servers, session, write, read, log, fuse, lose, reopen, restart, pull, resend, totals, judge, survey, book, phase, entry, held}
 
 abbrev pub IsCount : ℕ → Type 0
 IsCount count = (1 ≤ count) × (count ≤ SERVERS)
@@ -46,5 +46,6 @@ IsReadable totals = ⊤
 IsReadable judge = ⊤
 IsReadable survey = ⊤
 IsReadable book = ⊤
+IsReadable phase = ⊤
 IsReadable (entry told counts) = IsToldBy told.server told.what counts
 IsReadable (held place item counts) = IsCutTo counts item.deps

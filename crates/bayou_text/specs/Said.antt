@@ -28,6 +28,7 @@ pub data Said : Type 0 where
   judge : Said
   survey : Said
   book : Said
+  phase : Said
   entry : Entry → Option ℕ → Said
   held : ℕ → Write → ℕ → Said
 
@@ -47,6 +48,7 @@ command_said command.Totals = totals
 command_said command.Judge = judge
 command_said command.Survey = survey
 command_said command.Book = book
+command_said command.Phase = phase
 
 -- what a line of an audit file says
 abbrev pub audit_said : AuditLine → Said

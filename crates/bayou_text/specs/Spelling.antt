@@ -18,7 +18,7 @@ use Rattle.bayou_lang.specs.declared.program.Cond.TheVariants.{Equals, Absent, A
 use Rattle.bayou_lang.specs.declared.program.Alt.{Alt}
 use Rattle.bayou_lang.specs.declared.program.Program.{Program}
 use Rattle.bayou_lang.specs.declared.write.Write.{Write}
-use Rattle.bayou_text.specs.Said.{Said, servers, session, write, read, log, fuse, lose, reopen, restart, pull, resend, totals, judge, survey, book, entry, held}
+use Rattle.bayou_text.specs.Said.{Said, servers, session, write, read, log, fuse, lose, reopen, restart, pull, resend, totals, judge, survey, book, phase, entry, held}
 
 -- an array that begins with a word
 abbrev pub form : List ℕ → List Data → Data
@@ -119,5 +119,6 @@ line_json totals = form (codes "totals") []
 line_json judge = form (codes "judge") []
 line_json survey = form (codes "survey") []
 line_json book = form (codes "book") []
+line_json phase = form (codes "phase") []
 line_json (entry told counts) = told_json told told.what (unwrap_or counts 0)
 line_json (held place item counts) = held_json place item counts

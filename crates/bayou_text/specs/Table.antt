@@ -28,7 +28,7 @@ use Rattle.bayou_lang.specs.declared.write.Write.{Write}
 use Rattle.bayou_lang.specs.Ranges.{IsKey}
 use Rattle.bayou_text.specs.Ranges.{IsCount, IsLimit, IsFuse}
 use Rattle.bayou_text.specs.Reading.{names}
-use Rattle.bayou_text.specs.Said.{Said, servers, session, write, read, log, fuse, lose, reopen, restart, pull, resend, totals, judge, survey, book, entry, held}
+use Rattle.bayou_text.specs.Said.{Said, servers, session, write, read, log, fuse, lose, reopen, restart, pull, resend, totals, judge, survey, book, phase, entry, held}
 use Rattle.bayou_text.specs.Spelling.{form, count_json}
 
 -- an integer, and no other number: 1.0 isn't one
@@ -305,6 +305,7 @@ LineIs d totals = d ≡ form (codes "totals") []
 LineIs d judge = d ≡ form (codes "judge") []
 LineIs d survey = d ≡ form (codes "survey") []
 LineIs d book = d ≡ form (codes "book") []
+LineIs d phase = d ≡ form (codes "phase") []
 LineIs d (entry told counts) = ToldIs d told told.what counts
 LineIs d (held place item counts) = HeldIs d place item counts
 

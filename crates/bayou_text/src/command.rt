@@ -76,4 +76,6 @@ pub enum Command {
     Survey,
     /// The audit file of what was filed so far, and of what the servers hold.
     Book,
+    /// A phase ends. A run in one process has none: there it changes nothing and tells nothing.
+    Phase,
 }

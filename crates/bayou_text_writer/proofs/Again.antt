@@ -248,6 +248,7 @@ line_again (line.Command command.Totals) kept readable = refl
 line_again (line.Command command.Judge) kept readable = refl
 line_again (line.Command command.Survey) kept readable = refl
 line_again (line.Command command.Book) kept readable = refl
+line_again (line.Command command.Phase) kept readable = refl
 line_again (line.Audit (audit.Entry told counts)) kept readable =
     line_read (told_json told told.what (unwrap_or counts 0)) (entry told counts) (told_spelled told told.what counts kept.0 kept.1 readable)
 line_again (line.Audit (audit.Held place item n)) kept readable =

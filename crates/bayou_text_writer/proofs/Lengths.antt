@@ -370,6 +370,7 @@ line_size (line.Command command.Totals) kept = omega (arith, form_none (codes "t
 line_size (line.Command command.Judge) kept = omega (arith, form_none (codes "judge"))
 line_size (line.Command command.Survey) kept = omega (arith, form_none (codes "survey"))
 line_size (line.Command command.Book) kept = omega (arith, form_none (codes "book"))
+line_size (line.Command command.Phase) kept = omega (arith, form_none (codes "phase"))
 line_size (line.Audit (audit.Entry told counts)) kept = told_size told told.what (unwrap_or counts 0) kept.0 kept.1
 line_size (line.Audit (audit.Held place item counts)) kept =
     omega (

@@ -20,7 +20,7 @@ use Rattle.bayou_lang.specs.declared.program.Cond.TheVariants.{Equals, Absent, A
 use Rattle.bayou_lang.specs.declared.program.Alt.{Alt}
 use Rattle.bayou_lang.specs.declared.program.Program.{Program}
 use Rattle.bayou_lang.specs.declared.write.Write.{Write}
-use Rattle.bayou_text.specs.Said.{Said, servers, session, write, read, log, fuse, lose, reopen, restart, pull, resend, totals, judge, survey, book, entry, held}
+use Rattle.bayou_text.specs.Said.{Said, servers, session, write, read, log, fuse, lose, reopen, restart, pull, resend, totals, judge, survey, book, phase, entry, held}
 use Rattle.bayou_text.specs.Spelling.{form, word_if, count_json, value_json, term_json, op_json, cond_json, alt_json, program_json, asks_json, list_json, vector_json, head_json, told_json, write_json, line_json}
 
 -- no float, and at most so deep
@@ -219,6 +219,7 @@ line_plain totals = formed 7 _ [] tt
 line_plain judge = formed 7 _ [] tt
 line_plain survey = formed 7 _ [] tt
 line_plain book = formed 7 _ [] tt
+line_plain phase = formed 7 _ [] tt
 line_plain (entry told counts) = told_plain told told.what (unwrap_or counts 0)
 line_plain (held place item counts) =
     formed 7 _ (count_json place ∷ write_json item counts ∷ []) (count 7 place, (write_plain item counts, tt))

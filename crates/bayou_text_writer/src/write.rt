@@ -162,6 +162,7 @@ fn line_json(alloc: Global, line: &Line) -> Result<Value, AllocError>
         Line::Command(Command::Judge) => numbers_json(alloc, "judge", &[]),
         Line::Command(Command::Survey) => numbers_json(alloc, "survey", &[]),
         Line::Command(Command::Book) => numbers_json(alloc, "book", &[]),
+        Line::Command(Command::Phase) => numbers_json(alloc, "phase", &[]),
         Line::Audit(AuditLine::Entry { entry, counts }) => {
             entry_json(alloc, entry, counts.unwrap_or(0))
         }

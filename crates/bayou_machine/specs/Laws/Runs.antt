@@ -5,7 +5,7 @@ use Rattle.std.proofs.Math.Bool.{cond}
 use Rattle.bayou_base.specs.declared.entry.Entry.{Entry}
 use Rattle.bayou_base.specs.declared.entry.What.{What}
 use Rattle.bayou_session.specs.Needs.{Told}
-use Rattle.bayou_text.specs.Said.{Said, servers, session, write, read, log, fuse, lose, reopen, restart, pull, resend, totals, judge, survey, book, entry, held}
+use Rattle.bayou_text.specs.Said.{Said, servers, session, write, read, log, fuse, lose, reopen, restart, pull, resend, totals, judge, survey, book, phase, entry, held}
 use Rattle.bayou_machine.specs.declared.answer.Answer.{Answer}
 use Rattle.bayou_machine.specs.Filed.{Files, Filings, operation_of, operations, what_told}
 use Rattle.bayou_machine.specs.Machine.{Machine, session_of}
@@ -37,6 +37,7 @@ Step-count old new totals answer step = absurd step
 Step-count old new judge answer step = absurd step
 Step-count old new survey answer step = absurd step
 Step-count old new book answer step = absurd step
+Step-count old new phase answer step = ap (λ machine. machine.count) step.0
 Step-count old new (entry what counts) answer step = absurd step
 Step-count old new (held place written counts) answer step = absurd step
 
@@ -93,6 +94,7 @@ Turn-moves old new totals answer turn = stays old new _ refl turn.0
 Turn-moves old new judge answer turn = stays old new _ refl turn.0
 Turn-moves old new survey answer turn = stays old new _ refl turn.0
 Turn-moves old new book answer turn = stays old new _ refl turn.0
+Turn-moves old new phase answer turn = left old new _ answer turn
 Turn-moves old new (entry what counts) answer turn = left old new _ answer turn
 Turn-moves old new (held place written counts) answer turn = left old new _ answer turn
 

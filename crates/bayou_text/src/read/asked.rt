@@ -9,7 +9,7 @@ use crate::line::{Line, LineFault, Shape};
 use crate::read::trial::trial_in;
 use serde_json::Value;
 
-/// A command that asks something of the whole run, or one that tries a server.
+/// A command that asks something of the whole run or ends a phase of it, or one that tries a server.
 #[tactic(auto, unfolding(crate::specs::Lines::asked_of))]
 pub(crate) fn asked_in(word: &str, parts: &[Value]) -> Result<Line, LineFault>
     ensures { Answers said result (grammar.asked_of word.now (map view parts.now)) }
@@ -25,6 +25,9 @@ pub(crate) fn asked_in(word: &str, parts: &[Value]) -> Result<Line, LineFault>
     }
     if word == "book" {
         return bare_in(Command::Book, parts);
+    }
+    if word == "phase" {
+        return bare_in(Command::Phase, parts);
     }
     trial_in(word, parts)
 }

@@ -27,6 +27,7 @@ IsCommand command.Totals = ⊤
 IsCommand command.Judge = ⊤
 IsCommand command.Survey = ⊤
 IsCommand command.Book = ⊤
+IsCommand command.Phase = ⊤
 
 -- what became of an operation
 abbrev pub IsWhat : What → Type 0
