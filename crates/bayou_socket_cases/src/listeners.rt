@@ -1,0 +1,187 @@
+//! A listener, and those who reach it.
+ghost use Rattle.std.specs.Prelude.{◌≡◌};
+ghost use Rattle.bayou_audit.specs.Blanks.{AreBlanksOf, named};
+ghost use Rattle.bayou_node.specs.Books.{IsBlankOf};
+ghost use Rattle.bayou_server.specs.Server.{own_count};
+
+use crate::visits::{ROUNDS, visits};
+use bayou_audit::{AuditBook, Blanks, Four, Ledgers, Share};
+use bayou_base::{Asks, ServerId};
+use bayou_client::Client;
+use bayou_device::{MemoryDevice, OpenGate};
+use bayou_net::{NoGate, listen};
+use bayou_node::{Desk, Desks, Node};
+use bayou_server::Server;
+use bayou_session::Session;
+use std::alloc::Global;
+use std::marker::Brand;
+use std::net::{Net, SocketAddr, TcpListener, TcpStream};
+use std::process::Abort;
+use std::sync::Wait;
+use std::sync::atomic::{AtomicBool, Ordering};
+use std::sync::ledger::{Blank, Ledger};
+use std::test::Fail;
+use std::thread;
+use std::thread::Threads;
+
+type Memory = MemoryDevice<OpenGate>;
+
+/// The first of two servers, which holds nothing.
+fn begun(rt: &impl Abort, alloc: Global) -> Option<Server<Memory>> {
+    let id = ServerId::new(0).expect(rt, "no server");
+    match Server::start(alloc, id, 2, 65_536, MemoryDevice::new(alloc, OpenGate)) {
+        Ok((server, _)) => Some(server),
+        Err(_) => None,
+    }
+}
+
+fn blanks(shares: u8) -> Blanks
+    ensures slips { result.slips.parts ≡ shares }
+    ensures reads { result.reads.parts ≡ shares }
+    ensures writes { result.writes.parts ≡ shares }
+    ensures refusals { result.refusals.parts ≡ shares }
+{
+    Blanks {
+        slips: Blank::new(u64::from(shares)),
+        reads: Blank::new(u64::from(shares)),
+        writes: Blank::new(u64::from(shares)),
+        refusals: Blank::new(u64::from(shares)),
+    }
+}
+
+/// A session that asks for everything, with its share.
+fn client<K: Ledgers>(share: Share<K>) -> Client<K> {
+    let asks = Asks {
+        ryw: true,
+        mr: true,
+        wfr: true,
+        mw: true,
+    };
+    Client::new(Session::new(share.session(), asks), share)
+}
+
+/// Whether two sessions, each in a thread of its own, are served.
+fn both_visit<S, T, U, V, R>(
+    rt: &R,
+    alloc: Global,
+    book: &AuditBook<Four<S, T, U, V>>,
+    shares: Vec<Share<Four<S, T, U, V>>>,
+    streams: (&TcpStream, &TcpStream),
+) -> bool
+where
+    S: Ledger + Send + Sync,
+    T: Ledger + Send + Sync,
+    U: Ledger + Send + Sync,
+    V: Ledger + Send + Sync,
+    R: Threads + Wait + Abort + Sync,
+{
+    let mut shares = shares;
+    let (Some(second), Some(first)) = (shares.pop(), shares.pop()) else {
+        return false;
+    };
+    let (first, second) = (client(first), client(second));
+    let (at_first, at_second) = streams;
+    let ((_, is_first), (_, is_second)) = thread::join(
+        rt,
+        move || visits(rt, alloc, book, first, at_first),
+        move || visits(rt, alloc, book, second, at_second),
+    );
+    let totals = book.totals(rt);
+    let rounds = 2 * ROUNDS as usize;
+    is_first && is_second && totals.reads == rounds && totals.writes == rounds && totals.slips == 0
+}
+
+/// Two sessions reach the listener; then it is told to stop, and reached once more.
+fn reaches<S, T, U, V, R>(
+    rt: &R,
+    alloc: Global,
+    book: &AuditBook<Four<S, T, U, V>>,
+    shares: Vec<Share<Four<S, T, U, V>>>,
+    address: SocketAddr,
+    stop: &AtomicBool,
+) -> bool
+where
+    S: Ledger + Send + Sync,
+    T: Ledger + Send + Sync,
+    U: Ledger + Send + Sync,
+    V: Ledger + Send + Sync,
+    R: Threads + Wait + Abort + Net<Stream = TcpStream> + Sync,
+{
+    let (Ok(first), Ok(second)) = (
+        TcpStream::connect(rt, address),
+        TcpStream::connect(rt, address),
+    ) else {
+        return false;
+    };
+    let is_so = both_visit(rt, alloc, book, shares, (&first, &second));
+    stop.store(true, Ordering::SeqCst);
+    let _ = TcpStream::connect(rt, address);
+    is_so
+}
+
+/// Whether the node, whose desks these are, comes to what the two sessions wrote.
+fn settles<L: Desks>(node: Node<Memory, L>, desks: Vec<Desk<L>>) -> bool {
+    let Ok(settled) = node.settle(desks) else {
+        return false;
+    };
+    settled.accepted == 2 * ROUNDS
+}
+
+/// Whether a listener with five desks serves two sessions, and gives its desks back.
+fn serves_sessions<S, T, U, V, L, R>(
+    rt: &R,
+    alloc: Global,
+    blanks: Blanks,
+    blank: Blank,
+    server: Server<Memory>,
+) -> bool
+where
+    S: Ledger + Send + Sync,
+    T: Ledger + Send + Sync,
+    U: Ledger + Send + Sync,
+    V: Ledger + Send + Sync,
+    L: Desks + Send + Sync,
+    R: Threads + Wait + Abort + Net<Stream = TcpStream, Listener = TcpListener> + Send + Sync,
+    requires blanks { AreBlanksOf blanks (named S.name S.parts) (named T.name T.parts) (named U.name U.parts) (named V.name V.parts) 2 }
+    requires blank { IsBlankOf blank L.name L.parts 5 }
+    requires whose { (server.core.id ≡ L.server) × (own_count server.core ≡ L.stored) }
+{
+    let Ok((node, desks)) = Node::<_, L>::new(alloc, blank, server, 5) else {
+        return false;
+    };
+    let Ok((book, shares)) = AuditBook::<Four<S, T, U, V>>::new(alloc, blanks, 2, 65_536) else {
+        return false;
+    };
+    let Ok(listener) = TcpListener::bind(rt, "127.0.0.1:0") else {
+        return false;
+    };
+    let Ok(address) = listener.local_addr() else {
+        return false;
+    };
+    let stop = AtomicBool::new(false);
+    let (lent, lent_book, at, flag) = (&node, &book, &listener, &stop);
+    let (ended, is_so) = thread::join(
+        rt,
+        move || listen(rt, alloc, lent, at, desks, &NoGate, flag),
+        move || reaches(rt, alloc, lent_book, shares, address, flag),
+    );
+    let Ok(ended) = ended else {
+        return false;
+    };
+    is_so && ended.connections == 2 && settles(node, ended.desks)
+}
+
+#[test]
+fn a_listener_serves_sessions_at_once(rt: HostRuntime) -> Result<(), Fail> {
+    let alloc = rt.alloc();
+    let server = begun(&rt, alloc).expect(&rt, "no server");
+    let are_served = serves_sessions::<Brand, Brand, Brand, Brand, Brand, HostRuntime>(
+        &rt,
+        alloc,
+        blanks(2),
+        Blank::new(5),
+        server,
+    );
+    assert!(rt; are_served);
+    Ok(())
+}
