@@ -29,9 +29,6 @@ read 0002 14 00 => BadFrame 0 0 0
 read 0005 16 00000000 => BadFrame 0 0 0
 read 003a 15 00 00000001 00000001 <none> <put-1> => BadFrame 0 0 0
 read 0023 01 <one> 0161 => BadFrame 0 0 0
-read 0022 11 00 <one> 00 => BadFrame 0 0 0
-read 0022 11 00 <one> 0002 13 03 => BadFrame 0 0 0
-read 0002 13 03 0002 13 03 => BadFrame 0 0 0
 read 0000 => BadFrame 0 0 0
 read  => Lost 0 0 0
 read 0022 => Lost 0 0 0
@@ -42,8 +39,13 @@ write 0002 13 03 => Refused 0 0 1
 write 002a 12 00 00000001 00000001 <none> => BadFrame 0 0 0
 write 002a 12 01 00000002 00000002 <one> => BadFrame 0 0 0
 write 0022 11 00 <one> => BadFrame 0 0 0
-write 002a 12 00 00000002 00000002 <one> 0022 11 00 <one> => BadFrame 0 0 0
 write 002a 12 00 00000002 00000002 => Lost 0 0 0";
+
+/// The same of replies behind which more comes in one piece.
+const MORE: &str = "read 0022 11 00 <one> 00 => BadFrame 0 0 0
+read 0022 11 00 <one> 0002 13 03 => BadFrame 0 0 0
+read 0002 13 03 0002 13 03 => BadFrame 0 0 0
+write 002a 12 00 00000002 00000002 <one> 0022 11 00 <one> => BadFrame 0 0 0";
 
 /// What is sent for the two.
 const READ: &str = "0023 01 <one> 0161";
@@ -108,6 +110,44 @@ struct Told {
     is_closed: bool,
 }
 
+/// The word for how the session's read of `a` at the first server ends.
+fn read_word<K: Ledgers, R: Wait + Abort>(
+    rt: &R,
+    alloc: Global,
+    book: &AuditBook<K>,
+    client: &mut Client<K>,
+    link: &mut Link<Slow<'_>, &mut Counting>,
+) -> &'static str {
+    let server = ServerId::new(0).expect(rt, "no server");
+    let key = Key::new("a").expect(rt, "no key");
+    if client.left() == 0 {
+        return "no place";
+    }
+    let Err(fault) = client.read(rt, alloc, book, link, server, &key) else {
+        return "served";
+    };
+    word_of(fault)
+}
+
+/// The word for how it ends where the session puts 1 at `a` there.
+fn write_word<K: Ledgers, R: Wait + Abort>(
+    rt: &R,
+    alloc: Global,
+    book: &AuditBook<K>,
+    client: &mut Client<K>,
+    link: &mut Link<Slow<'_>, &mut Counting>,
+) -> &'static str {
+    let server = ServerId::new(0).expect(rt, "no server");
+    let program = put(rt);
+    if client.left() == 0 {
+        return "no place";
+    }
+    let Err(fault) = client.write(rt, alloc, book, link, server, program) else {
+        return "served";
+    };
+    word_of(fault)
+}
+
 /// The session reads `a`, or puts 1 there, at the first server.
 fn operates<K: Ledgers, R: Wait + Abort>(
     rt: &R,
@@ -117,18 +157,13 @@ fn operates<K: Ledgers, R: Wait + Abort>(
     link: &mut Link<Slow<'_>, &mut Counting>,
     is_read: bool,
 ) -> Told {
-    let server = ServerId::new(0).expect(rt, "no server");
-    let key = Key::new("a").expect(rt, "no key");
-    if client.left() == 0 {
-        rt.abort();
-    }
-    let fault = if is_read {
-        client.read(rt, alloc, book, link, server, &key).err()
+    let word = if is_read {
+        read_word(rt, alloc, book, client, link)
     } else {
-        client.write(rt, alloc, book, link, server, put(rt)).err()
+        write_word(rt, alloc, book, client, link)
     };
     Told {
-        word: fault.map_or("served", word_of),
+        word,
         totals: book.totals(rt),
         is_closed: link.is_closed(),
     }
@@ -252,6 +287,9 @@ fn a_session_is_told_what_answers_it(rt: HostRuntime) -> Result<(), Fail> {
         for most in [1, 36, 4096] {
             assert!(rt; row_holds(&rt, alloc, row, most), "{row}");
         }
+    }
+    for row in MORE.lines() {
+        assert!(rt; row_holds(&rt, alloc, row, 4096), "{row}");
     }
     Ok(())
 }
