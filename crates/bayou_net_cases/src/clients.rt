@@ -188,6 +188,7 @@ fn tries<S, T, U, V, R>(
     is_read: bool,
     reader: Slow<'_>,
     write_fails_at: u32,
+    places: usize,
 ) -> Option<Tried>
 where
     S: Ledger + Send + Sync,
@@ -197,7 +198,7 @@ where
     R: Wait + Abort,
     requires blanks { AreBlanksOf blanks (named S.name S.parts) (named T.name T.parts) (named U.name U.parts) (named V.name V.parts) 1 }
 {
-    let Ok((book, mut shares)) = AuditBook::<Four<S, T, U, V>>::new(alloc, blanks, 1, 2) else {
+    let Ok((book, mut shares)) = AuditBook::<Four<S, T, U, V>>::new(alloc, blanks, 1, places) else {
         return None;
     };
     let share = shares.pop()?;
@@ -256,6 +257,26 @@ fn is_tried(alloc: Global, tried: &Tried, is_read: bool, expected: &str) -> bool
         && tried.is_first
 }
 
+/// The two operations of a new session at a new book.
+fn tried_anew<R: Wait + Abort>(
+    rt: &R,
+    alloc: Global,
+    is_read: bool,
+    reader: Slow<'_>,
+    write_fails_at: u32,
+    places: usize,
+) -> Option<Tried> {
+    tries::<Brand, Brand, Brand, Brand, R>(
+        rt,
+        alloc,
+        blanks(),
+        is_read,
+        reader,
+        write_fails_at,
+        places,
+    )
+}
+
 fn row_holds<R: Wait + Abort>(rt: &R, alloc: Global, row: &str, most: usize) -> bool {
     let Some((said, expected)) = row.split_once(" => ") else {
         return false;
@@ -273,11 +294,62 @@ fn row_holds<R: Wait + Abort>(rt: &R, alloc: Global, row: &str, most: usize) -> 
         fails_at: 0,
         calls: 0,
     };
-    let tried = tries::<Brand, Brand, Brand, Brand, R>(rt, alloc, blanks(), is_read, reader, 0);
-    match tried {
+    match tried_anew(rt, alloc, is_read, reader, 0, 2) {
         Some(tried) => is_tried(alloc, &tried, is_read, expected),
         None => false,
     }
+}
+
+/// Whether nothing is told and nothing entered where the call of the reader of this number fails, or the one of the writer, over a link
+/// that is closed then.
+fn is_lost<R: Wait + Abort>(
+    rt: &R,
+    alloc: Global,
+    read_fails_at: u32,
+    write_fails_at: u32,
+) -> bool {
+    let Some(reply) = bytes_of(alloc, "0022 11 00 <one>") else {
+        return false;
+    };
+    let reader = Slow {
+        bytes: &reply,
+        most: 1,
+        fails_at: read_fails_at,
+        calls: 0,
+    };
+    let Some(tried) = tried_anew(rt, alloc, true, reader, write_fails_at, 2) else {
+        return false;
+    };
+    tried.first.word == "Lost"
+        && tried.first.is_closed
+        && tried.second.word == "Lost"
+        && tried.second.totals == Totals::default()
+        && tried.is_as_before
+        && (write_fails_at == 0) != tried.sent.is_empty()
+}
+
+/// Whether an operation that the book has no place for isn't sent.
+fn is_full<R: Wait + Abort>(rt: &R, alloc: Global) -> bool {
+    let (Some(reply), Some(request)) = (
+        bytes_of(alloc, "0022 11 00 <one> 0022 11 00 <one>"),
+        bytes_of(alloc, READ),
+    ) else {
+        return false;
+    };
+    let reader = Slow {
+        bytes: &reply,
+        most: 1,
+        fails_at: 0,
+        calls: 0,
+    };
+    let Some(tried) = tried_anew(rt, alloc, true, reader, 0, 1) else {
+        return false;
+    };
+    tried.first.word == "served"
+        && tried.second.word == "AuditFull"
+        && !tried.second.is_closed
+        && tried.second.totals == tried.first.totals
+        && tried.sent == request
 }
 
 #[test]
@@ -291,5 +363,15 @@ fn a_session_is_told_what_answers_it(rt: HostRuntime) -> Result<(), Fail> {
     for row in MORE.lines() {
         assert!(rt; row_holds(&rt, alloc, row, 4096), "{row}");
     }
+    Ok(())
+}
+
+#[test]
+fn each_call_of_a_link_may_fail(rt: HostRuntime) -> Result<(), Fail> {
+    let alloc = rt.alloc();
+    for at in 1..=36 {
+        assert!(rt; is_lost(&rt, alloc, at, 0), "{at}");
+    }
+    assert!(rt; is_lost(&rt, alloc, 0, 1) && is_full(&rt, alloc));
     Ok(())
 }

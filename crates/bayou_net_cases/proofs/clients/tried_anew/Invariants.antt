@@ -1,5 +1,5 @@
 -- the four ledgers of the book
-use Rattle.bayou_net_cases.proofs.clients.row_holds.Given as goal
+use Rattle.bayou_net_cases.proofs.clients.tried_anew.Given as goal
 
 abbrev pub ghosts-tries-S-Ledger : goal.ghosts-tries-S-Ledger
 ghosts-tries-S-Ledger g a = record { name = a.blanks.slips.name; parts = a.blanks.slips.parts }
