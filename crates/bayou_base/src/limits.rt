@@ -3,6 +3,9 @@
 /// How many servers there may be at the most: the counts of a vector.
 pub const SERVERS: usize = 8;
 
+/// How many servers a script over a network starts at the most.
+pub const NET_SERVERS: usize = 4;
+
 /// How many sessions there may be at the most.
 pub const SESSIONS: usize = 32;
 

@@ -2,3 +2,5 @@ mod Audited
 mod Checked
 mod Cut
 pub mod Once
+pub mod Phased
+pub mod Told

@@ -1,6 +1,8 @@
 pub mod AuditFile
 pub mod Inner
+pub mod Network
 pub mod Order
+pub mod Phases
 pub mod Plan
 pub mod Reading
 pub mod Script

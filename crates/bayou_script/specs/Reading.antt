@@ -4,11 +4,14 @@ use Rattle.std.specs.List.{onto_first}
 use Rattle.bayou_text.specs.Said.{Said}
 use Rattle.bayou_script.specs.declared.fault.Refusal.{Refusal}
 use Rattle.bayou_script.specs.declared.reader.AuditReader.{AuditReader}
+use Rattle.bayou_script.specs.declared.reader.NetworkScriptReader.{NetworkScriptReader}
 use Rattle.bayou_script.specs.declared.reader.ScriptReader.{ScriptReader}
 use Rattle.bayou_script.specs.declared.text.TextReader.{TextReader}
 use Rattle.bayou_script.specs.AuditFile.{audit_order}
 use Rattle.bayou_script.specs.Inner.AuditDraft.{IsAuditDraftOf}
 use Rattle.bayou_script.specs.Inner.Draft.{IsDraftOf}
+use Rattle.bayou_script.specs.Inner.NetworkDraft.{IsNetworkDraftOf}
+use Rattle.bayou_script.specs.Network.{network_order}
 use Rattle.bayou_script.specs.Order.{InOrderBy, Order, RefusedBy, lines_of}
 use Rattle.bayou_script.specs.Script.{script_order}
 
@@ -29,6 +32,9 @@ pub record HasReadBy {D : Type 0} (order : Order) (keeps : D → List Said → T
 
 abbrev pub HasRead : ScriptReader → List ℕ → Type 0
 HasRead reader bytes = HasReadBy script_order IsDraftOf reader.text bytes
+
+abbrev pub HasReadNetwork : NetworkScriptReader → List ℕ → Type 0
+HasReadNetwork reader bytes = HasReadBy network_order IsNetworkDraftOf reader.text bytes
 
 abbrev pub HasReadAudit : AuditReader → List ℕ → Type 0
 HasReadAudit reader bytes = HasReadBy audit_order IsAuditDraftOf reader.text bytes

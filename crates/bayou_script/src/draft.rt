@@ -40,9 +40,9 @@ impl Draft {
     ghost use Rattle.bayou_text.specs.Said.{Said, command_said, said};
     ghost use Rattle.bayou_text.specs.Table.{Spells};
     ghost use Rattle.bayou_script.specs.declared.fault.Refusal.TheVariants.{OutOfMemory};
-    ghost use Rattle.bayou_script.specs.Inner.Draft.{IsDraftOf};
+    ghost use Rattle.bayou_script.specs.Inner.Draft.{IsDraftOf, Tells, TellsNothing};
     ghost use Rattle.bayou_script.specs.Inner.Using.{AreUses};
-    ghost use Rattle.bayou_script.specs.Script.{InOrder, IsScript, RefusedFor, Use, has_place, is_behind, is_open};
+    ghost use Rattle.bayou_script.specs.Script.{Use, has_place, is_behind, is_open};
     ghost use Rattle.bayou_script.specs.Plan.{plan_of};
 
     pub fn new(alloc: Global) -> Self
@@ -126,8 +126,7 @@ impl Draft {
     /// The script of which this is all.
     pub fn finish(self) -> Result<Script, Refusal>
         requires { (front : List Said) × IsDraftOf self front }
-        ensures { (lines : List (List ℕ)) (front : List Said) → InOrder lines front → IsDraftOf self front
-            → MatchResult result (λ script. IsScript lines (plan_of script)) (RefusedFor lines) }
+        ensures { (front : List Said) → IsDraftOf self front → MatchResult result (λ script. Tells front (plan_of script)) (TellsNothing front) }
     {
         match self.servers {
             Some(servers) => Ok(Script {

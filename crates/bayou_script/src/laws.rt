@@ -2,6 +2,7 @@
 ghost use Rattle.std.specs.Prelude.{◌≡◌, ℕ, List};
 ghost use Rattle.bayou_script.specs.AuditFile.{Evidence, IsAuditFile, IsAuditRefused};
 ghost use Rattle.bayou_script.specs.declared.fault.ScriptFault.{ScriptFault};
+ghost use Rattle.bayou_script.specs.Network.{IsNetworkRefused, IsNetworkScript};
 ghost use Rattle.bayou_script.specs.Script.{IsRefused, IsScript, Plan};
 
 use bayou_text::laws::a_line_is_read_in_one_way;
@@ -12,6 +13,16 @@ pub fn a_script_is_read_in_one_way()
     ensures one_refusal { (lines : List (List ℕ)) (number more : ℕ) (fault other : ScriptFault)
         → IsRefused lines number fault → IsRefused lines more other → (number ≡ more) × (fault ≡ other) }
     ensures not_both { (lines : List (List ℕ)) (plan : Plan) (number : ℕ) (fault : ScriptFault) → IsScript lines plan → ¬ IsRefused lines number fault }
+{
+    a_line_is_read_in_one_way();
+}
+
+/// Lines are a script over a network or are refused as one, never both; what the script says is one, and so is the refusal.
+pub fn a_network_script_is_read_in_one_way()
+    ensures one_plan { (lines : List (List ℕ)) (one other : Plan) → IsNetworkScript lines one → IsNetworkScript lines other → one ≡ other }
+    ensures one_refusal { (lines : List (List ℕ)) (number more : ℕ) (fault other : ScriptFault)
+        → IsNetworkRefused lines number fault → IsNetworkRefused lines more other → (number ≡ more) × (fault ≡ other) }
+    ensures not_both { (lines : List (List ℕ)) (plan : Plan) (number : ℕ) (fault : ScriptFault) → IsNetworkScript lines plan → ¬ IsNetworkRefused lines number fault }
 {
     a_line_is_read_in_one_way();
 }

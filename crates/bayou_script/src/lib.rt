@@ -22,6 +22,8 @@ mod audit_draft;
 mod draft;
 pub mod fault;
 pub mod laws;
+mod network_draft;
+pub mod phases;
 pub mod reader;
 pub mod script;
 mod text;
@@ -29,5 +31,6 @@ mod uses;
 
 pub use audit::AuditFile;
 pub use fault::{Refusal, ScriptFault};
-pub use reader::{AuditReader, ScriptReader};
+pub use phases::{Part, next_phase};
+pub use reader::{AuditReader, NetworkScriptReader, ScriptReader};
 pub use script::{Script, Servers};

@@ -1,5 +1,6 @@
 use Rattle.std.proofs.lemmas.Result.{err_from_is_err_and}
 use Rattle.bayou_script.specs.Script.{lines_of}
+use Rattle.bayou_script.proofs.Told.{told_script}
 use Rattle.bayou_script.proofs.reader.ScriptReader.finish.Goals as goal
 
 pub returns-in_err-end : goal.returns-in_err-end
@@ -13,4 +14,5 @@ finish-requires c =
 
 pub returns : goal.returns
 returns c bytes read =
-    let (front, in_order, draft) = c.in_ok-end.ensures bytes read in c.finish.ensures (lines_of bytes) front in_order draft
+    let (front, in_order, draft) = c.in_ok-end.ensures bytes read in
+    told_script (lines_of bytes) front c.finish.result in_order (c.finish.ensures front draft)
