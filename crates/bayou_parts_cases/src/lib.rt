@@ -21,6 +21,8 @@ mod lines;
 #[cfg(test)]
 mod logs;
 #[cfg(test)]
+mod networks;
+#[cfg(test)]
 mod notation;
 #[cfg(test)]
 mod numbers;

@@ -2,8 +2,9 @@
 use bayou_base::limits::*;
 
 /// The name of a limit, the limit, and its number.
-static LIMITS: [(&str, u64, u64); 21] = [
+static LIMITS: [(&str, u64, u64); 22] = [
     ("servers", SERVERS as u64, 8),
+    ("servers over a network", NET_SERVERS as u64, 4),
     ("sessions", SESSIONS as u64, 32),
     ("Writes of a log", MAX_WRITES as u64, 65_536),
     (
