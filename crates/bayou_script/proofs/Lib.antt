@@ -1,3 +1,4 @@
+pub mod Arranged
 mod Audited
 mod Checked
 mod Cut

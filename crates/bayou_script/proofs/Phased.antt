@@ -11,7 +11,7 @@ use Rattle.bayou_script.specs.Phases.{ends_phase, phases_of}
 abbrev pub goes_on : Said → Bool
 goes_on said = not (ends_phase said)
 
-goes_on_is : (ends : Bool) → IsTrue (not ends) → ends ≡ false
+pub goes_on_is : (ends : Bool) → IsTrue (not ends) → ends ≡ false
 goes_on_is true is = absurd (cc)
 goes_on_is false is = refl
 

@@ -1,5 +1,5 @@
 -- Phases of a script: what stands between the lines that end one, and what of a phase is done together over a network.
-use Rattle.std.specs.Prelude.{if◌then◌else◌, ℕ, ◌==◌, Bool, true, false, List, [], ◌∷◌, ◌++◌, IsTrue}
+use Rattle.std.specs.Prelude.{if◌then◌else◌, ℕ, ◌==◌, Bool, true, false, List, [], ◌∷◌, ◌++◌, IsTrue, nat_lt}
 use Rattle.std.specs.List.{filter, flat_map, onto_first, range_with_len}
 use Rattle.bayou_base.specs.declared.limits.TheConstants.{SESSIONS}
 use Rattle.bayou_text.specs.Said.{Said, session, write, read, pull, phase}
@@ -63,6 +63,12 @@ arranged_phase lines = opens_of lines
 -- the lines of a script in that order, phase by phase
 abbrev pub arranged : List Said → List Said
 arranged lines = flat_map arranged_phase (phases_of lines)
+
+-- whether a session that writes or reads is one that there may be
+abbrev pub has_session : Said → Bool
+has_session (write who place program) = nat_lt who SESSIONS
+has_session (read who place key) = nat_lt who SESSIONS
+has_session other = true
 
 -- the part of its phase that a line is of
 abbrev pub IsPart : Part → Said → Type 0

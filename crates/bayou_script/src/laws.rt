@@ -1,8 +1,11 @@
 //! What the order of a text's lines comes to: a law is the contract of a function that does nothing.
-ghost use Rattle.std.specs.Prelude.{◌≡◌, ℕ, List};
+ghost use Rattle.std.specs.Prelude.{◌≡◌, ℕ, Bool, IsTrue, List, length, not};
+ghost use Rattle.std.specs.List.{filter, list_all};
+ghost use Rattle.bayou_text.specs.Said.{Said};
 ghost use Rattle.bayou_script.specs.AuditFile.{Evidence, IsAuditFile, IsAuditRefused};
 ghost use Rattle.bayou_script.specs.declared.fault.ScriptFault.{ScriptFault};
 ghost use Rattle.bayou_script.specs.Network.{IsNetworkRefused, IsNetworkScript};
+ghost use Rattle.bayou_script.specs.Phases.{arranged, ends_phase, has_session};
 ghost use Rattle.bayou_script.specs.Script.{IsRefused, IsScript, Plan};
 
 use bayou_text::laws::a_line_is_read_in_one_way;
@@ -26,6 +29,13 @@ pub fn a_network_script_is_read_in_one_way()
 {
     a_line_is_read_in_one_way();
 }
+
+/// Of a script's lines, what is arranged phase by phase is all but those that end phases, each as often as it was said: so many pass each
+/// test.
+pub fn all_that_was_said_is_arranged()
+    ensures { (holds : Said → Bool) (lines : List Said) → IsTrue (list_all has_session lines)
+        → length (filter holds (arranged lines)) ≡ length (filter holds (filter (λ said. not (ends_phase said)) lines)) }
+{}
 
 /// Lines are an audit file or are refused, never both; the evidence is one, and so is the refusal.
 pub fn an_audit_file_is_read_in_one_way()
