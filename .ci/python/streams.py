@@ -62,25 +62,21 @@ def requests(dice, may_write=True):
     return b"".join(some_request(dice, may_write) for _ in range(dice.randint(1, 4)))
 
 
-def at_random_of(dice):
-    return dice.randbytes(dice.choice([0, 1, 2, 3, 40, 300, 9000])) if hasattr(dice, "randbytes") else bytes(
-        dice.getrandbits(8) for _ in range(dice.choice([0, 1, 2, 3, 40, 300, 9000])))
-
-
 def noise(dice):
     """Bytes at random."""
-    return at_random_of(dice)
+    number = dice.choice([0, 1, 2, 3, 40, 300, 9000])
+    return dice.getrandbits(8 * number + 1).to_bytes(number + 1, "big")[1:]
 
 
 def shaped(dice):
     """A frame of a kind that there is, with a payload at random."""
-    payload = at_random_of(dice)[:frames.MAX_FRAME - 1]
-    return frames.frame(dice.choice(list(frames.PAYLOADS)), payload) + at_random_of(dice)
+    payload = noise(dice)[:frames.MAX_FRAME - 1]
+    return frames.frame(dice.choice(list(frames.PAYLOADS)), payload) + noise(dice)
 
 
 def fronted(dice):
     """Requests, and bytes at random behind them."""
-    return requests(dice) + at_random_of(dice)
+    return requests(dice) + noise(dice)
 
 
 def flipped(dice):
@@ -251,7 +247,7 @@ def at_random(checks, program, folder):
     streams = [Stream(number) for number in range(STREAMS)]
     with Host(program, path, STREAMS + 1) as host:
         run_all(host, streams)
-        # (threads count down one number between them, and may miss some)
+        # (the threads count down one number, and may miss some)
         host.left = 1
         books = Books(dump(host))
         for number, stream in enumerate(streams):
