@@ -4,11 +4,13 @@ ghost use Rattle.bayou_net.specs.declared.listening.ListenFault.TheVariants.{Acc
 
 use crate::at_desk::serve;
 use crate::gate::RequestGate;
+use bayou_base::limits::READ_BYTES;
 use bayou_device::Device;
 use bayou_node::{Desk, Desks, Node};
-use bayou_streams::Channel;
+use bayou_streams::{Channel, Turn};
 use std::alloc::Global;
-use std::net::{TcpListener, TcpStream};
+use std::io::Read;
+use std::net::{Shutdown, TcpListener, TcpStream};
 use std::sync::Wait;
 use std::sync::atomic::{AtomicBool, Ordering};
 use std::thread;
@@ -53,7 +55,20 @@ struct Hands<L: Desks> {
     ghost room: { (total ≤ vec_capacity workers) × (total ≤ vec_capacity done) },
 }
 
-// Serves one connection to its end. How it ended is told to whoever is at its other end alone.
+// Drops what still comes, until the other end says nothing more, or the turns are spent.
+fn drop_rest<R: Read, W>(channel: &mut Channel<R, W>) {
+    let mut piece = [0; READ_BYTES];
+    loop {
+        match channel.read_turn(&mut piece) {
+            Ok(Turn::Moved(0)) | Err(_) => return,
+            Ok(_) => {}
+        }
+    }
+}
+
+// Serves one connection to its end. How it ended is told to whoever is at its other end alone. Where it ended before what came did, as at a
+// bad frame, the other end is told that no more replies come, and the rest is dropped: a socket that is closed with bytes unread would take
+// back replies that are still on their way.
 fn serve_connection<D: Device, L: Desks, G: RequestGate, T: Wait>(
     rt: &T,
     alloc: Global,
@@ -65,7 +80,10 @@ fn serve_connection<D: Device, L: Desks, G: RequestGate, T: Wait>(
     // A socket that can't be told so sends small replies later.
     let _ = stream.set_nodelay(true);
     let mut channel = Channel::new(&stream, &stream);
-    serve(rt, alloc, node, desk, gate, &mut channel).1
+    let desk = serve(rt, alloc, node, desk, gate, &mut channel).1;
+    let _ = stream.shutdown(Shutdown::Write);
+    drop_rest(&mut channel);
+    desk
 }
 
 // Has a thread of its own serve the connection, or serves it here where none starts.

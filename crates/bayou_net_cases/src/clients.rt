@@ -52,7 +52,7 @@ const READ: &str = "0023 01 <one> 0161";
 
 const WRITE: &str = "0031 02 <one> <put-1>";
 
-fn blanks() -> Blanks
+pub fn blanks() -> Blanks
     ensures slips { result.slips.parts ≡ 1 }
     ensures reads { result.reads.parts ≡ 1 }
     ensures writes { result.writes.parts ≡ 1 }
@@ -67,7 +67,7 @@ fn blanks() -> Blanks
 }
 
 /// A session that asks for everything and has read from the first server's first Write.
-fn reader_before(rt: &impl Abort, id: SessionId) -> Session
+pub fn reader_before(rt: &impl Abort, id: SessionId) -> Session
     ensures { result.id ≡ id }
 {
     let mut counts = [0; SERVERS];
@@ -86,7 +86,7 @@ fn reader_before(rt: &impl Abort, id: SessionId) -> Session
     session
 }
 
-fn put(rt: &impl Abort) -> Program {
+pub fn put(rt: &impl Abort) -> Program {
     let key = Key::new("a").expect(rt, "no key");
     let op = Op::Put(key, Term::Lit(Value::Num(1)));
     Program::new(&[], &[op], &[]).expect(rt, "no program")

@@ -9,6 +9,10 @@ mod desks;
 #[cfg(test)]
 mod files;
 #[cfg(test)]
+mod links;
+#[cfg(test)]
+mod memory;
+#[cfg(test)]
 mod streams;
 #[cfg(test)]
 mod words;

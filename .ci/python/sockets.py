@@ -1,0 +1,233 @@
+"""Tries the server at a socket from another language. Call: python3 sockets.py PROGRAM. Its last line is 'N passed, M failed'."""
+import os
+import resource
+import sys
+import tempfile
+import traceback
+
+import crowd
+import frames
+import rows
+import streams
+from host import Host, begin, has, put
+
+P = frames.frames_of(rows.ROWS[5][0])[0][0][0][2]
+WRITE_P = frames.write_request(frames.ZERO, P)
+READ_ROOM = frames.read_request(frames.ZERO, "room")
+
+
+class Checks:
+    """How many checks passed, and how many failed."""
+
+    def __init__(self):
+        self.passed = self.failed = 0
+
+    def that(self, name, told, expected):
+        if told == expected:
+            self.passed += 1
+            return
+        self.failed += 1
+        print("%s: NOT as it must be: %.600r, not %.600r" % (name, told, expected))
+
+
+def bodies_of(writes):
+    return [frames.write_bytes(write) for write in writes]
+
+
+def own_writes(number, program=P):
+    """The Writes of a first server that has accepted so many, and nobody else's."""
+    return [(0, seq, seq, frames.counts(seq - 1), program) for seq in range(1, number + 1)]
+
+
+def accepted(seq):
+    """The reply to a Write of the first server's that it is given this number, where nobody else's are held."""
+    return frames.frame(frames.ACCEPTED, frames.write_bytes(own_writes(seq)[-1])[:41])
+
+
+def seen(number, vector):
+    return frames.frame(frames.SEEN, frames.value_bytes(number) + frames.vector_bytes(vector))
+
+
+def settles(checks, name, host, accepted, adopted, held):
+    books = "settled 0 accepted %d adopted %d" % (accepted, adopted)
+    checks.that(name + ": the books", host.settle(), (books, "log 0 at %d,0" % held, 0, ""))
+
+
+def spelled(checks):
+    """The client's own spellings are those of the rows."""
+    for request, reply in rows.ROWS:
+        for data in (request, reply):
+            for said, own in frames.frames_of(data)[0]:
+                checks.that("the spelling of " + own.hex(), frames.frames_of(own), ([(said, own)], "whole"))
+    checks.that("a Write request", WRITE_P, rows.said("0034 02 0*32 P"))
+    checks.that("a read request", READ_ROOM, rows.said("0026 01 0*32 04 726f6f6d"))
+    checks.that("an Offer", frames.offer_request(frames.counts(1)), rows.said("0021 05 V"))
+    checks.that("a Write", frames.write_bytes(own_writes(1)[0]), rows.BODIES[0])
+    page = bytes.fromhex("4241594f554a4e4c 01 02 0001 00 2432200c76e1709bf136d13a0e3efba4badf25ef5cbf57bfde035e5133e4add8"
+                         "0002 0102 87c24bdde946702e24e4afd51a1645c3d102f10fb4ce17b65b7651c504e5df97")
+    checks.that("a journal", frames.journal(2, [b"\x00", b"\x01\x02"]), page)
+
+
+def one_by_one(connection, requests):
+    return [connection.ask(request) for request in requests]
+
+
+def at_once(connection, requests):
+    connection.send(b"".join(requests))
+    return [connection.reply() for _ in requests]
+
+
+def byte_by_byte(connection, requests):
+    replies = []
+    for request in requests:
+        for at in range(len(request)):
+            connection.send(request[at:at + 1])
+        replies.append(connection.reply())
+    return replies
+
+
+def answered(checks, program, folder):
+    """Rows of requests, over one connection and over one for each, with the journal that they leave."""
+    requests = [request for request, _ in rows.ROWS]
+    expected = [reply for _, reply in rows.ROWS]
+    for sending in (one_by_one, at_once, byte_by_byte):
+        path = os.path.join(folder, sending.__name__)
+        with Host(program, path, 1) as host:
+            with host.connect() as connection:
+                replies = sending(connection, requests)
+                connection.end()
+                behind = connection.rest()
+            for request, told, reply in zip(requests, replies, expected):
+                checks.that("%s: %s" % (sending.__name__, request.hex()), told.hex(), reply.hex())
+            checks.that(sending.__name__ + ": the end", behind, b"")
+            settles(checks, sending.__name__, host, len(rows.BODIES), 0, len(rows.BODIES))
+        checks.that(sending.__name__ + ": the journal", has(path), frames.journal(0, rows.BODIES))
+    path = os.path.join(folder, "anew")
+    with Host(program, path, len(rows.ROWS)) as host:
+        for request, reply in rows.ROWS:
+            with host.connect() as connection:
+                checks.that("a connection for " + request.hex(), connection.ask(request).hex(), reply.hex())
+        settles(checks, "a connection each", host, len(rows.BODIES), 0, len(rows.BODIES))
+
+
+def refuses_streams(checks, program, folder):
+    """What is no request has no reply, and ends the connection; what was asked before it was done."""
+    path = os.path.join(folder, "no-requests")
+    with Host(program, path, 2 * len(rows.NO_REQUESTS) + 1) as host:
+        for number, bad in enumerate(rows.NO_REQUESTS):
+            with host.connect() as connection:
+                connection.send(bad)
+                checks.that("no request: " + bad.hex(), connection.rest(), b"")
+            with host.connect() as connection:
+                connection.send(WRITE_P + bad + READ_ROOM)
+                checks.that("a Write, and then no request: " + bad.hex(), connection.rest().hex(), accepted(number + 1).hex())
+        settles(checks, "no requests", host, len(rows.NO_REQUESTS), 0, len(rows.NO_REQUESTS))
+
+
+def starts(checks, program, folder):
+    """Words and files with which nothing is served, and journals that are cut."""
+    writes = own_writes(3)
+    good = frames.journal(0, bodies_of(writes))
+    gap = frames.journal(0, bodies_of(writes[:1] + writes[2:]))
+    usage = "bayou_socket_host: the words are a journal's file and how many connections are served, 1 to 65536\n"
+    path = os.path.join(folder, "starts")
+    for words in [(None, None), (path, None), (path, "0"), (path, "65537"), (path, "-1"), (path, "many")]:
+        checks.that("the words %s, %s" % words, begin(program, *words), (2, "", usage))
+    files = [(b"BAYOUJNM\x01\x00", "not a journal"), (b"BAYOUJNL\x02\x00", "not a journal"), (b"B\x00", "not a journal"),
+             (frames.journal(1, []), "the journal of another server"), (gap, "a bad entry in the journal"),
+             (frames.journal(0, [b"\x00"]), "a bad entry in the journal")]
+    for content, word in files:
+        put(path, content)
+        checks.that("a file that has %s" % content[:12], begin(program, path, "1"), (3, "", "bayou_socket_host: %s\n" % word))
+        checks.that("the file", has(path), content)
+    for place in (os.path.join(folder, "absent", "a"), folder):
+        checks.that(place, begin(program, place, "1"), (3, "", "bayou_socket_host: device\n"))
+    for cut, held in [(0, 0), (3, 0), (10, 0), (len(good) - 1, 2), (len(good) - 33, 2), (len(good), 3)]:
+        put(path, good[:cut])
+        with Host(program, path, 1) as host:
+            checks.that("a file that another process holds", begin(program, path, "1"), (3, "", "bayou_socket_host: device\n"))
+            with host.connect() as connection:
+                dump = b"".join(frames.frame(frames.ITEM, body) for body in bodies_of(writes[:held]))
+                dump += frames.frame(frames.END, held.to_bytes(4, "big"))
+                checks.that("what a cut journal has", connection.ask(frames.frame(frames.DUMP)), dump)
+            settles(checks, "a cut journal", host, 0, 0, held)
+        checks.that("a cut journal", has(path), frames.journal(0, bodies_of(writes[:held])))
+
+
+def limit(host, size):
+    """No file of the host's grows beyond this from now on."""
+    resource.prlimit(host.process.pid, resource.RLIMIT_FSIZE, (size, resource.RLIM_INFINITY))
+
+
+def fails(checks, program, folder):
+    """A file that takes no more: a Write is in doubt, until the journal is opened again, whatever it has then."""
+    path = os.path.join(folder, "fails")
+    writes = bodies_of(own_writes(3))
+    with Host(program, path, 1, may_fail=True) as host:
+        connection = host.connect()
+
+        def asks(name, request, reply):
+            checks.that("a journal that fails: " + name, connection.ask(request).hex(), reply.hex())
+
+        none_adopted = frames.frame(frames.REOPENED, b"\x00")
+        reopen = frames.frame(frames.REOPEN)
+        one = frames.journal(0, writes[:1])
+        asks("a Write", WRITE_P, accepted(1))
+        limit(host, len(one) + 20)
+        asks("a Write that fails", WRITE_P, frames.refused(frames.JOURNAL))
+        checks.that("what it leaves", has(path), frames.journal(0, writes[:2])[:len(one) + 20])
+        asks("a Write behind it", WRITE_P, frames.refused(frames.DOWN))
+        asks("a read", READ_ROOM, seen(1, frames.counts(1)))
+        asks("a dump", frames.frame(frames.DUMP), frames.frame(frames.ITEM, writes[0]) + frames.frame(frames.END, b"\x00\x00\x00\x01"))
+        asks("a reopening", reopen, none_adopted)
+        checks.that("what a reopening leaves", has(path), one)
+        asks("a second one", reopen, frames.refused(frames.NOT_DOWN))
+        asks("another Write that fails", WRITE_P, frames.refused(frames.JOURNAL))
+        put(path, frames.journal(0, writes[:1] + [writes[2]]))
+        asks("a reopening with another entry", reopen, frames.refused(frames.BAD_RECORD, (1).to_bytes(4, "big")))
+        put(path, frames.journal(0, []))
+        asks("a reopening with less", reopen, frames.refused(frames.LOST))
+        put(path, b"BAYOUJNM")
+        asks("a reopening with no journal", reopen, frames.refused(frames.JOURNAL))
+        asks("a Write, once more", WRITE_P, frames.refused(frames.DOWN))
+        put(path, frames.journal(0, writes[:2]))
+        asks("a reopening with the Write in doubt", reopen, frames.frame(frames.REOPENED, b"\x01" + writes[1][:5]))
+        limit(host, resource.RLIM_INFINITY)
+        asks("a Write, at last", WRITE_P, accepted(3))
+        connection.close()
+        settles(checks, "a journal that fails", host, 2, 1, 3)
+    checks.that("a journal that failed", has(path), frames.journal(0, writes))
+
+
+def fills(checks, program, folder):
+    """A log that holds as many Writes as it may, but for one."""
+    path = os.path.join(folder, "fills")
+    writes = own_writes(frames.MAX_COUNT)
+    put(path, frames.journal(0, bodies_of(writes[:-1])))
+    with Host(program, path, 1) as host:
+        with host.connect() as connection:
+            checks.that("the last Write", connection.ask(WRITE_P), accepted(frames.MAX_COUNT))
+            checks.that("one more", connection.ask(WRITE_P), frames.refused(frames.LOG_FULL))
+            full = frames.counts(frames.MAX_COUNT)
+            checks.that("a read", connection.ask(READ_ROOM), seen(1, full))
+        settles(checks, "a full log", host, 1, 0, frames.MAX_COUNT)
+
+
+def main():
+    program = os.path.abspath(sys.argv[1])
+    checks = Checks()
+    spelled(checks)
+    with tempfile.TemporaryDirectory() as folder:
+        for group in (answered, refuses_streams, starts, fails, fills, crowd.together, streams.at_random):
+            try:
+                group(checks, program, folder)
+            except Exception:
+                checks.failed += 1
+                print("%s ended early:" % group.__name__)
+                traceback.print_exc(file=sys.stdout)
+    print("%d passed, %d failed" % (checks.passed, checks.failed))
+    return 1 if checks.failed else 0
+
+
+if __name__ == "__main__":
+    sys.exit(main())

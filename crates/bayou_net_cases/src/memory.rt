@@ -1,0 +1,232 @@
+//! Want of memory at a session's end of a link.
+ghost use Rattle.std.specs.Prelude.{◌≡◌};
+ghost use Rattle.bayou_audit.specs.Blanks.{AreBlanksOf, named};
+
+use crate::clients::{blanks, put, reader_before};
+use crate::words::bytes_of;
+use bayou_audit::{AuditBook, Blanks, Four, Ledgers, Share};
+use bayou_base::{Key, ServerId};
+use bayou_client::{Client, ClientFault, Link, LinkFault};
+use std::alloc::Global;
+use std::io;
+use std::io::Write;
+use std::marker::Brand;
+use std::process::Abort;
+use std::sync::Wait;
+use std::sync::ledger::Ledger;
+use std::test::Fail;
+
+/// A writer that takes all, keeps nothing, and takes no memory.
+#[derive(Drop)]
+struct Nowhere;
+
+impl Write for Nowhere {
+    fn write(&mut self, buf: &[u8]) -> io::Result<usize> {
+        Ok(buf.len())
+    }
+
+    fn flush(&mut self) -> io::Result<()> {
+        Ok(())
+    }
+}
+
+type Over<'a> = Link<&'a [u8], Nowhere>;
+
+fn over(reply: &[u8]) -> Over<'_> {
+    Link::new(reply, Nowhere)
+}
+
+/// What is replied to a session that needs the first server's first Write, as it reads, writes, has a journal opened again, and asks for all
+/// Writes held.
+#[derive(Drop)]
+struct Replies {
+    seen: Vec<u8>,
+    accepted: Vec<u8>,
+    reopened: Vec<u8>,
+    dumped: Vec<u8>,
+}
+
+fn made_replies(alloc: Global) -> Option<Replies> {
+    Some(Replies {
+        seen: bytes_of(alloc, "002a 11 01 0000000000000001 <one>")?,
+        accepted: bytes_of(alloc, "002a 12 00 00000002 00000002 <one>")?,
+        reopened: bytes_of(alloc, "0007 14 01 00 00000001")?,
+        dumped: bytes_of(
+            alloc,
+            "003a 15 00 00000001 00000001 <none> <put-1> 0005 16 00000001",
+        )?,
+    })
+}
+
+/// Whether the read of `a` is served, and one read more is in the book; or nothing where memory was refused, and then the book is as it was.
+fn reads<K: Ledgers, R: Wait + Abort>(
+    rt: &R,
+    alloc: Global,
+    book: &AuditBook<K>,
+    client: &mut Client<K>,
+    link: &mut Over<'_>,
+) -> Option<bool> {
+    let server = ServerId::new(0).expect(rt, "no server");
+    let key = Key::new("a").expect(rt, "no key");
+    let before = book.totals(rt);
+    if client.left() == 0 {
+        return Some(false);
+    }
+    match client.read(rt, alloc, book, link, server, &key) {
+        Ok(_) => Some(book.totals(rt).reads == before.reads.saturating_add(1)),
+        Err(ClientFault::Link(LinkFault::OutOfMemory)) if book.totals(rt) == before => None,
+        Err(_) => Some(false),
+    }
+}
+
+/// The same of a Write of 1 to `a`.
+fn writes<K: Ledgers, R: Wait + Abort>(
+    rt: &R,
+    alloc: Global,
+    book: &AuditBook<K>,
+    client: &mut Client<K>,
+    link: &mut Over<'_>,
+) -> Option<bool> {
+    let server = ServerId::new(0).expect(rt, "no server");
+    let program = put(rt);
+    let before = book.totals(rt);
+    if client.left() == 0 {
+        return Some(false);
+    }
+    match client.write(rt, alloc, book, link, server, program) {
+        Ok(_) => Some(book.totals(rt).writes == before.writes.saturating_add(1)),
+        Err(ClientFault::Link(LinkFault::OutOfMemory)) if book.totals(rt) == before => None,
+        Err(_) => Some(false),
+    }
+}
+
+/// Whether the read is served: where memory was refused, over the same link where that is still open, which had sent nothing then, else over
+/// another.
+fn reads_at_last<K: Ledgers, R: Wait + Abort>(
+    rt: &R,
+    alloc: Global,
+    book: &AuditBook<K>,
+    client: &mut Client<K>,
+    reply: &[u8],
+) -> bool {
+    let mut link = over(reply);
+    let answer = match reads(rt, alloc, book, client, &mut link) {
+        None if link.is_closed() => reads(rt, alloc, book, client, &mut over(reply)),
+        None => reads(rt, alloc, book, client, &mut link),
+        answer => answer,
+    };
+    answer == Some(true)
+}
+
+fn writes_at_last<K: Ledgers, R: Wait + Abort>(
+    rt: &R,
+    alloc: Global,
+    book: &AuditBook<K>,
+    client: &mut Client<K>,
+    reply: &[u8],
+) -> bool {
+    let mut link = over(reply);
+    let answer = match writes(rt, alloc, book, client, &mut link) {
+        None if link.is_closed() => writes(rt, alloc, book, client, &mut over(reply)),
+        None => writes(rt, alloc, book, client, &mut link),
+        answer => answer,
+    };
+    answer == Some(true)
+}
+
+/// Whether the server tells that it adopted its first Write; or nothing where memory was refused.
+fn reopens(alloc: Global, link: &mut Over<'_>) -> Option<bool> {
+    match link.reopen(alloc) {
+        Ok(adopted) => Some(adopted.is_some()),
+        Err(LinkFault::OutOfMemory) => None,
+        Err(_) => Some(false),
+    }
+}
+
+fn reopens_at_last(alloc: Global, reply: &[u8]) -> bool {
+    let mut link = over(reply);
+    let answer = match reopens(alloc, &mut link) {
+        None if link.is_closed() => reopens(alloc, &mut over(reply)),
+        None => reopens(alloc, &mut link),
+        answer => answer,
+    };
+    answer == Some(true)
+}
+
+/// Whether one Write is told; or nothing where memory was refused.
+fn dumps(alloc: Global, link: &mut Over<'_>) -> Option<bool> {
+    match link.dump(alloc) {
+        Ok(writes) => Some(writes.len() == 1),
+        Err(LinkFault::OutOfMemory) => None,
+        Err(_) => Some(false),
+    }
+}
+
+fn dumps_at_last(alloc: Global, reply: &[u8]) -> bool {
+    let mut link = over(reply);
+    let answer = match dumps(alloc, &mut link) {
+        None if link.is_closed() => dumps(alloc, &mut over(reply)),
+        None => dumps(alloc, &mut link),
+        answer => answer,
+    };
+    answer == Some(true)
+}
+
+/// Whether a session with this share is served in all that it asks for, and then needs what it was told.
+fn goes<K: Ledgers, R: Wait + Abort>(
+    rt: &R,
+    alloc: Global,
+    book: &AuditBook<K>,
+    share: Share<K>,
+    replies: &Replies,
+) -> bool {
+    let session = reader_before(rt, share.session());
+    let mut client = Client::new(session, share);
+    let is_read = reads_at_last(rt, alloc, book, &mut client, &replies.seen);
+    let is_written = writes_at_last(rt, alloc, book, &mut client, &replies.accepted);
+    let is_reopened = reopens_at_last(alloc, &replies.reopened);
+    let is_dumped = dumps_at_last(alloc, &replies.dumped);
+    let now = client.parts().0;
+    let needs = now.need_read().counts()[0] == 2 && now.need_write().counts()[0] == 2;
+    let totals = book.totals(rt);
+    let is_counted = totals.reads == 1 && totals.writes == 1;
+    is_read && is_written && is_reopened && is_dumped && needs && is_counted && totals.slips == 0
+}
+
+/// The same at a new book; or nothing where there is no memory for one.
+fn goes_of<S, T, U, V, R>(rt: &R, alloc: Global, blanks: Blanks, replies: &Replies) -> Option<bool>
+where
+    S: Ledger + Send + Sync,
+    T: Ledger + Send + Sync,
+    U: Ledger + Send + Sync,
+    V: Ledger + Send + Sync,
+    R: Wait + Abort,
+    requires blanks { AreBlanksOf blanks (named S.name S.parts) (named T.name T.parts) (named U.name U.parts) (named V.name V.parts) 1 }
+{
+    let Ok((book, mut shares)) = AuditBook::<Four<S, T, U, V>>::new(alloc, blanks, 1, 4) else {
+        return None;
+    };
+    let share = shares.pop()?;
+    Some(goes(rt, alloc, &book, share, replies))
+}
+
+/// At a new book, with new blanks.
+fn goes_anew<R: Wait + Abort>(rt: &R, alloc: Global, replies: &Replies) -> Option<bool> {
+    goes_of::<Brand, Brand, Brand, Brand, R>(rt, alloc, blanks(), replies)
+}
+
+/// For runs in which any one allocation is refused: a session loses nothing by it, and is served what it asks for once more.
+#[test]
+fn one_want_of_memory_costs_a_session_nothing(rt: HostRuntime) -> Result<(), Fail> {
+    let alloc = rt.alloc();
+    let told = match made_replies(alloc) {
+        Some(told) => told,
+        None => made_replies(alloc).expect(&rt, "no replies"),
+    };
+    let is_so = match goes_anew(&rt, alloc, &told) {
+        Some(is_so) => is_so,
+        None => goes_anew(&rt, alloc, &told) == Some(true),
+    };
+    assert!(rt; is_so);
+    Ok(())
+}
