@@ -1,4 +1,5 @@
 pub mod Good
+pub mod Replicas
 pub mod Clients
 pub mod Tie
 pub mod Booking

@@ -3,21 +3,20 @@ ghost use Rattle.std.specs.Prelude.{◌≡◌, ◌++◌, IfOk, OnOk};
 ghost use Rattle.bayou_world.specs.Inner.Clients.{served_entries};
 ghost use Rattle.bayou_world.specs.Inner.Booking.{TakesOldest};
 ghost use Rattle.bayou_world.specs.Inner.Tie.{Follows};
-ghost use Rattle.bayou_world.specs.Steps.{Collects, Delivers, Loses, Offers, Reads, Takes, Writes};
+ghost use Rattle.bayou_world.specs.Steps.{Collects, Delivers, Fuses, Loses, Offers, Reads, Reopens, Restarts, Takes, Writes};
 
 use crate::client::Client;
+use crate::replica::{Replica, reopen_server, take_write};
 use crate::reply::Reply;
 use bayou_base::{Entry, Key, MAX_NUMBER, ServerId, SessionId, Vector, What};
-use bayou_device::{MemoryDevice, OpenGate};
 use bayou_lang::{RestingProgram, RestingWrite};
-use bayou_server::Server;
 use bayou_session::laws::{read_need_is_what_is_asked, write_need_is_what_is_asked};
 use std::alloc::{AllocError, Global};
 
 /// Servers on devices in memory, sessions, and what is in flight between them.
 #[derive(Drop)]
 pub struct State {
-    pub servers: Vec<Server<MemoryDevice<OpenGate>>>,
+    pub servers: Vec<Replica>,
     // One place for each session that there may be.
     pub clients: Vec<Option<Client>>,
     pub offers: Vec<Vector>,
@@ -52,7 +51,10 @@ impl State {
         if !client.may_begin() {
             return Reply::Skipped;
         }
-        Reply::Read(client.read(&self.servers[at], key))
+        let Replica::Running(server) = &self.servers[at] else {
+            return Reply::Skipped;
+        };
+        Reply::Read(client.read(server, key))
     }
 
     /// The session asks the server to make a Write of the program.
@@ -76,7 +78,10 @@ impl State {
         if !client.may_begin() {
             return Reply::Skipped;
         }
-        Reply::Wrote(client.write(alloc, &mut self.servers[at], program))
+        let Replica::Running(server) = &mut self.servers[at] else {
+            return Reply::Skipped;
+        };
+        Reply::Wrote(client.write(alloc, server, program))
     }
 
     /// The answer on its way reaches the session. Want of memory leaves it half told.
@@ -124,7 +129,10 @@ impl State {
         if at >= self.servers.len() || number > MAX_NUMBER as usize {
             return Ok(Reply::Skipped);
         }
-        self.offers.push(self.servers[at].vector())?;
+        let Replica::Running(server) = &self.servers[at] else {
+            return Ok(Reply::Skipped);
+        };
+        self.offers.push(server.vector())?;
         Ok(Reply::Kept(number as u32))
     }
 
@@ -141,7 +149,9 @@ impl State {
         if at >= self.servers.len() || offer >= self.offers.len() {
             return Ok(Reply::Skipped);
         }
-        let server = &self.servers[at];
+        let Replica::Running(server) = &self.servers[at] else {
+            return Ok(Reply::Skipped);
+        };
         let most = server.limit() as usize;
         let offered = &self.offers[offer];
         let Ok(mut lacking) = server.lacking(alloc, offered, most) else {
@@ -167,8 +177,52 @@ impl State {
         if at >= self.servers.len() || item >= self.items.len() {
             return Ok(Reply::Skipped);
         }
+        let Replica::Running(server) = &mut self.servers[at] else {
+            return Ok(Reply::Skipped);
+        };
         let write = self.items[item].copy(alloc)?;
-        Ok(Reply::Took(self.servers[at].take(alloc, write)))
+        Ok(Reply::Took(take_write(alloc, server, write)))
+    }
+
+    /// A device call of the server is to fail.
+    pub fn fuse(&mut self, place: ServerId, call: u32, kept: usize) -> Reply
+        ensures { Follows self.old (λ machine next. Fuses machine place.index call result next) self.new }
+    {
+        let at = usize::from(place.index);
+        if at >= self.servers.len() || call == 0 {
+            return Reply::Skipped;
+        }
+        self.servers[at].fuse(call, kept);
+        Reply::Fused
+    }
+
+    /// The server opens its journal again.
+    pub fn reopen(&mut self, alloc: Global, place: ServerId) -> Reply
+        ensures { Follows self.old (λ machine next. Reopens machine place.index result next) self.new }
+    {
+        let at = usize::from(place.index);
+        if at >= self.servers.len() {
+            return Reply::Skipped;
+        }
+        let Replica::Running(server) = &mut self.servers[at] else {
+            return Reply::Skipped;
+        };
+        Reply::Reopened(reopen_server(alloc, server))
+    }
+
+    /// The server is stopped, and started on what its device has.
+    pub fn restart(&mut self, alloc: Global, place: ServerId) -> Reply
+        ensures { Follows self.old (λ machine next. Restarts machine place.index result next) self.new }
+    {
+        let at = usize::from(place.index);
+        if at >= self.servers.len() {
+            return Reply::Skipped;
+        }
+        let (replica, answer) = self.servers.remove(at).restart(alloc);
+        let Ok(()) = self.servers.insert(at, replica) else {
+            unreachable!();
+        };
+        Reply::Restarted(answer)
     }
 
     /// Takes the session's oldest entry that waits for the book.

@@ -3,9 +3,10 @@ ghost use Rattle.std.specs.Prelude.{◌≡◌, ◌<◌, ◌≤◌, [], IfOk, Lis
 ghost use Rattle.bayou_audit.specs.Blanks.{AreBlanksOf, named};
 ghost use Rattle.bayou_base.specs.declared.limits.TheConstants.{MAX_WRITES, SERVERS as SERVERS_NUMBER, SESSIONS as SESSIONS_NUMBER};
 ghost use Rattle.bayou_world.specs.Histories.{IsHistory};
-ghost use Rattle.bayou_world.specs.Inner.Beginning.{AreFirstSeats, AreStarted, IsFirstSeat, Leaves, fresh_core};
+ghost use Rattle.bayou_world.specs.Inner.Beginning.{AreFirstSeats, AreStarted, IsFirstSeat, Leaves};
 ghost use Rattle.bayou_world.specs.Inner.Booking.{FollowsInBook, IsBookOf};
 ghost use Rattle.bayou_world.specs.Inner.Good.{IsGood};
+ghost use Rattle.bayou_world.specs.Inner.Replicas.{held_by};
 ghost use Rattle.bayou_world.specs.Inner.Tie.{IsOf};
 ghost use Rattle.bayou_world.specs.Machine.{Machine};
 ghost use Rattle.bayou_world.specs.Runs.{asks_of, is_file as is_file_said, places_for as places_of};
@@ -15,14 +16,13 @@ use crate::client::Client;
 use crate::event::Event;
 use crate::filing::Filing;
 use crate::history::History;
+use crate::replica::Replica;
 use crate::reply::Reply;
+use crate::role::Role;
 use crate::state::State;
 use bayou_audit::{Blanks, Four, Ledgers};
 use bayou_base::{MAX_ENTRIES, SESSIONS, ServerId};
-use bayou_device::{MemoryDevice, OpenGate};
 use bayou_lang::RestingWrite;
-use bayou_server::Server;
-use bayou_server::laws::a_start_on_an_empty_device_holds_nothing;
 use bayou_session::Session;
 use std::alloc::{AllocError, Global};
 use std::marker::{Brand, Model};
@@ -33,7 +33,7 @@ use std::sync::ledger::{Blank, Ledger};
 pub struct World {
     count: u8,
     limit: u32,
-    servers: Vec<Server<MemoryDevice<OpenGate>>>,
+    servers: Vec<Replica>,
     sessions: Vec<Session>,
 }
 
@@ -46,26 +46,6 @@ impl Model for World {
     ghost view = { λ w. record { count = w.count; limit = w.limit; sessions = w.sessions.items } };
 
     ghost invariant = { λ w. AreStarted w.count w.count w.limit w.servers.items };
-}
-
-/// A server that is started first, on an empty device, which refuses nothing but for memory.
-fn begin_server(
-    alloc: Global,
-    id: ServerId,
-    count: u8,
-    limit: u32,
-) -> Result<Server<MemoryDevice<OpenGate>>, AllocError>
-    requires known { id.index < count }
-    requires count { count ≤ SERVERS_NUMBER }
-    requires limit { limit ≤ MAX_WRITES }
-    ensures { IfOk result (λ server. server.core ≡ fresh_core id.index count limit) }
-{
-    a_start_on_an_empty_device_holds_nothing::<MemoryDevice<OpenGate>>();
-    let device = MemoryDevice::new(alloc, OpenGate);
-    match Server::start(alloc, id, count, limit, device) {
-        Ok((server, _)) => Ok(server),
-        Err(_) => Err(AllocError),
-    }
 }
 
 /// The client of the first session of this number, if there is one.
@@ -103,7 +83,10 @@ fn is_file(event: &Event) -> bool
         | Event::Lose(_)
         | Event::Offer(_)
         | Event::Collect { .. }
-        | Event::Take { .. } => false,
+        | Event::Take { .. }
+        | Event::Fuse { .. }
+        | Event::Reopen(_)
+        | Event::Restart(_) => false,
     }
 }
 
@@ -121,11 +104,8 @@ fn places_for(events: &[Event]) -> usize
 }
 
 /// What each server holds.
-fn dumps_of(
-    alloc: Global,
-    servers: &[Server<MemoryDevice<OpenGate>>],
-) -> Result<Vec<Vec<RestingWrite>>, AllocError>
-    ensures { IfOk result (λ dumps. map (λ (dump : _). dump.items) dumps.items ≡ map (λ (server : _). server.core.held) servers.now) }
+fn dumps_of(alloc: Global, servers: &[Replica]) -> Result<Vec<Vec<RestingWrite>>, AllocError>
+    ensures { IfOk result (λ dumps. map (λ (dump : _). dump.items) dumps.items ≡ map held_by servers.now) }
 {
     let mut dumps = Vec::new(alloc);
     for server in servers {
@@ -162,6 +142,9 @@ fn step<K: Ledgers>(
         Event::Offer(server) => state.offer(*server),
         Event::Collect { server, offer } => state.collect(alloc, *server, *offer),
         Event::Take { server, item } => state.take(alloc, *server, *item),
+        Event::Fuse { server, call, kept } => Ok(state.fuse(*server, *call, *kept)),
+        Event::Reopen(server) => Ok(state.reopen(alloc, *server)),
+        Event::Restart(server) => Ok(state.restart(alloc, *server)),
         Event::File(session) => Ok(filing.file(state, *session)),
     }
 }
@@ -249,7 +232,12 @@ impl World {
     {
         let mut servers = Vec::new(alloc);
         for index in 0..count {
-            servers.push(begin_server(alloc, ServerId { index }, count, limit)?)?;
+            let role = Role {
+                id: ServerId { index },
+                count,
+                limit,
+            };
+            servers.push(Replica::begin(alloc, role)?)?;
         }
         Ok(World {
             count,

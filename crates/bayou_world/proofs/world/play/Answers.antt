@@ -1,5 +1,6 @@
 use Rattle.std.proofs.Common.{◌+◌, ◌<◌, ◌≤◌, arith, length, map, take, ap, sym, ◌∙◌, refl, subst}
 use Rattle.bayou_world.specs.Inner.Beginning.{SoFar}
+use Rattle.bayou_world.specs.Inner.Replicas.{held_by}
 use Rattle.bayou_world.proofs.Played.{SoFar-more, leaves}
 use Rattle.bayou_world.proofs.world.play.Goals as goal
 
@@ -18,4 +19,4 @@ returns g c first good tied book =
     let at = c.loop-event.event-index in
     let all : length events ≤ at = omega (arith, c.loop-event-test.false) in
     leaves first events at c.loop-event.replies.items c.loop-event.state c.loop-event.filing _ (c.loop-event.invariant first good tied book) all refl refl
-    (c.in_ok-dumps.ensures ∙ ap (map (λ (server : _). server.core.held)) c.deref.ensures.value) c.totals.ensures
+    (c.in_ok-dumps.ensures ∙ ap (map held_by) c.deref.ensures.value) c.totals.ensures

@@ -3,7 +3,7 @@ use Rattle.bayou_world.specs.declared.event.Event.{Event}
 use Rattle.bayou_world.specs.Inner.Booking.{FollowsInBook}
 use Rattle.bayou_world.specs.Inner.Tie.{Follows}
 use Rattle.bayou_world.specs.Steps.{Step, Writes}
-use Rattle.bayou_world.proofs.Played.{collect_beside, deliver_beside, if_ok, lose_beside, offer_beside, read_beside, take_beside, write_beside}
+use Rattle.bayou_world.proofs.Played.{collect_beside, deliver_beside, fuse_beside, if_ok, lose_beside, offer_beside, read_beside, reopen_beside, restart_beside, take_beside, write_beside}
 use Rattle.bayou_world.proofs.world.step.Goals as goal
 
 pub returns-in-Read : goal.returns-in-Read
@@ -45,6 +45,21 @@ returns-in-Take g c =
     if_ok _ (λ reply. FollowsInBook c.args.state.now c.args.filing.now (λ machine next. Step machine c.args.event.now reply next) c.take.new.self c.args.filing.now)
     (λ reply follows. subst (λ (e : Event). FollowsInBook c.args.state.now c.args.filing.now (λ machine next. Step machine e reply next) c.take.new.self c.args.filing.now) (sym c.in-Take.is)
     (take_beside c.args.state.now c.take.new.self c.args.filing.now c.in-Take.server.index c.in-Take.item reply follows)) c.take.result c.take.ensures
+
+pub returns-in-Fuse : goal.returns-in-Fuse
+returns-in-Fuse g c =
+    subst (λ (e : Event). FollowsInBook c.args.state.now c.args.filing.now (λ machine next. Step machine e c.fuse.result next) c.fuse.new.self c.args.filing.now) (sym c.in-Fuse.is)
+    (fuse_beside c.args.state.now c.fuse.new.self c.args.filing.now c.in-Fuse.server.index c.in-Fuse.call c.fuse.result c.fuse.ensures)
+
+pub returns-in-Reopen : goal.returns-in-Reopen
+returns-in-Reopen g c =
+    subst (λ (e : Event). FollowsInBook c.args.state.now c.args.filing.now (λ machine next. Step machine e c.reopen.result next) c.reopen.new.self c.args.filing.now) (sym c.in-Reopen.is)
+    (reopen_beside c.args.state.now c.reopen.new.self c.args.filing.now c.in-Reopen.server.index c.reopen.result c.reopen.ensures)
+
+pub returns-in-Restart : goal.returns-in-Restart
+returns-in-Restart g c =
+    subst (λ (e : Event). FollowsInBook c.args.state.now c.args.filing.now (λ machine next. Step machine e c.restart.result next) c.restart.new.self c.args.filing.now) (sym c.in-Restart.is)
+    (restart_beside c.args.state.now c.restart.new.self c.args.filing.now c.in-Restart.server.index c.restart.result c.restart.ensures)
 
 pub returns-in-File : goal.returns-in-File
 returns-in-File g c =
