@@ -18,4 +18,5 @@ pub mod TiedServers
 pub mod Oldest
 pub mod Shares
 pub mod Restarting
+pub mod Charging
 pub mod Played

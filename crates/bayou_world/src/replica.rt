@@ -1,10 +1,13 @@
 //! A server of a run: as it runs, and where it is stopped.
-ghost use Rattle.std.specs.Prelude.{◌≡◌, ◌<◌, IfOk};
+ghost use Rattle.std.specs.Prelude.{◌≡◌, ◌<◌, false, IfOk};
 ghost use Rattle.bayou_device.specs.Memory.{with_fuse};
 ghost use Rattle.bayou_device.specs.MemoryDevice.{memory_device};
 ghost use Rattle.bayou_server.specs.Honest.{IsHonestAnswer, IsHonestServer};
 ghost use Rattle.bayou_server.specs.Reopens.{Reopens};
 ghost use Rattle.bayou_server.specs.Takes.{Takes};
+ghost use Rattle.bayou_world.specs.declared.reply.Reply.TheVariants.{Reopened as WasReopened, Restarted as WasRestarted, Took as WasTaken};
+ghost use Rattle.bayou_world.specs.Faults.{tells_fault};
+ghost use Rattle.bayou_world.specs.Inner.Charges.{IsUnused, Spends};
 ghost use Rattle.bayou_world.specs.Inner.Replicas.{IsFresh, IsKept, IsLeftOf, Starts, StaysHonest, core_of, device_of, is_stopped};
 
 use crate::role::Role;
@@ -38,6 +41,7 @@ pub fn take_write(
 ) -> Result<Took, TakeFault>
     ensures takes { Takes server.old.core write result server.new.core }
     ensures honest { StaysHonest server.old server.new }
+    ensures spends { Spends (tells_fault (WasTaken result)) false server.old.device server.new.device }
 {
     an_honest_server_stays_honest::<MemoryDevice<OpenGate>>();
     a_device_in_memory_only_tears();
@@ -52,6 +56,7 @@ pub fn reopen_server(
     ensures reopens { Reopens server.old.core result server.new.core }
     ensures answer { IsHonestServer memory_device server.old → IsHonestAnswer result }
     ensures honest { StaysHonest server.old server.new }
+    ensures spends { Spends (tells_fault (WasReopened result)) false server.old.device server.new.device }
 {
     an_honest_server_is_reopened_honestly::<MemoryDevice<OpenGate>>();
     a_device_in_memory_only_tears();
@@ -72,7 +77,8 @@ fn copies(alloc: Global, writes: &[RestingWrite]) -> Result<Vec<RestingWrite>, A
 impl Replica {
     /// A server that is started first, on an empty device, which refuses nothing but for memory.
     pub fn begin(alloc: Global, role: Role) -> Result<Self, AllocError>
-        ensures { IfOk result (λ replica. IsFresh role.count role.limit role.id.index replica) }
+        ensures fresh { IfOk result (λ replica. IsFresh role.count role.limit role.id.index replica) }
+        ensures unused { IfOk result (λ replica. IsUnused (device_of replica)) }
     {
         a_start_on_an_empty_device_holds_nothing::<MemoryDevice<OpenGate>>();
         a_start_on_an_honest_device_is_honest::<MemoryDevice<OpenGate>>();
@@ -105,6 +111,17 @@ impl Replica {
         match self {
             Replica::Running(server) => server.device().fuse(call, kept),
             Replica::Stopped(_, stopped) => stopped.device.fuse(call, kept),
+        }
+    }
+
+    /// How many appends of its device found no memory.
+    pub fn lacks(&mut self) -> u64
+        ensures value { result ≡ (device_of self.old).lacks }
+        ensures same { self.new ≡ self.old }
+    {
+        match self {
+            Replica::Running(server) => server.device().lacks(),
+            Replica::Stopped(_, stopped) => stopped.device.lacks(),
         }
     }
 
@@ -141,7 +158,8 @@ impl Replica {
     /// Stops the server, if it runs, and starts it on what its device has. It gives how many Writes the server then holds, or why it
     /// is stopped.
     pub fn restart(self, alloc: Global) -> (Self, Result<usize, StartFault>)
-        ensures { IsKept self → Starts self result.1 result.0 × IsKept result.0 }
+        ensures starts { IsKept self → Starts self result.1 result.0 × IsKept result.0 }
+        ensures spends { Spends (tells_fault (WasRestarted result.1)) false (device_of self) (device_of result.0) }
     {
         a_start_on_an_honest_device_is_honest::<MemoryDevice<OpenGate>>();
         a_device_in_memory_only_tears();

@@ -2,6 +2,8 @@
 ghost use Rattle.std.specs.Prelude.{◌≡◌, ◌++◌, IfOk, OnOk};
 ghost use Rattle.bayou_world.specs.Inner.Clients.{served_entries};
 ghost use Rattle.bayou_world.specs.Inner.Booking.{TakesOldest};
+ghost use Rattle.bayou_world.specs.Faults.{tells_fault, tells_fuse};
+ghost use Rattle.bayou_world.specs.Inner.Charges.{AreSpent};
 ghost use Rattle.bayou_world.specs.Inner.Tie.{Follows};
 ghost use Rattle.bayou_world.specs.Steps.{Collects, Delivers, Fuses, Loses, Offers, Reads, Reopens, Restarts, Takes, Writes};
 
@@ -38,7 +40,8 @@ fn keep_served(served: &mut Vec<Entry>, entry: Entry) -> Result<(), AllocError>
 impl State {
     /// The session asks the server what the key has.
     pub fn read(&mut self, who: SessionId, place: ServerId, key: &Key) -> Reply
-        ensures { Follows self.old (λ machine next. Reads machine who.index place.index key.now result next) self.new }
+        ensures follows { Follows self.old (λ machine next. Reads machine who.index place.index key.now result next) self.new }
+        ensures same { self.new.servers ≡ self.old.servers }
     {
         read_need_is_what_is_asked();
         let (seat, at) = (usize::from(who.index), usize::from(place.index));
@@ -65,7 +68,8 @@ impl State {
         place: ServerId,
         program: RestingProgram,
     ) -> Reply
-        ensures { Follows self.old (λ machine next. Writes machine who.index place.index program result next) self.new }
+        ensures follows { Follows self.old (λ machine next. Writes machine who.index place.index program result next) self.new }
+        ensures spent { AreSpent place.index (tells_fault result) (tells_fuse result) self.old.servers.items self.new.servers.items }
     {
         write_need_is_what_is_asked();
         let (seat, at) = (usize::from(who.index), usize::from(place.index));
@@ -86,7 +90,8 @@ impl State {
 
     /// The answer on its way reaches the session. Want of memory leaves it half told.
     pub fn deliver(&mut self, who: SessionId) -> Result<Reply, AllocError>
-        ensures { IfOk result (λ reply. Follows self.old (λ machine next. Delivers machine who.index reply next) self.new) }
+        ensures follows { IfOk result (λ reply. Follows self.old (λ machine next. Delivers machine who.index reply next) self.new) }
+        ensures same { OnOk result (self.new.servers ≡ self.old.servers) }
     {
         let seat = usize::from(who.index);
         if seat >= self.clients.len() {
@@ -104,7 +109,8 @@ impl State {
 
     /// The answer on its way is lost.
     pub fn lose(&mut self, who: SessionId) -> Reply
-        ensures { Follows self.old (λ machine next. Loses machine who.index result next) self.new }
+        ensures follows { Follows self.old (λ machine next. Loses machine who.index result next) self.new }
+        ensures same { self.new.servers ≡ self.old.servers }
     {
         let seat = usize::from(who.index);
         if seat >= self.clients.len() {
@@ -122,7 +128,8 @@ impl State {
 
     /// What the server holds is kept as an offer.
     pub fn offer(&mut self, place: ServerId) -> Result<Reply, AllocError>
-        ensures { IfOk result (λ reply. Follows self.old (λ machine next. Offers machine place.index reply next) self.new) }
+        ensures follows { IfOk result (λ reply. Follows self.old (λ machine next. Offers machine place.index reply next) self.new) }
+        ensures same { OnOk result (self.new.servers ≡ self.old.servers) }
     {
         let at = usize::from(place.index);
         let number = self.offers.len();
@@ -143,7 +150,8 @@ impl State {
         place: ServerId,
         offer: u32,
     ) -> Result<Reply, AllocError>
-        ensures { IfOk result (λ reply. Follows self.old (λ machine next. Collects machine place.index offer reply next) self.new) }
+        ensures follows { IfOk result (λ reply. Follows self.old (λ machine next. Collects machine place.index offer reply next) self.new) }
+        ensures same { OnOk result (self.new.servers ≡ self.old.servers) }
     {
         let (at, offer) = (usize::from(place.index), offer as usize);
         if at >= self.servers.len() || offer >= self.offers.len() {
@@ -171,7 +179,8 @@ impl State {
 
     /// The server is given the item, a copy of which is made first.
     pub fn take(&mut self, alloc: Global, place: ServerId, item: u32) -> Result<Reply, AllocError>
-        ensures { IfOk result (λ reply. Follows self.old (λ machine next. Takes machine place.index item reply next) self.new) }
+        ensures follows { IfOk result (λ reply. Follows self.old (λ machine next. Takes machine place.index item reply next) self.new) }
+        ensures spent { IfOk result (λ reply. AreSpent place.index (tells_fault reply) (tells_fuse reply) self.old.servers.items self.new.servers.items) }
     {
         let (at, item) = (usize::from(place.index), item as usize);
         if at >= self.servers.len() || item >= self.items.len() {
@@ -186,7 +195,8 @@ impl State {
 
     /// A device call of the server is to fail.
     pub fn fuse(&mut self, place: ServerId, call: u32, kept: usize) -> Reply
-        ensures { Follows self.old (λ machine next. Fuses machine place.index call result next) self.new }
+        ensures follows { Follows self.old (λ machine next. Fuses machine place.index call result next) self.new }
+        ensures spent { AreSpent place.index (tells_fault result) (tells_fuse result) self.old.servers.items self.new.servers.items }
     {
         let at = usize::from(place.index);
         if at >= self.servers.len() || call == 0 {
@@ -198,7 +208,8 @@ impl State {
 
     /// The server opens its journal again.
     pub fn reopen(&mut self, alloc: Global, place: ServerId) -> Reply
-        ensures { Follows self.old (λ machine next. Reopens machine place.index result next) self.new }
+        ensures follows { Follows self.old (λ machine next. Reopens machine place.index result next) self.new }
+        ensures spent { AreSpent place.index (tells_fault result) (tells_fuse result) self.old.servers.items self.new.servers.items }
     {
         let at = usize::from(place.index);
         if at >= self.servers.len() {
@@ -212,7 +223,8 @@ impl State {
 
     /// The server is stopped, and started on what its device has.
     pub fn restart(&mut self, alloc: Global, place: ServerId) -> Reply
-        ensures { Follows self.old (λ machine next. Restarts machine place.index result next) self.new }
+        ensures follows { Follows self.old (λ machine next. Restarts machine place.index result next) self.new }
+        ensures spent { AreSpent place.index (tells_fault result) (tells_fuse result) self.old.servers.items self.new.servers.items }
     {
         let at = usize::from(place.index);
         if at >= self.servers.len() {
@@ -227,7 +239,8 @@ impl State {
 
     /// Takes the session's oldest entry that waits for the book.
     pub fn oldest(&mut self, who: SessionId) -> Option<Entry>
-        ensures { TakesOldest self.old who.index result self.new }
+        ensures follows { TakesOldest self.old who.index result self.new }
+        ensures same { self.new.servers ≡ self.old.servers }
     {
         let seat = usize::from(who.index);
         if seat >= self.clients.len() {

@@ -1,10 +1,12 @@
 //! Servers and sessions to which nothing has happened, and a run of them.
-ghost use Rattle.std.specs.Prelude.{◌≡◌, ◌<◌, ◌≤◌, [], IfOk, List, map};
+ghost use Rattle.std.specs.Prelude.{◌≡◌, ◌<◌, ◌≤◌, [], IfOk, IsTrue, List, length, map};
 ghost use Rattle.bayou_audit.specs.Blanks.{AreBlanksOf, named};
 ghost use Rattle.bayou_base.specs.declared.limits.TheConstants.{MAX_WRITES, SERVERS as SERVERS_NUMBER, SESSIONS as SESSIONS_NUMBER};
+ghost use Rattle.bayou_world.specs.Faults.{AreFused};
 ghost use Rattle.bayou_world.specs.Histories.{IsHistory};
 ghost use Rattle.bayou_world.specs.Inner.Beginning.{AreFirstSeats, AreStarted, IsFirstSeat, Leaves};
 ghost use Rattle.bayou_world.specs.Inner.Booking.{FollowsInBook, IsBookOf};
+ghost use Rattle.bayou_world.specs.Inner.Charges.{AreAmple, AreCharged, SpendsAt};
 ghost use Rattle.bayou_world.specs.Inner.Good.{IsGood};
 ghost use Rattle.bayou_world.specs.Inner.Replicas.{held_by};
 ghost use Rattle.bayou_world.specs.Inner.Tie.{IsOf};
@@ -114,6 +116,18 @@ fn dumps_of(alloc: Global, servers: &[Replica]) -> Result<Vec<Vec<RestingWrite>>
     Ok(dumps)
 }
 
+/// Whether none of their appends found no memory.
+fn are_ample(servers: &mut Vec<Replica>) -> bool
+    ensures { IsTrue result → AreAmple servers.old.items }
+{
+    for at in 0..servers.len() {
+        if servers[at].lacks() > 0 {
+            return false;
+        }
+    }
+    true
+}
+
 /// What the event does to servers, sessions and book. A program is copied first.
 fn step<K: Ledgers>(
     alloc: Global,
@@ -121,7 +135,8 @@ fn step<K: Ledgers>(
     filing: &mut Filing<K>,
     event: &Event,
 ) -> Result<Reply, AllocError>
-    ensures { IfOk result (λ reply. FollowsInBook state.old filing.old (λ machine next. Step machine event.now reply next) state.new filing.new) }
+    ensures follows { IfOk result (λ reply. FollowsInBook state.old filing.old (λ machine next. Step machine event.now reply next) state.new filing.new) }
+    ensures spent { IfOk result (λ reply. SpendsAt event.now reply state.old.servers.items state.new.servers.items) }
 {
     match event {
         Event::Read {
@@ -156,7 +171,8 @@ fn play<K: Ledgers>(
     filing: Filing<K>,
     events: &[Event],
 ) -> Result<History, AllocError>
-    ensures { IfOk result (λ history. (first : Machine) → IsGood first → IsOf state first → IsBookOf filing first → Leaves first events.now history) }
+    ensures leaves { IfOk result (λ history. (first : Machine) → IsGood first → IsOf state first → IsBookOf filing first → Leaves first events.now history) }
+    ensures fused { IfOk result (λ history. AreCharged (length state.servers.items) [] [] state.servers.items → AreFused (length state.servers.items) events.now history.replies.items) }
 {
     let mut state = state;
     let mut filing = filing;
@@ -165,6 +181,9 @@ fn play<K: Ledgers>(
         replies.push(step(alloc, &mut state, &mut filing, event)?)?;
     }
     let dumps = dumps_of(alloc, &state.servers)?;
+    if !are_ample(&mut state.servers) {
+        return Err(AllocError);
+    }
     Ok(History {
         replies,
         served: state.served,
@@ -181,7 +200,8 @@ fn run_with<K: Ledgers>(
     events: &[Event],
 ) -> Result<History, AllocError>
     requires blanks { AreBlanksOf blanks (named K.Slips.name K.Slips.parts) (named K.Reads.name K.Reads.parts) (named K.Writes.name K.Writes.parts) (named K.Refusals.name K.Refusals.parts) SESSIONS_NUMBER }
-    ensures { IfOk result (IsHistory world events.now) }
+    ensures history { IfOk result (IsHistory world events.now) }
+    ensures fused { IfOk result (λ history. AreFused world.count events.now history.replies.items) }
 {
     let World {
         servers,
@@ -212,7 +232,8 @@ where
     U: Ledger + Send + Sync,
     V: Ledger + Send + Sync,
     requires blanks { AreBlanksOf blanks (named S.name S.parts) (named T.name T.parts) (named U.name U.parts) (named V.name V.parts) SESSIONS_NUMBER }
-    ensures { IfOk result (IsHistory world events.now) }
+    ensures history { IfOk result (IsHistory world events.now) }
+    ensures fused { IfOk result (λ history. AreFused world.count events.now history.replies.items) }
 {
     run_with::<Four<S, T, U, V>>(alloc, blanks, world, events)
 }
@@ -232,12 +253,8 @@ impl World {
     {
         let mut servers = Vec::new(alloc);
         for index in 0..count {
-            let role = Role {
-                id: ServerId { index },
-                count,
-                limit,
-            };
-            servers.push(Replica::begin(alloc, role)?)?;
+            let id = ServerId { index };
+            servers.push(Replica::begin(alloc, Role { id, count, limit })?)?;
         }
         Ok(World {
             count,
@@ -248,9 +265,10 @@ impl World {
     }
 
     /// Runs the events, and gives what they leave. Where memory is refused, the world is gone; that of an operation, an item or a
-    /// Collect is a reply.
+    /// Collect is a reply, but where an append found none: so a failed device call is one for which a fuse was set.
     pub fn run(self, alloc: Global, events: &[Event]) -> Result<History, AllocError>
-        ensures { IfOk result (IsHistory self events.now) }
+        ensures history { IfOk result (IsHistory self events.now) }
+        ensures fused { IfOk result (λ history. AreFused self.count events.now history.replies.items) }
     {
         let blanks = Blanks {
             slips: Blank::new(SESSIONS as u64),

@@ -14,7 +14,8 @@ use Rattle.bayou_world.specs.declared.reply.Reply.{Reply}
 use Rattle.bayou_world.specs.declared.state.State.{State}
 use Rattle.bayou_world.specs.Inner.Booking.{Booking, IsBookOf}
 use Rattle.bayou_world.specs.Inner.Good.{IsGood}
-use Rattle.bayou_world.specs.Inner.Replicas.{IsFresh}
+use Rattle.bayou_world.specs.Inner.Charges.{IsUnused}
+use Rattle.bayou_world.specs.Inner.Replicas.{IsFresh, device_of}
 use Rattle.bayou_world.specs.Inner.Tie.{IsOf}
 use Rattle.bayou_world.specs.Machine.{Answered, Machine, writes}
 use Rattle.bayou_world.specs.Runs.{Run, asks_of}
@@ -23,6 +24,7 @@ use Rattle.bayou_world.specs.Runs.{Run, asks_of}
 pub record AreStarted (done count limit : ℕ) (servers : List Replica) : Type 0 where
   pub many : length servers ≡ done
   pub fresh : (place : ℕ) (d : Replica) → place < done → IsFresh count limit place (slice_index_or servers place d)
+  pub unused : (place : ℕ) (d : Replica) → place < done → IsUnused (device_of (slice_index_or servers place d))
 
 -- a client to which nothing has happened
 pub record IsNewClient (who : ℕ) (asks : Asks) (client : Client) : Type 0 where

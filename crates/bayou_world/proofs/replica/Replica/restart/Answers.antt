@@ -1,14 +1,18 @@
-use Rattle.std.proofs.Common.{ap, sym, length, refl, subst}
+use Rattle.std.proofs.Common.{ap, false, length, refl, subst, sym, Err}
 use Rattle.bayou_device.specs.Memory.{Memory}
 use Rattle.bayou_device.specs.MemoryDevice.{memory_device}
 use Rattle.bayou_server.specs.Server.{Core}
 use Rattle.bayou_server.specs.Starts.{FailsToStart, Starts, StartsOn}
 use Rattle.bayou_world.specs.Inner.Replicas.{IsLeftOf, core_of}
+use Rattle.bayou_world.specs.declared.reply.Reply.TheVariants as replies
+use Rattle.bayou_world.specs.Faults.{tells_fault}
+use Rattle.bayou_world.specs.Inner.Charges.{Spends}
+use Rattle.bayou_world.proofs.Charging.{start_spends, steady}
 use Rattle.bayou_world.proofs.Restarting.{of_role, same_parts}
 use Rattle.bayou_world.proofs.replica.Replica.restart.Goals as goal
 
-pub returns-in-Ok : goal.returns-in-Ok
-returns-in-Ok c kept =
+pub returns-in-Ok-clause-starts : goal.returns-in-Ok-clause-starts
+returns-in-Ok-clause-starts c kept =
     let old = core_of c.args.self in
     let left = c.stop-device.ensures.honest kept in
     let server = c.in-Ok.server in
@@ -19,8 +23,8 @@ returns-in-Ok c kept =
       law.whole old.id old.count old.limit _ _ server tt starts opens,
     )
 
-pub returns-in-Err : goal.returns-in-Err
-returns-in-Err c kept =
+pub returns-in-Err-clause-starts : goal.returns-in-Err-clause-starts
+returns-in-Err-clause-starts c kept =
     let old = core_of c.args.self in
     let left = c.stop-device.ensures.honest kept in
     let refused = c.in-Err.field-0 in
@@ -34,3 +38,13 @@ returns-in-Err c kept =
       subst (λ (core : Core). IsLeftOf core refused.device) (sym parts)
           (record { sound = honest.sound; honest = law.left old _ _ refused.fault c.a_device_in_memory_only_tears.ensures honest.sound honest.honest fails (c.in-Err.ensures.safe tt) }),
     )
+
+pub returns-in-Ok-clause-spends : goal.returns-in-Ok-clause-spends
+returns-in-Ok-clause-spends c =
+    subst (λ (d : Memory). Spends false false d c.in-Ok.server.device) c.stop-device.ensures.device
+    (steady 4 _ _ c.in-Ok.ensures.calls.most c.in-Ok.ensures.opens.opened.counts)
+
+pub returns-in-Err-clause-spends : goal.returns-in-Err-clause-spends
+returns-in-Err-clause-spends c =
+    subst (λ (d : Memory). Spends (tells_fault (replies.Restarted (Err c.in-Err.field-0.fault))) false d c.in-Err.field-0.device) c.stop-device.ensures.device
+    (start_spends _ _ _ _ _ c.in-Err.field-0.fault c.in-Err.ensures.calls.most c.in-Err.ensures.opens)

@@ -10,8 +10,8 @@ use Rattle.bayou_world.proofs.Tied.{stands_at}
 use Rattle.bayou_world.proofs.TiedItems.{collect_beyond, collect_flown, collect_lacks}
 use Rattle.bayou_world.proofs.state.State.collect.Goals as goal
 
-pub returns-then-first-max : goal.returns-then-first-max
-returns-then-first-max c machine good tied =
+pub returns-then-first-max-clause-follows : goal.returns-then-first-max-clause-follows
+returns-then-first-max-clause-follows c machine good tied =
     let place = c.args.place.index in
     let servers = c.args.self.now.servers.items in
     let clients = c.args.self.now.clients.items in
@@ -29,8 +29,8 @@ returns-then-first-max c machine good tied =
     collect_beyond servers clients offers items c.args.self.now.served.items machine tied place c.args.offer lacking lacks
     (omega (arith, c.if-first-max.true, c.len-first.ensures, c.len-number.ensures, c.max.ensures))
 
-pub returns : goal.returns
-returns c machine good tied =
+pub returns-clause-follows : goal.returns-clause-follows
+returns-clause-follows c machine good tied =
     let place = c.args.place.index in
     let servers = c.args.self.now.servers.items in
     let clients = c.args.self.now.clients.items in

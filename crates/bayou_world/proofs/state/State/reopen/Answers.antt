@@ -8,8 +8,8 @@ use Rattle.bayou_world.proofs.Tied.{stands_at}
 use Rattle.bayou_world.proofs.TiedServers.{reopen_tied}
 use Rattle.bayou_world.proofs.state.State.reopen.Goals as goal
 
-pub returns : goal.returns
-returns c machine good tied =
+pub returns-clause-follows : goal.returns-clause-follows
+returns-clause-follows c machine good tied =
     let place = c.args.place.index in
     let servers = c.args.self.now.servers.items in
     let old = c.in-Running.server in

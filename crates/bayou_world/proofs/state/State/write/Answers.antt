@@ -9,8 +9,8 @@ use Rattle.bayou_world.proofs.Tied.{stands_at}
 use Rattle.bayou_world.proofs.TiedWrites.{write_tied}
 use Rattle.bayou_world.proofs.state.State.write.Goals as goal
 
-pub returns : goal.returns
-returns c machine good tied =
+pub returns-clause-follows : goal.returns-clause-follows
+returns-clause-follows c machine good tied =
     let who = c.args.who.index in
     let place = c.args.place.index in
     let servers = c.args.self.now.servers.items in
