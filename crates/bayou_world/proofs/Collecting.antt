@@ -21,8 +21,8 @@ use Rattle.bayou_world.specs.declared.reply.Reply.TheVariants as replies
 use Rattle.bayou_world.specs.Inner.Good.{IsGood}
 use Rattle.bayou_world.specs.Machine.{IsWithin, Machine, Made, Offered, ServerSets, names, writes}
 use Rattle.bayou_world.specs.Runs.{Run}
-use Rattle.bayou_world.specs.Steps.{AreLacking, Collects, Delivers, Files, Holds, Loses, Offers, Reads, RefusesItem, Step, Takes, Writes}
-use Rattle.bayou_world.proofs.Growing.{HaveGrown, grown_by_doubt, grown_by_write}
+use Rattle.bayou_world.specs.Steps.{AreLacking, Collects, Delivers, Files, Fuses, Holds, Loses, Offers, Reads, RefusesItem, Reopens, Restarts, Step, Takes, Writes}
+use Rattle.bayou_world.proofs.Growing.{HaveGrown, grown_by_doubt, grown_by_recovery, grown_by_stop, grown_by_write}
 use Rattle.bayou_world.proofs.Homes.{fitting_at, home_of_held, past_is_before, past_is_had}
 use Rattle.bayou_world.proofs.Lists.{Contains-map, Contains-map_from}
 use Rattle.bayou_world.proofs.Vectors.{named}
@@ -88,6 +88,20 @@ grown_by_file : (old : Machine) (who : ℕ) (reply : Reply) (new : Machine) → 
 grown_by_file old who reply new (Files.skipped none is same) = same_grown old new same
 grown_by_file old who reply new (Files.filed session entry later may is same) = stays old new _ same refl refl
 
+grown_by_fuse : (old : Machine) (place call : ℕ) (reply : Reply) (new : Machine) → Fuses old place call reply new → HasGrown old new
+grown_by_fuse old place call reply new (Fuses.skipped none is same) = same_grown old new same
+grown_by_fuse old place call reply new (Fuses.fused known some is same) = same_grown old new same
+
+grown_by_reopening : (old : Machine) (place : ℕ) (reply : Reply) (new : Machine) → Reopens old place reply new → HasGrown old new
+grown_by_reopening old place reply new (Reopens.skipped none is same) = same_grown old new same
+grown_by_reopening old place reply new (Reopens.refused fault runs refused is same) = same_grown old new same
+grown_by_reopening old place reply new (Reopens.reopened adopted server runs down recovers is same) = grows old new _ same (grown_by_recovery old.servers place adopted server recovers) refl
+
+grown_by_restart : (old : Machine) (place : ℕ) (reply : Reply) (new : Machine) → Restarts old place reply new → HasGrown old new
+grown_by_restart old place reply new (Restarts.skipped none is same) = same_grown old new same
+grown_by_restart old place reply new (Restarts.refused fault known refused is same) = grows old new _ same (grown_by_stop old.servers place) refl
+grown_by_restart old place reply new (Restarts.restarted adopted server known recovers is same) = grows old new _ same (grown_by_recovery old.servers place adopted server recovers) refl
+
 grown_by_step : (old : Machine) (event : Event) (reply : Reply) (new : Machine) → Step old event reply new → HasGrown old new
 grown_by_step old (events.Read session server key) reply new step = grown_by_read old session.index server.index key reply new step
 grown_by_step old (events.Write session server program) reply new step = grown_by_program old session.index server.index program reply new step
@@ -96,6 +110,9 @@ grown_by_step old (events.Lose session) reply new step = grown_by_loss old sessi
 grown_by_step old (events.Offer server) reply new step = grown_by_offer old server.index reply new step
 grown_by_step old (events.Collect server offer) reply new step = grown_by_collect old server.index offer reply new step
 grown_by_step old (events.Take server item) reply new step = grown_by_take old server.index item reply new step
+grown_by_step old (events.Fuse server call front) reply new step = grown_by_fuse old server.index call reply new step
+grown_by_step old (events.Reopen server) reply new step = grown_by_reopening old server.index reply new step
+grown_by_step old (events.Restart server) reply new step = grown_by_restart old server.index reply new step
 grown_by_step old (events.File session) reply new step = grown_by_file old session.index reply new step
 
 both_grown : (old mid new : Machine) → HasGrown old mid → HasGrown mid new → HasGrown old new

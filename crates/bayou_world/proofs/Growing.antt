@@ -1,5 +1,5 @@
 -- Servers that hold more: what was true stays true, and what is added may be.
-use Rattle.std.proofs.Common.{◌≡◌, inl, inr, ◌⊎◌, ℕ, ◌<◌, List, [], ◌∷◌, ◌++◌, length, Contains, None, Some, ap, sym, ◌∙◌, refl, subst, arith, length-append}
+use Rattle.std.proofs.Common.{◌≡◌, inl, inr, ◌⊎◌, ℕ, Bool, true, false, List, [], ◌∷◌, ◌++◌, length, Contains, Option, None, Some, ap, sym, ◌∙◌, refl, subst, arith, length-append}
 use Rattle.std.proofs.lemmas.List.{append_assoc, append-nil, map-append}
 use Rattle.std.proofs.lemmas.List.Elements.{All-push, All-weaker, Contains-append_left, Contains-push}
 use Rattle.bayou_lang.specs.declared.write.Write.{Write}
@@ -8,7 +8,7 @@ use Rattle.bayou_lang.specs.Writes.{IsSound}
 use Rattle.bayou_judge.specs.History.{IsFrontOf}
 use Rattle.bayou_world.specs.Inner.Good.{AreGood, AreOffers, HavePasts, IsGoodServer, IsHome, IsTrue, IsTrueAnswer, MayBeDoubted}
 use Rattle.bayou_world.specs.Machine.{Answered, Made, Offered, ServerSets, changed, writes}
-use Rattle.bayou_world.specs.Steps.{with_doubt, with_write}
+use Rattle.bayou_world.specs.Steps.{Recovers, stopped_now, with_doubt, with_write}
 use Rattle.bayou_base.specs.declared.entry.What.{What}
 use Rattle.bayou_base.specs.declared.entry.What.TheVariants as whats
 use Rattle.bayou_world.proofs.Lists.{at_changed, changed-same, same_number}
@@ -42,8 +42,9 @@ true_grows old new grown whats.Refused place answered none = none
 pub answer_grows : (old new : ℕ → ServerSets) → HaveGrown old new → (answered : Answered) → IsTrueAnswer old answered → IsTrueAnswer new answered
 answer_grows old new grown answered is = true_grows old new grown answered.entry.what answered.entry.server.index answered is
 
-doubt_grows : (count : ℕ) (old new : ℕ → ServerSets) → HaveGrown old new → (place : ℕ) (server : ServerSets) (made : Made) → MayBeDoubted count old place server made → MayBeDoubted count new place server made
-doubt_grows count old new grown place server made may = record {
+doubt_grows : (count limit : ℕ) (old new : ℕ → ServerSets) → HaveGrown old new → (place : ℕ) (held : List Made) (made : Made) → MayBeDoubted count limit old place held made → MayBeDoubted count limit new place held made
+doubt_grows count limit old new grown place held made may = record {
+  room = may.room;
   fits = may.fits;
   deps = may.deps;
   past = may.past;
@@ -58,20 +59,22 @@ good_grows count limit old new grown place server good = record {
   home = All-weaker (IsHome old) (IsHome new) (λ made home. home_grows old new grown made home) server.held good.home;
   pasts = good.pasts;
   had = good.had;
-  doubt = λ made is. doubt_grows count old new grown place server made (good.doubt made is);
+  doubt = λ made is. doubt_grows count limit old new grown place server.held made (good.doubt made is);
 }
 
 -- ---- a Write more
 
+-- a server that holds what it held, and so many behind that
+pub grown_at : (old : ℕ → ServerSets) (place : ℕ) (new : ServerSets) (later : List Made) → new.held ≡ (old place).held ++ later → HaveGrown old (changed old place new)
+grown_at old place new later same =
+    at_changed (λ other (server : ServerSets). (more : List Made) × (server.held ≡ (old other).held ++ more)) old place new
+    (later, same) (λ other. ([], sym (append-nil (old other).held)))
+
 pub grown_by_write : (old : ℕ → ServerSets) (place : ℕ) (made : Made) → HaveGrown old (changed old place (with_write (old place) made))
-grown_by_write old place made =
-    at_changed (λ other (server : ServerSets). (later : List Made) × (server.held ≡ (old other).held ++ later)) old place (with_write (old place) made)
-    (made ∷ [], refl) (λ other. ([], sym (append-nil (old other).held)))
+grown_by_write old place made = grown_at old place (with_write (old place) made) (made ∷ []) refl
 
 pub grown_by_doubt : (old : ℕ → ServerSets) (place : ℕ) (made : Made) → HaveGrown old (changed old place (with_doubt (old place) made))
-grown_by_doubt old place made =
-    at_changed (λ other (server : ServerSets). (later : List Made) × (server.held ≡ (old other).held ++ later)) old place (with_doubt (old place) made)
-    ([], sym (append-nil (old place).held)) (λ other. ([], sym (append-nil (old other).held)))
+grown_by_doubt old place made = grown_at old place (with_doubt (old place) made) [] (sym (append-nil (old place).held))
 
 -- a part of a longer list is a part of the list, or the whole of it
 last_or_before : {X : Type 0} (xs : List X) (x : X) (before : List X) (y : X) (after : List X) → xs ++ x ∷ [] ≡ before ++ y ∷ after
@@ -96,14 +99,16 @@ pasts_more place held made pasts past before other after same own =
       | inr deeper ↦ pasts before other deeper.0 deeper.1 own
     ]
 
-pub add_write : (count limit : ℕ) (servers : ℕ → ServerSets) → AreGood count limit servers → (place : ℕ) (made : Made) → (servers place).doubt ≡ None → length (servers place).held < limit
-    → MayBeDoubted count servers place (servers place) made → AreGood count limit (changed servers place (with_write (servers place) made))
-add_write count limit servers good place made up room may =
+-- behind what is held, where no Write is in doubt then
+add_behind : (count limit : ℕ) (servers : ℕ → ServerSets) → AreGood count limit servers → (place : ℕ) (made : Made) (doubt : Option Made) (stopped : Bool) → doubt ≡ None
+    → MayBeDoubted count limit servers place (servers place).held made
+    → AreGood count limit (changed servers place (with_write (record (servers place) { doubt = doubt; stopped = stopped }) made))
+add_behind count limit servers good place made doubt stopped up may =
     let server = servers place in
     let held = server.held in
-    let after = with_write server made in
+    let after = with_write (record server { doubt = doubt; stopped = stopped }) made in
     let new = changed servers place after in
-    let grown = grown_by_write servers place made in
+    let grown = grown_at servers place after (made ∷ []) refl in
     let whole : writes (held ++ made ∷ []) ≡ writes held ++ made.write ∷ [] = map-append (λ (m : Made). m.write) held (made ∷ []) in
     let made_home : IsHome new made = elim (same_number made.write.wid.origin.index place) as (λ _. IsHome new made) [
       | inl own ↦
@@ -114,7 +119,7 @@ add_write count limit servers good place made up room may =
     at_changed (IsGoodServer count limit new) servers place after
     (record {
       sound = subst (IsSound place count) (sym whole) (IsSound-push place count (writes held) made.write (good place).sound may.fits may.deps);
-      within = omega (arith, room, length-append held (made ∷ []));
+      within = omega (arith, may.room, length-append held (made ∷ []));
       home = All-push (IsHome new) held made (good_grows count limit servers new grown place server (good place)).home made_home;
       pasts = pasts_more place held made (good place).pasts may.past;
       had = All-push (IsFrontOf (writes (held ++ made ∷ []))) server.had (writes (held ++ made ∷ []))
@@ -125,8 +130,12 @@ add_write count limit servers good place made up room may =
     })
     (λ other. good_grows count limit servers new grown other (servers other) (good other))
 
+pub add_write : (count limit : ℕ) (servers : ℕ → ServerSets) → AreGood count limit servers → (place : ℕ) (made : Made) → (servers place).doubt ≡ None
+    → MayBeDoubted count limit servers place (servers place).held made → AreGood count limit (changed servers place (with_write (servers place) made))
+add_write count limit servers good place made up may = add_behind count limit servers good place made (servers place).doubt (servers place).stopped up may
+
 pub add_doubt : (count limit : ℕ) (servers : ℕ → ServerSets) → AreGood count limit servers → (place : ℕ) (made : Made)
-    → MayBeDoubted count servers place (servers place) made → AreGood count limit (changed servers place (with_doubt (servers place) made))
+    → MayBeDoubted count limit servers place (servers place).held made → AreGood count limit (changed servers place (with_doubt (servers place) made))
 add_doubt count limit servers good place made may =
     let server = servers place in
     let after = with_doubt server made in
@@ -142,6 +151,47 @@ add_doubt count limit servers good place made may =
       had = old.had;
       doubt = λ other is.
           let one : made ≡ other = cc in
-          subst (MayBeDoubted count new place after) one (record { fits = may.fits; deps = may.deps; past = may.past; home = λ foreign. home_grows servers new grown made (may.home foreign) });
+          subst (MayBeDoubted count limit new place after.held) one (record { room = may.room; fits = may.fits; deps = may.deps; past = may.past; home = λ foreign. home_grows servers new grown made (may.home foreign) });
     })
     (λ other. good_grows count limit servers new grown other (servers other) (good other))
+
+-- ---- a server that is up again, or stopped
+
+-- it holds what it held, and what is in doubt there was so before
+as_held : (count limit : ℕ) (servers : ℕ → ServerSets) → AreGood count limit servers → (place : ℕ) (doubt : Option Made) (stopped : Bool) → ((made : Made) → doubt ≡ Some made → (servers place).doubt ≡ Some made)
+    → AreGood count limit (changed servers place (record (servers place) { doubt = doubt; stopped = stopped }))
+as_held count limit servers good place doubt stopped was =
+    let server = servers place in
+    let after = record server { doubt = doubt; stopped = stopped } in
+    let new = changed servers place after in
+    let grown = grown_at servers place after [] (sym (append-nil server.held)) in
+    let old = good_grows count limit servers new grown place server (good place) in
+    at_changed (IsGoodServer count limit new) servers place after
+    (record {
+      sound = old.sound;
+      within = old.within;
+      home = old.home;
+      pasts = old.pasts;
+      had = old.had;
+      doubt = λ made is. old.doubt made (was made is);
+    })
+    (λ other. good_grows count limit servers new grown other (servers other) (good other))
+
+pub stop : (count limit : ℕ) (servers : ℕ → ServerSets) → AreGood count limit servers → (place : ℕ) → AreGood count limit (changed servers place (stopped_now (servers place)))
+stop count limit servers good place = as_held count limit servers good place (servers place).doubt true (λ made is. is)
+
+pub grown_by_stop : (old : ℕ → ServerSets) (place : ℕ) → HaveGrown old (changed old place (stopped_now (old place)))
+grown_by_stop old place = grown_at old place (stopped_now (old place)) [] (sym (append-nil (old place).held))
+
+pub recover : (count limit : ℕ) (servers : ℕ → ServerSets) → AreGood count limit servers → (place : ℕ) (adopted : Option Made) (server : ServerSets) → Recovers (servers place) adopted server
+    → AreGood count limit (changed servers place server)
+recover count limit servers good place None server is =
+    subst (λ s. AreGood count limit (changed servers place s)) (sym is)
+    (as_held count limit servers good place None false (λ made some. let none : None ≡ Some made = some in absurd (cc)))
+recover count limit servers good place (Some made) server (doubted, is) =
+    subst (λ s. AreGood count limit (changed servers place s)) (sym is)
+    (add_behind count limit servers good place made None false refl ((good place).doubt made doubted))
+
+pub grown_by_recovery : (old : ℕ → ServerSets) (place : ℕ) (adopted : Option Made) (server : ServerSets) → Recovers (old place) adopted server → HaveGrown old (changed old place server)
+grown_by_recovery old place None server is = grown_at old place server [] (ap (λ (s : ServerSets). s.held) is ∙ sym (append-nil (old place).held))
+grown_by_recovery old place (Some made) server (doubted, is) = grown_at old place server (made ∷ []) (ap (λ (s : ServerSets). s.held) is)

@@ -14,6 +14,9 @@ pub mod Tied
 pub mod TiedWrites
 pub mod TiedFlights
 pub mod TiedItems
+pub mod TiedServers
 pub mod Oldest
 pub mod Shares
+pub mod Restarting
+pub mod Charging
 pub mod Played

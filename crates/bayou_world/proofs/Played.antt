@@ -8,17 +8,19 @@ use Rattle.bayou_base.specs.declared.entry.Entry.{Entry}
 use Rattle.bayou_base.specs.declared.limits.TheConstants.{SERVERS, SESSIONS}
 use Rattle.bayou_lang.specs.declared.program.Program.{Program}
 use Rattle.bayou_lang.specs.declared.write.Write.{Write}
-use Rattle.bayou_server.specs.Server.{Core, ServerState}
+use Rattle.bayou_server.specs.Server.{Core}
 use Rattle.bayou_session.specs.Needs.{Told}
 use Rattle.bayou_session.specs.Needs as sessions
 use Rattle.bayou_world.specs.declared.client.Client.{Client}
 use Rattle.bayou_world.specs.declared.event.Event.{Event}
 use Rattle.bayou_world.specs.declared.event.Event.TheVariants as events
+use Rattle.bayou_world.specs.declared.replica.Replica.{Replica}
 use Rattle.bayou_world.specs.declared.reply.Reply.{Reply}
 use Rattle.bayou_world.specs.declared.state.State.{State}
 use Rattle.bayou_world.specs.Inner.Beginning.{AreFirstSeats, AreStarted, IsFirstSeat, Leaves, SoFar}
 use Rattle.bayou_world.specs.Inner.Booking.{Booking, FollowsInBook, IsBookOf}
 use Rattle.bayou_world.specs.Inner.Good.{IsGood}
+use Rattle.bayou_world.specs.Inner.Replicas.{held_by}
 use Rattle.bayou_world.specs.Inner.Tie.{Follows, IsFlightOf, IsSeatOf, IsTied, seat}
 use Rattle.bayou_world.specs.Invariant.{IsVectorOf}
 use Rattle.bayou_world.specs.Machine.{Machine, writes}
@@ -27,7 +29,7 @@ use Rattle.bayou_world.specs.Histories.{Begun, IsHistory}
 use Rattle.bayou_world.specs.declared.history.History.{History}
 use Rattle.bayou_audit.specs.Totals.{is_read, is_refusal, is_write, number_of, totals_of}
 use Rattle.std.specs.Global.{Vec}
-use Rattle.bayou_world.specs.Steps.{Collects, Delivers, Files, Loses, Offers, Reads, Step, Takes, Writes}
+use Rattle.bayou_world.specs.Steps.{Collects, Delivers, Files, Fuses, Loses, Offers, Reads, Reopens, Restarts, Step, Takes, Writes}
 use Rattle.bayou_world.proofs.Starting.{first_good}
 use Rattle.bayou_world.proofs.Stepping.{step_good}
 use Rattle.bayou_world.proofs.Vectors.{IsVectorOf-none}
@@ -77,6 +79,20 @@ take_keeps old place item reply new (Takes.refused made fault given refused is s
 take_keeps old place item reply new (Takes.doubted made given next room is same) = kept old new _ same refl refl refl
 take_keeps old place item reply new (Takes.taken made given next room is same) = kept old new _ same refl refl refl
 
+fuse_keeps : (old : Machine) (place call : ℕ) (reply : Reply) (new : Machine) → Fuses old place call reply new → Keeps old new
+fuse_keeps old place call reply new (Fuses.skipped none is same) = kept old new _ same refl refl refl
+fuse_keeps old place call reply new (Fuses.fused known some is same) = kept old new _ same refl refl refl
+
+reopen_keeps : (old : Machine) (place : ℕ) (reply : Reply) (new : Machine) → Reopens old place reply new → Keeps old new
+reopen_keeps old place reply new (Reopens.skipped none is same) = kept old new _ same refl refl refl
+reopen_keeps old place reply new (Reopens.refused fault runs refused is same) = kept old new _ same refl refl refl
+reopen_keeps old place reply new (Reopens.reopened adopted server runs down recovers is same) = kept old new _ same refl refl refl
+
+restart_keeps : (old : Machine) (place : ℕ) (reply : Reply) (new : Machine) → Restarts old place reply new → Keeps old new
+restart_keeps old place reply new (Restarts.skipped none is same) = kept old new _ same refl refl refl
+restart_keeps old place reply new (Restarts.refused fault known refused is same) = kept old new _ same refl refl refl
+restart_keeps old place reply new (Restarts.restarted adopted server known recovers is same) = kept old new _ same refl refl refl
+
 file_count : (old : Machine) (who : ℕ) (reply : Reply) (new : Machine) → Files old who reply new → new.count ≡ old.count
 file_count old who reply new (Files.skipped none is same) = ap (λ (m : Machine). m.count) same
 file_count old who reply new (Files.filed session entry later may is same) = ap (λ (m : Machine). m.count) same
@@ -89,6 +105,9 @@ step_count old (events.Lose session) reply new step = (lose_keeps old session.in
 step_count old (events.Offer server) reply new step = (offer_keeps old server.index reply new step).count
 step_count old (events.Collect server offer) reply new step = (collect_keeps old server.index offer reply new step).count
 step_count old (events.Take server item) reply new step = (take_keeps old server.index item reply new step).count
+step_count old (events.Fuse server call front) reply new step = (fuse_keeps old server.index call reply new step).count
+step_count old (events.Reopen server) reply new step = (reopen_keeps old server.index reply new step).count
+step_count old (events.Restart server) reply new step = (restart_keeps old server.index reply new step).count
 step_count old (events.File session) reply new step = file_count old session.index reply new step
 
 -- ---- one event, with the book beside it
@@ -126,6 +145,18 @@ collect_beside old new booking place offer reply = beside old new booking (λ ma
 pub take_beside : (old new : State) (booking : Booking) (place item : ℕ) (reply : Reply) → Follows old (λ machine next. Takes machine place item reply next) new
     → FollowsInBook old booking (λ machine next. Takes machine place item reply next) new booking
 take_beside old new booking place item reply = beside old new booking (λ machine next. Takes machine place item reply next) (λ machine next does. take_keeps machine place item reply next does)
+
+pub fuse_beside : (old new : State) (booking : Booking) (place call : ℕ) (reply : Reply) → Follows old (λ machine next. Fuses machine place call reply next) new
+    → FollowsInBook old booking (λ machine next. Fuses machine place call reply next) new booking
+fuse_beside old new booking place call reply = beside old new booking (λ machine next. Fuses machine place call reply next) (λ machine next does. fuse_keeps machine place call reply next does)
+
+pub reopen_beside : (old new : State) (booking : Booking) (place : ℕ) (reply : Reply) → Follows old (λ machine next. Reopens machine place reply next) new
+    → FollowsInBook old booking (λ machine next. Reopens machine place reply next) new booking
+reopen_beside old new booking place reply = beside old new booking (λ machine next. Reopens machine place reply next) (λ machine next does. reopen_keeps machine place reply next does)
+
+pub restart_beside : (old new : State) (booking : Booking) (place : ℕ) (reply : Reply) → Follows old (λ machine next. Restarts machine place reply next) new
+    → FollowsInBook old booking (λ machine next. Restarts machine place reply next) new booking
+restart_beside old new booking place reply = beside old new booking (λ machine next. Restarts machine place reply next) (λ machine next does. restart_keeps machine place reply next does)
 
 -- ---- a run grows
 
@@ -175,11 +206,12 @@ new_client who (Some asks) (Some client) is =
       own = All-nil (λ (entry : Entry). entry.session.index ≡ who);
     }
 
-pub begins_tied : {D : Type 0} (servers : List (ServerState D)) (clients : List (Option Client)) (count limit places : ℕ) (list : List Told) → AreStarted count count limit servers → AreFirstSeats SESSIONS list clients
+pub begins_tied : (servers : List Replica) (clients : List (Option Client)) (count limit places : ℕ) (list : List Told) → AreStarted count count limit servers → AreFirstSeats SESSIONS list clients
     → IsTied servers clients [] [] [] (first_machine count limit places (asks_of list))
 begins_tied servers clients count limit places list started seated = record {
   many = started.many;
-  servers_are = λ place d inside. record { is = started.fresh place d inside };
+  servers_are = λ place d inside.
+      let fresh = started.fresh place d inside in record { stopped = sym fresh.runs; core = record { is = fresh.core }; kept = fresh.kept };
   seats = seated.many;
   clients_are = λ who inside. new_client who (asks_of list who) (seat clients who) (seated.each who inside);
   offers_are = refl;
@@ -189,25 +221,24 @@ begins_tied servers clients count limit places list started seated = record {
 
 -- ---- as a run ends
 
-dump_at : {D E : Type 0} (f : E → List Write) (dumps : List E) (servers : List (ServerState D)) (place : ℕ) (d : E) (held : List Write) → map f dumps ≡ map (λ (s : ServerState D). s.core.held) servers → place < length servers
-    → ((e : ServerState D) → (get_or servers place e).core.held ≡ held) → f (get_or dumps place d) ≡ held
+dump_at : {E : Type 0} (f : E → List Write) (dumps : List E) (servers : List Replica) (place : ℕ) (d : E) (held : List Write) → map f dumps ≡ map held_by servers → place < length servers
+    → ((e : Replica) → held_by (get_or servers place e) ≡ held) → f (get_or dumps place d) ≡ held
 dump_at f dumps [] place d held same inside each = absurd (omega (arith, inside))
 dump_at f dumps (server ∷ servers) place d held same inside each =
-    let held_of = λ (s : ServerState _). s.core.held in
-    let as_many : length dumps ≡ length (server ∷ servers) = sym (length-map dumps f) ∙ ap length same ∙ length-map (server ∷ servers) held_of in
-    let here : get_or (map f dumps) place (held_of server) ≡ f (get_or dumps place d) = get_or-map f dumps place d (held_of server) (omega (arith, inside, as_many)) in
-    let there : get_or (map held_of (server ∷ servers)) place (held_of server) ≡ held_of (get_or (server ∷ servers) place server) = get_or-map held_of (server ∷ servers) place server (held_of server) inside in
-    sym here ∙ ap (λ list. get_or list place (held_of server)) same ∙ there ∙ each server
+    let as_many : length dumps ≡ length (server ∷ servers) = sym (length-map dumps f) ∙ ap length same ∙ length-map (server ∷ servers) held_by in
+    let here : get_or (map f dumps) place (held_by server) ≡ f (get_or dumps place d) = get_or-map f dumps place d (held_by server) (omega (arith, inside, as_many)) in
+    let there : get_or (map held_by (server ∷ servers)) place (held_by server) ≡ held_by (get_or (server ∷ servers) place server) = get_or-map held_by (server ∷ servers) place server (held_by server) inside in
+    sym here ∙ ap (λ list. get_or list place (held_by server)) same ∙ there ∙ each server
 
 pub leaves : (first : Machine) (events : List Event) (at : ℕ) (replies : List Reply) (state : State) (booking : Booking) (history : History) → SoFar first (take at events) replies state booking → length events ≤ at
     → history.replies.items ≡ replies → history.served.items ≡ state.served.items
-    → map (λ (dump : Vec Write). dump.items) history.dumps.items ≡ map (λ (s : ServerState _). s.core.held) state.servers.items
+    → map (λ (dump : Vec Write). dump.items) history.dumps.items ≡ map held_by state.servers.items
     → history.totals ≡ totals_of 0 (number_of is_read booking.entries) (number_of is_write booking.entries) (number_of is_refusal booking.entries) → Leaves first events history
 leaves first events at replies state booking history so_far all replies_are served dumps totals =
     let now = so_far.now in
     let items = λ (dump : Vec Write). dump.items in
     let many : length history.dumps.items ≡ first.count =
-    sym (length-map history.dumps.items items) ∙ ap length dumps ∙ length-map state.servers.items (λ (s : ServerState _). s.core.held) ∙ so_far.tied.many ∙ so_far.count in
+    sym (length-map history.dumps.items items) ∙ ap length dumps ∙ length-map state.servers.items held_by ∙ so_far.tied.many ∙ so_far.count in
     record {
       last = now;
       run = subst (λ list. Run first list history.replies.items now) (take_all at events all) (subst (λ list. Run first (take at events) list now) (sym replies_are) so_far.run);
@@ -216,12 +247,12 @@ leaves first events at replies state booking history so_far all replies_are serv
       dumps = λ place d inside.
           let here : place < now.count = omega (arith, inside, so_far.count) in
           dump_at items history.dumps.items state.servers.items place d (writes (now.servers place).held) dumps (omega (arith, here, so_far.tied.many))
-          (λ e. ap (λ (c : Core). c.held) (so_far.tied.servers_are place e here).is);
+          (λ e. ap (λ (c : Core). c.held) (so_far.tied.servers_are place e here).core.is);
       totals = totals ∙ ap (λ list. totals_of 0 (number_of is_read list) (number_of is_write list) (number_of is_refusal list)) so_far.book.entries;
     }
 
 -- from the beginning
-pub history_is : {D : Type 0} (begun : Begun) (servers : List (ServerState D)) (clients : List (Option Client)) (offers : List (List ℕ)) (items : List Write) (served : List Entry) (booking : Booking) (events : List Event) (history : History)
+pub history_is : (begun : Begun) (servers : List Replica) (clients : List (Option Client)) (offers : List (List ℕ)) (items : List Write) (served : List Entry) (booking : Booking) (events : List Event) (history : History)
     → AreStarted begun.count begun.count begun.limit servers → AreFirstSeats SESSIONS begun.sessions clients
     → offers ≡ [] → items ≡ [] → served ≡ [] → booking ≡ record { places = places_for events; entries = [] }
     → ((first : Machine) → IsGood first → IsTied servers clients offers items served first → IsBookOf booking first → Leaves first events history) → IsHistory begun events history

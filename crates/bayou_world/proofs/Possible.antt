@@ -2,8 +2,14 @@
 use Rattle.std.proofs.Common.{◌≡◌, ℕ, List, [], ◌∷◌, Err, All, sym, subst}
 use Rattle.std.proofs.lemmas.List.Elements.{All-cons, All-nil}
 use Rattle.bayou_lang.specs.declared.program.Program.{Program}
+use Rattle.bayou_server.specs.declared.fault.JournalFault.TheVariants.{Device, NotAJournal, OtherServer}
+use Rattle.bayou_server.specs.declared.fault.ReopenFault.{ReopenFault}
+use Rattle.bayou_server.specs.declared.fault.ReopenFault.TheVariants as reopening
+use Rattle.bayou_server.specs.declared.fault.StartFault.{StartFault}
+use Rattle.bayou_server.specs.declared.fault.StartFault.TheVariants as starting
 use Rattle.bayou_server.specs.declared.fault.TakeFault.{TakeFault}
 use Rattle.bayou_server.specs.declared.fault.TakeFault.TheVariants as taking
+use Rattle.bayou_server.specs.Honest.{IsHonestRefusal}
 use Rattle.bayou_world.specs.declared.event.Event.{Event}
 use Rattle.bayou_world.specs.declared.event.Event.TheVariants as events
 use Rattle.bayou_world.specs.declared.reply.Reply.{Reply}
@@ -11,7 +17,7 @@ use Rattle.bayou_world.specs.declared.reply.Reply.TheVariants as replies
 use Rattle.bayou_world.specs.Invariant.{IsImpossible}
 use Rattle.bayou_world.specs.Machine.{Machine, Made, ServerSets}
 use Rattle.bayou_world.specs.Runs.{Run}
-use Rattle.bayou_world.specs.Steps.{Collects, Delivers, Files, Loses, Offers, Reads, RefusesItem, Step, Takes, Writes}
+use Rattle.bayou_world.specs.Steps.{Collects, Delivers, Files, Fuses, Loses, Offers, Reads, RefusesItem, RefusesReopening, Reopens, Restarts, Step, Takes, Writes}
 
 -- a reply that isn't of that kind
 is : (reply other : Reply) → reply ≡ other → (¬ IsImpossible other) → ¬ IsImpossible reply
@@ -62,6 +68,38 @@ take_possible old place item reply new (Takes.refused made fault given refused t
 take_possible old place item reply new (Takes.doubted made given next room told_is same) = is reply _ told_is (λ no. no)
 take_possible old place item reply new (Takes.taken made given next room told_is same) = is reply _ told_is (λ no. no)
 
+reopening_possible : (server : ServerSets) (fault : ReopenFault) → RefusesReopening server fault → ¬ IsImpossible (replies.Reopened (Err fault))
+reopening_possible server reopening.NotDown refused = λ no. no
+reopening_possible server (reopening.Journal Device) refused = λ no. no
+reopening_possible server (reopening.Journal NotAJournal) refused = absurd refused
+reopening_possible server (reopening.Journal OtherServer) refused = absurd refused
+reopening_possible server reopening.Lost refused = absurd refused
+reopening_possible server (reopening.BadRecord at) refused = absurd refused
+reopening_possible server reopening.OutOfMemory refused = λ no. no
+
+start_possible : (fault : StartFault) → IsHonestRefusal fault → ¬ IsImpossible (replies.Restarted (Err fault))
+start_possible (starting.Journal Device) refused = λ no. no
+start_possible (starting.Journal NotAJournal) refused = absurd refused
+start_possible (starting.Journal OtherServer) refused = absurd refused
+start_possible (starting.BadRecord at) refused = absurd refused
+start_possible (starting.Gap at) refused = absurd refused
+start_possible starting.LogFull refused = absurd refused
+start_possible starting.OutOfMemory refused = λ no. no
+
+fuse_possible : (old : Machine) (place call : ℕ) (reply : Reply) (new : Machine) → Fuses old place call reply new → ¬ IsImpossible reply
+fuse_possible old place call reply new (Fuses.skipped none told_is same) = is reply _ told_is (λ no. no)
+fuse_possible old place call reply new (Fuses.fused known some told_is same) = is reply _ told_is (λ no. no)
+
+reopen_possible : (old : Machine) (place : ℕ) (reply : Reply) (new : Machine) → Reopens old place reply new → ¬ IsImpossible reply
+reopen_possible old place reply new (Reopens.skipped none told_is same) = is reply _ told_is (λ no. no)
+reopen_possible old place reply new (Reopens.refused fault runs refused told_is same) = is reply _ told_is (reopening_possible (old.servers place) fault refused)
+reopen_possible old place reply new (Reopens.reopened adopted server runs down recovers told_is same) = is reply _ told_is (λ no. no)
+
+restart_possible : (old : Machine) (place : ℕ) (reply : Reply) (new : Machine) → Restarts old place reply new → ¬ IsImpossible reply
+restart_possible old place reply new (Restarts.skipped none told_is same) = is reply _ told_is (λ no. no)
+restart_possible old place reply new (Restarts.refused fault known refused told_is same) = is reply _ told_is (start_possible fault refused)
+restart_possible old place reply new (Restarts.restarted adopted server known recovers told_is same) = is reply _ told_is (λ no. no)
+
 file_possible : (old : Machine) (who : ℕ) (reply : Reply) (new : Machine) → Files old who reply new → ¬ IsImpossible reply
 file_possible old who reply new (Files.skipped none told_is same) = is reply _ told_is (λ no. no)
 file_possible old who reply new (Files.filed session entry later may told_is same) = is reply _ told_is (λ no. no)
@@ -74,6 +112,9 @@ step_possible old (events.Lose session) reply new step = lose_possible old sessi
 step_possible old (events.Offer server) reply new step = offer_possible old server.index reply new step
 step_possible old (events.Collect server offer) reply new step = collect_possible old server.index offer reply new step
 step_possible old (events.Take server item) reply new step = take_possible old server.index item reply new step
+step_possible old (events.Fuse server call front) reply new step = fuse_possible old server.index call reply new step
+step_possible old (events.Reopen server) reply new step = reopen_possible old server.index reply new step
+step_possible old (events.Restart server) reply new step = restart_possible old server.index reply new step
 step_possible old (events.File session) reply new step = file_possible old session.index reply new step
 
 pub run_possible : (old : Machine) (events : List Event) (replies : List Reply) (new : Machine) → Run old events replies new → All (λ reply. ¬ IsImpossible reply) replies

@@ -14,7 +14,7 @@ use Rattle.bayou_world.specs.declared.reply.Reply.{Reply}
 use Rattle.bayou_world.specs.Inner.Good.{IsGood, IsGoodSession, IsHome, IsTrueAnswer}
 use Rattle.bayou_world.specs.Machine.{Answered, Machine, Offered, SessionSets, changed, writes}
 use Rattle.bayou_world.specs.Runs.{Run, first_machine, new_server, new_session}
-use Rattle.bayou_world.specs.Steps.{Collects, Delivers, Files, Loses, Offers, Reads, Step, Takes, Writes, told}
+use Rattle.bayou_world.specs.Steps.{Collects, Delivers, Files, Fuses, Loses, Offers, Reads, Reopens, Restarts, Step, Takes, Writes, told}
 use Rattle.bayou_world.proofs.Lists.{Contains-none, at_changed}
 use Rattle.bayou_world.proofs.Stepping.{run_good}
 
@@ -133,6 +133,20 @@ file_asks : (old : Machine) (who : ℕ) (reply : Reply) (new : Machine) → File
 file_asks old who reply new (Files.skipped none is same) = same_asks old new same
 file_asks old who reply new (Files.filed session entry later may is same) = becomes old new _ same (changed_asks old.sessions who session _ may.there refl)
 
+fuse_asks : (old : Machine) (place call : ℕ) (reply : Reply) (new : Machine) → Fuses old place call reply new → KeepAsking old.sessions new.sessions
+fuse_asks old place call reply new (Fuses.skipped none is same) = same_asks old new same
+fuse_asks old place call reply new (Fuses.fused known some is same) = same_asks old new same
+
+reopen_asks : (old : Machine) (place : ℕ) (reply : Reply) (new : Machine) → Reopens old place reply new → KeepAsking old.sessions new.sessions
+reopen_asks old place reply new (Reopens.skipped none is same) = same_asks old new same
+reopen_asks old place reply new (Reopens.refused fault runs refused is same) = same_asks old new same
+reopen_asks old place reply new (Reopens.reopened adopted server runs down recovers is same) = becomes old new _ same (λ who asks found. found)
+
+restart_asks : (old : Machine) (place : ℕ) (reply : Reply) (new : Machine) → Restarts old place reply new → KeepAsking old.sessions new.sessions
+restart_asks old place reply new (Restarts.skipped none is same) = same_asks old new same
+restart_asks old place reply new (Restarts.refused fault known refused is same) = becomes old new _ same (λ who asks found. found)
+restart_asks old place reply new (Restarts.restarted adopted server known recovers is same) = becomes old new _ same (λ who asks found. found)
+
 step_asks : (old : Machine) (event : Event) (reply : Reply) (new : Machine) → Step old event reply new → KeepAsking old.sessions new.sessions
 step_asks old (events.Read session server key) reply new step = read_asks old session.index server.index key reply new step
 step_asks old (events.Write session server program) reply new step = write_asks old session.index server.index program reply new step
@@ -141,6 +155,9 @@ step_asks old (events.Lose session) reply new step = lose_asks old session.index
 step_asks old (events.Offer server) reply new step = offer_asks old server.index reply new step
 step_asks old (events.Collect server offer) reply new step = collect_asks old server.index offer reply new step
 step_asks old (events.Take server item) reply new step = take_asks old server.index item reply new step
+step_asks old (events.Fuse server call front) reply new step = fuse_asks old server.index call reply new step
+step_asks old (events.Reopen server) reply new step = reopen_asks old server.index reply new step
+step_asks old (events.Restart server) reply new step = restart_asks old server.index reply new step
 step_asks old (events.File session) reply new step = file_asks old session.index reply new step
 
 run_asks : (old : Machine) (events : List Event) (replies : List Reply) (new : Machine) → Run old events replies new → KeepAsking old.sessions new.sessions

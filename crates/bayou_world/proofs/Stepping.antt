@@ -1,5 +1,5 @@
 -- What is good stays so over each event.
-use Rattle.std.proofs.Common.{◌≡◌, ◌≢◌, inl, inr, ℕ, ◌+◌, ◌<◌, ◌≤◌, List, [], ◌∷◌, ◌++◌, Option, None, Some, IfSome, Contains, All, ap, sym, ◌∙◌, refl, subst, arith}
+use Rattle.std.proofs.Common.{◌≡◌, ◌≢◌, inl, inr, ℕ, ◌+◌, ◌<◌, ◌≤◌, List, [], ◌∷◌, ◌++◌, Option, None, Some, IfSome, Contains, All, length, ap, sym, ◌∙◌, refl, subst, arith}
 use Rattle.std.specs.List.{slice_get}
 use Rattle.std.proofs.lemmas.List.{append-nil, get_or_default}
 use Rattle.std.proofs.lemmas.List.Elements.{All-append, All-contains, All-push, All-weaker, Contains-push}
@@ -17,10 +17,10 @@ use Rattle.bayou_world.specs.declared.reply.Reply.{Reply}
 use Rattle.bayou_world.specs.Inner.Good.{AreGood, IsCovered, IsCoveredWrite, IsGood, IsGoodFlight, IsGoodSession, IsHome, IsTrue, IsTrueAnswer, MayBeDoubted}
 use Rattle.bayou_world.specs.Machine.{Answered, IsWithin, Machine, Made, Offered, ServerSets, SessionSets, changed, names, with_session, writes}
 use Rattle.bayou_world.specs.Runs.{IsRead, Run}
-use Rattle.bayou_world.specs.Steps.{Collects, Delivers, Files, IsEntry, IsGiven, IsInFlight, IsNext, Loses, Makes, MayBegin, Offers, Reads, Step, Takes, Writes, landed, refusal, served_by, told, with_answer, with_doubt, with_write}
+use Rattle.bayou_world.specs.Steps.{Collects, Delivers, Files, Fuses, IsEntry, IsGiven, IsInFlight, IsNext, Loses, Makes, MayBegin, Offers, Reads, Reopens, Restarts, Step, Takes, Writes, landed, refusal, served_by, stopped_now, told, with_answer, with_doubt, with_write}
 use Rattle.bayou_world.proofs.Delivering.{heard_read, heard_write, more_of_other}
 use Rattle.bayou_world.proofs.Given.{given_fits}
-use Rattle.bayou_world.proofs.Growing.{HaveGrown, add_doubt, add_write, answer_grows, grown_by_doubt, grown_by_write, home_grows, offers_grow}
+use Rattle.bayou_world.proofs.Growing.{HaveGrown, add_doubt, add_write, answer_grows, grown_by_doubt, grown_by_recovery, grown_by_stop, grown_by_write, home_grows, offers_grow, recover, stop}
 use Rattle.bayou_world.proofs.Homes.{fitting_at, home_of_held}
 use Rattle.bayou_world.proofs.Lists.{Contains-map, at_changed, changed-other, changed-same, same_number}
 
@@ -99,8 +99,9 @@ begin_good old good servers grown are_good who place session what answered may e
 
 -- what the server makes may be held next
 pub made_may : (old : Machine) → IsGood old → (place : ℕ) (session : SessionSets) (program : Program) (made : Made) → place < old.count
-    → Makes old.limit place session (old.servers place) program made → MayBeDoubted old.count old.servers place (old.servers place) made
+    → Makes old.limit place session (old.servers place) program made → MayBeDoubted old.count old.limit old.servers place (old.servers place).held made
 made_may old good place session program made known makes = record {
+  room = makes.room;
   fits = next_fits old.count (writes (old.servers place).held) place program made.write (fitting_at old.count old.limit old.servers good.servers place) known makes.next;
   deps = λ own. makes.next.deps;
   past = λ own. makes.past;
@@ -131,16 +132,16 @@ write_good old who place program reply new good (Writes.skipped cannot is same) 
 write_good old who place program reply new good (Writes.refused session entry fault may refused is entry_is same) =
     subst IsGood (sym same) (begin_good old good old.servers (no_growth old.servers) good.servers who place session whats.Refused (refusal entry) may entry_is refl tt)
 write_good old who place program reply new good (Writes.doubted session entry made may makes is entry_is same) =
-    let may_be = made_may old good place session program made may.server makes in
+    let may_be = made_may old good place session program made may.server.there makes in
     subst IsGood (sym same)
     (begin_good old good (changed old.servers place (with_doubt (old.servers place) made)) (grown_by_doubt old.servers place made)
     (add_doubt old.count old.limit old.servers good.servers place made may_be) who place session whats.Refused (refusal entry) may entry_is refl tt)
 write_good old who place program reply new good (Writes.accepted session entry made accepted may makes told_is is entry_is same) =
-    let may_be = made_may old good place session program made may.server makes in
+    let may_be = made_may old good place session program made may.server.there makes in
     let covered = makes.ready.covered in
     subst IsGood (sym same)
     (begin_good old good (changed old.servers place (with_write (old.servers place) made)) (grown_by_write old.servers place made)
-    (add_write old.count old.limit old.servers good.servers place made makes.ready.up makes.room may_be) who place session (whats.Write accepted.wid accepted.stamp accepted.deps)
+    (add_write old.count old.limit old.servers good.servers place made makes.ready.up may_be) who place session (whats.Write accepted.wid accepted.stamp accepted.deps)
     (record { entry = entry; database = made.past; made = Some made }) may entry_is
     (made, refl, added_home old.servers place made makes.next.origin, sym told_is.wid)
     (λ other is_it. subst (λ (m : Made). IsCoveredWrite session m.past) (some_is made other is_it)
@@ -270,13 +271,14 @@ collect_good old place offer reply new good (Collects.flown offered lacking may 
 
 -- an item that is the server's next may be held next
 pub given_may : (old : Machine) → IsGood old → (place item : ℕ) (made : Made) → IsGiven old place item made → IsNext (old.servers place) made
-    → MayBeDoubted old.count old.servers place (old.servers place) made
-given_may old good place item made given next =
+    → length (old.servers place).held < old.limit → MayBeDoubted old.count old.limit old.servers place (old.servers place).held made
+given_may old good place item made given next room =
     let home = All-contains (IsHome old.servers) old.items made good.items (item_at old.items item made given.there) in
     let no_own : made.write.wid.origin.index ≢ place = λ own.
     next.fresh.missing (Contains-map (λ (w : Write). w.wid) (writes (old.servers place).held) made.write
     (Contains-map (λ (m : Made). m.write) (old.servers place).held made (subst (λ n. Contains (old.servers n).held made) own home))) in
     record {
+      room = room;
       fits = given_fits old.count old.limit old.servers good.servers place made home next.fresh.missing next.past;
       deps = λ own. absurd (no_own own);
       past = λ own. absurd (no_own own);
@@ -300,10 +302,32 @@ take_good old place item reply new good (Takes.had made given holds is same) = s
 take_good old place item reply new good (Takes.refused made fault given refused is same) = subst IsGood (sym same) good
 take_good old place item reply new good (Takes.doubted made given next room is same) =
     subst IsGood (sym same) (server_good old good (changed old.servers place (with_doubt (old.servers place) made)) (grown_by_doubt old.servers place made)
-    (add_doubt old.count old.limit old.servers good.servers place made (given_may old good place item made given next)))
+    (add_doubt old.count old.limit old.servers good.servers place made (given_may old good place item made given next room)))
 take_good old place item reply new good (Takes.taken made given next room is same) =
     subst IsGood (sym same) (server_good old good (changed old.servers place (with_write (old.servers place) made)) (grown_by_write old.servers place made)
-    (add_write old.count old.limit old.servers good.servers place made next.fresh.up room (given_may old good place item made given next)))
+    (add_write old.count old.limit old.servers good.servers place made next.fresh.up (given_may old good place item made given next room)))
+
+-- ---- failures
+
+fuse_good : (old : Machine) (place call : ℕ) (reply : Reply) (new : Machine) → IsGood old → Fuses old place call reply new → IsGood new
+fuse_good old place call reply new good (Fuses.skipped none is same) = subst IsGood (sym same) good
+fuse_good old place call reply new good (Fuses.fused known some is same) = subst IsGood (sym same) good
+
+reopen_good : (old : Machine) (place : ℕ) (reply : Reply) (new : Machine) → IsGood old → Reopens old place reply new → IsGood new
+reopen_good old place reply new good (Reopens.skipped none is same) = subst IsGood (sym same) good
+reopen_good old place reply new good (Reopens.refused fault runs refused is same) = subst IsGood (sym same) good
+reopen_good old place reply new good (Reopens.reopened adopted server runs down recovers is same) =
+    subst IsGood (sym same) (server_good old good (changed old.servers place server) (grown_by_recovery old.servers place adopted server recovers)
+    (recover old.count old.limit old.servers good.servers place adopted server recovers))
+
+restart_good : (old : Machine) (place : ℕ) (reply : Reply) (new : Machine) → IsGood old → Restarts old place reply new → IsGood new
+restart_good old place reply new good (Restarts.skipped none is same) = subst IsGood (sym same) good
+restart_good old place reply new good (Restarts.refused fault known refused is same) =
+    subst IsGood (sym same) (server_good old good (changed old.servers place (stopped_now (old.servers place))) (grown_by_stop old.servers place)
+    (stop old.count old.limit old.servers good.servers place))
+restart_good old place reply new good (Restarts.restarted adopted server known recovers is same) =
+    subst IsGood (sym same) (server_good old good (changed old.servers place server) (grown_by_recovery old.servers place adopted server recovers)
+    (recover old.count old.limit old.servers good.servers place adopted server recovers))
 
 -- ---- the book
 
@@ -355,6 +379,9 @@ step_good old (events.Lose session) reply new good step = lose_good old session.
 step_good old (events.Offer server) reply new good step = offer_good old server.index reply new good step
 step_good old (events.Collect server offer) reply new good step = collect_good old server.index offer reply new good step
 step_good old (events.Take server item) reply new good step = take_good old server.index item reply new good step
+step_good old (events.Fuse server call front) reply new good step = fuse_good old server.index call reply new good step
+step_good old (events.Reopen server) reply new good step = reopen_good old server.index reply new good step
+step_good old (events.Restart server) reply new good step = restart_good old server.index reply new good step
 step_good old (events.File session) reply new good step = file_good old session.index reply new good step
 
 pub run_good : (old : Machine) (events : List Event) (replies : List Reply) (new : Machine) → IsGood old → Run old events replies new → IsGood new

@@ -1,5 +1,5 @@
 -- What the servers and sessions that run do, the machine does.
-use Rattle.std.proofs.Common.{◌≡◌, ◌↔◌, inl, inr, ℕ, ◌+◌, ◌<◌, true, List, Option, None, Some, Result, Ok, Err, length, get_or, set, ap, sym, ◌∙◌, refl, subst, arith}
+use Rattle.std.proofs.Common.{◌≡◌, ◌↔◌, inl, inr, ℕ, ◌+◌, ◌<◌, true, false, List, Option, None, Some, Result, Ok, Err, length, get_or, set, ap, sym, ◌∙◌, refl, subst, arith}
 use Rattle.std.proofs.lemmas.List.{get_or-set_other, get_or-set_same, length-set}
 use Rattle.bayou_base.specs.declared.answer.Accepted.{Accepted}
 use Rattle.bayou_base.specs.declared.answer.Seen.{Seen}
@@ -15,16 +15,22 @@ use Rattle.bayou_log.specs.Replay.{replay}
 use Rattle.bayou_world.specs.Invariant.{IsVectorOf}
 use Rattle.bayou_server.specs.declared.fault.Behind.{Behind}
 use Rattle.bayou_server.specs.Reads as served
+use Rattle.bayou_device.specs.Memory.{Memory}
+use Rattle.bayou_device.specs.MemoryDevice.{memory_device}
+use Rattle.bayou_server.specs.Honest.{IsHonestServer}
 use Rattle.bayou_server.specs.Server.{Core, ServerState}
 use Rattle.bayou_session.specs.Needs.{HasCounts, Told, read_need, write_need}
 use Rattle.bayou_world.specs.declared.client.Client.{Client}
 use Rattle.bayou_world.specs.declared.client.Flight.{Flight}
+use Rattle.bayou_world.specs.declared.replica.Replica.{Replica}
+use Rattle.bayou_world.specs.declared.replica.Replica.TheVariants.{Running}
 use Rattle.bayou_world.specs.declared.reply.Reply.TheVariants as replies
 use Rattle.bayou_world.specs.Inner.Clients.{Begins, seen_as}
 use Rattle.bayou_world.specs.Inner.Good.{IsGood}
-use Rattle.bayou_world.specs.Inner.Tie.{IsAcceptedIn, IsClientOf, IsFlightOf, IsSeatOf, IsServerOf, IsTied, seat}
+use Rattle.bayou_world.specs.Inner.Replicas.{is_stopped}
+use Rattle.bayou_world.specs.Inner.Tie.{IsAcceptedIn, IsClientOf, IsFlightOf, IsSeatOf, IsReplicaOf, IsServerOf, IsTied, seat}
 use Rattle.bayou_world.specs.Machine.{Answered, Machine, ServerSets, SessionSets, changed, with_server, with_session, writes}
-use Rattle.bayou_world.specs.Steps.{IsEntry, MayBegin, MayRead, Reads, refusal, with_answer}
+use Rattle.bayou_world.specs.Steps.{IsEntry, IsRunning, MayBegin, MayRead, Reads, refusal, with_answer}
 use Rattle.bayou_world.proofs.Homes.{fitting_at}
 use Rattle.bayou_world.proofs.Lists.{changed-other, changed-same, same_number}
 use Rattle.bayou_world.proofs.Vectors.{tests_agree}
@@ -50,7 +56,23 @@ seat_of_session who o None session is at = let both : None ≡ Some session = at
 seat_of_session who None (Some other) session is at = absurd is
 seat_of_session who (Some client) (Some other) session is at = let one : other ≡ session = cc in (client, refl, subst (IsClientOf who client) one is)
 
-module _ {D : Type 0} (servers : List (ServerState D)) (clients : List (Option Client)) (offers : List (List ℕ)) (items : List Write) (told : List Entry) where
+-- the server that is found at its place stands there
+pub stands_at : (servers : List Replica) (place at : ℕ) (replica is : Replica) → replica ≡ get_or servers at replica → at ≡ place → replica ≡ is → get_or servers place is ≡ is
+stands_at servers place at replica is found here same =
+    subst (λ (r : Replica). get_or servers place r ≡ r) same (subst (λ n. get_or servers n replica ≡ replica) here (sym found))
+
+-- a server that runs at its place is the machine's, and over an honest device
+pub record IsRunningServer (machine : Machine) (place : ℕ) (server : ServerState Memory) : Type 0 where
+  pub running : IsRunning machine place
+  pub core : IsServerOf machine.count machine.limit place server.core (machine.servers place)
+  pub honest : IsHonestServer memory_device server
+
+-- and the other way round
+pub running_replica : (count limit place : ℕ) (new : ServerState Memory) (server : ServerSets) → server.stopped ≡ false → IsServerOf count limit place new.core server → IsHonestServer memory_device new
+    → IsReplicaOf count limit place (Running new) server
+running_replica count limit place new server runs core honest = record { stopped = runs; core = core; kept = honest }
+
+module _ (servers : List Replica) (clients : List (Option Client)) (offers : List (List ℕ)) (items : List Write) (told : List Entry) where
   -- a seat and its session change together
   pub with_seat : (machine : Machine) → IsTied servers clients offers items told machine → (who : ℕ) (client : Client) (session : SessionSets) → who < SESSIONS → IsClientOf who client session
       → IsTied servers (set clients who (Some client)) offers items told (with_session machine who session)
@@ -74,22 +96,22 @@ module _ {D : Type 0} (servers : List (ServerState D)) (clients : List (Option C
     served_are = tied.served_are;
   }
 
-  -- and so do a server that runs and the machine's
-  pub with_place : (machine : Machine) → IsTied servers clients offers items told machine → (place : ℕ) (new : ServerState D) (server : ServerSets) → place < machine.count
-      → IsServerOf machine.count machine.limit place new.core server
+  -- and so do a server and the machine's
+  pub with_place : (machine : Machine) → IsTied servers clients offers items told machine → (place : ℕ) (new : Replica) (server : ServerSets) → place < machine.count
+      → IsReplicaOf machine.count machine.limit place new server
       → IsTied (set servers place new) clients offers items told (with_server machine place server)
   with_place machine tied place new server inside is = record {
     many = length-set servers place new ∙ tied.many;
-    servers_are = λ other d within. elim (same_number other place) as (λ _. IsServerOf machine.count machine.limit other (get_or (set servers place new) other d).core (changed machine.servers place server other)) [
+    servers_are = λ other d within. elim (same_number other place) as (λ _. IsReplicaOf machine.count machine.limit other (get_or (set servers place new) other d) (changed machine.servers place server other)) [
       | inl same ↦
           let here : get_or (set servers place new) place d ≡ new = get_or-set_same servers place new d (omega (arith, inside, tied.many)) in
-          subst (λ n. IsServerOf machine.count machine.limit n (get_or (set servers place new) n d).core (changed machine.servers place server n)) (sym same)
-          (subst (λ (x : ServerState D). IsServerOf machine.count machine.limit place x.core (changed machine.servers place server place)) (sym here)
-          (subst (IsServerOf machine.count machine.limit place new.core) (sym (changed-same machine.servers place server)) is))
+          subst (λ n. IsReplicaOf machine.count machine.limit n (get_or (set servers place new) n d) (changed machine.servers place server n)) (sym same)
+          (subst (λ (x : Replica). IsReplicaOf machine.count machine.limit place x (changed machine.servers place server place)) (sym here)
+          (subst (IsReplicaOf machine.count machine.limit place new) (sym (changed-same machine.servers place server)) is))
       | inr differs ↦
           let there : get_or (set servers place new) other d ≡ get_or servers other d = get_or-set_other servers place other new d (λ same. differs (same)) in
-          subst (λ (x : ServerState D). IsServerOf machine.count machine.limit other x.core (changed machine.servers place server other)) (sym there)
-          (subst (IsServerOf machine.count machine.limit other (get_or servers other d).core) (sym (changed-other machine.servers place server other differs)) (tied.servers_are other d within))
+          subst (λ (x : Replica). IsReplicaOf machine.count machine.limit other x (changed machine.servers place server other)) (sym there)
+          (subst (IsReplicaOf machine.count machine.limit other (get_or servers other d)) (sym (changed-other machine.servers place server other differs)) (tied.servers_are other d within))
     ];
     seats = tied.seats;
     clients_are = tied.clients_are;
@@ -98,19 +120,19 @@ module _ {D : Type 0} (servers : List (ServerState D)) (clients : List (Option C
     served_are = tied.served_are;
   }
 
-  -- a server that runs is another of which the same is known
-  pub same_place : (machine : Machine) → IsTied servers clients offers items told machine → (place : ℕ) (new : ServerState D) → place < machine.count
-      → IsServerOf machine.count machine.limit place new.core (machine.servers place) → IsTied (set servers place new) clients offers items told machine
+  -- a server is another of which the same is known
+  pub same_place : (machine : Machine) → IsTied servers clients offers items told machine → (place : ℕ) (new : Replica) → place < machine.count
+      → IsReplicaOf machine.count machine.limit place new (machine.servers place) → IsTied (set servers place new) clients offers items told machine
   same_place machine tied place new inside is = record {
     many = length-set servers place new ∙ tied.many;
-    servers_are = λ other d within. elim (same_number other place) as (λ _. IsServerOf machine.count machine.limit other (get_or (set servers place new) other d).core (machine.servers other)) [
+    servers_are = λ other d within. elim (same_number other place) as (λ _. IsReplicaOf machine.count machine.limit other (get_or (set servers place new) other d) (machine.servers other)) [
       | inl same ↦
           let here : get_or (set servers place new) place d ≡ new = get_or-set_same servers place new d (omega (arith, inside, tied.many)) in
-          subst (λ n. IsServerOf machine.count machine.limit n (get_or (set servers place new) n d).core (machine.servers n)) (sym same)
-          (subst (λ (x : ServerState D). IsServerOf machine.count machine.limit place x.core (machine.servers place)) (sym here) is)
+          subst (λ n. IsReplicaOf machine.count machine.limit n (get_or (set servers place new) n d) (machine.servers n)) (sym same)
+          (subst (λ (x : Replica). IsReplicaOf machine.count machine.limit place x (machine.servers place)) (sym here) is)
       | inr differs ↦
           let there : get_or (set servers place new) other d ≡ get_or servers other d = get_or-set_other servers place other new d (λ same. differs (same)) in
-          subst (λ (x : ServerState D). IsServerOf machine.count machine.limit other x.core (machine.servers other)) (sym there) (tied.servers_are other d within)
+          subst (λ (x : Replica). IsReplicaOf machine.count machine.limit other x (machine.servers other)) (sym there) (tied.servers_are other d within)
     ];
     seats = tied.seats;
     clients_are = tied.clients_are;
@@ -140,12 +162,26 @@ module _ {D : Type 0} (servers : List (ServerState D)) (clients : List (Option C
     served_are = tied.served_are;
   }
 
+  -- what is known of a server that runs
+  pub runs_at : (machine : Machine) → IsTied servers clients offers items told machine → (place : ℕ) (server : ServerState Memory) → place < length servers
+      → get_or servers place (Running server) ≡ Running server → IsRunningServer machine place server
+  runs_at machine tied place server known stands =
+      let in_count : place < machine.count = omega (arith, known, tied.many) in
+      let is = subst (λ (r : Replica). IsReplicaOf machine.count machine.limit place r (machine.servers place)) stands (tied.servers_are place (Running server) in_count) in
+      record { running = record { there = in_count; runs = is.stopped }; core = is.core; honest = is.kept }
+
+  -- a server that runs in the machine does
+  pub runs_there : (machine : Machine) → IsTied servers clients offers items told machine → (place : ℕ) (replica : Replica) → get_or servers place replica ≡ replica → IsRunning machine place
+      → is_stopped replica ≡ false
+  runs_there machine tied place replica stands running =
+      sym (subst (λ (r : Replica). IsReplicaOf machine.count machine.limit place r (machine.servers place)) stands (tied.servers_are place replica running.there)).stopped ∙ running.runs
+
   -- who may begin has a seat and may begin there
   pub begins_there : (machine : Machine) → IsTied servers clients offers items told machine → (who place : ℕ) (session : SessionSets) → who < SESSIONS → MayBegin machine who place session
       → (client : Client) × (seat clients who ≡ Some client) × (client.flight ≡ None) × (client.session.begun < MAX_PLACES) × (place < length servers)
   begins_there machine tied who place session inside may =
       let at = seat_of_session who (seat clients who) (machine.sessions who) session (tied.clients_are who inside) may.there in
-      (at.0, at.1, no_flight at.0.flight session.flight at.2.flight may.idle, omega (arith, at.2.begun, may.left), omega (arith, may.server, tied.many))
+      (at.0, at.1, no_flight at.0.flight session.flight at.2.flight may.idle, omega (arith, at.2.begun, may.left), omega (arith, may.server.there, tied.many))
     where
       no_flight : (f : Option Flight) (a : Option Answered) → IsFlightOf f a → a ≡ None → f ≡ None
       no_flight None a is none = refl
@@ -187,10 +223,10 @@ entry_of who place client new session what accepted is begins = record {
 }
 
 pub may_begin : (machine : Machine) (who place : ℕ) (client : Client) (session : SessionSets) → machine.sessions who ≡ Some session → IsClientOf who client session
-    → client.flight ≡ None → client.session.begun < MAX_PLACES → place < machine.count → MayBegin machine who place session
-may_begin machine who place client session there is none left known = record {
+    → client.flight ≡ None → client.session.begun < MAX_PLACES → IsRunning machine place → MayBegin machine who place session
+may_begin machine who place client session there is none left running = record {
   there = there;
-  server = known;
+  server = running;
   idle = idle client.flight session.flight is.flight none;
   left = omega (arith, left, is.begun);
 }
@@ -216,20 +252,20 @@ read_covered law machine good who place client session is counts =
       ),
     )
 
-pub read_tied : ReadLaw → {D : Type 0} (servers : List (ServerState D)) (clients : List (Option Client)) (offers : List (List ℕ)) (items : List Write) (told : List Entry) (machine : Machine) → IsGood machine
-    → IsTied servers clients offers items told machine → (who place : ℕ) (key : List ℕ) (client new : Client) (d : ServerState D) (answer : Result Seen Behind) → who < SESSIONS → seat clients who ≡ Some client
-    → client.flight ≡ None → client.session.begun < MAX_PLACES → place < length servers → HasCounts client.session → served.Reads (get_or servers place d).core (read_need client.session) key answer
-    → Begins client (get_or servers place d).core.id (seen_as key answer) None new
+pub read_tied : ReadLaw → (servers : List Replica) (clients : List (Option Client)) (offers : List (List ℕ)) (items : List Write) (told : List Entry) (machine : Machine) → IsGood machine
+    → IsTied servers clients offers items told machine → (who place : ℕ) (key : List ℕ) (client new : Client) (server : ServerState Memory) (answer : Result Seen Behind) → who < SESSIONS → seat clients who ≡ Some client
+    → client.flight ≡ None → client.session.begun < MAX_PLACES → place < length servers → get_or servers place (Running server) ≡ Running server → HasCounts client.session → served.Reads server.core (read_need client.session) key answer
+    → Begins client server.core.id (seen_as key answer) None new
     → (next : Machine) × Reads machine who place key (replies.Read answer) next × IsTied servers (set clients who (Some new)) offers items told next
-read_tied law servers clients offers items told machine good tied who place key client new d (Ok seen) inside at none left known counts serves begins =
+read_tied law servers clients offers items told machine good tied who place key client new server (Ok seen) inside at none left known stands counts serves begins =
     let seat_is = session_of_seat who (seat clients who) (machine.sessions who) client (tied.clients_are who inside) at in
     let session = seat_is.0 in
     let is = seat_is.2 in
-    let in_count : place < machine.count = omega (arith, known, tied.many) in
-    let core = tied.servers_are place d in_count in
-    let held_is : (get_or servers place d).core.held ≡ writes (machine.servers place).held = ap (λ (c : Core). c.held) core.is in
+    let here = runs_at servers clients offers items told machine tied place server known stands in
+    let core = here.core in
+    let held_is : server.core.held ≡ writes (machine.servers place).held = ap (λ (c : Core). c.held) core.is in
     let begins_at = subst (λ n. Begins client n (whats.Read key seen.vector) None new) (ap (λ (c : Core). c.id) core.is) begins in
-    let may = may_begin machine who place client session seat_is.1 is none left in_count in
+    let may = may_begin machine who place client session seat_is.1 is none left here.running in
     let answered : Answered = record { entry = begins_at.entry; database = writes (machine.servers place).held; made = None } in
     let covered = (read_covered law machine good who place client session is counts).0 (subst (λ h. Dominates (count_of h) (read_need client.session)) held_is serves.covered) in (
       with_answer machine who session answered,
@@ -238,15 +274,15 @@ read_tied law servers clients offers items told machine good tied who place key 
       with_seat servers clients offers items told machine tied who new (record session { begun = session.begun + 1; flight = Some answered }) inside
           (began who place client new session (whats.Read key seen.vector) None answered is begins_at refl refl),
     )
-read_tied law servers clients offers items told machine good tied who place key client new d (Err behind) inside at none left known counts serves begins =
+read_tied law servers clients offers items told machine good tied who place key client new server (Err behind) inside at none left known stands counts serves begins =
     let seat_is = session_of_seat who (seat clients who) (machine.sessions who) client (tied.clients_are who inside) at in
     let session = seat_is.0 in
     let is = seat_is.2 in
-    let in_count : place < machine.count = omega (arith, known, tied.many) in
-    let core = tied.servers_are place d in_count in
-    let held_is : (get_or servers place d).core.held ≡ writes (machine.servers place).held = ap (λ (c : Core). c.held) core.is in
+    let here = runs_at servers clients offers items told machine tied place server known stands in
+    let core = here.core in
+    let held_is : server.core.held ≡ writes (machine.servers place).held = ap (λ (c : Core). c.held) core.is in
     let begins_at = subst (λ n. Begins client n whats.Refused None new) (ap (λ (c : Core). c.id) core.is) begins in
-    let may = may_begin machine who place client session seat_is.1 is none left in_count in
+    let may = may_begin machine who place client session seat_is.1 is none left here.running in
     let vector : behind.vector ≡ count_of (writes (machine.servers place).held) = serves.held ∙ ap count_of held_is in (
       with_answer machine who session (refusal begins_at.entry),
       Reads.behind session begins_at.entry may

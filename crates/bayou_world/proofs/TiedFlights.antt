@@ -11,10 +11,10 @@ use Rattle.bayou_base.specs.Vector.{joined}
 use Rattle.bayou_lang.specs.declared.write.Write.{Write}
 use Rattle.bayou_lang.specs.Laws.Fitting.{fitting-front, length-count_of}
 use Rattle.bayou_lang.specs.Writes.{AreFitting}
-use Rattle.bayou_server.specs.Server.{ServerState}
 use Rattle.bayou_session.specs.Needs.{Told, after_write}
 use Rattle.bayou_world.specs.declared.client.Client.{Client}
 use Rattle.bayou_world.specs.declared.client.Flight.{Flight}
+use Rattle.bayou_world.specs.declared.replica.Replica.{Replica}
 use Rattle.bayou_world.specs.declared.reply.Reply.TheVariants as replies
 use Rattle.bayou_world.specs.Inner.Clients.{Hears, after_accepted, after_read, served_entries}
 use Rattle.bayou_world.specs.Inner.Good.{IsGood, IsGoodFlight, IsTrue}
@@ -90,7 +90,7 @@ served_same (whats.Read key vector) answered = refl
 served_same (whats.Write wid stamp deps) answered = refl
 served_same whats.Refused answered = refl
 
-pub deliver_tied : {D : Type 0} (servers : List (ServerState D)) (clients : List (Option Client)) (offers : List (List ℕ)) (items : List Write) (told_so_far : List Entry) (machine : Machine) → IsGood machine
+pub deliver_tied : (servers : List Replica) (clients : List (Option Client)) (offers : List (List ℕ)) (items : List Write) (told_so_far : List Entry) (machine : Machine) → IsGood machine
     → IsTied servers clients offers items told_so_far machine → (who : ℕ) (client new : Client) (entry : Entry) → who < SESSIONS → seat clients who ≡ Some client → Hears client (Some entry) new
     → (next : Machine) × Delivers machine who replies.Delivered next × IsTied servers (set clients who (Some new)) offers items (told_so_far ++ served_entries entry.what entry) next
 deliver_tied servers clients offers items told_so_far machine good tied who client new entry inside at (accepted, flight, session_is, none, waits) =
@@ -128,7 +128,7 @@ pub some_flight : (flight : Option Flight) → IsSome flight → (f : Flight) ×
 some_flight None is = let both : true ≡ true = refl in absurd (cc)
 some_flight (Some f) is = (f, refl)
 
-pub lose_tied : {D : Type 0} (servers : List (ServerState D)) (clients : List (Option Client)) (offers : List (List ℕ)) (items : List Write) (told_so_far : List Entry) (machine : Machine) → IsGood machine
+pub lose_tied : (servers : List Replica) (clients : List (Option Client)) (offers : List (List ℕ)) (items : List Write) (told_so_far : List Entry) (machine : Machine) → IsGood machine
     → IsTied servers clients offers items told_so_far machine → (who : ℕ) (client : Client) (flight : Flight) → who < SESSIONS → seat clients who ≡ Some client → client.flight ≡ Some flight
     → (next : Machine) × Loses machine who replies.Dropped next × IsTied servers (set clients who (Some (record client { flight = None }))) offers items told_so_far next
 lose_tied servers clients offers items told_so_far machine good tied who client flight inside at some =
@@ -155,7 +155,7 @@ lose_tied servers clients offers items told_so_far machine good tied who client 
 -- ---- the book
 
 -- the oldest entry that waits is the session's
-pub oldest_some : {D : Type 0} (servers : List (ServerState D)) (clients : List (Option Client)) (offers : List (List ℕ)) (items : List Write) (told_so_far : List Entry) (machine : Machine)
+pub oldest_some : (servers : List Replica) (clients : List (Option Client)) (offers : List (List ℕ)) (items : List Write) (told_so_far : List Entry) (machine : Machine)
     → IsTied servers clients offers items told_so_far machine → (who : ℕ) (client new : Client) (entry : Entry) → who < SESSIONS → seat clients who ≡ Some client
     → client.waiting.items ≡ entry ∷ new.waiting.items → new.session ≡ client.session → new.flight ≡ client.flight
     → (session : SessionSets) × (later : List Entry) × (machine.sessions who ≡ Some session) × (session.waiting ≡ entry ∷ later) × (entry.session.index ≡ who)
@@ -186,7 +186,7 @@ oldest_some servers clients offers items told_so_far machine tied who client new
     )
 
 -- where none waits nothing changes
-pub oldest_none : {D : Type 0} (servers : List (ServerState D)) (clients : List (Option Client)) (offers : List (List ℕ)) (items : List Write) (told_so_far : List Entry) (machine : Machine)
+pub oldest_none : (servers : List Replica) (clients : List (Option Client)) (offers : List (List ℕ)) (items : List Write) (told_so_far : List Entry) (machine : Machine)
     → IsTied servers clients offers items told_so_far machine → (who : ℕ) (client new : Client) → who < SESSIONS → seat clients who ≡ Some client
     → client.waiting.items ≡ new.waiting.items → new.waiting.items ≡ [] → new.session ≡ client.session → new.flight ≡ client.flight
     → ((session : SessionSets) (entry : Entry) (later : List Entry) → machine.sessions who ≡ Some session → ¬ (session.waiting ≡ entry ∷ later))

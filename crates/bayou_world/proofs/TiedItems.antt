@@ -19,37 +19,41 @@ use Rattle.bayou_server.specs.declared.answer.Took.{Took}
 use Rattle.bayou_server.specs.declared.answer.Took.TheVariants.{New, Had}
 use Rattle.bayou_server.specs.declared.fault.TakeFault.{TakeFault}
 use Rattle.bayou_server.specs.declared.fault.TakeFault.TheVariants as taking
+use Rattle.bayou_device.specs.Memory.{Memory}
 use Rattle.bayou_server.specs.Server.{Core, ServerState}
 use Rattle.bayou_server.specs.Takes as takes
 use Rattle.bayou_world.specs.declared.client.Client.{Client}
+use Rattle.bayou_world.specs.declared.replica.Replica.{Replica}
+use Rattle.bayou_world.specs.declared.replica.Replica.TheVariants.{Running}
 use Rattle.bayou_world.specs.declared.reply.Reply.TheVariants as replies
 use Rattle.bayou_world.specs.Inner.Good.{IsGood, IsHome}
+use Rattle.bayou_world.specs.Inner.Replicas.{StaysHonest}
 use Rattle.bayou_world.specs.Inner.Tie.{IsServerOf, IsTied, write_of}
 use Rattle.bayou_world.specs.Machine.{Machine, Made, Offered, ServerSets, with_server, writes}
-use Rattle.bayou_world.specs.Steps.{AreLacking, Collects, Holds, IsGiven, IsNext, Offers, Takes, with_doubt, with_write}
+use Rattle.bayou_world.specs.Steps.{AreLacking, Collects, Holds, IsGiven, IsNext, IsRunning, Offers, Takes, with_doubt, with_write}
 use Rattle.bayou_base.specs.declared.limits.TheConstants.{MAX_NUMBER}
 use Rattle.bayou_world.proofs.Given.{given_fits, no_gap_within}
 use Rattle.bayou_world.proofs.Homes.{fitting_at, home_of_held, one_home, one_write}
 use Rattle.bayou_world.proofs.Lists.{AllPairs-map, Contains-filter, Contains-from_filter, Contains-here, Contains-later, Contains-map, Contains-map_from, Contains-none}
-use Rattle.bayou_world.proofs.Tied.{same_place, with_place}
+use Rattle.bayou_world.proofs.Tied.{running_replica, runs_at, same_place, with_place}
 use Rattle.bayou_world.proofs.Vectors.{named}
 use Rattle.bayou_world.proofs.TiedWrites.{doubted_there, held_more, no_doubt, some_doubt}
 
 -- ---- an offer
 
-pub offer_tied : {D : Type 0} (servers : List (ServerState D)) (clients : List (Option Client)) (offers : List (List ℕ)) (items : List Write) (told : List Entry) (machine : Machine)
-    → IsTied servers clients offers items told machine → (place : ℕ) (d : ServerState D) (vector : List ℕ) → place < length servers → length offers ≤ MAX_NUMBER
-    → vector ≡ count_of (get_or servers place d).core.held
+pub offer_tied : (servers : List Replica) (clients : List (Option Client)) (offers : List (List ℕ)) (items : List Write) (told : List Entry) (machine : Machine)
+    → IsTied servers clients offers items told machine → (place : ℕ) (server : ServerState Memory) (vector : List ℕ) → place < length servers → get_or servers place (Running server) ≡ Running server → length offers ≤ MAX_NUMBER
+    → vector ≡ count_of server.core.held
     → (next : Machine) × Offers machine place (replies.Kept (length offers)) next × IsTied servers clients (offers ++ vector ∷ []) items told next
-offer_tied servers clients offers items told machine tied place d vector known few counts =
-    let in_count : place < machine.count = omega (arith, known, tied.many) in
-    let core = tied.servers_are place d in_count in
-    let held_is : (get_or servers place d).core.held ≡ writes (machine.servers place).held = ap (λ (c : Core). c.held) core.is in
+offer_tied servers clients offers items told machine tied place server vector known stands few counts =
+    let here = runs_at servers clients offers items told machine tied place server known stands in
+    let core = here.core in
+    let held_is : server.core.held ≡ writes (machine.servers place).held = ap (λ (c : Core). c.held) core.is in
     let offered : Offered = record { server = place; database = writes (machine.servers place).held } in
     let count_offer : Offered → List ℕ = λ offer. count_of offer.database in
     let as_many : length offers ≡ length machine.offers = ap length tied.offers_are ∙ length-map machine.offers count_offer in (
       record machine { offers = machine.offers ++ offered ∷ [] },
-      Offers.kept in_count (omega (arith, few, as_many)) (ap replies.Kept as_many) refl,
+      Offers.kept here.running (omega (arith, few, as_many)) (ap replies.Kept as_many) refl,
       record {
         many = tied.many;
         servers_are = tied.servers_are;
@@ -99,7 +103,7 @@ room_there machine place core at room =
 took : (machine : Machine) → IsGood machine → (place item : ℕ) (made : Made) → IsGiven machine place item made → IsHome machine.servers made → (core new : Core) (answer : Result Took TakeFault)
     → IsServerOf machine.count machine.limit place core (machine.servers place) → takes.Takes core made.write answer new
     → (next : Machine) × Takes machine place item (replies.Took answer) next × ((next ≡ machine) × (new ≡ core)
-    ⊎ ((server : ServerSets) × (next ≡ with_server machine place server) × IsServerOf machine.count machine.limit place new server))
+    ⊎ ((server : ServerSets) × (next ≡ with_server machine place server) × (server.stopped ≡ (machine.servers place).stopped) × IsServerOf machine.count machine.limit place new server))
 took machine good place item made given home core new (Ok Had) at (has, same) =
     let held : Contains (writes (machine.servers place).held) made.write = subst (λ (c : Core). Contains c.held made.write) at.is has in
     (machine, Takes.had made given (Contains-map (λ (w : Write). w.wid) (writes (machine.servers place).held) made.write held) refl refl, inl (refl, same))
@@ -158,6 +162,7 @@ took machine good place item made given home core new (Err taking.Journal) at (t
   inr (
     with_doubt (machine.servers place) made,
     refl,
+    refl,
     subst (λ (c : Core). IsServerOf machine.count machine.limit place c (with_doubt (machine.servers place) made)) (sym same)
         (doubted_there machine.count machine.limit place core (machine.servers place) made at),
   ),
@@ -168,34 +173,38 @@ took machine good place item made given home core new (Ok New) at (takable, spel
   inr (
     with_write (machine.servers place) made,
     refl,
+    refl,
     subst (λ (c : Core). IsServerOf machine.count machine.limit place c (with_write (machine.servers place) made)) (sym same)
         (held_more machine.count machine.limit place core (machine.servers place) made at),
   ),
 )
 
-pub take_tied : {D : Type 0} (servers : List (ServerState D)) (clients : List (Option Client)) (offers : List (List ℕ)) (items : List Write) (told : List Entry) (machine : Machine) → IsGood machine
-    → IsTied servers clients offers items told machine → (place item : ℕ) (d new : ServerState D) (write : Write) (answer : Result Took TakeFault) → place < length servers → item < length items
-    → write ≡ get_or items item write → takes.Takes (get_or servers place d).core write answer new.core
-    → (next : Machine) × Takes machine place item (replies.Took answer) next × IsTied (set servers place new) clients offers items told next
-take_tied servers clients offers items told machine good tied place item d new write answer known inside is takes_it =
-    let in_count : place < machine.count = omega (arith, known, tied.many) in
-    let core = tied.servers_are place d in_count in
+pub take_tied : (servers : List Replica) (clients : List (Option Client)) (offers : List (List ℕ)) (items : List Write) (told : List Entry) (machine : Machine) → IsGood machine
+    → IsTied servers clients offers items told machine → (place item : ℕ) (old new : ServerState Memory) (write : Write) (answer : Result Took TakeFault) → place < length servers → get_or servers place (Running old) ≡ Running old
+    → StaysHonest old new → item < length items → write ≡ get_or items item write → takes.Takes old.core write answer new.core
+    → (next : Machine) × Takes machine place item (replies.Took answer) next × IsTied (set servers place (Running new)) clients offers items told next
+take_tied servers clients offers items told machine good tied place item old new write answer known stands stays inside is takes_it =
+    let here = runs_at servers clients offers items told machine tied place old known stands in
+    let core = here.core in
     let number : length items ≡ length machine.items = ap length tied.items_are ∙ length-map machine.items write_of in
     let there = item_there machine.items item write (omega (arith, inside, number)) (ap (λ list. get_or list item write) (sym tied.items_are) ∙ sym is) in
     let made = there.0 in
-    let given : IsGiven machine place item made = record { server = in_count; there = there.1 } in
+    let given : IsGiven machine place item made = record { server = here.running; there = there.1 } in
     let home = All-contains (IsHome machine.servers) machine.items made good.items (item, slice_get_within machine.items item made there.1, get_or_from_slice_get machine.items item made made there.1) in
-    let step = took machine good place item made given home (get_or servers place d).core new.core answer core (subst (λ w. takes.Takes (get_or servers place d).core w answer new.core) (sym there.2) takes_it) in
-    elim step.2 as (λ _. (next : Machine) × Takes machine place item (replies.Took answer) next × IsTied (set servers place new) clients offers items told next) [
+    let step = took machine good place item made given home old.core new.core answer core (subst (λ w. takes.Takes old.core w answer new.core) (sym there.2) takes_it) in
+    elim step.2 as (λ _. (next : Machine) × Takes machine place item (replies.Took answer) next × IsTied (set servers place (Running new)) clients offers items told next) [
       | inl same ↦ (
         machine,
         subst (Takes machine place item (replies.Took answer)) same.0 step.1,
-        same_place servers clients offers items told machine tied place new in_count (subst (λ (c : Core). IsServerOf machine.count machine.limit place c (machine.servers place)) (sym same.1) core),
+        same_place servers clients offers items told machine tied place (Running new) here.running.there
+            (running_replica machine.count machine.limit place new (machine.servers place) here.running.runs
+            (subst (λ (c : Core). IsServerOf machine.count machine.limit place c (machine.servers place)) (sym same.1) core) (stays here.honest)),
       )
       | inr changed ↦ (
         with_server machine place changed.0,
         subst (Takes machine place item (replies.Took answer)) changed.1 step.1,
-        with_place servers clients offers items told machine tied place new changed.0 in_count changed.2,
+        with_place servers clients offers items told machine tied place (Running new) changed.0 here.running.there
+            (running_replica machine.count machine.limit place new changed.0 (changed.2 ∙ here.running.runs) changed.3 (stays here.honest)),
       )
     ]
 
@@ -319,22 +328,23 @@ as_many_lack offered held a b one two =
 
 -- what goes in flight, as the machine says it
 pub record Lacks (machine : Machine) (place offer : ℕ) (lacking : List Write) : Type 0 where
+  pub running : IsRunning machine place
   pub offered : Offered
   pub there : slice_get machine.offers offer ≡ Some offered
   pub pasts : List Made
   pub are : writes pasts ≡ lacking
   pub those : AreLacking offered.database (machine.servers place).held pasts
 
-pub collect_lacks : {D : Type 0} (servers : List (ServerState D)) (clients : List (Option Client)) (offers : List (List ℕ)) (items : List Write) (told : List Entry) (machine : Machine) → IsGood machine
-    → IsTied servers clients offers items told machine → (place offer most : ℕ) (d : ServerState D) (vector : List ℕ) (lacking : List Write) → place < length servers → offer < length offers → vector ≡ get_or offers offer vector
-    → most ≡ (get_or servers place d).core.limit → lacking ≡ take most (lacking_of vector (get_or servers place d).core.held)
+pub collect_lacks : (servers : List Replica) (clients : List (Option Client)) (offers : List (List ℕ)) (items : List Write) (told : List Entry) (machine : Machine) → IsGood machine
+    → IsTied servers clients offers items told machine → (place offer most : ℕ) (server : ServerState Memory) (vector : List ℕ) (lacking : List Write) → place < length servers → get_or servers place (Running server) ≡ Running server → offer < length offers → vector ≡ get_or offers offer vector
+    → most ≡ server.core.limit → lacking ≡ take most (lacking_of vector server.core.held)
     → Lacks machine place offer lacking
-collect_lacks servers clients offers items told machine good tied place offer most d vector lacking known inside is most_is lacks_it =
+collect_lacks servers clients offers items told machine good tied place offer most server vector lacking known stands inside is most_is lacks_it =
     let count_offer : Offered → List ℕ = λ o. count_of o.database in
-    let in_count : place < machine.count = omega (arith, known, tied.many) in
-    let core = tied.servers_are place d in_count in
+    let here = runs_at servers clients offers items told machine tied place server known stands in
+    let core = here.core in
     let held = writes (machine.servers place).held in
-    let held_is : (get_or servers place d).core.held ≡ held = ap (λ (c : Core). c.held) core.is in
+    let held_is : server.core.held ≡ held = ap (λ (c : Core). c.held) core.is in
     let limit_is : most ≡ machine.limit = most_is ∙ ap (λ (c : Core). c.limit) core.is in
     let number : length offers ≡ length machine.offers = ap length tied.offers_are ∙ length-map machine.offers count_offer in
     let there = offer_there machine.offers offer vector (omega (arith, inside, number)) (ap (λ list. get_or list offer vector) (sym tied.offers_are) ∙ sym is) in
@@ -350,21 +360,21 @@ collect_lacks servers clients offers items told machine good tied place offer mo
       there = there.1;
       pasts = made.0;
       are = made.1;
+      running = here.running;
       those = are_lacking machine good place offered among made.0 (made.1 ∙ lacking_is) made.2;
     }
 
 -- it goes in flight, where there is a number for each
-pub collect_flown : {D : Type 0} (servers : List (ServerState D)) (clients : List (Option Client)) (offers : List (List ℕ)) (items : List Write) (told : List Entry) (machine : Machine)
-    → IsTied servers clients offers items told machine → (place offer : ℕ) (lacking : List Write) → place < length servers → Lacks machine place offer lacking
+pub collect_flown : (servers : List Replica) (clients : List (Option Client)) (offers : List (List ℕ)) (items : List Write) (told : List Entry) (machine : Machine)
+    → IsTied servers clients offers items told machine → (place offer : ℕ) (lacking : List Write) → Lacks machine place offer lacking
     → length items + max (length lacking) 1 ≤ MAX_NUMBER + 1
     → (next : Machine) × Collects machine place offer (replies.Flown (length items) (length lacking)) next × IsTied servers clients offers (items ++ lacking) told next
-collect_flown servers clients offers items told machine tied place offer lacking known those few =
-    let in_count : place < machine.count = omega (arith, known, tied.many) in
+collect_flown servers clients offers items told machine tied place offer lacking those few =
     let number : length items ≡ length machine.items = ap length tied.items_are ∙ length-map machine.items write_of in
     let as_many : length lacking ≡ length those.pasts = ap length (sym those.are) ∙ length-map those.pasts write_of in (
       record machine { items = machine.items ++ those.pasts },
       Collects.flown those.offered.database those.pasts
-          (record { server = in_count; by = those.offered.server; there = those.there; those = those.those; numbered = subst (λ n. n + max (length those.pasts) 1 ≤ MAX_NUMBER + 1) number (subst (λ n. length items + max n 1 ≤ MAX_NUMBER + 1) as_many few) })
+          (record { server = those.running; by = those.offered.server; there = those.there; those = those.those; numbered = subst (λ n. n + max (length those.pasts) 1 ≤ MAX_NUMBER + 1) number (subst (λ n. length items + max n 1 ≤ MAX_NUMBER + 1) as_many few) })
           (ap (λ n. replies.Flown n (length lacking)) number ∙ ap (replies.Flown (length machine.items)) as_many) refl,
       record {
         many = tied.many;
@@ -381,7 +391,7 @@ same_offer : (a b : Offered) → Some a ≡ Some b → a ≡ b
 same_offer a b same = cc
 
 -- and else nothing does
-pub collect_beyond : {D : Type 0} (servers : List (ServerState D)) (clients : List (Option Client)) (offers : List (List ℕ)) (items : List Write) (told : List Entry) (machine : Machine)
+pub collect_beyond : (servers : List Replica) (clients : List (Option Client)) (offers : List (List ℕ)) (items : List Write) (told : List Entry) (machine : Machine)
     → IsTied servers clients offers items told machine → (place offer : ℕ) (lacking : List Write) → Lacks machine place offer lacking → MAX_NUMBER + 1 < length items + max (length lacking) 1
     → (next : Machine) × Collects machine place offer replies.Skipped next × IsTied servers clients offers items told next
 collect_beyond servers clients offers items told machine tied place offer lacking those beyond = (

@@ -13,17 +13,21 @@ use Rattle.bayou_lang.specs.Writes.{IsNextWrite, count_of}
 use Rattle.bayou_server.specs.declared.fault.WriteFault.{WriteFault}
 use Rattle.bayou_server.specs.declared.fault.WriteFault.TheVariants as writing
 use Rattle.bayou_server.specs.Writes as accepts
+use Rattle.bayou_device.specs.Memory.{Memory}
 use Rattle.bayou_server.specs.Server.{Core, ServerState}
 use Rattle.bayou_session.specs.Needs.{HasCounts, write_need}
 use Rattle.bayou_world.specs.declared.client.Client.{Client}
+use Rattle.bayou_world.specs.declared.replica.Replica.{Replica}
+use Rattle.bayou_world.specs.declared.replica.Replica.TheVariants.{Running}
 use Rattle.bayou_world.specs.declared.reply.Reply.TheVariants as replies
 use Rattle.bayou_world.specs.Inner.Clients.{Begins, accepted_as, accepted_of}
 use Rattle.bayou_world.specs.Inner.Good.{IsGood}
+use Rattle.bayou_world.specs.Inner.Replicas.{StaysHonest}
 use Rattle.bayou_world.specs.Inner.Tie.{IsClientOf, IsServerOf, IsTied, seat, write_of}
 use Rattle.bayou_world.specs.Machine.{Answered, Machine, Made, ServerSets, SessionSets, with_server, writes}
 use Rattle.bayou_world.specs.Steps.{IsReady, Makes, MayWrite, RefusesWrite, Writes, refusal, with_answer, with_doubt, with_write}
 use Rattle.bayou_world.proofs.Homes.{fitting_at}
-use Rattle.bayou_world.proofs.Tied.{WriteLaw, began, entry_of, may_begin, same_place, session_of_seat, with_place, with_seat}
+use Rattle.bayou_world.proofs.Tied.{IsRunningServer, WriteLaw, began, entry_of, may_begin, running_replica, runs_at, same_place, session_of_seat, with_place, with_seat}
 use Rattle.bayou_world.proofs.Vectors.{tests_agree}
 
 write_covered : WriteLaw → (machine : Machine) → IsGood machine → (who place : ℕ) (client : Client) (session : SessionSets) → IsClientOf who client session → HasCounts client.session
@@ -120,91 +124,95 @@ pub doubted_there : (count limit place : ℕ) (core : Core) (server : ServerSets
     → IsServerOf count limit place (record core { doubt = Some made.write }) (with_doubt server made)
 doubted_there count limit place core server made at = record { is = ap (λ (c : Core). record c { doubt = Some made.write }) at.is }
 
-refused_entry : {D : Type 0} (servers : List (ServerState D)) (clients : List (Option Client)) (offers : List (List ℕ)) (items : List Write) (told : List Entry) → WriteLaw → (machine : Machine) → IsGood machine
-    → IsTied servers clients offers items told machine → (who place : ℕ) (program : Program) (client new : Client) (old_server new_server : ServerState D) (fault : WriteFault) → who < SESSIONS → seat clients who ≡ Some client
-    → client.flight ≡ None → client.session.begun < MAX_PLACES → place < machine.count → HasCounts client.session → IsServerOf machine.count machine.limit place old_server.core (machine.servers place)
+refused_entry : (servers : List Replica) (clients : List (Option Client)) (offers : List (List ℕ)) (items : List Write) (told : List Entry) → WriteLaw → (machine : Machine) → IsGood machine
+    → IsTied servers clients offers items told machine → (who place : ℕ) (program : Program) (client new : Client) (old_server new_server : ServerState Memory) (fault : WriteFault) → who < SESSIONS → seat clients who ≡ Some client
+    → client.flight ≡ None → client.session.begun < MAX_PLACES → IsRunningServer machine place old_server → StaysHonest old_server new_server → HasCounts client.session
     → fault ≢ writing.Journal → accepts.Writes old_server.core (write_need client.session) program (Err fault) new_server.core → Begins client place whats.Refused None new
-    → (next : Machine) × Writes machine who place program (replies.Wrote (Err fault)) next × IsTied (set servers place new_server) (set clients who (Some new)) offers items told next
-refused_entry servers clients offers items told law machine good tied who place program client new old_server new_server fault inside at none left known counts core no_fault refused begins =
+    → (next : Machine) × Writes machine who place program (replies.Wrote (Err fault)) next × IsTied (set servers place (Running new_server)) (set clients who (Some new)) offers items told next
+refused_entry servers clients offers items told law machine good tied who place program client new old_server new_server fault inside at none left here stays counts no_fault refused begins =
     let seat_is = session_of_seat who (seat clients who) (machine.sessions who) client (tied.clients_are who inside) at in
     let session = seat_is.0 in
     let is = seat_is.2 in
-    let may = may_begin machine who place client session seat_is.1 is none left known in
+    let core = here.core in
+    let may = may_begin machine who place client session seat_is.1 is none left here.running in
     let both = refuses law machine good who place client session is counts program old_server.core new_server.core fault core no_fault refused in
     let same_server : IsServerOf machine.count machine.limit place new_server.core (machine.servers place) = subst (λ (c : Core). IsServerOf machine.count machine.limit place c (machine.servers place)) (sym both.1) core in (
       with_answer machine who session (refusal begins.entry),
       Writes.refused session begins.entry fault may both.0 refl (entry_of who place client new session whats.Refused None is begins) refl,
-      with_seat (set servers place new_server) clients offers items told machine (same_place servers clients offers items told machine tied place new_server known same_server) who new
+      with_seat (set servers place (Running new_server)) clients offers items told machine (same_place servers clients offers items told machine tied place (Running new_server) here.running.there
+          (running_replica machine.count machine.limit place new_server (machine.servers place) here.running.runs same_server (stays here.honest))) who new
           (record session { begun = session.begun + 1; flight = Some (refusal begins.entry) }) inside
           (began who place client new session whats.Refused None (refusal begins.entry) is begins refl refl),
     )
 
-pub write_tied : WriteLaw → {D : Type 0} (servers : List (ServerState D)) (clients : List (Option Client)) (offers : List (List ℕ)) (items : List Write) (told : List Entry) (machine : Machine) → IsGood machine
-    → IsTied servers clients offers items told machine → (who place : ℕ) (program : Program) (client new : Client) (d new_server : ServerState D) (answer : Result Accepted WriteFault) → who < SESSIONS → seat clients who ≡ Some client
-    → client.flight ≡ None → client.session.begun < MAX_PLACES → place < length servers → HasCounts client.session
-    → accepts.Writes (get_or servers place d).core (write_need client.session) program answer new_server.core
-    → Begins client (get_or servers place d).core.id (accepted_as answer) (accepted_of answer) new
-    → (next : Machine) × Writes machine who place program (replies.Wrote answer) next × IsTied (set servers place new_server) (set clients who (Some new)) offers items told next
-write_tied law servers clients offers items told machine good tied who place program client new d new_server (Ok accepted) inside at none left known counts accepts_it begins =
+pub write_tied : WriteLaw → (servers : List Replica) (clients : List (Option Client)) (offers : List (List ℕ)) (items : List Write) (told : List Entry) (machine : Machine) → IsGood machine
+    → IsTied servers clients offers items told machine → (who place : ℕ) (program : Program) (client new : Client) (old_server new_server : ServerState Memory) (answer : Result Accepted WriteFault) → who < SESSIONS → seat clients who ≡ Some client
+    → client.flight ≡ None → client.session.begun < MAX_PLACES → place < length servers → get_or servers place (Running old_server) ≡ Running old_server → StaysHonest old_server new_server → HasCounts client.session
+    → accepts.Writes old_server.core (write_need client.session) program answer new_server.core
+    → Begins client old_server.core.id (accepted_as answer) (accepted_of answer) new
+    → (next : Machine) × Writes machine who place program (replies.Wrote answer) next × IsTied (set servers place (Running new_server)) (set clients who (Some new)) offers items told next
+write_tied law servers clients offers items told machine good tied who place program client new old_server new_server (Ok accepted) inside at none left known stands stays counts accepts_it begins =
     let seat_is = session_of_seat who (seat clients who) (machine.sessions who) client (tied.clients_are who inside) at in
     let session = seat_is.0 in
     let is = seat_is.2 in
-    let in_count : place < machine.count = omega (arith, known, tied.many) in
-    let core = tied.servers_are place d in_count in
+    let here = runs_at servers clients offers items told machine tied place old_server known stands in
+    let core = here.core in
     let what = whats.Write accepted.wid accepted.stamp accepted.deps in
     let begins_at = subst (λ n. Begins client n what (Some accepted) new) (ap (λ (c : Core). c.id) core.is) begins in
-    let may = may_begin machine who place client session seat_is.1 is none left in_count in
+    let may = may_begin machine who place client session seat_is.1 is none left here.running in
     let made : Made = record { write = accepts_it.made; past = writes (machine.servers place).held } in
-    let makes = makes_there law machine good who place client session is counts program (get_or servers place d).core accepts_it.made core accepts_it.makes in
+    let makes = makes_there law machine good who place client session is counts program old_server.core accepts_it.made core accepts_it.makes in
     let answered : Answered = record { entry = begins_at.entry; database = made.past; made = Some made } in
     let server_is = subst (λ (c : Core). IsServerOf machine.count machine.limit place c (with_write (machine.servers place) made)) (sym accepts_it.is)
-    (held_more machine.count machine.limit place (get_or servers place d).core (machine.servers place) made core) in
+    (held_more machine.count machine.limit place old_server.core (machine.servers place) made core) in
     let machine_then = with_server machine place (with_write (machine.servers place) made) in (
       with_answer machine_then who session answered,
       Writes.accepted session begins_at.entry made accepted may makes (record { wid = accepts_it.wid; stamp = accepts_it.stamp; deps = accepts_it.deps ∙ makes.next.deps }) refl
           (entry_of who place client new session what (Some accepted) is begins_at) refl,
-      with_seat (set servers place new_server) clients offers items told machine_then
-          (with_place servers clients offers items told machine tied place new_server (with_write (machine.servers place) made) in_count server_is) who new
+      with_seat (set servers place (Running new_server)) clients offers items told machine_then
+          (with_place servers clients offers items told machine tied place (Running new_server) (with_write (machine.servers place) made) here.running.there
+          (running_replica machine.count machine.limit place new_server (with_write (machine.servers place) made) here.running.runs server_is (stays here.honest))) who new
           (record session { begun = session.begun + 1; flight = Some answered }) inside
           (began who place client new session what (Some accepted) answered is begins_at refl (accepted, refl, refl)),
     )
-write_tied law servers clients offers items told machine good tied who place program client new d new_server (Err writing.Journal) inside at none left known counts doubts begins =
+write_tied law servers clients offers items told machine good tied who place program client new old_server new_server (Err writing.Journal) inside at none left known stands stays counts doubts begins =
     let seat_is = session_of_seat who (seat clients who) (machine.sessions who) client (tied.clients_are who inside) at in
     let session = seat_is.0 in
     let is = seat_is.2 in
-    let in_count : place < machine.count = omega (arith, known, tied.many) in
-    let core = tied.servers_are place d in_count in
+    let here = runs_at servers clients offers items told machine tied place old_server known stands in
+    let core = here.core in
     let begins_at = subst (λ n. Begins client n whats.Refused None new) (ap (λ (c : Core). c.id) core.is) begins in
-    let may = may_begin machine who place client session seat_is.1 is none left in_count in
+    let may = may_begin machine who place client session seat_is.1 is none left here.running in
     let made : Made = record { write = doubts.made; past = writes (machine.servers place).held } in
-    let makes = makes_there law machine good who place client session is counts program (get_or servers place d).core doubts.made core doubts.makes in
+    let makes = makes_there law machine good who place client session is counts program old_server.core doubts.made core doubts.makes in
     let server_is = subst (λ (c : Core). IsServerOf machine.count machine.limit place c (with_doubt (machine.servers place) made)) (sym doubts.is)
-    (doubted_there machine.count machine.limit place (get_or servers place d).core (machine.servers place) made core) in
+    (doubted_there machine.count machine.limit place old_server.core (machine.servers place) made core) in
     let machine_then = with_server machine place (with_doubt (machine.servers place) made) in (
       with_answer machine_then who session (refusal begins_at.entry),
       Writes.doubted session begins_at.entry made may makes refl (entry_of who place client new session whats.Refused None is begins_at) refl,
-      with_seat (set servers place new_server) clients offers items told machine_then
-          (with_place servers clients offers items told machine tied place new_server (with_doubt (machine.servers place) made) in_count server_is) who new
+      with_seat (set servers place (Running new_server)) clients offers items told machine_then
+          (with_place servers clients offers items told machine tied place (Running new_server) (with_doubt (machine.servers place) made) here.running.there
+          (running_replica machine.count machine.limit place new_server (with_doubt (machine.servers place) made) here.running.runs server_is (stays here.honest))) who new
           (record session { begun = session.begun + 1; flight = Some (refusal begins_at.entry) }) inside
           (began who place client new session whats.Refused None (refusal begins_at.entry) is begins_at refl refl),
     )
-write_tied law servers clients offers items told machine good tied who place program client new d new_server (Err writing.Down) inside at none left known counts refused begins =
-    let in_count : place < machine.count = omega (arith, known, tied.many) in
-    let core = tied.servers_are place d in_count in
-    refused_entry servers clients offers items told law machine good tied who place program client new (get_or servers place d) new_server writing.Down inside at none left in_count counts core (λ same. absurd (cc)) refused
+write_tied law servers clients offers items told machine good tied who place program client new old_server new_server (Err writing.Down) inside at none left known stands stays counts refused begins =
+    let here = runs_at servers clients offers items told machine tied place old_server known stands in
+    let core = here.core in
+    refused_entry servers clients offers items told law machine good tied who place program client new old_server new_server writing.Down inside at none left here stays counts (λ same. absurd (cc)) refused
     (subst (λ n. Begins client n whats.Refused None new) (ap (λ (c : Core). c.id) core.is) begins)
-write_tied law servers clients offers items told machine good tied who place program client new d new_server (Err (writing.Behind vector)) inside at none left known counts refused begins =
-    let in_count : place < machine.count = omega (arith, known, tied.many) in
-    let core = tied.servers_are place d in_count in
-    refused_entry servers clients offers items told law machine good tied who place program client new (get_or servers place d) new_server (writing.Behind vector) inside at none left in_count counts core (λ same. absurd (cc)) refused
+write_tied law servers clients offers items told machine good tied who place program client new old_server new_server (Err (writing.Behind vector)) inside at none left known stands stays counts refused begins =
+    let here = runs_at servers clients offers items told machine tied place old_server known stands in
+    let core = here.core in
+    refused_entry servers clients offers items told law machine good tied who place program client new old_server new_server (writing.Behind vector) inside at none left here stays counts (λ same. absurd (cc)) refused
     (subst (λ n. Begins client n whats.Refused None new) (ap (λ (c : Core). c.id) core.is) begins)
-write_tied law servers clients offers items told machine good tied who place program client new d new_server (Err writing.LogFull) inside at none left known counts refused begins =
-    let in_count : place < machine.count = omega (arith, known, tied.many) in
-    let core = tied.servers_are place d in_count in
-    refused_entry servers clients offers items told law machine good tied who place program client new (get_or servers place d) new_server writing.LogFull inside at none left in_count counts core (λ same. absurd (cc)) refused
+write_tied law servers clients offers items told machine good tied who place program client new old_server new_server (Err writing.LogFull) inside at none left known stands stays counts refused begins =
+    let here = runs_at servers clients offers items told machine tied place old_server known stands in
+    let core = here.core in
+    refused_entry servers clients offers items told law machine good tied who place program client new old_server new_server writing.LogFull inside at none left here stays counts (λ same. absurd (cc)) refused
     (subst (λ n. Begins client n whats.Refused None new) (ap (λ (c : Core). c.id) core.is) begins)
-write_tied law servers clients offers items told machine good tied who place program client new d new_server (Err writing.OutOfMemory) inside at none left known counts refused begins =
-    let in_count : place < machine.count = omega (arith, known, tied.many) in
-    let core = tied.servers_are place d in_count in
-    refused_entry servers clients offers items told law machine good tied who place program client new (get_or servers place d) new_server writing.OutOfMemory inside at none left in_count counts core (λ same. absurd (cc)) refused
+write_tied law servers clients offers items told machine good tied who place program client new old_server new_server (Err writing.OutOfMemory) inside at none left known stands stays counts refused begins =
+    let here = runs_at servers clients offers items told machine tied place old_server known stands in
+    let core = here.core in
+    refused_entry servers clients offers items told law machine good tied who place program client new old_server new_server writing.OutOfMemory inside at none left here stays counts (λ same. absurd (cc)) refused
     (subst (λ n. Begins client n whats.Refused None new) (ap (λ (c : Core). c.id) core.is) begins)

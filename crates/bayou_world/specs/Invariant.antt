@@ -5,6 +5,9 @@ use Rattle.bayou_base.specs.declared.wid.Wid.{Wid}
 use Rattle.bayou_base.specs.Vector.{Covers, Dominates}
 use Rattle.bayou_lang.specs.declared.write.Write.{Write}
 use Rattle.bayou_lang.specs.Writes.{IsPrefixClosed, IsSound, count_of}
+use Rattle.bayou_server.specs.declared.fault.JournalFault.TheVariants.{NotAJournal, OtherServer}
+use Rattle.bayou_server.specs.declared.fault.ReopenFault.TheVariants as reopening
+use Rattle.bayou_server.specs.declared.fault.StartFault.TheVariants as starting
 use Rattle.bayou_server.specs.declared.fault.TakeFault.TheVariants as taking
 use Rattle.bayou_world.specs.declared.event.Event.{Event}
 use Rattle.bayou_world.specs.declared.reply.Reply.{Reply}
@@ -43,12 +46,21 @@ abbrev pub TestsAgree : Machine → Type 0
 TestsAgree machine = (server : ℕ) (vector : List ℕ) (set : List Wid) → IsVectorOf vector set
     → IsWithin set (names (writes (machine.servers server).held)) ↔ Dominates (count_of (writes (machine.servers server).held)) vector
 
--- the server refuses the item because it holds another Write of that name, because it made it itself and doesn't hold it, or because its
--- stamp is wrong
+-- A server refuses an item because it holds another Write of that name, because it made it itself and doesn't hold it, or because its
+-- stamp is wrong; or its journal has lost a Write that it held, or has something else than what it held and the Write in doubt.
 abbrev pub IsImpossible : Reply → Type 0
 IsImpossible (replies.Took (Err taking.Conflict)) = Unit {0}
 IsImpossible (replies.Took (Err taking.OwnLost)) = Unit {0}
 IsImpossible (replies.Took (Err taking.BadStamp)) = Unit {0}
+IsImpossible (replies.Reopened (Err reopening.Lost)) = Unit {0}
+IsImpossible (replies.Reopened (Err (reopening.BadRecord at))) = Unit {0}
+IsImpossible (replies.Reopened (Err (reopening.Journal NotAJournal))) = Unit {0}
+IsImpossible (replies.Reopened (Err (reopening.Journal OtherServer))) = Unit {0}
+IsImpossible (replies.Restarted (Err (starting.Journal NotAJournal))) = Unit {0}
+IsImpossible (replies.Restarted (Err (starting.Journal OtherServer))) = Unit {0}
+IsImpossible (replies.Restarted (Err (starting.BadRecord at))) = Unit {0}
+IsImpossible (replies.Restarted (Err (starting.Gap at))) = Unit {0}
+IsImpossible (replies.Restarted (Err starting.LogFull)) = Unit {0}
 IsImpossible _ = ⊥
 
 -- By a Collect of an offer that this server made, so many items went in flight, and behind other events the server holds those of them

@@ -1,5 +1,5 @@
 -- All servers and all sessions as one machine (Terry et al. 1994, 1995). It speaks of lists and sets of Writes, and counts none.
-use Rattle.std.specs.Prelude.{ℕ, ◌==◌, List, Option, Some, Contains, map, if◌then◌else◌}
+use Rattle.std.specs.Prelude.{ℕ, ◌==◌, Bool, List, Option, Some, Contains, map, if◌then◌else◌}
 use Rattle.bayou_base.specs.declared.asks.Asks.{Asks}
 use Rattle.bayou_base.specs.declared.entry.Entry.{Entry}
 use Rattle.bayou_base.specs.declared.wid.Wid.{Wid}
@@ -22,10 +22,12 @@ names list = map (λ (write : Write). write.wid) list
 abbrev pub IsWithin : List Wid → List Wid → Type 0
 IsWithin set other = (name : Wid) → Contains set name → Contains other name
 
--- A server: the Writes that it holds, in order of receipt; the Write in doubt, where it is down; and every database that it ever had.
+-- A server: the Writes that it holds, in order of receipt; the Write in doubt, where there is one; whether it is stopped, as its last
+-- start was refused; and every database that it ever had. It is up where it isn't stopped and no Write is in doubt, and down where one is.
 pub record ServerSets : Type 0 where
   pub held : List Made
   pub doubt : Option Made
+  pub stopped : Bool
   pub had : List (List Write)
 
 -- What a session's operation was answered: the entry that tells of it, the database that it was answered from, and the Write that

@@ -17,7 +17,7 @@ use Rattle.bayou_world.specs.Steps.{Step}
 
 -- a server that holds nothing yet: its one database is the empty one
 abbrev pub new_server : ServerSets
-new_server = record { held = []; doubt = None; had = [] ∷ [] }
+new_server = record { held = []; doubt = None; stopped = false; had = [] ∷ [] }
 
 -- a session that has tried nothing yet
 abbrev pub new_session : Asks → SessionSets
@@ -59,6 +59,9 @@ is_file (events.Lose session) = false
 is_file (events.Offer server) = false
 is_file (events.Collect server offer) = false
 is_file (events.Take server item) = false
+is_file (events.Fuse server call front) = false
+is_file (events.Reopen server) = false
+is_file (events.Restart server) = false
 
 -- how many places the book of a run has: one for each such event, as far as a book may have them, and one at least
 abbrev pub places_for : List Event → ℕ

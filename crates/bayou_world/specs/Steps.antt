@@ -1,12 +1,14 @@
 -- What each event does to the machine, with each answer that it may have (Terry et al. 1994, 1995; Petersen et al. 1997).
-use Rattle.std.specs.Prelude.{◌≡◌, ℕ, ◌+◌, ◌<◌, ◌≤◌, ◌⊎◌, ◌↔◌, true, List, [], ◌∷◌, ◌++◌, None, Some, Ok, Err, IsSome, AllPairs, Contains, length, max}
+use Rattle.std.specs.Prelude.{◌≡◌, ℕ, ◌+◌, ◌<◌, ◌≤◌, ◌⊎◌, ◌↔◌, true, false, List, [], ◌∷◌, ◌++◌, Option, None, Some, Ok, Err, IsSome, AllPairs, Contains, length, max}
 use Rattle.std.specs.List.{slice_get}
+use Rattle.std.specs.Option.{option_map}
 use Rattle.bayou_base.specs.declared.answer.Accepted.{Accepted}
 use Rattle.bayou_base.specs.declared.answer.Seen.{Seen}
 use Rattle.bayou_base.specs.declared.entry.Entry.{Entry}
 use Rattle.bayou_base.specs.declared.entry.What.{What}
 use Rattle.bayou_base.specs.declared.entry.What.TheVariants as whats
 use Rattle.bayou_base.specs.declared.limits.TheConstants.{MAX_NUMBER, MAX_PLACES}
+use Rattle.bayou_base.specs.declared.wid.Wid.{Wid}
 use Rattle.bayou_base.specs.Order.{is_before}
 use Rattle.bayou_lang.specs.declared.program.Program.{Program}
 use Rattle.bayou_lang.specs.declared.write.Write.{Write}
@@ -14,22 +16,33 @@ use Rattle.bayou_lang.specs.Places.{value_at}
 use Rattle.bayou_lang.specs.Writes.{IsNextWrite, count_of}
 use Rattle.bayou_log.specs.Replay.{replay}
 use Rattle.bayou_server.specs.declared.answer.Took.TheVariants.{New, Had}
+use Rattle.bayou_server.specs.declared.fault.JournalFault.TheVariants.{Device, NotAJournal, OtherServer}
+use Rattle.bayou_server.specs.declared.fault.ReopenFault.{ReopenFault}
+use Rattle.bayou_server.specs.declared.fault.ReopenFault.TheVariants as reopening
+use Rattle.bayou_server.specs.declared.fault.StartFault.{StartFault}
 use Rattle.bayou_server.specs.declared.fault.TakeFault.{TakeFault}
 use Rattle.bayou_server.specs.declared.fault.TakeFault.TheVariants as taking
 use Rattle.bayou_server.specs.declared.fault.WriteFault.{WriteFault}
 use Rattle.bayou_server.specs.declared.fault.WriteFault.TheVariants as writing
+use Rattle.bayou_server.specs.Honest.{IsHonestRefusal}
 use Rattle.bayou_world.specs.declared.event.Event.{Event}
 use Rattle.bayou_world.specs.declared.event.Event.TheVariants as events
 use Rattle.bayou_world.specs.declared.reply.Reply.{Reply}
 use Rattle.bayou_world.specs.declared.reply.Reply.TheVariants as replies
 use Rattle.bayou_world.specs.Machine.{Answered, IsWithin, Machine, Made, ServerSets, SessionSets, names, with_server, with_session, writes}
 
+-- the server is there, and isn't stopped
+pub record IsRunning (old : Machine) (place : ℕ) : Type 0 where
+  pub there : place < old.count
+  pub runs : (old.servers place).stopped ≡ false
+
 -- ---- an operation of a session
 
--- The session may begin an operation at the server: both are there, no answer is in flight to it, and it has a place left.
+-- The session may begin an operation at the server: both are there, the server runs, no answer is in flight to the session, and it has a
+-- place left.
 pub record MayBegin (old : Machine) (who place : ℕ) (session : SessionSets) : Type 0 where
   pub there : old.sessions who ≡ Some session
-  pub server : place < old.count
+  pub server : IsRunning old place
   pub idle : session.flight ≡ None
   pub left : session.begun < MAX_PLACES
 
@@ -167,8 +180,8 @@ pub data Loses (old : Machine) (who : ℕ) (reply : Reply) (new : Machine) : Typ
 -- ---- anti-entropy
 
 pub data Offers (old : Machine) (place : ℕ) (reply : Reply) (new : Machine) : Type 0 where
-  skipped : (old.count ≤ place) ⊎ (MAX_NUMBER < length old.offers) → reply ≡ replies.Skipped → new ≡ old → Offers old place reply new
-  kept : place < old.count → length old.offers ≤ MAX_NUMBER → reply ≡ replies.Kept (length old.offers)
+  skipped : (¬ IsRunning old place) ⊎ (MAX_NUMBER < length old.offers) → reply ≡ replies.Skipped → new ≡ old → Offers old place reply new
+  kept : IsRunning old place → length old.offers ≤ MAX_NUMBER → reply ≡ replies.Kept (length old.offers)
       → new ≡ record old { offers = old.offers ++ record { server = place; database = writes (old.servers place).held } ∷ [] } → Offers old place reply new
 
 -- just those that the server holds and the offer hasn't, in stamp order
@@ -176,9 +189,9 @@ pub record AreLacking (offered : List Write) (held lacking : List Made) : Type 0
   pub those : (made : Made) → Contains lacking made ↔ (Contains held made × (¬ Contains (names offered) made.write.wid))
   pub in_order : AllPairs (λ a b. is_before a.write.stamp b.write.stamp ≡ true) lacking
 
--- the server and the offer are there, and the last of so many items, or the next where there are none, has a number
+-- the server runs, the offer is there, and the last of so many items, or the next where there are none, has a number
 pub record MayCollect (old : Machine) (place offer : ℕ) (offered : List Write) (lacking : List Made) : Type 0 where
-  pub server : place < old.count
+  pub server : IsRunning old place
   pub by : ℕ
   pub there : slice_get old.offers offer ≡ Some (record { server = by; database = offered })
   pub those : AreLacking offered (old.servers place).held lacking
@@ -189,7 +202,7 @@ CannotCollect old place offer = (offered : List Write) (lacking : List Made) →
 
 pub data Collects (old : Machine) (place offer : ℕ) (reply : Reply) (new : Machine) : Type 0 where
   skipped : CannotCollect old place offer → reply ≡ replies.Skipped → new ≡ old → Collects old place offer reply new
-  no_memory : place < old.count → offer < length old.offers → reply ≡ replies.NoMemory → new ≡ old → Collects old place offer reply new
+  no_memory : IsRunning old place → offer < length old.offers → reply ≡ replies.NoMemory → new ≡ old → Collects old place offer reply new
   flown : (offered : List Write) (lacking : List Made) → MayCollect old place offer offered lacking → reply ≡ replies.Flown (length old.items) (length lacking)
       → new ≡ record old { items = old.items ++ lacking } → Collects old place offer reply new
 
@@ -218,9 +231,9 @@ RefusesItem limit server made taking.LogFull = IsNext server made × (length ser
 RefusesItem limit server made taking.OutOfMemory = IsNext server made × (length server.held < limit)
 RefusesItem limit server made taking.Journal = ⊥
 
--- the server and the item are there
+-- the server runs, and the item is there
 pub record IsGiven (old : Machine) (place item : ℕ) (made : Made) : Type 0 where
-  pub server : place < old.count
+  pub server : IsRunning old place
   pub there : slice_get old.items item ≡ Some made
 
 pub data Takes (old : Machine) (place item : ℕ) (reply : Reply) (new : Machine) : Type 0 where
@@ -232,6 +245,56 @@ pub data Takes (old : Machine) (place item : ℕ) (reply : Reply) (new : Machine
       → reply ≡ replies.Took (Err taking.Journal) → new ≡ with_server old place (with_doubt (old.servers place) made) → Takes old place item reply new
   taken : (made : Made) → IsGiven old place item made → IsNext (old.servers place) made → length (old.servers place).held < old.limit
       → reply ≡ replies.Took (Ok New) → new ≡ with_server old place (with_write (old.servers place) made) → Takes old place item reply new
+
+-- ---- failures
+
+-- a device call of the server is to fail: nothing here
+pub data Fuses (old : Machine) (place call : ℕ) (reply : Reply) (new : Machine) : Type 0 where
+  skipped : (old.count ≤ place) ⊎ (call ≡ 0) → reply ≡ replies.Skipped → new ≡ old → Fuses old place call reply new
+  fused : place < old.count → 0 < call → reply ≡ replies.Fused → new ≡ old → Fuses old place call reply new
+
+-- up, with what was held
+abbrev pub up_again : ServerSets → ServerSets
+up_again server = record server { doubt = None; stopped = false }
+
+-- its start was refused: what was held and what was in doubt stand
+abbrev pub stopped_now : ServerSets → ServerSets
+stopped_now server = record server { stopped = true }
+
+-- An honest opening of its journal brings a server up: with the Writes that it held, and the one in doubt is forgotten; or with those and
+-- the one in doubt, which is adopted.
+abbrev pub Recovers : (old : ServerSets) → (adopted : Option Made) → (new : ServerSets) → Type 0
+Recovers old None new = new ≡ up_again old
+Recovers old (Some made) new = (old.doubt ≡ Some made) × (new ≡ with_write (up_again old) made)
+
+-- the name of it
+abbrev pub wid_of : Made → Wid
+wid_of made = made.write.wid
+
+-- Why a server that runs isn't reopened: it is up, a device call failed, or memory was refused.
+abbrev pub RefusesReopening : ServerSets → ReopenFault → Type 0
+RefusesReopening server reopening.NotDown = server.doubt ≡ None
+RefusesReopening server (reopening.Journal Device) = IsSome server.doubt
+RefusesReopening server (reopening.Journal NotAJournal) = ⊥
+RefusesReopening server (reopening.Journal OtherServer) = ⊥
+RefusesReopening server reopening.Lost = ⊥
+RefusesReopening server (reopening.BadRecord at) = ⊥
+RefusesReopening server reopening.OutOfMemory = IsSome server.doubt
+
+pub data Reopens (old : Machine) (place : ℕ) (reply : Reply) (new : Machine) : Type 0 where
+  skipped : (¬ IsRunning old place) → reply ≡ replies.Skipped → new ≡ old → Reopens old place reply new
+  refused : (fault : ReopenFault) → IsRunning old place → RefusesReopening (old.servers place) fault → reply ≡ replies.Reopened (Err fault) → new ≡ old → Reopens old place reply new
+  reopened : (adopted : Option Made) (server : ServerSets) → IsRunning old place → IsSome (old.servers place).doubt → Recovers (old.servers place) adopted server
+      → reply ≡ replies.Reopened (Ok (record { adopted = option_map wid_of adopted })) → new ≡ with_server old place server → Reopens old place reply new
+
+-- The server is stopped and started on what its device has, be it up, down or stopped; a start is refused for a device call or for memory
+-- alone.
+pub data Restarts (old : Machine) (place : ℕ) (reply : Reply) (new : Machine) : Type 0 where
+  skipped : old.count ≤ place → reply ≡ replies.Skipped → new ≡ old → Restarts old place reply new
+  refused : (fault : StartFault) → place < old.count → IsHonestRefusal fault → reply ≡ replies.Restarted (Err fault)
+      → new ≡ with_server old place (stopped_now (old.servers place)) → Restarts old place reply new
+  restarted : (adopted : Option Made) (server : ServerSets) → place < old.count → Recovers (old.servers place) adopted server
+      → reply ≡ replies.Restarted (Ok (length server.held)) → new ≡ with_server old place server → Restarts old place reply new
 
 -- ---- the book
 
@@ -257,4 +320,7 @@ Step old (events.Lose session) reply new = Loses old session.index reply new
 Step old (events.Offer server) reply new = Offers old server.index reply new
 Step old (events.Collect server offer) reply new = Collects old server.index offer reply new
 Step old (events.Take server item) reply new = Takes old server.index item reply new
+Step old (events.Fuse server call front) reply new = Fuses old server.index call reply new
+Step old (events.Reopen server) reply new = Reopens old server.index reply new
+Step old (events.Restart server) reply new = Restarts old server.index reply new
 Step old (events.File session) reply new = Files old session.index reply new

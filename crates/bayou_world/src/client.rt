@@ -1,14 +1,20 @@
 //! A session, and what is on its way to it.
-ghost use Rattle.std.specs.Prelude.{◌≡◌, ◌<◌, ◌↔◌, [], IfOk, IsSome, IsTrue, None};
+ghost use Rattle.std.specs.Prelude.{◌≡◌, ◌<◌, ◌↔◌, [], false, IfOk, IsSome, IsTrue, None};
 ghost use Rattle.bayou_base.specs.declared.limits.TheConstants.{MAX_PLACES};
 ghost use Rattle.bayou_server.specs.Reads.{Reads};
 ghost use Rattle.bayou_server.specs.Writes.{Writes};
+ghost use Rattle.bayou_world.specs.declared.reply.Reply.TheVariants.{Wrote};
+ghost use Rattle.bayou_world.specs.Faults.{tells_fault};
 ghost use Rattle.bayou_session.specs.Needs.{HasCounts, read_need, write_need};
+ghost use Rattle.bayou_world.specs.Inner.Charges.{Spends};
+ghost use Rattle.bayou_world.specs.Inner.Replicas.{StaysHonest};
 ghost use Rattle.bayou_world.specs.Inner.Clients.{Begins, Hears, Pops, accepted_as, accepted_of, after_accepted, after_read, seen_as};
 
 use bayou_base::{Accepted, Entry, Key, Seen, ServerId, What};
 use bayou_device::{MemoryDevice, OpenGate};
+use bayou_journal::laws::a_device_in_memory_only_tears;
 use bayou_lang::RestingProgram;
+use bayou_server::laws::an_honest_server_stays_honest;
 use bayou_server::{Behind, Server, WriteFault};
 use bayou_session::Session;
 use std::alloc::{AllocError, Global};
@@ -146,7 +152,11 @@ impl Client {
         ensures counts { HasCounts self.old.session }
         ensures answer { Writes server.old.core (write_need self.old.session) program result server.new.core }
         ensures begun { Begins self.old server.old.core.id (accepted_as result) (accepted_of result) self.new }
+        ensures honest { StaysHonest server.old server.new }
+        ensures spends { Spends (tells_fault (Wrote result)) false server.old.device server.new.device }
     {
+        an_honest_server_stays_honest::<MemoryDevice<OpenGate>>();
+        a_device_in_memory_only_tears();
         let id = server.id();
         let answer = server.write(alloc, &self.session.need_write(), program);
         let what = what_accepted(&answer);

@@ -32,6 +32,17 @@ pub enum Event {
         server: ServerId,
         item: u32,
     },
+    /// The `call`-th device call of the server from now fails, once. If it is an append, the first `kept` bytes of its piece are
+    /// added, or all if it is shorter. A failure that still waits is forgotten.
+    Fuse {
+        server: ServerId,
+        call: u32,
+        kept: usize,
+    },
+    /// The server opens its journal again, and adopts or forgets the Write in doubt.
+    Reopen(ServerId),
+    /// The server is stopped, and started on what its device has.
+    Restart(ServerId),
     /// The oldest of the session's delivered operations that isn't in the book yet is entered there.
     File(SessionId),
 }

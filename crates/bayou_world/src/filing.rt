@@ -50,7 +50,8 @@ impl<K: Ledgers> Filing<K> {
 
     /// Enters the session's oldest operation that waits for it. An entry of another session never waits there.
     pub fn file(&mut self, state: &mut State, who: SessionId) -> Reply
-        ensures { FollowsInBook state.old self.old (λ machine next. Files machine who.index result next) state.new self.new }
+        ensures follows { FollowsInBook state.old self.old (λ machine next. Files machine who.index result next) state.new self.new }
+        ensures same { state.new.servers ≡ state.old.servers }
     {
         let share = &mut self.shares[usize::from(who.index)];
         let Ok(slip) = self.book.claim(share) else {

@@ -17,7 +17,9 @@ pub mod event;
 mod filing;
 pub mod history;
 pub mod laws;
+mod replica;
 pub mod reply;
+mod role;
 mod state;
 pub mod world;
 

@@ -1,5 +1,5 @@
 use bayou_base::{Accepted, Seen};
-use bayou_server::{Behind, TakeFault, Took, WriteFault};
+use bayou_server::{Behind, ReopenFault, Reopened, StartFault, TakeFault, Took, WriteFault};
 
 /// What an event came to.
 #[derive(Debug, Drop)]
@@ -18,10 +18,16 @@ pub enum Reply {
     Delivered,
     /// It was lost.
     Dropped,
+    /// The fuse waits on the server's device.
+    Fused,
+    /// The server's answer to a reopening.
+    Reopened(Result<Reopened, ReopenFault>),
+    /// The server holds so many Writes as it starts; or why it didn't start, and is stopped.
+    Restarted(Result<usize, StartFault>),
     /// The operation was entered in the book.
     Filed,
     /// Nothing went in flight, as memory was refused.
     NoMemory,
-    /// The event named nothing that is there, or a number above the greatest, or a session that can begin nothing now.
+    /// The event named nothing that is there, or a server that is stopped, or a number above the greatest, or a session that can begin nothing now.
     Skipped,
 }

@@ -2,22 +2,23 @@
 ghost use Rattle.std.specs.Prelude.{◌≡◌, ◌++◌, IfOk, OnOk};
 ghost use Rattle.bayou_world.specs.Inner.Clients.{served_entries};
 ghost use Rattle.bayou_world.specs.Inner.Booking.{TakesOldest};
+ghost use Rattle.bayou_world.specs.Faults.{tells_fault, tells_fuse};
+ghost use Rattle.bayou_world.specs.Inner.Charges.{AreSpent};
 ghost use Rattle.bayou_world.specs.Inner.Tie.{Follows};
-ghost use Rattle.bayou_world.specs.Steps.{Collects, Delivers, Loses, Offers, Reads, Takes, Writes};
+ghost use Rattle.bayou_world.specs.Steps.{Collects, Delivers, Fuses, Loses, Offers, Reads, Reopens, Restarts, Takes, Writes};
 
 use crate::client::Client;
+use crate::replica::{Replica, reopen_server, take_write};
 use crate::reply::Reply;
 use bayou_base::{Entry, Key, MAX_NUMBER, ServerId, SessionId, Vector, What};
-use bayou_device::{MemoryDevice, OpenGate};
 use bayou_lang::{RestingProgram, RestingWrite};
-use bayou_server::Server;
 use bayou_session::laws::{read_need_is_what_is_asked, write_need_is_what_is_asked};
 use std::alloc::{AllocError, Global};
 
 /// Servers on devices in memory, sessions, and what is in flight between them.
 #[derive(Drop)]
 pub struct State {
-    pub servers: Vec<Server<MemoryDevice<OpenGate>>>,
+    pub servers: Vec<Replica>,
     // One place for each session that there may be.
     pub clients: Vec<Option<Client>>,
     pub offers: Vec<Vector>,
@@ -39,7 +40,8 @@ fn keep_served(served: &mut Vec<Entry>, entry: Entry) -> Result<(), AllocError>
 impl State {
     /// The session asks the server what the key has.
     pub fn read(&mut self, who: SessionId, place: ServerId, key: &Key) -> Reply
-        ensures { Follows self.old (λ machine next. Reads machine who.index place.index key.now result next) self.new }
+        ensures follows { Follows self.old (λ machine next. Reads machine who.index place.index key.now result next) self.new }
+        ensures same { self.new.servers ≡ self.old.servers }
     {
         read_need_is_what_is_asked();
         let (seat, at) = (usize::from(who.index), usize::from(place.index));
@@ -52,7 +54,10 @@ impl State {
         if !client.may_begin() {
             return Reply::Skipped;
         }
-        Reply::Read(client.read(&self.servers[at], key))
+        let Replica::Running(server) = &self.servers[at] else {
+            return Reply::Skipped;
+        };
+        Reply::Read(client.read(server, key))
     }
 
     /// The session asks the server to make a Write of the program.
@@ -63,7 +68,8 @@ impl State {
         place: ServerId,
         program: RestingProgram,
     ) -> Reply
-        ensures { Follows self.old (λ machine next. Writes machine who.index place.index program result next) self.new }
+        ensures follows { Follows self.old (λ machine next. Writes machine who.index place.index program result next) self.new }
+        ensures spent { AreSpent place.index (tells_fault result) (tells_fuse result) self.old.servers.items self.new.servers.items }
     {
         write_need_is_what_is_asked();
         let (seat, at) = (usize::from(who.index), usize::from(place.index));
@@ -76,12 +82,16 @@ impl State {
         if !client.may_begin() {
             return Reply::Skipped;
         }
-        Reply::Wrote(client.write(alloc, &mut self.servers[at], program))
+        let Replica::Running(server) = &mut self.servers[at] else {
+            return Reply::Skipped;
+        };
+        Reply::Wrote(client.write(alloc, server, program))
     }
 
     /// The answer on its way reaches the session. Want of memory leaves it half told.
     pub fn deliver(&mut self, who: SessionId) -> Result<Reply, AllocError>
-        ensures { IfOk result (λ reply. Follows self.old (λ machine next. Delivers machine who.index reply next) self.new) }
+        ensures follows { IfOk result (λ reply. Follows self.old (λ machine next. Delivers machine who.index reply next) self.new) }
+        ensures same { OnOk result (self.new.servers ≡ self.old.servers) }
     {
         let seat = usize::from(who.index);
         if seat >= self.clients.len() {
@@ -99,7 +109,8 @@ impl State {
 
     /// The answer on its way is lost.
     pub fn lose(&mut self, who: SessionId) -> Reply
-        ensures { Follows self.old (λ machine next. Loses machine who.index result next) self.new }
+        ensures follows { Follows self.old (λ machine next. Loses machine who.index result next) self.new }
+        ensures same { self.new.servers ≡ self.old.servers }
     {
         let seat = usize::from(who.index);
         if seat >= self.clients.len() {
@@ -117,14 +128,18 @@ impl State {
 
     /// What the server holds is kept as an offer.
     pub fn offer(&mut self, place: ServerId) -> Result<Reply, AllocError>
-        ensures { IfOk result (λ reply. Follows self.old (λ machine next. Offers machine place.index reply next) self.new) }
+        ensures follows { IfOk result (λ reply. Follows self.old (λ machine next. Offers machine place.index reply next) self.new) }
+        ensures same { OnOk result (self.new.servers ≡ self.old.servers) }
     {
         let at = usize::from(place.index);
         let number = self.offers.len();
         if at >= self.servers.len() || number > MAX_NUMBER as usize {
             return Ok(Reply::Skipped);
         }
-        self.offers.push(self.servers[at].vector())?;
+        let Replica::Running(server) = &self.servers[at] else {
+            return Ok(Reply::Skipped);
+        };
+        self.offers.push(server.vector())?;
         Ok(Reply::Kept(number as u32))
     }
 
@@ -135,13 +150,16 @@ impl State {
         place: ServerId,
         offer: u32,
     ) -> Result<Reply, AllocError>
-        ensures { IfOk result (λ reply. Follows self.old (λ machine next. Collects machine place.index offer reply next) self.new) }
+        ensures follows { IfOk result (λ reply. Follows self.old (λ machine next. Collects machine place.index offer reply next) self.new) }
+        ensures same { OnOk result (self.new.servers ≡ self.old.servers) }
     {
         let (at, offer) = (usize::from(place.index), offer as usize);
         if at >= self.servers.len() || offer >= self.offers.len() {
             return Ok(Reply::Skipped);
         }
-        let server = &self.servers[at];
+        let Replica::Running(server) = &self.servers[at] else {
+            return Ok(Reply::Skipped);
+        };
         let most = server.limit() as usize;
         let offered = &self.offers[offer];
         let Ok(mut lacking) = server.lacking(alloc, offered, most) else {
@@ -161,19 +179,68 @@ impl State {
 
     /// The server is given the item, a copy of which is made first.
     pub fn take(&mut self, alloc: Global, place: ServerId, item: u32) -> Result<Reply, AllocError>
-        ensures { IfOk result (λ reply. Follows self.old (λ machine next. Takes machine place.index item reply next) self.new) }
+        ensures follows { IfOk result (λ reply. Follows self.old (λ machine next. Takes machine place.index item reply next) self.new) }
+        ensures spent { IfOk result (λ reply. AreSpent place.index (tells_fault reply) (tells_fuse reply) self.old.servers.items self.new.servers.items) }
     {
         let (at, item) = (usize::from(place.index), item as usize);
         if at >= self.servers.len() || item >= self.items.len() {
             return Ok(Reply::Skipped);
         }
+        let Replica::Running(server) = &mut self.servers[at] else {
+            return Ok(Reply::Skipped);
+        };
         let write = self.items[item].copy(alloc)?;
-        Ok(Reply::Took(self.servers[at].take(alloc, write)))
+        Ok(Reply::Took(take_write(alloc, server, write)))
+    }
+
+    /// A device call of the server is to fail.
+    pub fn fuse(&mut self, place: ServerId, call: u32, kept: usize) -> Reply
+        ensures follows { Follows self.old (λ machine next. Fuses machine place.index call result next) self.new }
+        ensures spent { AreSpent place.index (tells_fault result) (tells_fuse result) self.old.servers.items self.new.servers.items }
+    {
+        let at = usize::from(place.index);
+        if at >= self.servers.len() || call == 0 {
+            return Reply::Skipped;
+        }
+        self.servers[at].fuse(call, kept);
+        Reply::Fused
+    }
+
+    /// The server opens its journal again.
+    pub fn reopen(&mut self, alloc: Global, place: ServerId) -> Reply
+        ensures follows { Follows self.old (λ machine next. Reopens machine place.index result next) self.new }
+        ensures spent { AreSpent place.index (tells_fault result) (tells_fuse result) self.old.servers.items self.new.servers.items }
+    {
+        let at = usize::from(place.index);
+        if at >= self.servers.len() {
+            return Reply::Skipped;
+        }
+        let Replica::Running(server) = &mut self.servers[at] else {
+            return Reply::Skipped;
+        };
+        Reply::Reopened(reopen_server(alloc, server))
+    }
+
+    /// The server is stopped, and started on what its device has.
+    pub fn restart(&mut self, alloc: Global, place: ServerId) -> Reply
+        ensures follows { Follows self.old (λ machine next. Restarts machine place.index result next) self.new }
+        ensures spent { AreSpent place.index (tells_fault result) (tells_fuse result) self.old.servers.items self.new.servers.items }
+    {
+        let at = usize::from(place.index);
+        if at >= self.servers.len() {
+            return Reply::Skipped;
+        }
+        let (replica, answer) = self.servers.remove(at).restart(alloc);
+        let Ok(()) = self.servers.insert(at, replica) else {
+            unreachable!();
+        };
+        Reply::Restarted(answer)
     }
 
     /// Takes the session's oldest entry that waits for the book.
     pub fn oldest(&mut self, who: SessionId) -> Option<Entry>
-        ensures { TakesOldest self.old who.index result self.new }
+        ensures follows { TakesOldest self.old who.index result self.new }
+        ensures same { self.new.servers ≡ self.old.servers }
     {
         let seat = usize::from(who.index);
         if seat >= self.clients.len() {

@@ -1,11 +1,14 @@
 //! Servers and sessions to which nothing has happened, and a run of them.
-ghost use Rattle.std.specs.Prelude.{◌≡◌, ◌<◌, ◌≤◌, [], IfOk, List, map};
+ghost use Rattle.std.specs.Prelude.{◌≡◌, ◌<◌, ◌≤◌, [], IfOk, IsTrue, List, length, map};
 ghost use Rattle.bayou_audit.specs.Blanks.{AreBlanksOf, named};
 ghost use Rattle.bayou_base.specs.declared.limits.TheConstants.{MAX_WRITES, SERVERS as SERVERS_NUMBER, SESSIONS as SESSIONS_NUMBER};
+ghost use Rattle.bayou_world.specs.Faults.{AreFused};
 ghost use Rattle.bayou_world.specs.Histories.{IsHistory};
-ghost use Rattle.bayou_world.specs.Inner.Beginning.{AreFirstSeats, AreStarted, IsFirstSeat, Leaves, fresh_core};
+ghost use Rattle.bayou_world.specs.Inner.Beginning.{AreFirstSeats, AreStarted, IsFirstSeat, Leaves};
 ghost use Rattle.bayou_world.specs.Inner.Booking.{FollowsInBook, IsBookOf};
+ghost use Rattle.bayou_world.specs.Inner.Charges.{AreAmple, AreCharged, SpendsAt};
 ghost use Rattle.bayou_world.specs.Inner.Good.{IsGood};
+ghost use Rattle.bayou_world.specs.Inner.Replicas.{held_by};
 ghost use Rattle.bayou_world.specs.Inner.Tie.{IsOf};
 ghost use Rattle.bayou_world.specs.Machine.{Machine};
 ghost use Rattle.bayou_world.specs.Runs.{asks_of, is_file as is_file_said, places_for as places_of};
@@ -15,14 +18,13 @@ use crate::client::Client;
 use crate::event::Event;
 use crate::filing::Filing;
 use crate::history::History;
+use crate::replica::Replica;
 use crate::reply::Reply;
+use crate::role::Role;
 use crate::state::State;
 use bayou_audit::{Blanks, Four, Ledgers};
 use bayou_base::{MAX_ENTRIES, SESSIONS, ServerId};
-use bayou_device::{MemoryDevice, OpenGate};
 use bayou_lang::RestingWrite;
-use bayou_server::Server;
-use bayou_server::laws::a_start_on_an_empty_device_holds_nothing;
 use bayou_session::Session;
 use std::alloc::{AllocError, Global};
 use std::marker::{Brand, Model};
@@ -33,7 +35,7 @@ use std::sync::ledger::{Blank, Ledger};
 pub struct World {
     count: u8,
     limit: u32,
-    servers: Vec<Server<MemoryDevice<OpenGate>>>,
+    servers: Vec<Replica>,
     sessions: Vec<Session>,
 }
 
@@ -46,26 +48,6 @@ impl Model for World {
     ghost view = { λ w. record { count = w.count; limit = w.limit; sessions = w.sessions.items } };
 
     ghost invariant = { λ w. AreStarted w.count w.count w.limit w.servers.items };
-}
-
-/// A server that is started first, on an empty device, which refuses nothing but for memory.
-fn begin_server(
-    alloc: Global,
-    id: ServerId,
-    count: u8,
-    limit: u32,
-) -> Result<Server<MemoryDevice<OpenGate>>, AllocError>
-    requires known { id.index < count }
-    requires count { count ≤ SERVERS_NUMBER }
-    requires limit { limit ≤ MAX_WRITES }
-    ensures { IfOk result (λ server. server.core ≡ fresh_core id.index count limit) }
-{
-    a_start_on_an_empty_device_holds_nothing::<MemoryDevice<OpenGate>>();
-    let device = MemoryDevice::new(alloc, OpenGate);
-    match Server::start(alloc, id, count, limit, device) {
-        Ok((server, _)) => Ok(server),
-        Err(_) => Err(AllocError),
-    }
 }
 
 /// The client of the first session of this number, if there is one.
@@ -103,7 +85,10 @@ fn is_file(event: &Event) -> bool
         | Event::Lose(_)
         | Event::Offer(_)
         | Event::Collect { .. }
-        | Event::Take { .. } => false,
+        | Event::Take { .. }
+        | Event::Fuse { .. }
+        | Event::Reopen(_)
+        | Event::Restart(_) => false,
     }
 }
 
@@ -121,17 +106,26 @@ fn places_for(events: &[Event]) -> usize
 }
 
 /// What each server holds.
-fn dumps_of(
-    alloc: Global,
-    servers: &[Server<MemoryDevice<OpenGate>>],
-) -> Result<Vec<Vec<RestingWrite>>, AllocError>
-    ensures { IfOk result (λ dumps. map (λ (dump : _). dump.items) dumps.items ≡ map (λ (server : _). server.core.held) servers.now) }
+fn dumps_of(alloc: Global, servers: &[Replica]) -> Result<Vec<Vec<RestingWrite>>, AllocError>
+    ensures { IfOk result (λ dumps. map (λ (dump : _). dump.items) dumps.items ≡ map held_by servers.now) }
 {
     let mut dumps = Vec::new(alloc);
     for server in servers {
         dumps.push(server.dump(alloc)?)?;
     }
     Ok(dumps)
+}
+
+/// Whether none of their appends found no memory.
+fn are_ample(servers: &mut Vec<Replica>) -> bool
+    ensures { IsTrue result → AreAmple servers.old.items }
+{
+    for at in 0..servers.len() {
+        if servers[at].lacks() > 0 {
+            return false;
+        }
+    }
+    true
 }
 
 /// What the event does to servers, sessions and book. A program is copied first.
@@ -141,7 +135,8 @@ fn step<K: Ledgers>(
     filing: &mut Filing<K>,
     event: &Event,
 ) -> Result<Reply, AllocError>
-    ensures { IfOk result (λ reply. FollowsInBook state.old filing.old (λ machine next. Step machine event.now reply next) state.new filing.new) }
+    ensures follows { IfOk result (λ reply. FollowsInBook state.old filing.old (λ machine next. Step machine event.now reply next) state.new filing.new) }
+    ensures spent { IfOk result (λ reply. SpendsAt event.now reply state.old.servers.items state.new.servers.items) }
 {
     match event {
         Event::Read {
@@ -162,6 +157,9 @@ fn step<K: Ledgers>(
         Event::Offer(server) => state.offer(*server),
         Event::Collect { server, offer } => state.collect(alloc, *server, *offer),
         Event::Take { server, item } => state.take(alloc, *server, *item),
+        Event::Fuse { server, call, kept } => Ok(state.fuse(*server, *call, *kept)),
+        Event::Reopen(server) => Ok(state.reopen(alloc, *server)),
+        Event::Restart(server) => Ok(state.restart(alloc, *server)),
         Event::File(session) => Ok(filing.file(state, *session)),
     }
 }
@@ -173,7 +171,8 @@ fn play<K: Ledgers>(
     filing: Filing<K>,
     events: &[Event],
 ) -> Result<History, AllocError>
-    ensures { IfOk result (λ history. (first : Machine) → IsGood first → IsOf state first → IsBookOf filing first → Leaves first events.now history) }
+    ensures leaves { IfOk result (λ history. (first : Machine) → IsGood first → IsOf state first → IsBookOf filing first → Leaves first events.now history) }
+    ensures fused { IfOk result (λ history. AreCharged (length state.servers.items) [] [] state.servers.items → AreFused (length state.servers.items) events.now history.replies.items) }
 {
     let mut state = state;
     let mut filing = filing;
@@ -182,6 +181,9 @@ fn play<K: Ledgers>(
         replies.push(step(alloc, &mut state, &mut filing, event)?)?;
     }
     let dumps = dumps_of(alloc, &state.servers)?;
+    if !are_ample(&mut state.servers) {
+        return Err(AllocError);
+    }
     Ok(History {
         replies,
         served: state.served,
@@ -198,7 +200,8 @@ fn run_with<K: Ledgers>(
     events: &[Event],
 ) -> Result<History, AllocError>
     requires blanks { AreBlanksOf blanks (named K.Slips.name K.Slips.parts) (named K.Reads.name K.Reads.parts) (named K.Writes.name K.Writes.parts) (named K.Refusals.name K.Refusals.parts) SESSIONS_NUMBER }
-    ensures { IfOk result (IsHistory world events.now) }
+    ensures history { IfOk result (IsHistory world events.now) }
+    ensures fused { IfOk result (λ history. AreFused world.count events.now history.replies.items) }
 {
     let World {
         servers,
@@ -229,7 +232,8 @@ where
     U: Ledger + Send + Sync,
     V: Ledger + Send + Sync,
     requires blanks { AreBlanksOf blanks (named S.name S.parts) (named T.name T.parts) (named U.name U.parts) (named V.name V.parts) SESSIONS_NUMBER }
-    ensures { IfOk result (IsHistory world events.now) }
+    ensures history { IfOk result (IsHistory world events.now) }
+    ensures fused { IfOk result (λ history. AreFused world.count events.now history.replies.items) }
 {
     run_with::<Four<S, T, U, V>>(alloc, blanks, world, events)
 }
@@ -249,7 +253,8 @@ impl World {
     {
         let mut servers = Vec::new(alloc);
         for index in 0..count {
-            servers.push(begin_server(alloc, ServerId { index }, count, limit)?)?;
+            let id = ServerId { index };
+            servers.push(Replica::begin(alloc, Role { id, count, limit })?)?;
         }
         Ok(World {
             count,
@@ -260,9 +265,10 @@ impl World {
     }
 
     /// Runs the events, and gives what they leave. Where memory is refused, the world is gone; that of an operation, an item or a
-    /// Collect is a reply.
+    /// Collect is a reply, but where an append found none: so a failed device call is one for which a fuse was set.
     pub fn run(self, alloc: Global, events: &[Event]) -> Result<History, AllocError>
-        ensures { IfOk result (IsHistory self events.now) }
+        ensures history { IfOk result (IsHistory self events.now) }
+        ensures fused { IfOk result (λ history. AreFused self.count events.now history.replies.items) }
     {
         let blanks = Blanks {
             slips: Blank::new(SESSIONS as u64),

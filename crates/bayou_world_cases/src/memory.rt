@@ -1,6 +1,6 @@
 //! A run in which memory is refused.
 use crate::scripts::{Act, OWN_WRITES, Said, Script, Told, events_of, is_as_it_says, play, saying};
-use Said::{Accepted, Delivered, Dropped, Filed, Flown, Kept, New, Seen, Wanting};
+use Said::{Accepted, Delivered, Doubted, Dropped, Filed, Flown, Kept, New, Seen, Wanting};
 use bayou_world::{Event, Reply};
 use std::alloc::{AllocError, Global};
 use std::process::Abort;
@@ -38,7 +38,7 @@ fn are_cut_short(replies: &[Reply], acts: &[(Act, Said)]) -> bool {
     let mut is_each = replies.len() == acts.len();
     for (reply, (_, wanted)) in replies.iter().zip(acts.iter()) {
         let said = saying(reply);
-        is_wanting = is_wanting || said == Wanting;
+        is_wanting = is_wanting || said == Wanting || said == Doubted;
         is_each = is_each && (is_wanting || said == *wanted);
     }
     is_each && is_wanting

@@ -1,19 +1,21 @@
 //! Lists of events at random, at four servers and by eight sessions that ask for this and that: the judge finds what was served
-//! clean. Where the same sessions ask for nothing, it finds breaches of each guarantee.
+//! clean, in half of the lists also where device calls fail and servers are recovered. Where the same sessions ask for nothing, it
+//! finds breaches of each guarantee.
 ghost use Rattle.std.specs.Prelude.{◌<◌};
 
+use crate::failures::is_fault;
 use crate::fixtures::{put, room, server_id, session_id, sessions_of};
 use bayou_base::{Asks, Entry, ServerId, SessionId};
 use bayou_judge::{Guarantee, Refusal, Verdict, judge};
-use bayou_server::{TakeFault, Took, WriteFault};
+use bayou_server::{JournalFault, ReopenFault, StartFault, TakeFault, Took, WriteFault};
 use bayou_world::world::World;
 use bayou_world::{Event, History, Reply};
 use std::alloc::{AllocError, Global};
 use std::process::Abort;
 use std::test::Fail;
 
-/// How many lists from the seed.
-const LISTS: u32 = 200;
+/// How many lists from the seed. In every other one device calls fail.
+const LISTS: u32 = 400;
 
 /// How many events a list has, but for some more at its end.
 const EVENTS: usize = 300;
@@ -25,7 +27,7 @@ const ROUNDS: usize = 3;
 const LIMITS: [u32; 4] = [6, 20, 100, 1_000];
 
 /// Kinds of answers: see [`kind_of`].
-const KINDS: usize = 22;
+const KINDS: usize = 36;
 
 const ALL: Asks = Asks {
     ryw: true,
@@ -93,12 +95,15 @@ struct List {
     /// The server of each offer.
     offers: Vec<u8>,
     batches: Vec<Batch>,
+    /// Whether device calls fail.
+    fails: bool,
 }
 
 impl List {
-    fn new(alloc: Global) -> Self {
+    fn new(alloc: Global, fails: bool) -> Self {
         List {
             alloc,
+            fails,
             events: Vec::new(alloc),
             offers: Vec::new(alloc),
             batches: Vec::new(alloc),
@@ -163,8 +168,15 @@ impl List {
     /// An event of a session alone, or one that names what isn't there.
     fn stray(&mut self, rt: &impl Abort, dice: &mut Dice) -> Result<(), AllocError> {
         let (session, server) = (dice.session(rt), dice.server(rt));
-        let event = match dice.below(12) {
+        let event = match dice.below(15) {
             0 => Event::Offer(server_id(rt, 4)),
+            12 => Event::Fuse {
+                server,
+                call: 0,
+                kept: 0,
+            },
+            13 => Event::Reopen(server_id(rt, 4)),
+            14 => Event::Restart(server_id(rt, 4)),
             1 => Event::Collect {
                 server,
                 offer: 1_000,
@@ -186,6 +198,22 @@ impl List {
         Ok(())
     }
 
+    /// A device call is to fail, or a server is recovered.
+    fn fail(&mut self, rt: &impl Abort, dice: &mut Dice) -> Result<(), AllocError> {
+        let server = dice.server(rt);
+        let event = match dice.below(6) {
+            0 | 1 => Event::Fuse {
+                server,
+                call: dice.below(8),
+                kept: dice.below(120) as usize,
+            },
+            2 => Event::Restart(server),
+            _ => Event::Reopen(server),
+        };
+        self.events.push(event)?;
+        Ok(())
+    }
+
     /// So many events, or a few more.
     fn grow(&mut self, rt: &impl Abort, dice: &mut Dice, many: usize) -> Result<(), AllocError> {
         for _ in 0..EVENTS {
@@ -194,12 +222,24 @@ impl List {
                     0..=3 => self.operate(rt, dice)?,
                     4 | 5 => self.collect(rt, dice)?,
                     6 | 7 => self.take(rt, dice)?,
+                    8 if self.fails => self.fail(rt, dice)?,
                     _ => self.stray(rt, dice)?,
                 }
             }
         }
         Ok(())
     }
+}
+
+/// The server of each offer that was kept.
+fn offers_of(alloc: Global, events: &[Event], replies: &[Reply]) -> Result<Vec<u8>, AllocError> {
+    let mut offers = Vec::new(alloc);
+    for (event, reply) in events.iter().zip(replies.iter()) {
+        if let (Event::Offer(server), Reply::Kept(_)) = (event, reply) {
+            offers.push(server.index)?;
+        }
+    }
+    Ok(offers)
 }
 
 /// What was collected for which server.
@@ -235,32 +275,88 @@ fn list_of(
     dice: &mut Dice,
     limit: u32,
     asks: &[Asks; 8],
+    fails: bool,
 ) -> Result<List, AllocError> {
-    let mut list = List::new(alloc);
+    let mut list = List::new(alloc, fails);
     for round in 1..ROUNDS {
         list.grow(rt, dice, round * (EVENTS / ROUNDS))?;
         let history = run(rt, alloc, limit, asks, list.events.as_slice())?;
-        list.batches = batches_of(alloc, &list, history.replies.as_slice())?;
+        let replies = history.replies.as_slice();
+        list.offers = offers_of(alloc, list.events.as_slice(), replies)?;
+        list.batches = batches_of(alloc, &list, replies)?;
     }
     list.grow(rt, dice, EVENTS)?;
     Ok(list)
 }
 
-/// Why it was skipped: by its event.
-fn skip_of(event: &Event) -> usize {
+/// The server that the event is of, if it is of one alone.
+fn server_of(event: &Event) -> Option<ServerId> {
     match event {
-        Event::Read { .. } => 14,
-        Event::Write { .. } => 15,
-        Event::Deliver(_) => 16,
-        Event::Lose(_) => 17,
-        Event::Offer(_) => 18,
-        Event::Collect { .. } => 19,
-        Event::Take { .. } => 20,
-        Event::File(_) => 21,
+        Event::Write { server, .. } | Event::Take { server, .. } | Event::Fuse { server, .. } => {
+            Some(*server)
+        }
+        Event::Reopen(server) | Event::Restart(server) => Some(*server),
+        _ => None,
     }
 }
 
-/// Which of the kinds below [`KINDS`] the answer is: each that there may be where no device fails and memory isn't refused.
+/// Whether each fault of a server has a fuse of that server before it, of its own.
+fn are_paid(events: &[Event], replies: &[Reply]) -> bool {
+    let mut fuses: [u32; 4] = [0; 4];
+    let mut is_each = true;
+    for (event, reply) in events.iter().zip(replies.iter()) {
+        if let Some(server) = server_of(event) {
+            is_each = pay(&mut fuses, server, reply) && is_each;
+        }
+    }
+    is_each
+}
+
+/// The server's fuses behind a reply. Whether there was one for a fault.
+fn pay(fuses: &mut [u32; 4], server: ServerId, reply: &Reply) -> bool {
+    let at = usize::from(server.index).min(3);
+    if let Reply::Fused = reply {
+        fuses[at] = fuses[at].saturating_add(1);
+        return true;
+    }
+    if !is_fault(reply) {
+        return true;
+    }
+    let is_paid = fuses[at] > 0;
+    fuses[at] = fuses[at].saturating_sub(1);
+    is_paid
+}
+
+/// Why it was skipped: by its event.
+fn skip_of(event: &Event) -> usize {
+    match event {
+        Event::Read { .. } => 25,
+        Event::Write { .. } => 26,
+        Event::Deliver(_) => 27,
+        Event::Lose(_) => 28,
+        Event::Offer(_) => 29,
+        Event::Collect { .. } => 30,
+        Event::Take { .. } => 31,
+        Event::Fuse { .. } => 32,
+        Event::Reopen(_) => 33,
+        Event::Restart(_) => 34,
+        Event::File(_) => 35,
+    }
+}
+
+/// Which kind of recovery, or of a refusal of one, the answer is.
+fn recovery_of(reply: &Reply) -> usize {
+    match reply {
+        Reply::Reopened(Ok(reopened)) => { if reopened.adopted.is_none() { 19 } else { 20 } }
+        Reply::Reopened(Err(ReopenFault::NotDown)) => 21,
+        Reply::Reopened(Err(ReopenFault::Journal(JournalFault::Device))) => 22,
+        Reply::Restarted(Ok(_)) => 23,
+        Reply::Restarted(Err(StartFault::Journal(JournalFault::Device))) => 24,
+        _ => KINDS,
+    }
+}
+
+/// Which of the kinds below [`KINDS`] the answer is: each that there may be where memory isn't refused.
 fn kind_of(event: &Event, reply: &Reply) -> usize {
     match reply {
         Reply::Read(Ok(_)) => 0,
@@ -278,6 +374,12 @@ fn kind_of(event: &Event, reply: &Reply) -> usize {
         Reply::Dropped => 12,
         Reply::Filed => 13,
         Reply::Skipped => skip_of(event),
+        Reply::Wrote(Err(WriteFault::Journal)) => 14,
+        Reply::Wrote(Err(WriteFault::Down)) => 15,
+        Reply::Took(Err(TakeFault::Journal)) => 16,
+        Reply::Took(Err(TakeFault::Down)) => 17,
+        Reply::Fused => 18,
+        Reply::Reopened(_) | Reply::Restarted(_) => recovery_of(reply),
         Reply::Wrote(Err(_)) | Reply::Took(Err(_)) | Reply::NoMemory => KINDS,
     }
 }
@@ -287,6 +389,8 @@ fn kind_of(event: &Event, reply: &Reply) -> usize {
 struct Tally {
     /// How many runs the judge found clean.
     clean: u32,
+    /// In how many no server had more faults than fuses, at any time.
+    paid: u32,
     /// How many answers of each kind there were, and of none of them.
     kinds: [u32; KINDS + 1],
     /// How many breaches of each guarantee were found where nothing was asked for.
@@ -321,12 +425,16 @@ impl Tally {
         alloc: Global,
         dice: &mut Dice,
         limit: u32,
+        fails: bool,
     ) -> Result<(), AllocError> {
         let asks = dice.asks_of_all();
-        let list = list_of(rt, alloc, dice, limit, &asks)?;
+        let list = list_of(rt, alloc, dice, limit, &asks, fails)?;
         let events = list.events.as_slice();
         let history = run(rt, alloc, limit, &asks, events)?;
         self.add_replies(events, history.replies.as_slice());
+        if are_paid(events, history.replies.as_slice()) {
+            self.paid = self.paid.saturating_add(1);
+        }
         if verdict_of(alloc, history.served.as_slice(), &history) == Ok(Verdict::Clean) {
             self.clean = self.clean.saturating_add(1);
         }
@@ -340,6 +448,7 @@ impl Tally {
     fn is_full(&self) -> bool {
         let (kinds, others) = (&self.kinds[..KINDS], self.kinds[KINDS]);
         self.clean == LISTS
+            && self.paid == LISTS
             && kinds.iter().all(|many| *many > 0)
             && others == 0
             && self.broken.iter().all(|many| *many > 0)
@@ -368,12 +477,13 @@ fn found_from(rt: &impl Abort, alloc: Global, seed: u64) -> Result<Tally, AllocE
     let mut dice = Dice { state: seed };
     let mut tally = Tally {
         clean: 0,
+        paid: 0,
         kinds: [0; KINDS + 1],
         broken: [0; 4],
     };
     for number in 0..LISTS {
-        let limit = LIMITS[number as usize % LIMITS.len()];
-        tally.add(rt, alloc, &mut dice, limit)?;
+        let limit = LIMITS[number as usize / 2 % LIMITS.len()];
+        tally.add(rt, alloc, &mut dice, limit, number % 2 == 1)?;
     }
     Ok(tally)
 }

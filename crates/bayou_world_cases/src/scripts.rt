@@ -1,14 +1,14 @@
 //! Scripts at two servers: what each event is answered, and what is left.
 use crate::fixtures::{put, room, server_id, session_id, sessions_of};
 use Said::{
-    Accepted, Delivered, Dropped, Filed, Flown, Full, Gap, Had, Kept, New, ReadBehind, Seen,
-    Skipped, Wanting, WriteBehind,
+    Accepted, Delivered, Doubted, Down, Dropped, Filed, Flown, Full, Fused, Gap, Had, Holds, Kept,
+    New, NotDown, NotReopened, NotRestarted, ReadBehind, Seen, Skipped, Up, Wanting, WriteBehind,
 };
 use Told::{Saw, Wrote};
 use bayou_audit::Totals;
-use bayou_base::{Asks, Entry, Value, Vector, What};
+use bayou_base::{Asks, Entry, Value, Vector, What, Wid};
 use bayou_lang::RestingWrite;
-use bayou_server::{Behind, TakeFault, Took, WriteFault};
+use bayou_server::{Behind, JournalFault, ReopenFault, StartFault, TakeFault, Took, WriteFault};
 use bayou_world::world::World;
 use bayou_world::{Event, History, Reply};
 use std::alloc::{AllocError, Global};
@@ -28,6 +28,9 @@ pub enum Act {
     Offer(u8),
     Collect(u8, u32),
     Take(u8, u32),
+    Fuse(u8, u32, usize),
+    Reopen(u8),
+    Restart(u8),
     File(u8),
 }
 
@@ -48,6 +51,17 @@ pub enum Said {
     Delivered,
     Dropped,
     Filed,
+    Fused,
+    /// A device call failed as the Write was stored.
+    Doubted,
+    Down,
+    /// The server is up, and adopted the Write of this origin and seq.
+    Up(Option<(u8, u32)>),
+    NotDown,
+    NotReopened,
+    /// The server was restarted, and holds so many Writes.
+    Holds(usize),
+    NotRestarted,
     Skipped,
     /// Memory was refused.
     Wanting,
@@ -78,7 +92,7 @@ pub struct Script {
     pub totals: (usize, usize, usize),
 }
 
-const NOTHING: Asks = Asks {
+pub const NOTHING: Asks = Asks {
     ryw: false,
     mr: false,
     wfr: false,
@@ -92,7 +106,7 @@ pub const OWN_WRITES: Asks = Asks {
     mw: false,
 };
 
-const ALL: Asks = Asks {
+pub const ALL: Asks = Asks {
     ryw: true,
     mr: true,
     wfr: true,
@@ -229,7 +243,7 @@ static OF_BOOKS: [Script; 3] = [
     },
 ];
 
-fn event_of(rt: &impl Abort, alloc: Global, act: Act) -> Result<Event, AllocError> {
+pub fn event_of(rt: &impl Abort, alloc: Global, act: Act) -> Result<Event, AllocError> {
     Ok(match act {
         Act::Read(session, server) => Event::Read {
             session: session_id(rt, session),
@@ -252,6 +266,13 @@ fn event_of(rt: &impl Abort, alloc: Global, act: Act) -> Result<Event, AllocErro
             server: server_id(rt, server),
             item,
         },
+        Act::Fuse(server, call, kept) => Event::Fuse {
+            server: server_id(rt, server),
+            call,
+            kept,
+        },
+        Act::Reopen(server) => Event::Reopen(server_id(rt, server)),
+        Act::Restart(server) => Event::Restart(server_id(rt, server)),
         Act::File(session) => Event::File(session_id(rt, session)),
     })
 }
@@ -268,6 +289,13 @@ fn number_in(value: &Option<Value>) -> Option<i64> {
     }
 }
 
+fn named(wid: &Option<Wid>) -> Option<(u8, u32)> {
+    match wid {
+        Some(wid) => Some((wid.origin.index, wid.seq)),
+        None => None,
+    }
+}
+
 pub fn saying(reply: &Reply) -> Said {
     match reply {
         Reply::Read(Ok(seen)) => Seen(number_in(&seen.value), counts_of(&seen.vector)),
@@ -278,18 +306,28 @@ pub fn saying(reply: &Reply) -> Said {
         ),
         Reply::Wrote(Err(WriteFault::Behind(vector))) => WriteBehind(counts_of(vector)),
         Reply::Wrote(Err(WriteFault::LogFull)) => Full,
-        Reply::Wrote(Err(WriteFault::OutOfMemory | WriteFault::Journal)) => Wanting,
+        Reply::Wrote(Err(WriteFault::OutOfMemory)) => Wanting,
+        Reply::Wrote(Err(WriteFault::Journal)) => Doubted,
+        Reply::Wrote(Err(WriteFault::Down)) => Down,
         Reply::Took(Ok(Took::New)) => New,
         Reply::Took(Ok(Took::Had)) => Had,
         Reply::Took(Err(TakeFault::Gap)) => Gap,
         Reply::Took(Err(TakeFault::LogFull)) => Full,
-        Reply::Took(Err(TakeFault::OutOfMemory | TakeFault::Journal)) => Wanting,
+        Reply::Took(Err(TakeFault::OutOfMemory)) => Wanting,
+        Reply::Took(Err(TakeFault::Journal)) => Doubted,
+        Reply::Took(Err(TakeFault::Down)) => Down,
         Reply::NoMemory => Wanting,
         Reply::Kept(number) => Kept(*number),
         Reply::Flown { first, number } => Flown(*first, *number),
         Reply::Delivered => Delivered,
         Reply::Dropped => Dropped,
         Reply::Filed => Filed,
+        Reply::Fused => Fused,
+        Reply::Reopened(Ok(reopened)) => Up(named(&reopened.adopted)),
+        Reply::Reopened(Err(ReopenFault::NotDown)) => NotDown,
+        Reply::Reopened(Err(ReopenFault::Journal(JournalFault::Device))) => NotReopened,
+        Reply::Restarted(Ok(holds)) => Holds(*holds),
+        Reply::Restarted(Err(StartFault::Journal(JournalFault::Device))) => NotRestarted,
         Reply::Skipped => Skipped,
         _ => Said::Otherwise,
     }
@@ -304,7 +342,7 @@ fn line_of(entry: &Entry) -> Line {
     (entry.session.index, entry.place, entry.server.index, told)
 }
 
-fn are_said(replies: &[Reply], acts: &[(Act, Said)]) -> bool {
+pub fn are_said(replies: &[Reply], acts: &[(Act, Said)]) -> bool {
     let mut is_each = replies.len() == acts.len();
     for (reply, (_, wanted)) in replies.iter().zip(acts.iter()) {
         is_each = is_each && saying(reply) == *wanted;
@@ -320,7 +358,7 @@ fn are_lines(served: &[Entry], lines: &[Line]) -> bool {
     is_each
 }
 
-fn has_names(dump: &[RestingWrite], names: &[(u8, u32)]) -> bool {
+pub fn has_names(dump: &[RestingWrite], names: &[(u8, u32)]) -> bool {
     let mut is_each = dump.len() == names.len();
     for (write, name) in dump.iter().zip(names.iter()) {
         let wid = write.wid();

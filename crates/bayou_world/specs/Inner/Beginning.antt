@@ -2,7 +2,6 @@
 use Rattle.std.specs.Prelude.{◌≡◌, ℕ, ◌<◌, List, [], Option, None, Some, length, map}
 use Rattle.std.specs.List.{slice_index_or}
 use Rattle.bayou_base.specs.declared.asks.Asks.{Asks}
-use Rattle.bayou_server.specs.Server.{Core, ServerState}
 use Rattle.bayou_session.specs.Needs.{Told, new_session}
 use Rattle.std.specs.Global.{Vec}
 use Rattle.bayou_audit.specs.Totals.{is_read, is_refusal, is_write, number_of, totals_of}
@@ -10,22 +9,22 @@ use Rattle.bayou_lang.specs.declared.write.Write.{Write}
 use Rattle.bayou_world.specs.declared.client.Client.{Client}
 use Rattle.bayou_world.specs.declared.event.Event.{Event}
 use Rattle.bayou_world.specs.declared.history.History.{History}
+use Rattle.bayou_world.specs.declared.replica.Replica.{Replica}
 use Rattle.bayou_world.specs.declared.reply.Reply.{Reply}
 use Rattle.bayou_world.specs.declared.state.State.{State}
 use Rattle.bayou_world.specs.Inner.Booking.{Booking, IsBookOf}
 use Rattle.bayou_world.specs.Inner.Good.{IsGood}
+use Rattle.bayou_world.specs.Inner.Charges.{IsUnused}
+use Rattle.bayou_world.specs.Inner.Replicas.{IsFresh, device_of}
 use Rattle.bayou_world.specs.Inner.Tie.{IsOf}
 use Rattle.bayou_world.specs.Machine.{Answered, Machine, writes}
 use Rattle.bayou_world.specs.Runs.{Run, asks_of}
 
--- a server that is up, and holds nothing
-abbrev pub fresh_core : (place count limit : ℕ) → Core
-fresh_core place count limit = record { id = place; count = count; limit = limit; held = []; doubt = None }
-
--- one such server for each of the first so many places
-pub record AreStarted {D : Type 0} (done count limit : ℕ) (servers : List (ServerState D)) : Type 0 where
+-- a server that was started first for each of the first so many places
+pub record AreStarted (done count limit : ℕ) (servers : List Replica) : Type 0 where
   pub many : length servers ≡ done
-  pub fresh : (place : ℕ) (d : ServerState D) → place < done → (slice_index_or servers place d).core ≡ fresh_core place count limit
+  pub fresh : (place : ℕ) (d : Replica) → place < done → IsFresh count limit place (slice_index_or servers place d)
+  pub unused : (place : ℕ) (d : Replica) → place < done → IsUnused (device_of (slice_index_or servers place d))
 
 -- a client to which nothing has happened
 pub record IsNewClient (who : ℕ) (asks : Asks) (client : Client) : Type 0 where

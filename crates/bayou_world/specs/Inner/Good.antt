@@ -17,11 +17,12 @@ abbrev pub HavePasts : ℕ → List Made → Type 0
 HavePasts place held = (before : List Made) (made : Made) (after : List Made) → held ≡ before ++ made ∷ after
     → made.write.wid.origin.index ≡ place → made.past ≡ writes before
 
--- The Write may be in doubt: it fits what is held, the server's own has that as its past, and another's is at home.
-pub record MayBeDoubted (count : ℕ) (servers : ℕ → ServerSets) (place : ℕ) (server : ServerSets) (made : Made) : Type 0 where
-  pub fits : Fits count (writes server.held) made.write
-  pub deps : made.write.wid.origin.index ≡ place → made.write.deps ≡ count_of (writes server.held)
-  pub past : made.write.wid.origin.index ≡ place → made.past ≡ writes server.held
+-- The Write may be in doubt: there is room for it, it fits what is held, the server's own has that as its past, and another's is at home.
+pub record MayBeDoubted (count limit : ℕ) (servers : ℕ → ServerSets) (place : ℕ) (held : List Made) (made : Made) : Type 0 where
+  pub room : length held < limit
+  pub fits : Fits count (writes held) made.write
+  pub deps : made.write.wid.origin.index ≡ place → made.write.deps ≡ count_of (writes held)
+  pub past : made.write.wid.origin.index ≡ place → made.past ≡ writes held
   pub home : made.write.wid.origin.index ≢ place → IsHome servers made
 
 pub record IsGoodServer (count limit : ℕ) (servers : ℕ → ServerSets) (place : ℕ) (server : ServerSets) : Type 0 where
@@ -30,7 +31,7 @@ pub record IsGoodServer (count limit : ℕ) (servers : ℕ → ServerSets) (plac
   pub home : All (IsHome servers) server.held
   pub pasts : HavePasts place server.held
   pub had : All (IsFrontOf (writes server.held)) server.had
-  pub doubt : (made : Made) → server.doubt ≡ Some made → MayBeDoubted count servers place server made
+  pub doubt : (made : Made) → server.doubt ≡ Some made → MayBeDoubted count limit servers place server.held made
 
 abbrev pub AreGood : (count limit : ℕ) → (ℕ → ServerSets) → Type 0
 AreGood count limit servers = (place : ℕ) → IsGoodServer count limit servers place (servers place)

@@ -9,11 +9,13 @@ use Rattle.bayou_base.specs.declared.entry.What.TheVariants as whats
 use Rattle.bayou_base.specs.declared.limits.TheConstants.{SERVERS, SESSIONS}
 use Rattle.bayou_lang.specs.declared.write.Write.{Write}
 use Rattle.bayou_lang.specs.Writes.{count_of}
-use Rattle.bayou_server.specs.Server.{Core, ServerState}
+use Rattle.bayou_server.specs.Server.{Core}
 use Rattle.bayou_world.specs.declared.client.Client.{Client}
 use Rattle.bayou_world.specs.declared.client.Flight.{Flight}
+use Rattle.bayou_world.specs.declared.replica.Replica.{Replica}
 use Rattle.bayou_world.specs.declared.state.State.{State}
 use Rattle.bayou_world.specs.Inner.Good.{IsGood}
+use Rattle.bayou_world.specs.Inner.Replicas.{IsKept, core_of, is_stopped}
 use Rattle.bayou_world.specs.Invariant.{IsVectorOf}
 use Rattle.bayou_world.specs.Machine.{Answered, Machine, Made, Offered, ServerSets, SessionSets, writes}
 
@@ -24,6 +26,12 @@ write_of made = made.write
 -- the server that holds this
 pub record IsServerOf (count limit place : ℕ) (core : Core) (server : ServerSets) : Type 0 where
   pub is : core ≡ record { id = place; count = count; limit = limit; held = writes server.held; doubt = option_map write_of server.doubt }
+
+-- the same server, running or stopped, over an honest device
+pub record IsReplicaOf (count limit place : ℕ) (replica : Replica) (server : ServerSets) : Type 0 where
+  pub stopped : server.stopped ≡ is_stopped replica
+  pub core : IsServerOf count limit place (core_of replica) server
+  pub kept : IsKept replica
 
 -- what was accepted is told by the entry
 abbrev pub IsAcceptedIn : What → Option Accepted → Type 0
@@ -59,9 +67,9 @@ IsSeatOf who (Some client) None = ⊥
 abbrev pub seat : List (Option Client) → ℕ → Option Client
 seat clients who = slice_index_or clients who None
 
-pub record IsTied {D : Type 0} (servers : List (ServerState D)) (clients : List (Option Client)) (offers : List (List ℕ)) (items : List Write) (served : List Entry) (machine : Machine) : Type 0 where
+pub record IsTied (servers : List Replica) (clients : List (Option Client)) (offers : List (List ℕ)) (items : List Write) (served : List Entry) (machine : Machine) : Type 0 where
   pub many : length servers ≡ machine.count
-  pub servers_are : (place : ℕ) (d : ServerState D) → place < machine.count → IsServerOf machine.count machine.limit place (slice_index_or servers place d).core (machine.servers place)
+  pub servers_are : (place : ℕ) (d : Replica) → place < machine.count → IsReplicaOf machine.count machine.limit place (slice_index_or servers place d) (machine.servers place)
   pub seats : length clients ≡ SESSIONS
   pub clients_are : (who : ℕ) → who < SESSIONS → IsSeatOf who (seat clients who) (machine.sessions who)
   pub offers_are : offers ≡ map (λ (offer : Offered). count_of offer.database) machine.offers

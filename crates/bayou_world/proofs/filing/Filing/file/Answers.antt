@@ -11,9 +11,9 @@ invariant_of-self-in_default-oldest g c = (
       (ap (λ (share : Shared). share.session) c.void.ensures.voided.1 ∙ ap (λ (share : Shared). share.session) c.in-Ok.ensures.claimed.2),
 )
 
-pub returns-in_default-oldest : goal.returns-in_default-oldest
-returns-in_default-oldest g c =
-    none_files c.args.state.now c.oldest.new.self c.args.who.index c.args.self.now c.self.inside.book c.claim.new.self c.void.new.self c.in_default-oldest.ensures c.self.view_is c.in-Ok.ensures.claimed.1 c.void.ensures.voided.0
+pub returns-in_default-oldest-clause-follows : goal.returns-in_default-oldest-clause-follows
+returns-in_default-oldest-clause-follows g c =
+    none_files c.args.state.now c.oldest.new.self c.args.who.index c.args.self.now c.self.inside.book c.claim.new.self c.void.new.self c.in_default-oldest.ensures.follows c.self.view_is c.in-Ok.ensures.claimed.1 c.void.ensures.voided.0
 
 pub invariant_of-self-then-ne : goal.invariant_of-self-then-ne
 invariant_of-self-then-ne g c = (
@@ -22,12 +22,12 @@ invariant_of-self-then-ne g c = (
       (ap (λ (share : Shared). share.session) c.void-then-ne.ensures.voided.1 ∙ ap (λ (share : Shared). share.session) c.in-Ok.ensures.claimed.2),
 )
 
-pub returns-then-ne : goal.returns-then-ne
-returns-then-ne g c machine good tied book =
+pub returns-then-ne-clause-follows : goal.returns-then-ne-clause-follows
+returns-then-ne-clause-follows g c machine good tied book =
     let named : c.session.result.index ≡ c.args.who.index =
     ap (λ (id : SessionId). id.index) c.session.ensures ∙ ap (λ (share : Shared). share.session.index) c.in-Ok.ensures.claimed.2
     ∙ of_session c.self.inside.shares.items c.from.result c.index_mut-share.result.now c.self.invariant.1 (omega (arith, c.from.ensures, c.args.who.in_range)) c.index_mut-share.ensures.value ∙ c.from.ensures in
-    absurd (never c.args.state.now c.oldest.new.self c.args.who.index c.in-Some.entry c.session.result c.in-Some.ensures named c.if-ne.ensures machine good tied)
+    absurd (never c.args.state.now c.oldest.new.self c.args.who.index c.in-Some.entry c.session.result c.in-Some.ensures.follows named c.if-ne.ensures machine good tied)
 
 pub invariant_of-self-2 : goal.invariant_of-self-2
 invariant_of-self-2 g c = (
@@ -36,7 +36,7 @@ invariant_of-self-2 g c = (
       (ap (λ (share : Shared). share.session) c.file.ensures.filed.1 ∙ ap (λ (share : Shared). share.session) c.in-Ok.ensures.claimed.2),
 )
 
-pub returns : goal.returns
-returns g c =
-    files c.args.state.now c.oldest.new.self c.args.who.index c.in-Some.entry c.args.self.now c.self.inside.book c.claim.new.self c.file.new.self c.in-Some.ensures c.self.view_is c.self.invariant.0 c.in-Ok.ensures.exact.0
+pub returns-clause-follows : goal.returns-clause-follows
+returns-clause-follows g c =
+    files c.args.state.now c.oldest.new.self c.args.who.index c.in-Some.entry c.args.self.now c.self.inside.book c.claim.new.self c.file.new.self c.in-Some.ensures.follows c.self.view_is c.self.invariant.0 c.in-Ok.ensures.exact.0
     (λ same. let both = c.in-Ok.ensures.full.1 same in absurd (cc)) c.in-Ok.ensures.claimed.1 c.file.ensures.filed.0

@@ -1,53 +1,50 @@
-use Rattle.std.proofs.Common.{◌≡◌, ◌<◌, ◌≤◌, ◌+◌, ◌++◌, max, ap, sym, ◌∙◌, arith, length, get_or, take, subst}
+use Rattle.std.proofs.Common.{◌≡◌, ◌<◌, ◌≤◌, ◌+◌, ◌++◌, max, sym, ◌∙◌, arith, length, get_or, subst}
 use Rattle.std.proofs.lemmas.List.{get_or_default}
-use Rattle.bayou_lang.specs.Writes.{lacking_of}
+use Rattle.bayou_world.specs.declared.replica.Replica.TheVariants.{Running}
 use Rattle.bayou_base.specs.declared.limits.TheConstants.{MAX_NUMBER}
 use Rattle.bayou_world.specs.Inner.Tie.{IsTied}
 use Rattle.bayou_world.specs.Machine.{Machine}
 use Rattle.bayou_world.specs.Steps.{Collects}
 use Rattle.bayou_world.specs.declared.reply.Reply.TheVariants as replies
+use Rattle.bayou_world.proofs.Tied.{stands_at}
 use Rattle.bayou_world.proofs.TiedItems.{collect_beyond, collect_flown, collect_lacks}
 use Rattle.bayou_world.proofs.state.State.collect.Goals as goal
 
-pub returns-then-first-max : goal.returns-then-first-max
-returns-then-first-max c machine good tied =
+pub returns-then-first-max-clause-follows : goal.returns-then-first-max-clause-follows
+returns-then-first-max-clause-follows c machine good tied =
     let place = c.args.place.index in
     let servers = c.args.self.now.servers.items in
     let clients = c.args.self.now.clients.items in
     let offers = c.args.self.now.offers.items in
     let items = c.args.self.now.items.items in
-    let d = c.index-server.result.now in
+    let server = c.in-Running.server in
     let vector = c.index-offered.result.now in
     let lacking = c.in-Ok.lacking.items in
     let known : place < length servers = omega (arith, c.if-at-len.false, c.from-at.ensures, c.len.ensures) in
     let inside : c.args.offer < length offers = omega (arith, c.if-offer-len.false, c.len-else-at-len.ensures) in
-    let here : d ≡ get_or servers place d = c.index-server.ensures ∙ ap (λ n. get_or servers n d) c.from-at.ensures in
+    let stands : get_or servers place (Running server) ≡ Running server =
+    stands_at servers place c.from-at.result c.index.result.now (Running server) c.index.ensures c.from-at.ensures c.in-Running.is in
     let is : vector ≡ get_or offers c.args.offer vector = c.index-offered.ensures ∙ get_or_default offers c.args.offer _ vector inside in
-    let most_is : c.limit-most.result ≡ (get_or servers place d).core.limit = c.limit-most.ensures.value ∙ ap (λ (x : _). x.core.limit) here in
-    let lacks_it : lacking ≡ take c.limit-most.result (lacking_of vector (get_or servers place d).core.held) =
-    c.in-Ok.ensures.value ∙ ap (λ (x : _). take c.limit-most.result (lacking_of vector x.core.held)) here in
-    let lacks = collect_lacks servers clients offers items c.args.self.now.served.items machine good tied place c.args.offer c.limit-most.result d vector lacking known inside is most_is lacks_it in
+    let lacks = collect_lacks servers clients offers items c.args.self.now.served.items machine good tied place c.args.offer c.limit-most.result server vector lacking known stands inside is c.limit-most.ensures.value c.in-Ok.ensures.value in
     collect_beyond servers clients offers items c.args.self.now.served.items machine tied place c.args.offer lacking lacks
     (omega (arith, c.if-first-max.true, c.len-first.ensures, c.len-number.ensures, c.max.ensures))
 
-pub returns : goal.returns
-returns c machine good tied =
+pub returns-clause-follows : goal.returns-clause-follows
+returns-clause-follows c machine good tied =
     let place = c.args.place.index in
     let servers = c.args.self.now.servers.items in
     let clients = c.args.self.now.clients.items in
     let offers = c.args.self.now.offers.items in
     let items = c.args.self.now.items.items in
-    let d = c.index-server.result.now in
+    let server = c.in-Running.server in
     let vector = c.index-offered.result.now in
     let lacking = c.in-Ok.lacking.items in
     let known : place < length servers = omega (arith, c.if-at-len.false, c.from-at.ensures, c.len.ensures) in
     let inside : c.args.offer < length offers = omega (arith, c.if-offer-len.false, c.len-else-at-len.ensures) in
-    let here : d ≡ get_or servers place d = c.index-server.ensures ∙ ap (λ n. get_or servers n d) c.from-at.ensures in
+    let stands : get_or servers place (Running server) ≡ Running server =
+    stands_at servers place c.from-at.result c.index.result.now (Running server) c.index.ensures c.from-at.ensures c.in-Running.is in
     let is : vector ≡ get_or offers c.args.offer vector = c.index-offered.ensures ∙ get_or_default offers c.args.offer _ vector inside in
-    let most_is : c.limit-most.result ≡ (get_or servers place d).core.limit = c.limit-most.ensures.value ∙ ap (λ (x : _). x.core.limit) here in
-    let lacks_it : lacking ≡ take c.limit-most.result (lacking_of vector (get_or servers place d).core.held) =
-    c.in-Ok.ensures.value ∙ ap (λ (x : _). take c.limit-most.result (lacking_of vector x.core.held)) here in
-    let lacks = collect_lacks servers clients offers items c.args.self.now.served.items machine good tied place c.args.offer c.limit-most.result d vector lacking known inside is most_is lacks_it in
+    let lacks = collect_lacks servers clients offers items c.args.self.now.served.items machine good tied place c.args.offer c.limit-most.result server vector lacking known stands inside is c.limit-most.ensures.value c.in-Ok.ensures.value in
     let first : c.len-first.result ≡ length items = omega (arith, c.len-first.ensures) in
     let number : c.len-number.result ≡ length lacking = omega (arith, c.len-number.ensures) in
     let few : length items + max (length lacking) 1 ≤ MAX_NUMBER + 1 = omega (arith, c.if-first-max.false, first, number, c.max.ensures) in
@@ -57,4 +54,4 @@ returns c machine good tied =
     × IsTied servers clients offers (items ++ lacking) c.args.self.now.served.items next) (sym first)
     (subst (λ n. (next : Machine) × Collects machine place c.args.offer (replies.Flown (length items) n) next
     × IsTied servers clients offers (items ++ lacking) c.args.self.now.served.items next) (sym number)
-    (collect_flown servers clients offers items c.args.self.now.served.items machine tied place c.args.offer lacking known lacks few)))
+    (collect_flown servers clients offers items c.args.self.now.served.items machine tied place c.args.offer lacking lacks few)))

@@ -8,8 +8,8 @@ use Rattle.bayou_world.specs.declared.reply.Reply.TheVariants as replies
 use Rattle.bayou_world.proofs.TiedFlights.{deliver_tied}
 use Rattle.bayou_world.proofs.state.State.deliver.Goals as goal
 
-pub returns : goal.returns
-returns c machine good tied =
+pub returns-clause-follows : goal.returns-clause-follows
+returns-clause-follows c machine good tied =
     let who = c.args.who.index in
     let servers = c.args.self.now.servers.items in
     let clients = c.args.self.now.clients.items in

@@ -8,8 +8,8 @@ use Rattle.bayou_world.specs.declared.reply.Reply.TheVariants as replies
 use Rattle.bayou_world.proofs.TiedFlights.{lose_tied, some_flight}
 use Rattle.bayou_world.proofs.state.State.lose.Goals as goal
 
-pub returns-then-lose : goal.returns-then-lose
-returns-then-lose c machine good tied =
+pub returns-then-lose-clause-follows : goal.returns-then-lose-clause-follows
+returns-then-lose-clause-follows c machine good tied =
     let who = c.args.who.index in
     let servers = c.args.self.now.servers.items in
     let clients = c.args.self.now.clients.items in

@@ -4,8 +4,8 @@ use Rattle.bayou_world.specs.Inner.Tie.{seat}
 use Rattle.bayou_world.proofs.Oldest.{takes_oldest}
 use Rattle.bayou_world.proofs.state.State.oldest.Goals as goal
 
-pub returns : goal.returns
-returns c =
+pub returns-clause-follows : goal.returns-clause-follows
+returns-clause-follows c =
     let who = c.args.who.index in
     let clients = c.args.self.now.clients.items in
     let inside : who < length clients = omega (arith, c.if-seat-len.false, c.from-seat.ensures, c.len.ensures) in

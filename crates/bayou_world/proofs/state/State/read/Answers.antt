@@ -1,31 +1,28 @@
 use Rattle.std.proofs.Common.{◌≡◌, ◌<◌, Some, None, ap, sym, ◌∙◌, arith, length, get_or, set, refl, subst}
 use Rattle.std.proofs.lemmas.List.{get_or_default}
-use Rattle.bayou_server.specs.Reads as served
-use Rattle.bayou_session.specs.Needs.{read_need}
-use Rattle.bayou_world.specs.Inner.Clients.{Begins, seen_as}
+use Rattle.bayou_world.specs.declared.replica.Replica.TheVariants.{Running}
 use Rattle.bayou_world.specs.Inner.Tie.{IsTied, seat}
 use Rattle.bayou_world.specs.Machine.{Machine}
 use Rattle.bayou_world.specs.Steps.{Reads}
 use Rattle.bayou_world.specs.declared.reply.Reply.TheVariants as replies
-use Rattle.bayou_world.proofs.Tied.{read_tied}
+use Rattle.bayou_world.proofs.Tied.{read_tied, stands_at}
 use Rattle.bayou_world.proofs.state.State.read.Goals as goal
 
-pub returns : goal.returns
-returns c machine good tied =
+pub returns-clause-follows : goal.returns-clause-follows
+returns-clause-follows c machine good tied =
     let who = c.args.who.index in
     let place = c.args.place.index in
     let servers = c.args.self.now.servers.items in
     let clients = c.args.self.now.clients.items in
-    let d = c.index.result.now in
+    let server = c.in-Running.server in
     let known : place < length servers = omega (arith, c.if-at-len.false, c.from-at.ensures, c.len-else-seat-len.ensures) in
     let inside : who < length clients = omega (arith, c.if-seat-len.false, c.from-seat.ensures, c.len.ensures) in
-    let here : d ≡ get_or servers place d = c.index.ensures ∙ ap (λ n. get_or servers n d) c.from-at.ensures in
+    let stands : get_or servers place (Running server) ≡ Running server =
+    stands_at servers place c.from-at.result c.index.result.now (Running server) c.index.ensures c.from-at.ensures c.in-Running.is in
     let at : seat clients who ≡ Some c.in-Some.client =
     get_or_default clients who None c.index_mut.result.now inside ∙ ap (λ n. get_or clients n c.index_mut.result.now) (sym c.from-seat.ensures) ∙ sym c.index_mut.ensures.value ∙ c.in-Some.is in
     let may = c.if-not-may_begin.ensures.0 refl in
     subst (λ n. (next : Machine) × Reads machine who place c.args.key.now (replies.Read c.read.result) next
     × IsTied servers (set clients n (Some c.read.new.self)) c.args.self.now.offers.items c.args.self.now.items.items c.args.self.now.served.items next) (sym c.from-seat.ensures)
     (read_tied c.read_need_is_what_is_asked.ensures servers clients c.args.self.now.offers.items c.args.self.now.items.items c.args.self.now.served.items machine good tied who place c.args.key.now
-    c.in-Some.client c.read.new.self d c.read.result c.args.who.in_range at may.0 may.1 known c.read.ensures.counts
-    (subst (λ x. served.Reads x.core (read_need c.in-Some.client.session) c.args.key.now c.read.result) here c.read.ensures.answer)
-    (subst (λ x. Begins c.in-Some.client x.core.id (seen_as c.args.key.now c.read.result) None c.read.new.self) here c.read.ensures.begun))
+    c.in-Some.client c.read.new.self server c.read.result c.args.who.in_range at may.0 may.1 known stands c.read.ensures.counts c.read.ensures.answer c.read.ensures.begun)

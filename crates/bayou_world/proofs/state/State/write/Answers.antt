@@ -1,33 +1,31 @@
 use Rattle.std.proofs.Common.{◌≡◌, ◌<◌, Some, None, ap, sym, ◌∙◌, arith, length, get_or, set, refl, subst}
 use Rattle.std.proofs.lemmas.List.{get_or_default}
-use Rattle.bayou_server.specs.Writes as accepts
-use Rattle.bayou_session.specs.Needs.{write_need}
-use Rattle.bayou_world.specs.Inner.Clients.{Begins, accepted_as, accepted_of}
+use Rattle.bayou_world.specs.declared.replica.Replica.TheVariants.{Running}
 use Rattle.bayou_world.specs.Inner.Tie.{IsTied, seat}
 use Rattle.bayou_world.specs.Machine.{Machine}
 use Rattle.bayou_world.specs.Steps.{Writes}
 use Rattle.bayou_world.specs.declared.reply.Reply.TheVariants as replies
+use Rattle.bayou_world.proofs.Tied.{stands_at}
 use Rattle.bayou_world.proofs.TiedWrites.{write_tied}
 use Rattle.bayou_world.proofs.state.State.write.Goals as goal
 
-pub returns : goal.returns
-returns c machine good tied =
+pub returns-clause-follows : goal.returns-clause-follows
+returns-clause-follows c machine good tied =
     let who = c.args.who.index in
     let place = c.args.place.index in
     let servers = c.args.self.now.servers.items in
     let clients = c.args.self.now.clients.items in
-    let d = c.index_mut-2.result.now in
+    let server = c.in-Running.server in
     let known : place < length servers = omega (arith, c.if-at-len.false, c.from-at.ensures, c.len-else-seat-len.ensures) in
     let inside : who < length clients = omega (arith, c.if-seat-len.false, c.from-seat.ensures, c.len.ensures) in
-    let here : d ≡ get_or servers place d = c.index_mut-2.ensures.value ∙ ap (λ n. get_or servers n d) c.from-at.ensures in
+    let stands : get_or servers place (Running server) ≡ Running server =
+    stands_at servers place c.from-at.result c.index_mut-2.result.now (Running server) c.index_mut-2.ensures.value c.from-at.ensures c.in-Running.is in
     let at : seat clients who ≡ Some c.in-Some.client =
     get_or_default clients who None c.index_mut.result.now inside ∙ ap (λ n. get_or clients n c.index_mut.result.now) (sym c.from-seat.ensures) ∙ sym c.index_mut.ensures.value ∙ c.in-Some.is in
     let may = c.if-not-may_begin.ensures.0 refl in
     subst (λ n. (next : Machine) × Writes machine who place c.args.program (replies.Wrote c.write.result) next
-    × IsTied (set servers n c.write.new.server) (set clients c.from-seat.result (Some c.write.new.self)) c.args.self.now.offers.items c.args.self.now.items.items c.args.self.now.served.items next) (sym c.from-at.ensures)
+    × IsTied (set servers n (Running c.write.new.server)) (set clients c.from-seat.result (Some c.write.new.self)) c.args.self.now.offers.items c.args.self.now.items.items c.args.self.now.served.items next) (sym c.from-at.ensures)
     (subst (λ n. (next : Machine) × Writes machine who place c.args.program (replies.Wrote c.write.result) next
-    × IsTied (set servers place c.write.new.server) (set clients n (Some c.write.new.self)) c.args.self.now.offers.items c.args.self.now.items.items c.args.self.now.served.items next) (sym c.from-seat.ensures)
+    × IsTied (set servers place (Running c.write.new.server)) (set clients n (Some c.write.new.self)) c.args.self.now.offers.items c.args.self.now.items.items c.args.self.now.served.items next) (sym c.from-seat.ensures)
     (write_tied c.write_need_is_what_is_asked.ensures servers clients c.args.self.now.offers.items c.args.self.now.items.items c.args.self.now.served.items machine good tied who place c.args.program
-    c.in-Some.client c.write.new.self d c.write.new.server c.write.result c.args.who.in_range at may.0 may.1 known c.write.ensures.counts
-    (subst (λ x. accepts.Writes x.core (write_need c.in-Some.client.session) c.args.program c.write.result c.write.new.server.core) here c.write.ensures.answer)
-    (subst (λ x. Begins c.in-Some.client x.core.id (accepted_as c.write.result) (accepted_of c.write.result) c.write.new.self) here c.write.ensures.begun)))
+    c.in-Some.client c.write.new.self server c.write.new.server c.write.result c.args.who.in_range at may.0 may.1 known stands c.write.ensures.honest c.write.ensures.counts c.write.ensures.answer c.write.ensures.begun))

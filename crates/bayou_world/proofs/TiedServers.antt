@@ -1,0 +1,202 @@
+-- What befalls servers as they run, befalls those of the machine: a fuse, a reopening, a restart.
+use Rattle.std.proofs.Common.{◌≡◌, inl, inr, ◌⊎◌, ℕ, zero, suc, ◌<◌, List, [], ◌∷◌, ◌++◌, Option, None, Some, Result, Ok, Err, IsSome, length, get_or, set, ap, sym, ◌∙◌, refl, subst, arith}
+use Rattle.std.specs.List.{insert, remove}
+use Rattle.std.specs.Option.{option_map}
+use Rattle.std.proofs.lemmas.List.{length-map, map-append}
+use Rattle.bayou_base.specs.declared.entry.Entry.{Entry}
+use Rattle.bayou_base.specs.declared.wid.Wid.{Wid}
+use Rattle.bayou_device.specs.Memory.{Memory}
+use Rattle.bayou_device.specs.MemoryDevice.{memory_device}
+use Rattle.bayou_lang.specs.declared.write.Write.{Write}
+use Rattle.bayou_server.specs.declared.answer.Reopened.{Reopened}
+use Rattle.bayou_server.specs.declared.fault.JournalFault.TheVariants.{Device, NotAJournal, OtherServer}
+use Rattle.bayou_server.specs.declared.fault.ReopenFault.{ReopenFault}
+use Rattle.bayou_server.specs.declared.fault.ReopenFault.TheVariants as reopening
+use Rattle.bayou_server.specs.declared.fault.StartFault.{StartFault}
+use Rattle.bayou_server.specs.Honest.{AreHonest, IsHonestAnswer, IsHonestServer}
+use Rattle.bayou_server.specs.Reopens as opened
+use Rattle.bayou_server.specs.Server.{Core, ServerState}
+use Rattle.bayou_world.specs.declared.client.Client.{Client}
+use Rattle.bayou_world.specs.declared.replica.Replica.{Replica}
+use Rattle.bayou_world.specs.declared.replica.Replica.TheVariants.{Running}
+use Rattle.bayou_world.specs.declared.reply.Reply.TheVariants as replies
+use Rattle.bayou_world.specs.Inner.Replicas.{IsKept, Starts, StaysHonest, core_of, is_stopped}
+use Rattle.bayou_world.specs.Inner.Tie.{IsReplicaOf, IsServerOf, IsTied, write_of}
+use Rattle.bayou_world.specs.Machine.{Machine, Made, ServerSets, with_server, writes}
+use Rattle.bayou_world.specs.Steps.{Fuses, Recovers, RefusesReopening, Reopens, Restarts, stopped_now, up_again, wid_of, with_write}
+use Rattle.bayou_world.proofs.Tied.{IsRunningServer, running_replica, runs_at, same_place, with_place}
+use Rattle.bayou_world.proofs.TiedWrites.{no_doubt, some_doubt}
+
+-- what is taken out of its place and put back there, changed
+pub put_back : (servers : List Replica) (place : ℕ) (replica : Replica) → place < length servers → insert (remove servers place) place replica ≡ set servers place replica
+put_back [] place replica within = absurd (omega arith)
+put_back (first ∷ servers) zero replica within = refl
+put_back (first ∷ servers) (suc place) replica within = ap (λ (list : List Replica). first ∷ list) (put_back servers place replica (omega arith))
+
+-- the Write in doubt has its past
+some_made : (doubt : Option Made) (write : Write) → option_map write_of doubt ≡ Some write → (made : Made) × (doubt ≡ Some made) × (made.write ≡ write)
+some_made None write is = let both : None ≡ Some write = is in absurd (cc)
+some_made (Some made) write is = let both : Some made.write ≡ Some write = is in (made, refl, cc)
+
+-- the servers are what they hold
+same_core : (count limit place : ℕ) (core new : Core) (server : ServerSets) → IsServerOf count limit place core server → new ≡ core → IsServerOf count limit place new server
+same_core count limit place core new server at same = record { is = same ∙ at.is }
+
+forgotten_there : (count limit place : ℕ) (core new : Core) (server : ServerSets) → IsServerOf count limit place core server → new ≡ record core { held = new.held; doubt = None } → new.held ≡ writes server.held
+    → IsServerOf count limit place new (up_again server)
+forgotten_there count limit place core new server at is held = record {
+  is = is ∙ ap (λ (c : Core). record c { held = new.held; doubt = None }) at.is
+      ∙ ap (λ h. record { id = place; count = count; limit = limit; held = h; doubt = None }) held;
+}
+
+adopted_there : (count limit place : ℕ) (core new : Core) (server : ServerSets) (made : Made) → IsServerOf count limit place core server → new ≡ record core { held = new.held; doubt = None }
+    → new.held ≡ writes server.held ++ made.write ∷ [] → IsServerOf count limit place new (with_write (up_again server) made)
+adopted_there count limit place core new server made at is held = record {
+  is = is ∙ ap (λ (c : Core). record c { held = new.held; doubt = None }) at.is
+      ∙ ap (λ h. record { id = place; count = count; limit = limit; held = h; doubt = None }) (held ∙ sym (map-append write_of server.held (made ∷ [])));
+}
+
+-- ---- a fuse
+
+pub fuse_tied : (servers : List Replica) (clients : List (Option Client)) (offers : List (List ℕ)) (items : List Write) (told : List Entry) (machine : Machine)
+    → IsTied servers clients offers items told machine → (place call : ℕ) (old new : Replica) → place < length servers → get_or servers place old ≡ old → 0 < call
+    → core_of new ≡ core_of old → is_stopped new ≡ is_stopped old → (IsKept old → IsKept new)
+    → (next : Machine) × Fuses machine place call replies.Fused next × IsTied (set servers place new) clients offers items told next
+fuse_tied servers clients offers items told machine tied place call old new known stands some same runs keeps =
+    let in_count : place < machine.count = omega (arith, known, tied.many) in
+    let is = subst (λ (r : Replica). IsReplicaOf machine.count machine.limit place r (machine.servers place)) stands (tied.servers_are place old in_count) in (
+      machine,
+      Fuses.fused in_count some refl refl,
+      same_place servers clients offers items told machine tied place new in_count (record {
+        stopped = is.stopped ∙ sym runs;
+        core = same_core machine.count machine.limit place (core_of old) (core_of new) (machine.servers place) is.core same;
+        kept = keeps is.kept;
+      }),
+    )
+
+-- ---- a reopening
+
+-- a server that is up again is so in the machine
+record IsUpAgain (machine : Machine) (place : ℕ) (adopted : Option Wid) (new : ServerState Memory) : Type 0 where
+  made : Option Made
+  server : ServerSets
+  down : IsSome (machine.servers place).doubt
+  recovers : Recovers (machine.servers place) made server
+  name : adopted ≡ option_map wid_of made
+  replica : IsReplicaOf machine.count machine.limit place (Running new) server
+
+up_again_there : (machine : Machine) (place : ℕ) (old new : ServerState Memory) (adopted : Option Wid) → IsRunningServer machine place old → IsHonestServer memory_device new
+    → opened.Recovers old.core adopted new.core → IsUpAgain machine place adopted new
+up_again_there machine place old new None here honest (down, is) =
+    let server = machine.servers place in record {
+      made = None;
+      server = up_again server;
+      down = some_doubt server.doubt (subst IsSome (ap (λ (c : Core). c.doubt) here.core.is) down);
+      recovers = refl;
+      name = refl;
+      replica = running_replica machine.count machine.limit place new (up_again server) refl
+          (forgotten_there machine.count machine.limit place old.core new.core server here.core
+          (is ∙ ap (λ (c : Core). record old.core { held = c.held; doubt = None }) (sym is)) (ap (λ (c : Core). c.held) is ∙ ap (λ (c : Core). c.held) here.core.is)) honest;
+    }
+up_again_there machine place old new (Some wid) here honest (doubt, doubted, name, is) =
+    let server = machine.servers place in
+    let there = some_made server.doubt doubt (sym (ap (λ (c : Core). c.doubt) here.core.is) ∙ doubted) in
+    let held : new.core.held ≡ writes server.held ++ there.0.write ∷ [] =
+    ap (λ (c : Core). c.held) is ∙ ap (λ (c : Core). c.held ++ doubt ∷ []) here.core.is ∙ ap (λ w. writes server.held ++ w ∷ []) (sym there.2) in record {
+      made = Some there.0;
+      server = with_write (up_again server) there.0;
+      down = subst IsSome (sym there.1) refl;
+      recovers = (there.1, refl);
+      name = ap Some (name ∙ ap (λ (w : Write). w.wid) (sym there.2));
+      replica = running_replica machine.count machine.limit place new (with_write (up_again server) there.0) refl
+          (adopted_there machine.count machine.limit place old.core new.core server there.0 here.core
+          (is ∙ ap (λ (c : Core). record old.core { held = c.held; doubt = None }) (sym is)) held) honest;
+    }
+
+-- why it isn't
+refused_there : (machine : Machine) (place : ℕ) (old new : Core) (fault : ReopenFault) → IsServerOf machine.count machine.limit place old (machine.servers place) → IsHonestAnswer (Err fault)
+    → opened.Reopens old (Err fault) new → RefusesReopening (machine.servers place) fault × (new ≡ old)
+refused_there machine place old new reopening.NotDown at honest (up, same) = (no_doubt (machine.servers place).doubt (sym (ap (λ (c : Core). c.doubt) at.is) ∙ up), same)
+refused_there machine place old new (reopening.Journal Device) at honest (down, same) = (some_doubt (machine.servers place).doubt (subst IsSome (ap (λ (c : Core). c.doubt) at.is) down), same)
+refused_there machine place old new (reopening.Journal NotAJournal) at honest refused = absurd honest
+refused_there machine place old new (reopening.Journal OtherServer) at honest refused = absurd honest
+refused_there machine place old new reopening.Lost at honest refused = absurd honest
+refused_there machine place old new (reopening.BadRecord entry) at honest refused = absurd honest
+refused_there machine place old new reopening.OutOfMemory at honest (down, same) = (some_doubt (machine.servers place).doubt (subst IsSome (ap (λ (c : Core). c.doubt) at.is) down), same)
+
+pub reopen_tied : (servers : List Replica) (clients : List (Option Client)) (offers : List (List ℕ)) (items : List Write) (told : List Entry) (machine : Machine)
+    → IsTied servers clients offers items told machine → (place : ℕ) (old new : ServerState Memory) (answer : Result Reopened ReopenFault) → place < length servers → get_or servers place (Running old) ≡ Running old
+    → opened.Reopens old.core answer new.core → (IsHonestServer memory_device old → IsHonestAnswer answer) → StaysHonest old new
+    → (next : Machine) × Reopens machine place (replies.Reopened answer) next × IsTied (set servers place (Running new)) clients offers items told next
+reopen_tied servers clients offers items told machine tied place old new (Ok reopened) known stands reopens answers stays =
+    let here = runs_at servers clients offers items told machine tied place old known stands in
+    let there = up_again_there machine place old new reopened.adopted here (stays here.honest) reopens in (
+      with_server machine place there.server,
+      Reopens.reopened there.made there.server here.running there.down there.recovers (ap (λ a. replies.Reopened (Ok (record { adopted = a }))) there.name) refl,
+      with_place servers clients offers items told machine tied place (Running new) there.server here.running.there there.replica,
+    )
+reopen_tied servers clients offers items told machine tied place old new (Err fault) known stands reopens answers stays =
+    let here = runs_at servers clients offers items told machine tied place old known stands in
+    let refused = refused_there machine place old.core new.core fault here.core (answers here.honest) reopens in (
+      machine,
+      Reopens.refused fault here.running refused.0 refl refl,
+      same_place servers clients offers items told machine tied place (Running new) here.running.there
+          (running_replica machine.count machine.limit place new (machine.servers place) here.running.runs
+          (same_core machine.count machine.limit place old.core new.core (machine.servers place) here.core refused.1) (stays here.honest)),
+    )
+
+-- ---- a restart
+
+-- what an honest start holds
+honest_is : (held : List Made) (doubt : Option Made) (list : List Write) → AreHonest (writes held) (option_map write_of doubt) list
+    → (list ≡ writes held) ⊎ ((made : Made) × (doubt ≡ Some made) × (list ≡ writes held ++ made.write ∷ []))
+honest_is held None list is = inl is
+honest_is held (Some made) list (inl is) = inl is
+honest_is held (Some made) list (inr is) = inr (made, refl, is)
+
+pub restart_tied : (servers : List Replica) (clients : List (Option Client)) (offers : List (List ℕ)) (items : List Write) (told : List Entry) (machine : Machine)
+    → IsTied servers clients offers items told machine → (place : ℕ) (old new : Replica) (answer : Result ℕ StartFault) → place < length servers → get_or servers place old ≡ old
+    → (IsKept old → Starts old answer new × IsKept new)
+    → (next : Machine) × Restarts machine place (replies.Restarted answer) next × IsTied (set servers place new) clients offers items told next
+restart_tied servers clients offers items told machine tied place old new (Ok holds) known stands starts =
+    let server = machine.servers place in
+    let in_count : place < machine.count = omega (arith, known, tied.many) in
+    let was = subst (λ (r : Replica). IsReplicaOf machine.count machine.limit place r server) stands (tied.servers_are place old in_count) in
+    let both = starts was.kept in
+    let core_is = both.0.2 in
+    let honest = subst (λ (c : Core). AreHonest c.held c.doubt (core_of new).held) was.core.is both.0.3 in
+    elim (honest_is server.held server.doubt (core_of new).held honest)
+    as (λ _. (next : Machine) × Restarts machine place (replies.Restarted (Ok holds)) next × IsTied (set servers place new) clients offers items told next) [
+      | inl held ↦ (
+        with_server machine place (up_again server),
+        Restarts.restarted None (up_again server) in_count refl (ap (λ n. replies.Restarted (Ok n)) (both.0.1 ∙ ap length held ∙ length-map server.held write_of)) refl,
+        with_place servers clients offers items told machine tied place new (up_again server) in_count (record {
+          stopped = sym both.0.0;
+          core = forgotten_there machine.count machine.limit place (core_of old) (core_of new) server was.core core_is held;
+          kept = both.1;
+        }),
+      )
+      | inr more ↦ (
+        with_server machine place (with_write (up_again server) more.0),
+        Restarts.restarted (Some more.0) (with_write (up_again server) more.0) in_count (more.1, refl)
+            (ap (λ n. replies.Restarted (Ok n)) (both.0.1 ∙ ap length (more.2 ∙ sym (map-append write_of server.held (more.0 ∷ []))) ∙ length-map (server.held ++ more.0 ∷ []) write_of)) refl,
+        with_place servers clients offers items told machine tied place new (with_write (up_again server) more.0) in_count (record {
+          stopped = sym both.0.0;
+          core = adopted_there machine.count machine.limit place (core_of old) (core_of new) server more.0 was.core core_is more.2;
+          kept = both.1;
+        }),
+      )
+    ]
+restart_tied servers clients offers items told machine tied place old new (Err fault) known stands starts =
+    let server = machine.servers place in
+    let in_count : place < machine.count = omega (arith, known, tied.many) in
+    let was = subst (λ (r : Replica). IsReplicaOf machine.count machine.limit place r server) stands (tied.servers_are place old in_count) in
+    let both = starts was.kept in (
+      with_server machine place (stopped_now server),
+      Restarts.refused fault in_count both.0.1 refl refl,
+      with_place servers clients offers items told machine tied place new (stopped_now server) in_count (record {
+        stopped = sym both.0.0;
+        core = record { is = both.0.2 ∙ was.core.is };
+        kept = both.1;
+      }),
+    )

@@ -1,0 +1,22 @@
+use Rattle.std.proofs.Common.{◌≡◌, ◌<◌, sym, arith, length, get_or, set, subst}
+use Rattle.bayou_world.specs.declared.replica.Replica.TheVariants.{Running}
+use Rattle.bayou_world.specs.declared.reply.Reply.TheVariants as replies
+use Rattle.bayou_world.specs.Inner.Tie.{IsTied}
+use Rattle.bayou_world.specs.Machine.{Machine}
+use Rattle.bayou_world.specs.Steps.{Reopens}
+use Rattle.bayou_world.proofs.Tied.{stands_at}
+use Rattle.bayou_world.proofs.TiedServers.{reopen_tied}
+use Rattle.bayou_world.proofs.state.State.reopen.Goals as goal
+
+pub returns-clause-follows : goal.returns-clause-follows
+returns-clause-follows c machine good tied =
+    let place = c.args.place.index in
+    let servers = c.args.self.now.servers.items in
+    let old = c.in-Running.server in
+    let known : place < length servers = omega (arith, c.if-at-len.false, c.from-at.ensures, c.len.ensures) in
+    let stands : get_or servers place (Running old) ≡ Running old =
+    stands_at servers place c.from-at.result c.index_mut.result.now (Running old) c.index_mut.ensures.value c.from-at.ensures c.in-Running.is in
+    subst (λ n. (next : Machine) × Reopens machine place (replies.Reopened c.reopen_server.result) next
+    × IsTied (set servers n (Running c.reopen_server.new.server)) c.args.self.now.clients.items c.args.self.now.offers.items c.args.self.now.items.items c.args.self.now.served.items next) (sym c.from-at.ensures)
+    (reopen_tied servers c.args.self.now.clients.items c.args.self.now.offers.items c.args.self.now.items.items c.args.self.now.served.items machine tied place old c.reopen_server.new.server c.reopen_server.result known stands
+    c.reopen_server.ensures.reopens c.reopen_server.ensures.answer c.reopen_server.ensures.honest)

@@ -1,0 +1,49 @@
+-- How often device calls of a server failed, as the replies tell, and how often they were to: this project's own.
+use Rattle.std.specs.Prelude.{ℕ, ◌+◌, ◌<◌, ◌≤◌, ◌==◌, Bool, true, false, List, [], ◌∷◌, Err, take, if◌then◌else◌}
+use Rattle.bayou_server.specs.declared.fault.JournalFault.TheVariants.{Device}
+use Rattle.bayou_server.specs.declared.fault.ReopenFault.TheVariants as reopening
+use Rattle.bayou_server.specs.declared.fault.StartFault.TheVariants as starting
+use Rattle.bayou_server.specs.declared.fault.TakeFault.TheVariants as taking
+use Rattle.bayou_server.specs.declared.fault.WriteFault.TheVariants as writing
+use Rattle.bayou_world.specs.declared.event.Event.{Event}
+use Rattle.bayou_world.specs.declared.event.Event.TheVariants as events
+use Rattle.bayou_world.specs.declared.reply.Reply.{Reply}
+use Rattle.bayou_world.specs.declared.reply.Reply.TheVariants as replies
+
+-- a device call failed
+abbrev pub tells_fault : Reply → Bool
+tells_fault (replies.Wrote (Err writing.Journal)) = true
+tells_fault (replies.Took (Err taking.Journal)) = true
+tells_fault (replies.Reopened (Err (reopening.Journal Device))) = true
+tells_fault (replies.Restarted (Err (starting.Journal Device))) = true
+tells_fault _ = false
+
+-- one is to fail
+abbrev pub tells_fuse : Reply → Bool
+tells_fuse replies.Fused = true
+tells_fuse _ = false
+
+-- the event may make device calls of that server, or have one fail
+abbrev pub is_of : ℕ → Event → Bool
+is_of place (events.Write session server program) = place == server.index
+is_of place (events.Take server item) = place == server.index
+is_of place (events.Fuse server call front) = place == server.index
+is_of place (events.Reopen server) = place == server.index
+is_of place (events.Restart server) = place == server.index
+is_of place (events.Read session server key) = false
+is_of place (events.Deliver session) = false
+is_of place (events.Lose session) = false
+is_of place (events.Offer server) = false
+is_of place (events.Collect server offer) = false
+is_of place (events.File session) = false
+
+-- of the events of that server, how many replies tell so
+abbrev pub number_at : (Reply → Bool) → ℕ → List Event → List Reply → ℕ
+number_at tells place (event ∷ events) (reply ∷ replies) = (if is_of place event then (if tells reply then 1 else 0) else 0) + number_at tells place events replies
+number_at tells place [] replies = 0
+number_at tells place (event ∷ events) [] = 0
+
+-- At no time had a server more device calls that failed than fuses: each fault has a Fuse of its own before it.
+abbrev pub AreFused : (count : ℕ) → List Event → List Reply → Type 0
+AreFused count events replies = (place many : ℕ) → place < count
+    → number_at tells_fault place (take many events) (take many replies) ≤ number_at tells_fuse place (take many events) (take many replies)

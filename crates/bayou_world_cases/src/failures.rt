@@ -1,0 +1,317 @@
+//! Servers whose device calls fail: what each event is answered then, and that each run is clean.
+use crate::fixtures::sessions_of;
+use crate::scripts::{ALL, Act, NOTHING, Said, are_said, event_of, has_names};
+use Said::{
+    Accepted, Delivered, Doubted, Down, Fused, Holds, Kept, NotDown, NotReopened, NotRestarted,
+    Seen, Skipped, Up,
+};
+use bayou_judge::{Verdict, judge};
+use bayou_server::{JournalFault, ReopenFault, StartFault, TakeFault, WriteFault};
+use bayou_world::world::World;
+use bayou_world::{Event, History, Reply};
+use std::alloc::{AllocError, Global};
+use std::process::Abort;
+use std::test::Fail;
+
+/// Events at one server and of one session that asks for nothing, what each is answered, and what the server holds in the end.
+#[derive(Clone, Copy, Debug)]
+struct Row {
+    acts: &'static [(Act, Said)],
+    dump: &'static [(u8, u32)],
+}
+
+static ROWS: [Row; 8] = [
+    // The call that fails is the sync: the Write is whole, and a reopening adopts it.
+    Row {
+        acts: &[
+            (Act::Fuse(0, 2, 0), Fused),
+            (Act::Write(0, 0, 7), Doubted),
+            (Act::Deliver(0), Delivered),
+            (Act::Read(0, 0), Seen(None, [0, 0])),
+            (Act::Deliver(0), Delivered),
+            (Act::Reopen(0), Up(Some((0, 1)))),
+            (Act::Read(0, 0), Seen(Some(7), [1, 0])),
+        ],
+        dump: &[(0, 1)],
+    },
+    // A restart adopts it too.
+    Row {
+        acts: &[
+            (Act::Fuse(0, 2, 0), Fused),
+            (Act::Write(0, 0, 7), Doubted),
+            (Act::Deliver(0), Delivered),
+            (Act::Read(0, 0), Seen(None, [0, 0])),
+            (Act::Deliver(0), Delivered),
+            (Act::Restart(0), Holds(1)),
+            (Act::Read(0, 0), Seen(Some(7), [1, 0])),
+        ],
+        dump: &[(0, 1)],
+    },
+    // A part of the entry is forgotten, and the next Write has its number.
+    Row {
+        acts: &[
+            (Act::Reopen(0), NotDown),
+            (Act::Fuse(0, 1, 50), Fused),
+            (Act::Write(0, 0, 1), Doubted),
+            (Act::Lose(0), Said::Dropped),
+            (Act::Write(0, 0, 2), Down),
+            (Act::Deliver(0), Delivered),
+            (Act::Offer(0), Kept(0)),
+            (Act::Reopen(0), Up(None)),
+            (Act::Write(0, 0, 3), Accepted((0, 1), [0, 0])),
+        ],
+        dump: &[(0, 1)],
+    },
+    // A restart forgets it too.
+    Row {
+        acts: &[
+            (Act::Write(0, 0, 1), Accepted((0, 1), [0, 0])),
+            (Act::Deliver(0), Delivered),
+            (Act::Fuse(0, 1, 50), Fused),
+            (Act::Write(0, 0, 2), Doubted),
+            (Act::Deliver(0), Delivered),
+            (Act::Restart(0), Holds(1)),
+            (Act::Write(0, 0, 3), Accepted((0, 2), [1, 0])),
+        ],
+        dump: &[(0, 1), (0, 2)],
+    },
+    // A reopening fails as it reads, as it cuts, and as it syncs: what was in doubt stays so.
+    Row {
+        acts: &[
+            (Act::Fuse(0, 1, 50), Fused),
+            (Act::Write(0, 0, 1), Doubted),
+            (Act::Deliver(0), Delivered),
+            (Act::Fuse(0, 1, 0), Fused),
+            (Act::Reopen(0), NotReopened),
+            (Act::Fuse(0, 2, 0), Fused),
+            (Act::Reopen(0), NotReopened),
+            (Act::Fuse(0, 2, 0), Fused),
+            (Act::Reopen(0), NotReopened),
+            (Act::Write(0, 0, 1), Down),
+            (Act::Reopen(0), Up(None)),
+            (Act::Reopen(0), NotDown),
+        ],
+        dump: &[],
+    },
+    // A stopped server answers nothing, until a restart succeeds.
+    Row {
+        acts: &[
+            (Act::Write(0, 0, 1), Accepted((0, 1), [0, 0])),
+            (Act::Deliver(0), Delivered),
+            (Act::Offer(0), Kept(0)),
+            (Act::Fuse(0, 1, 0), Fused),
+            (Act::Restart(0), NotRestarted),
+            (Act::Read(0, 0), Skipped),
+            (Act::Write(0, 0, 2), Skipped),
+            (Act::Offer(0), Skipped),
+            (Act::Collect(0, 0), Skipped),
+            (Act::Reopen(0), Skipped),
+            (Act::Fuse(0, 2, 0), Fused),
+            (Act::Restart(0), NotRestarted),
+            (Act::Restart(0), Holds(1)),
+            (Act::Read(0, 0), Seen(Some(1), [1, 0])),
+        ],
+        dump: &[(0, 1)],
+    },
+    // What was in doubt stays so while a server is stopped.
+    Row {
+        acts: &[
+            (Act::Fuse(0, 2, 0), Fused),
+            (Act::Write(0, 0, 1), Doubted),
+            (Act::Deliver(0), Delivered),
+            (Act::Fuse(0, 1, 0), Fused),
+            (Act::Restart(0), NotRestarted),
+            (Act::Restart(0), Holds(1)),
+            (Act::Read(0, 0), Seen(Some(1), [1, 0])),
+        ],
+        dump: &[(0, 1)],
+    },
+    // What names nothing that is there.
+    Row {
+        acts: &[
+            (Act::Fuse(0, 0, 0), Skipped),
+            (Act::Fuse(1, 1, 0), Skipped),
+            (Act::Reopen(1), Skipped),
+            (Act::Restart(1), Skipped),
+            (Act::Restart(0), Holds(0)),
+            (Act::Write(0, 0, 1), Accepted((0, 1), [0, 0])),
+        ],
+        dump: &[(0, 1)],
+    },
+];
+
+fn events_of_acts(
+    rt: &impl Abort,
+    alloc: Global,
+    acts: &[(Act, Said)],
+) -> Result<Vec<Event>, AllocError> {
+    let mut events = Vec::new(alloc);
+    for (act, _) in acts {
+        events.push(event_of(rt, alloc, *act)?)?;
+    }
+    Ok(events)
+}
+
+fn is_answered(rt: &impl Abort, alloc: Global, row: &Row) -> Result<bool, AllocError> {
+    let events = events_of_acts(rt, alloc, row.acts)?;
+    let sessions = sessions_of(rt, alloc, &[NOTHING])?;
+    let history = World::new(alloc, 1, 100, sessions.as_slice())?.run(alloc, events.as_slice())?;
+    let Some(dump) = history.dumps.first() else {
+        return Ok(false);
+    };
+    Ok(are_said(history.replies.as_slice(), row.acts) && has_names(dump.as_slice(), row.dump))
+}
+
+#[test]
+fn servers_fail_and_are_recovered(rt: HostRuntime) -> Result<(), Fail> {
+    for row in ROWS {
+        assert!(rt; is_answered(&rt, rt.alloc(), &row)?, "{row:?}");
+    }
+    Ok(())
+}
+
+/// How many rounds of ten events the run has in which each device call fails in turn.
+const ROUNDS: u8 = 6;
+
+/// No entry of a journal here is longer.
+const LONGEST: usize = 110;
+
+/// How many device calls each server makes in that run: two for a Write and for an item, and two for a restart.
+const CALLS: u32 = 20;
+
+/// A round: a Write at one server, which the other takes; a read there; and both servers are recovered.
+fn round_of(round: u8) -> [Act; 10] {
+    let (from, to) = if round % 2 == 0 { (0, 1) } else { (1, 0) };
+    let number = u32::from(round);
+    let recovery = if round % 3 == 0 {
+        Act::Restart(from)
+    } else {
+        Act::Reopen(from)
+    };
+    [
+        Act::Write(0, from, i64::from(round)),
+        Act::Deliver(0),
+        Act::Offer(to),
+        Act::Collect(from, number),
+        Act::Take(to, number),
+        Act::Read(0, to),
+        Act::Deliver(0),
+        recovery,
+        Act::Reopen(to),
+        Act::Restart(to),
+    ]
+}
+
+/// Sixty events, and a fuse before them.
+fn fused_events(
+    rt: &impl Abort,
+    alloc: Global,
+    server: u8,
+    call: u32,
+    kept: usize,
+) -> Result<Vec<Event>, AllocError> {
+    let mut events = Vec::new(alloc);
+    events.push(event_of(rt, alloc, Act::Fuse(server, call, kept))?)?;
+    for round in 0..ROUNDS {
+        add_round(rt, alloc, &mut events, round)?;
+    }
+    Ok(events)
+}
+
+fn add_round(
+    rt: &impl Abort,
+    alloc: Global,
+    events: &mut Vec<Event>,
+    round: u8,
+) -> Result<(), AllocError> {
+    for act in round_of(round) {
+        events.push(event_of(rt, alloc, act)?)?;
+    }
+    Ok(())
+}
+
+/// A device call failed, as the reply tells.
+pub fn is_fault(reply: &Reply) -> bool {
+    match reply {
+        Reply::Wrote(Err(WriteFault::Journal)) | Reply::Took(Err(TakeFault::Journal)) => true,
+        Reply::Reopened(Err(ReopenFault::Journal(JournalFault::Device))) => true,
+        Reply::Restarted(Err(StartFault::Journal(JournalFault::Device))) => true,
+        _ => false,
+    }
+}
+
+fn faults_in(replies: &[Reply]) -> u32 {
+    let mut faults: u32 = 0;
+    for reply in replies {
+        if is_fault(reply) {
+            faults = faults.saturating_add(1);
+        }
+    }
+    faults
+}
+
+fn is_clean(alloc: Global, history: &History) -> bool {
+    if history.dumps.len() != 2 {
+        return false;
+    }
+    judge(
+        alloc,
+        2,
+        history.served.as_slice(),
+        history.dumps.as_slice(),
+    ) == Ok(Verdict::Clean)
+}
+
+/// How many faults the run had in which that call fails, if it is clean.
+fn faults_of(
+    rt: &impl Abort,
+    alloc: Global,
+    server: u8,
+    call: u32,
+    kept: usize,
+) -> Result<Option<u32>, AllocError> {
+    let events = fused_events(rt, alloc, server, call, kept)?;
+    let sessions = sessions_of(rt, alloc, &[ALL])?;
+    let history = World::new(alloc, 2, 100, sessions.as_slice())?.run(alloc, events.as_slice())?;
+    if is_clean(alloc, &history) {
+        Ok(Some(faults_in(history.replies.as_slice())))
+    } else {
+        Ok(None)
+    }
+}
+
+/// Whether all is clean where that call of the server fails, whatever it keeps of its piece. Just one fault is told.
+fn is_clean_at(
+    rt: &impl Abort,
+    alloc: Global,
+    server: u8,
+    call: u32,
+    faults: u32,
+) -> Result<bool, AllocError> {
+    let mut is_each = true;
+    for kept in 0..LONGEST {
+        is_each = is_each && faults_of(rt, alloc, server, call, kept)? == Some(faults);
+    }
+    Ok(is_each)
+}
+
+/// Whether each of its calls may fail, and none behind them does.
+fn is_clean_whatever_fails(rt: &impl Abort, alloc: Global, server: u8) -> Result<bool, AllocError> {
+    let mut is_each = true;
+    for call in 1..CALLS + 3 {
+        let faults = if call <= CALLS { 1 } else { 0 };
+        is_each = is_each && is_clean_at(rt, alloc, server, call, faults)?;
+    }
+    Ok(is_each)
+}
+
+#[test]
+fn whichever_device_call_fails_the_run_is_clean(rt: HostRuntime) -> Result<(), Fail> {
+    for server in 0..2 {
+        assert!(rt;
+            is_clean_whatever_fails(&rt, rt.alloc(), server)?,
+            "{server}"
+        );
+    }
+    Ok(())
+}
