@@ -12,3 +12,5 @@ mod memory;
 mod runs;
 #[cfg(test)]
 mod scripts;
+#[cfg(test)]
+mod torn;
