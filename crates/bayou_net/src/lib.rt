@@ -10,6 +10,7 @@
 
 pub mod at_desk;
 pub mod gate;
+pub mod host;
 pub mod lent;
 pub mod listening;
 mod replying;
@@ -18,6 +19,7 @@ pub mod serving;
 
 pub use at_desk::serve;
 pub use gate::{NoGate, RequestGate};
-pub use listening::{Broken, Ended, ListenFault, listen};
+pub use host::{Host, serve_connection};
+pub use listening::{Broken, Ended, ListenFault, listen, listen_on};
 pub use served::Served;
 pub use serving::serve_on;

@@ -2,15 +2,12 @@
 ghost use Rattle.std.specs.Prelude.{◌≡◌, ◌+◌, ◌≤◌, IfErr, IfOk, MatchResult, vec_capacity, vec_len};
 ghost use Rattle.bayou_net.specs.declared.listening.ListenFault.TheVariants.{Accept};
 
-use crate::at_desk::serve;
 use crate::gate::RequestGate;
-use bayou_base::limits::READ_BYTES;
+use crate::host::{GatedNode, Host};
 use bayou_device::Device;
 use bayou_node::{Desk, Desks, Node};
-use bayou_streams::{Channel, Turn};
 use std::alloc::Global;
-use std::io::Read;
-use std::net::{Shutdown, TcpListener, TcpStream};
+use std::net::{TcpListener, TcpStream};
 use std::sync::Wait;
 use std::sync::atomic::{AtomicBool, Ordering};
 use std::thread;
@@ -18,8 +15,8 @@ use std::thread::{JoinHandle, Scope, Threads};
 
 /// What is left once a listener ended: all its desks, in any order.
 #[derive(Drop)]
-pub struct Ended<L: Desks> {
-    pub desks: Vec<Desk<L>>,
+pub struct Ended<S: Drop> {
+    pub desks: Vec<S>,
     /// How many connections were served.
     pub connections: usize,
 }
@@ -35,18 +32,18 @@ pub enum ListenFault {
 
 /// A listener that ended before it was told to, once all its connections ended.
 #[derive(Drop)]
-pub struct Broken<L: Desks> {
+pub struct Broken<S: Drop> {
     pub fault: ListenFault,
     /// All its desks, in any order.
-    pub desks: Vec<Desk<L>>,
+    pub desks: Vec<S>,
 }
 
 // The desks of a listener: those that wait for a connection, those of threads that serve one, and those that served one here.
 #[derive(Drop)]
-struct Hands<L: Desks> {
-    idle: Vec<Desk<L>>,
-    workers: Vec<JoinHandle<Desk<L>>>,
-    done: Vec<Desk<L>>,
+struct Hands<S: Drop> {
+    idle: Vec<S>,
+    workers: Vec<JoinHandle<S>>,
+    done: Vec<S>,
     /// How many connections were served, or are.
     connections: usize,
     total: usize,
@@ -55,76 +52,29 @@ struct Hands<L: Desks> {
     ghost room: { (total ≤ vec_capacity workers) × (total ≤ vec_capacity done) },
 }
 
-// Drops what still comes, until the other end says nothing more, or the turns are spent.
-fn drop_rest<R: Read, W>(channel: &mut Channel<R, W>) {
-    let mut piece = [0; READ_BYTES];
-    loop {
-        match channel.read_turn(&mut piece) {
-            Ok(Turn::Moved(0)) | Err(_) => return,
-            Ok(_) => {}
-        }
-    }
-}
-
-// Serves one connection to its end. How it ended is told to whoever is at its other end alone. Where it ended before what came did, as at a
-// bad frame, the other end is told that no more replies come, and the rest is dropped: a socket that is closed with bytes unread would take
-// back replies that are still on their way.
-fn serve_connection<D: Device, L: Desks, G: RequestGate, T: Wait>(
-    rt: &T,
-    alloc: Global,
-    node: &Node<D, L>,
-    desk: Desk<L>,
-    gate: &G,
-    stream: TcpStream,
-) -> Desk<L> {
-    // A socket that can't be told so sends small replies later.
-    let _ = stream.set_nodelay(true);
-    let mut channel = Channel::new(&stream, &stream);
-    let desk = serve(rt, alloc, node, desk, gate, &mut channel).1;
-    let _ = stream.shutdown(Shutdown::Write);
-    drop_rest(&mut channel);
-    desk
-}
-
 // Has a thread of its own serve the connection, or serves it here where none starts.
-fn begin<
-    's,
-    E,
-    D: Device + Send + Sync,
-    L: Desks + Send + Sync,
-    G: RequestGate + Send + Sync,
-    T: Wait + Send + Sync,
->(
+fn begin<'s, E, H: Host + Sync, T: Wait + Send + Sync>(
     scope: &'s Scope<'s, E>,
     rt: &'s T,
     alloc: Global,
-    node: &'s Node<D, L>,
-    desk: Desk<L>,
-    gate: &'s G,
+    host: &'s H,
+    desk: H::Desk,
     stream: TcpStream,
-) -> Result<JoinHandle<Desk<L>>, Desk<L>> {
-    match scope.spawn(move || serve_connection(rt, alloc, node, desk, gate, stream)) {
+) -> Result<JoinHandle<H::Desk>, H::Desk> {
+    match scope.spawn(move || host.serve(rt, alloc, desk, stream)) {
         Ok(worker) => Ok(worker),
         Err(refused) => Err((refused.value)()),
     }
 }
 
 // Takes connections until one comes behind the flag, or no desk is left.
-fn accept_all<
-    's,
-    E,
-    D: Device + Send + Sync,
-    L: Desks + Send + Sync,
-    G: RequestGate + Send + Sync,
-    T: Wait + Send + Sync,
->(
+fn accept_all<'s, E, H: Host + Sync, T: Wait + Send + Sync>(
     scope: &'s Scope<'s, E>,
     rt: &'s T,
     alloc: Global,
-    node: &'s Node<D, L>,
+    host: &'s H,
     listener: &TcpListener,
-    hands: &mut Hands<L>,
-    gate: &'s G,
+    hands: &mut Hands<H::Desk>,
     stop: &AtomicBool,
 ) -> Result<(), ListenFault>
     ensures all { hands.new.total ≡ hands.old.total }
@@ -140,7 +90,7 @@ fn accept_all<
             hands.done.push_reserved(desk);
             return Err(ListenFault::Accept);
         };
-        match begin(scope, rt, alloc, node, desk, gate, stream) {
+        match begin(scope, rt, alloc, host, desk, stream) {
             Ok(worker) => hands.workers.push_reserved(worker),
             Err(desk) => hands.done.push_reserved(desk),
         }
@@ -150,10 +100,10 @@ fn accept_all<
 }
 
 // Waits for each thread, and takes its desk.
-fn join_all<L: Desks + Send + Sync, T: Threads>(
+fn join_all<S: Drop + Send, T: Threads>(
     rt: &T,
-    workers: Vec<JoinHandle<Desk<L>>>,
-    desks: &mut Vec<Desk<L>>,
+    workers: Vec<JoinHandle<S>>,
+    desks: &mut Vec<S>,
 )
     requires room { vec_len desks.old + vec_len workers ≤ vec_capacity desks.old }
     ensures all { vec_len desks.new ≡ vec_len desks.old + vec_len workers }
@@ -164,7 +114,7 @@ fn join_all<L: Desks + Send + Sync, T: Threads>(
     }
 }
 
-fn put_back<L: Desks>(idle: Vec<Desk<L>>, desks: &mut Vec<Desk<L>>)
+fn put_back<S: Drop>(idle: Vec<S>, desks: &mut Vec<S>)
     requires room { vec_len desks.old + vec_len idle ≤ vec_capacity desks.old }
     ensures all { vec_len desks.new ≡ vec_len desks.old + vec_len idle }
 {
@@ -174,7 +124,7 @@ fn put_back<L: Desks>(idle: Vec<Desk<L>>, desks: &mut Vec<Desk<L>>)
 }
 
 // All desks, once each thread has ended.
-fn collect<L: Desks + Send + Sync, T: Threads>(rt: &T, hands: Hands<L>) -> Vec<Desk<L>>
+fn collect<S: Drop + Send, T: Threads>(rt: &T, hands: Hands<S>) -> Vec<S>
     ensures { vec_len result ≡ hands.total }
 {
     let Hands {
@@ -189,23 +139,17 @@ fn collect<L: Desks + Send + Sync, T: Threads>(rt: &T, hands: Hands<L>) -> Vec<D
     desks
 }
 
-/// Takes connections from the socket, and has each served at the node by a thread and a desk of its own, or by this one where no thread
+/// Takes connections from the socket, and has each served by the host with a desk, by a thread of its own, or by this one where no thread
 /// starts. It ends at the first connection that comes once the flag is set, or when each desk has served a connection, and gives all
 /// desks back once every connection has ended.
-pub fn listen<
-    D: Device + Send + Sync,
-    L: Desks + Send + Sync,
-    G: RequestGate + Send + Sync,
-    T: Threads + Wait + Send + Sync,
->(
+pub fn listen_on<H: Host + Sync, T: Threads + Wait + Send + Sync>(
     rt: &T,
     alloc: Global,
-    node: &Node<D, L>,
+    host: &H,
     listener: &TcpListener,
-    desks: Vec<Desk<L>>,
-    gate: &G,
+    desks: Vec<H::Desk>,
     stop: &AtomicBool,
-) -> Result<Ended<L>, Broken<L>>
+) -> Result<Ended<H::Desk>, Broken<H::Desk>>
     ensures { MatchResult result
         (λ ended. (vec_len ended.desks ≡ vec_len desks) × (ended.connections ≤ vec_len desks))
         (λ broken. vec_len broken.desks ≡ vec_len desks) }
@@ -230,11 +174,11 @@ pub fn listen<
     let (ended, hands) = thread::scope(
         thread::scope_env(),
         rt,
-        move |scope| -> (Result<(), ListenFault>, Hands<L>)
+        move |scope| -> (Result<(), ListenFault>, Hands<H::Desk>)
             ensures { result.1.total ≡ hands.total }
         {
             let mut hands = hands;
-            let ended = accept_all(scope, rt, alloc, node, listener, &mut hands, gate, stop);
+            let ended = accept_all(scope, rt, alloc, host, listener, &mut hands, stop);
             (ended, hands)
         },
     );
@@ -244,4 +188,26 @@ pub fn listen<
         Ok(()) => Ok(Ended { desks, connections }),
         Err(fault) => Err(Broken { fault, desks }),
     }
+}
+
+/// As [`listen_on`], at a node, for whoever has a desk there. Each request waits for the gate.
+pub fn listen<
+    D: Device + Send + Sync,
+    L: Desks + Send + Sync,
+    G: RequestGate + Send + Sync,
+    T: Threads + Wait + Send + Sync,
+>(
+    rt: &T,
+    alloc: Global,
+    node: &Node<D, L>,
+    listener: &TcpListener,
+    desks: Vec<Desk<L>>,
+    gate: &G,
+    stop: &AtomicBool,
+) -> Result<Ended<Desk<L>>, Broken<Desk<L>>>
+    ensures { MatchResult result
+        (λ ended. (vec_len ended.desks ≡ vec_len desks) × (ended.connections ≤ vec_len desks))
+        (λ broken. vec_len broken.desks ≡ vec_len desks) }
+{
+    listen_on(rt, alloc, &GatedNode { node, gate }, listener, desks, stop)
 }

@@ -1,0 +1,177 @@
+//! A fleet at its sockets.
+ghost use Rattle.std.specs.Prelude.{◌≡◌, IfOk, length, vec_len};
+
+use crate::fault::FleetFault;
+use crate::fleet::Fleet;
+use crate::links::reach;
+use bayou_audit::{AuditBook, Ledgers};
+use bayou_net::{Host, listen_on};
+use std::alloc::Global;
+use std::net::{Net, SocketAddr, TcpListener, TcpStream};
+use std::sync::Wait;
+use std::sync::atomic::{AtomicBool, Ordering};
+use std::thread::{JoinHandle, Scope, Threads};
+
+/// A fleet with its sockets, and the book of what its sessions are served. Threads share it.
+#[derive(Drop)]
+pub struct Network<F: Fleet, K: Ledgers> {
+    pub fleet: F,
+    pub book: AuditBook<K>,
+    listeners: Vec<TcpListener>,
+    pub(crate) addresses: Vec<SocketAddr>,
+    stop: AtomicBool,
+}
+
+/// Leave to have one connection served.
+#[derive(Clone, Copy, Debug)]
+pub struct Leave;
+
+/// One server of a fleet.
+#[derive(Drop)]
+struct At<'a, F> {
+    fleet: &'a F,
+    at: usize,
+}
+
+impl<F: Fleet> Host for At<'_, F> {
+    type Desk = Leave;
+
+    fn serve<T: Wait>(
+        &self,
+        rt: &T,
+        alloc: Global,
+        desk: Leave,
+        stream: TcpStream,
+    ) -> Leave {
+        self.fleet.serve(rt, alloc, self.at, &stream);
+        desk
+    }
+}
+
+impl<F: Fleet, K: Ledgers> Network<F, K> {
+    /// The fleet of so many servers, each with a socket of the loopback address, at a port that the system picks.
+    pub fn bind<T: Net<Stream = TcpStream, Listener = TcpListener>>(
+        rt: &T,
+        alloc: Global,
+        fleet: F,
+        count: u8,
+        book: AuditBook<K>,
+    ) -> Result<Self, FleetFault> {
+        let mut listeners = Vec::new(alloc);
+        let mut addresses = Vec::new(alloc);
+        for _ in 0..count {
+            let (listener, address) = bound(rt)?;
+            listeners.push(listener)?;
+            addresses.push(address)?;
+        }
+        Ok(Network {
+            fleet,
+            book,
+            listeners,
+            addresses,
+            stop: AtomicBool::new(false),
+        })
+    }
+
+    /// Has each listener end at its next connection, and connects to each.
+    pub fn stop<T: Net<Stream = TcpStream, Listener = TcpListener>>(&self, rt: &T) {
+        self.stop.store(true, Ordering::SeqCst);
+        for address in &self.addresses {
+            let _ = reach(rt, *address);
+        }
+    }
+
+    /// The fleet and the book, once nobody is served any more.
+    pub fn parts(self) -> (F, AuditBook<K>)
+        ensures { (result.0 ≡ self.fleet) × (result.1 ≡ self.book) }
+    {
+        (self.fleet, self.book)
+    }
+}
+
+// A socket of the loopback address.
+fn bound<T: Net<Stream = TcpStream, Listener = TcpListener>>(
+    rt: &T,
+) -> Result<(TcpListener, SocketAddr), FleetFault> {
+    let Ok(listener) = TcpListener::bind(rt, "127.0.0.1:0") else {
+        return Err(FleetFault::Network);
+    };
+    let Ok(address) = listener.local_addr() else {
+        return Err(FleetFault::Network);
+    };
+    Ok((listener, address))
+}
+
+// So many times leave to have a connection served.
+fn leaves(alloc: Global, connections: usize) -> Result<Vec<Leave>, FleetFault>
+    ensures { IfOk result (λ leaves. vec_len leaves ≡ connections) }
+{
+    let mut leaves = Vec::new(alloc);
+    leaves.resize(connections, Leave)?;
+    Ok(leaves)
+}
+
+// Has a thread listen for so many connections at the server. Whether it listened to its end is what the thread tells.
+fn start_listener<'s, E, F, K, T>(
+    scope: &'s Scope<'s, E>,
+    rt: &'s T,
+    alloc: Global,
+    network: &'s Network<F, K>,
+    at: usize,
+    connections: usize,
+) -> Result<JoinHandle<bool>, FleetFault>
+where
+    F: Fleet + Send + Sync,
+    K: Ledgers + Send + Sync,
+    T: Threads + Wait + Net<Stream = TcpStream, Listener = TcpListener> + Send + Sync,
+{
+    let leaves = leaves(alloc, connections)?;
+    let told = scope.spawn(move || listens(rt, alloc, network, at, leaves));
+    match told {
+        Ok(thread) => Ok(thread),
+        Err(_) => Err(FleetFault::Memory),
+    }
+}
+
+// Listens at the server, until it is told to stop.
+fn listens<F, K, T>(
+    rt: &T,
+    alloc: Global,
+    network: &Network<F, K>,
+    at: usize,
+    leaves: Vec<Leave>,
+) -> bool
+where
+    F: Fleet + Send + Sync,
+    K: Ledgers,
+    T: Threads + Wait + Send + Sync,
+{
+    if at >= network.listeners.len() {
+        return false;
+    }
+    let host = At {
+        fleet: &network.fleet,
+        at,
+    };
+    listen_on(rt, alloc, &host, &network.listeners[at], leaves, &network.stop).is_ok()
+}
+
+/// Has a thread listen for so many connections at each server.
+pub fn start_listeners<'s, E, F, K, T>(
+    scope: &'s Scope<'s, E>,
+    rt: &'s T,
+    alloc: Global,
+    network: &'s Network<F, K>,
+    connections: usize,
+) -> Result<Vec<JoinHandle<bool>>, FleetFault>
+where
+    F: Fleet + Send + Sync,
+    K: Ledgers + Send + Sync,
+    T: Threads + Wait + Net<Stream = TcpStream, Listener = TcpListener> + Send + Sync,
+{
+    let mut threads = Vec::new(alloc);
+    for at in 0..network.listeners.len() {
+        threads.push(start_listener(scope, rt, alloc, network, at, connections)?)?;
+    }
+    Ok(threads)
+}

@@ -1,0 +1,54 @@
+//! The commands of a phase, by what is done together.
+use bayou_base::SESSIONS;
+use bayou_script::Part;
+use bayou_text::Command;
+use std::alloc::{AllocError, Global};
+use std::collections::VecDeque;
+
+/// The commands of a phase, each kind in the order in which they were said.
+#[derive(Drop)]
+pub struct Phase {
+    /// Those that open sessions, which are done first.
+    pub opens: Vec<Command>,
+    /// What each session writes and reads, from session 0 on.
+    pub operations: VecDeque<Vec<Command>>,
+    pub pulls: Vec<Command>,
+    /// Those that are done when all else has ended.
+    pub rest: VecDeque<Command>,
+}
+
+impl Phase {
+    // A phase in which nothing is said.
+    fn new(alloc: Global) -> Result<Self, AllocError> {
+        let mut operations = VecDeque::new(alloc);
+        for _ in 0..SESSIONS {
+            operations.push_back(Vec::new(alloc))?;
+        }
+        Ok(Phase {
+            opens: Vec::new(alloc),
+            operations,
+            pulls: Vec::new(alloc),
+            rest: VecDeque::new(alloc),
+        })
+    }
+
+    // Puts a command behind those of its kind.
+    fn put(&mut self, command: Command) -> Result<(), AllocError> {
+        match Part::of(&command) {
+            Part::Opens => self.opens.push(command)?,
+            Part::Operation(who) => self.operations[usize::from(who.index)].push(command)?,
+            Part::Pull => self.pulls.push(command)?,
+            Part::Rest => self.rest.push_back(command)?,
+        }
+        Ok(())
+    }
+
+    /// The commands of a phase, by their kinds.
+    pub fn arranged(alloc: Global, commands: Vec<Command>) -> Result<Self, AllocError> {
+        let mut phase = Phase::new(alloc)?;
+        for command in commands {
+            phase.put(command)?;
+        }
+        Ok(phase)
+    }
+}

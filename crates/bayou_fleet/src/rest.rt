@@ -1,0 +1,181 @@
+//! What is asked of a run when sessions and pulls have ended.
+use crate::fault::FleetFault;
+use crate::fleet::Fleet;
+use crate::links::{SocketLink, links_to};
+use crate::network::Network;
+use bayou_audit::Ledgers;
+use bayou_base::{Entry, ServerId};
+use bayou_client::LinkFault;
+use bayou_judge::{judge, survey};
+use bayou_lang::RestingWrite;
+use bayou_machine::{Answer, Recovery};
+use bayou_script::AuditFile;
+use bayou_server::{JournalFault, ReopenFault};
+use bayou_text::Command;
+use bayou_wire::Refusal;
+use std::alloc::{AllocError, Global};
+use std::net::{Net, TcpListener, TcpStream};
+use std::sync::Wait;
+
+/// Whoever asks the rest, with a link to each server.
+#[derive(Drop)]
+pub struct Rest {
+    count: u8,
+    links: Vec<SocketLink>,
+}
+
+// What a refused reopening is answered; none where the refusal answers no reopening.
+fn unopened(refusal: Refusal) -> Option<Recovery> {
+    match refusal {
+        Refusal::NotDown => Some(Recovery::NotReopened(ReopenFault::NotDown)),
+        Refusal::Journal => Some(Recovery::NotReopened(ReopenFault::Journal(
+            JournalFault::Device,
+        ))),
+        Refusal::Lost => Some(Recovery::NotReopened(ReopenFault::Lost)),
+        Refusal::BadRecord(at) => Some(Recovery::NotReopened(ReopenFault::BadRecord(at))),
+        Refusal::OutOfMemory => Some(Recovery::NotReopened(ReopenFault::OutOfMemory)),
+        Refusal::Down | Refusal::Behind(_) | Refusal::LogFull => None,
+    }
+}
+
+impl Rest {
+    /// A link to each of so many servers.
+    pub fn new<F: Fleet, K: Ledgers, T: Net<Stream = TcpStream, Listener = TcpListener>>(
+        rt: &T,
+        alloc: Global,
+        network: &Network<F, K>,
+        count: u8,
+    ) -> Result<Self, FleetFault> {
+        let links = links_to(rt, alloc, network.addresses.as_slice())?;
+        Ok(Rest { count, links })
+    }
+
+    // Has the server open its journal again.
+    fn reopen(&mut self, alloc: Global, server: ServerId) -> Result<Answer, FleetFault> {
+        let at = usize::from(server.index);
+        if at >= self.links.len() {
+            return Err(FleetFault::Network);
+        }
+        let recovery = match self.links[at].reopen(alloc) {
+            Ok(adopted) => Some(Recovery::Reopened { server, adopted }),
+            Err(LinkFault::Refused(refusal)) => unopened(refusal),
+            Err(LinkFault::OutOfMemory) => return Err(FleetFault::Memory),
+            Err(LinkFault::Lost | LinkFault::BadFrame) => None,
+        };
+        match recovery {
+            Some(recovery) => Ok(Answer::Recovered(recovery)),
+            None => Err(FleetFault::Network),
+        }
+    }
+
+    // What each server sends of what it holds.
+    fn sent(&mut self, alloc: Global) -> Result<Vec<Vec<RestingWrite>>, FleetFault> {
+        let mut dumps = Vec::new(alloc);
+        for link in &mut self.links {
+            match link.dump(alloc) {
+                Ok(writes) => dumps.push(writes)?,
+                Err(LinkFault::OutOfMemory | LinkFault::Refused(Refusal::OutOfMemory)) => {
+                    return Err(FleetFault::Memory);
+                }
+                Err(_) => return Err(FleetFault::Network),
+            }
+        }
+        Ok(dumps)
+    }
+
+    // The audit file of what was filed so far, and of what the servers send.
+    fn book<F: Fleet, K: Ledgers, T: Wait>(
+        &mut self,
+        rt: &T,
+        alloc: Global,
+        network: &Network<F, K>,
+    ) -> Result<Answer, FleetFault> {
+        let entries = network.book.entries(rt, alloc)?;
+        let dumps = self.sent(alloc)?;
+        Ok(Answer::Booked(AuditFile {
+            count: self.count,
+            entries,
+            dumps,
+        }))
+    }
+
+    /// Answers a command of the rest. What is none is told as done.
+    pub fn answer<F: Fleet, K: Ledgers, T: Wait>(
+        &mut self,
+        rt: &T,
+        alloc: Global,
+        network: &Network<F, K>,
+        command: Command,
+    ) -> Result<Answer, FleetFault> {
+        match command {
+            Command::Reopen { server } => self.reopen(alloc, server),
+            Command::Log { server } => Ok(logged(rt, alloc, &network.fleet, server)?),
+            Command::Totals => Ok(Answer::Counted(network.book.totals(rt))),
+            Command::Judge => Ok(judged(rt, alloc, network, self.count)?),
+            Command::Survey => Ok(surveyed(rt, alloc, network, self.count)?),
+            Command::Book => self.book(rt, alloc, network),
+            _ => Ok(Answer::Done),
+        }
+    }
+}
+
+// What the server holds.
+fn logged<F: Fleet, T: Wait>(
+    rt: &T,
+    alloc: Global,
+    fleet: &F,
+    server: ServerId,
+) -> Result<Answer, AllocError> {
+    let at = usize::from(server.index);
+    let listing = fleet.listing(rt, alloc, at)?;
+    let vector = fleet.vector(rt, at);
+    Ok(Answer::Logged {
+        server,
+        listing,
+        vector,
+    })
+}
+
+// What each of so many servers holds, in order of receipt.
+fn dumps<F: Fleet, T: Wait>(
+    rt: &T,
+    alloc: Global,
+    fleet: &F,
+    count: u8,
+) -> Result<Vec<Vec<RestingWrite>>, AllocError> {
+    let mut dumps = Vec::new(alloc);
+    for at in 0..count {
+        dumps.push(fleet.dump(rt, alloc, usize::from(at))?)?;
+    }
+    Ok(dumps)
+}
+
+// The verdict on what was filed so far and what the servers hold.
+fn judged<F: Fleet, K: Ledgers, T: Wait>(
+    rt: &T,
+    alloc: Global,
+    network: &Network<F, K>,
+    count: u8,
+) -> Result<Answer, AllocError> {
+    let entries = network.book.entries(rt, alloc)?;
+    let held = dumps(rt, alloc, &network.fleet, count)?;
+    match judge(alloc, count, entries.as_slice(), held.as_slice()) {
+        Err(bayou_judge::Refusal::OutOfMemory) => Err(AllocError),
+        told => Ok(Answer::Judged(told)),
+    }
+}
+
+// The survey of what was filed so far and what the servers hold.
+fn surveyed<F: Fleet, K: Ledgers, T: Wait>(
+    rt: &T,
+    alloc: Global,
+    network: &Network<F, K>,
+    count: u8,
+) -> Result<Answer, AllocError> {
+    let entries = network.book.entries(rt, alloc)?;
+    let held = dumps(rt, alloc, &network.fleet, count)?;
+    match survey(alloc, count, entries.as_slice(), held.as_slice()) {
+        Err(bayou_judge::Refusal::OutOfMemory) => Err(AllocError),
+        told => Ok(Answer::Surveyed(told)),
+    }
+}

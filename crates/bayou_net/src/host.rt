@@ -1,0 +1,80 @@
+//! What connections are served by.
+
+use crate::at_desk::serve;
+use crate::gate::RequestGate;
+use bayou_base::limits::READ_BYTES;
+use bayou_device::Device;
+use bayou_node::{Desk, Desks, Node};
+use bayou_streams::{Channel, Turn};
+use std::alloc::Global;
+use std::io::Read;
+use std::net::{Shutdown, TcpStream};
+use std::sync::Wait;
+
+/// What serves connections, for many threads at once. Whoever brings a desk has one connection served, and gets the desk back.
+pub trait Host {
+    type Desk: Drop + Send;
+
+    /// Serves one connection to its end. How it ended is told to whoever is at its other end alone.
+    fn serve<T: Wait>(
+        &self,
+        rt: &T,
+        alloc: Global,
+        desk: Self::Desk,
+        stream: TcpStream,
+    ) -> Self::Desk;
+}
+
+/// A node that is lent to serve connections, behind a gate.
+#[derive(Drop)]
+pub(crate) struct GatedNode<'a, D, L: Desks, G> {
+    pub(crate) node: &'a Node<D, L>,
+    pub(crate) gate: &'a G,
+}
+
+impl<D: Device + Send + Sync, L: Desks + Send + Sync, G: RequestGate + Send + Sync> Host
+    for GatedNode<'_, D, L, G>
+{
+    type Desk = Desk<L>;
+
+    fn serve<T: Wait>(
+        &self,
+        rt: &T,
+        alloc: Global,
+        desk: Desk<L>,
+        stream: TcpStream,
+    ) -> Desk<L> {
+        serve_connection(rt, alloc, self.node, desk, self.gate, &stream)
+    }
+}
+
+// Drops what still comes, until the other end says nothing more, or the turns are spent.
+fn drop_rest<R: Read, W>(channel: &mut Channel<R, W>) {
+    let mut piece = [0; READ_BYTES];
+    loop {
+        match channel.read_turn(&mut piece) {
+            Ok(Turn::Moved(0)) | Err(_) => return,
+            Ok(_) => {}
+        }
+    }
+}
+
+/// Serves one connection to its end, at a node. How it ended is told to whoever is at its other end alone. Where it ended before what came
+/// did, as at a bad frame, the other end is told that no more replies come, and the rest is dropped: a socket that is closed with bytes
+/// unread would take back replies that are still on their way.
+pub fn serve_connection<D: Device, L: Desks, G: RequestGate, T: Wait>(
+    rt: &T,
+    alloc: Global,
+    node: &Node<D, L>,
+    desk: Desk<L>,
+    gate: &G,
+    stream: &TcpStream,
+) -> Desk<L> {
+    // A socket that can't be told so sends small replies later.
+    let _ = stream.set_nodelay(true);
+    let mut channel = Channel::new(stream, stream);
+    let desk = serve(rt, alloc, node, desk, gate, &mut channel).1;
+    let _ = stream.shutdown(Shutdown::Write);
+    drop_rest(&mut channel);
+    desk
+}
