@@ -33,12 +33,7 @@ pub trait Fleet: Drop {
     ) -> Result<Pulled, PullFault>;
 
     /// The Writes that this server holds, in stamp order, each with its outcome.
-    fn listing<T: Wait>(
-        &self,
-        rt: &T,
-        alloc: Global,
-        at: usize,
-    ) -> Result<Vec<Listed>, AllocError>;
+    fn listing<T: Wait>(&self, rt: &T, alloc: Global, at: usize) -> Result<Vec<Listed>, AllocError>;
 
     /// How many Writes of each server this one holds.
     fn vector<T: Wait>(&self, rt: &T, at: usize) -> Vector;

@@ -41,7 +41,9 @@ pub(crate) fn links_to<T: Net<Stream = TcpStream, Listener = TcpListener>>(
     rt: &T,
     alloc: Global,
     addresses: &[SocketAddr],
-) -> Result<Vec<SocketLink>, FleetFault> {
+) -> Result<Vec<SocketLink>, FleetFault>
+    ensures { IfOk result (λ links. vec_len links ≡ length addresses.now) }
+{
     let mut links = Vec::new(alloc);
     for address in addresses {
         links.push(link_to(rt, *address)?)?;

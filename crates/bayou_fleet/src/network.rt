@@ -1,5 +1,6 @@
 //! A fleet at its sockets.
-ghost use Rattle.std.specs.Prelude.{◌≡◌, IfOk, length, vec_len};
+ghost use Rattle.std.specs.Prelude.{◌≡◌, ◌<◌, ◌≤◌, IfOk, length, vec_len};
+ghost use Rattle.bayou_base.specs.declared.limits.TheConstants.{SERVERS};
 
 use crate::fault::FleetFault;
 use crate::fleet::Fleet;
@@ -17,9 +18,12 @@ use std::thread::{JoinHandle, Scope, Threads};
 pub struct Network<F: Fleet, K: Ledgers> {
     pub fleet: F,
     pub book: AuditBook<K>,
+    pub(crate) count: u8,
     listeners: Vec<TcpListener>,
     pub(crate) addresses: Vec<SocketAddr>,
     stop: AtomicBool,
+    pub ghost count_in_range: { (0 < count) × (count ≤ SERVERS) },
+    ghost one_each: { vec_len addresses ≡ count },
 }
 
 /// Leave to have one connection served.
@@ -36,13 +40,7 @@ struct At<'a, F> {
 impl<F: Fleet> Host for At<'_, F> {
     type Desk = Leave;
 
-    fn serve<T: Wait>(
-        &self,
-        rt: &T,
-        alloc: Global,
-        desk: Leave,
-        stream: TcpStream,
-    ) -> Leave {
+    fn serve<T: Wait>(&self, rt: &T, alloc: Global, desk: Leave, stream: TcpStream) -> Leave {
         self.fleet.serve(rt, alloc, self.at, &stream);
         desk
     }
@@ -56,7 +54,10 @@ impl<F: Fleet, K: Ledgers> Network<F, K> {
         fleet: F,
         count: u8,
         book: AuditBook<K>,
-    ) -> Result<Self, FleetFault> {
+    ) -> Result<Self, FleetFault>
+        requires { (0 < count) × (count ≤ SERVERS) }
+        ensures { IfOk result (λ network. (network.count ≡ count) × (network.fleet ≡ fleet) × (network.book ≡ book)) }
+    {
         let mut listeners = Vec::new(alloc);
         let mut addresses = Vec::new(alloc);
         for _ in 0..count {
@@ -67,6 +68,7 @@ impl<F: Fleet, K: Ledgers> Network<F, K> {
         Ok(Network {
             fleet,
             book,
+            count,
             listeners,
             addresses,
             stop: AtomicBool::new(false),
@@ -153,7 +155,15 @@ where
         fleet: &network.fleet,
         at,
     };
-    listen_on(rt, alloc, &host, &network.listeners[at], leaves, &network.stop).is_ok()
+    listen_on(
+        rt,
+        alloc,
+        &host,
+        &network.listeners[at],
+        leaves,
+        &network.stop,
+    )
+    .is_ok()
 }
 
 /// Has a thread listen for so many connections at each server.

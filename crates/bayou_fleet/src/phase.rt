@@ -1,4 +1,7 @@
 //! The commands of a phase, by what is done together.
+ghost use Rattle.std.specs.Prelude.{◌≡◌, length};
+ghost use Rattle.bayou_base.specs.declared.limits.TheConstants.{SESSIONS as SESSIONS_NUMBER};
+
 use bayou_base::SESSIONS;
 use bayou_script::Part;
 use bayou_text::Command;
@@ -15,6 +18,7 @@ pub struct Phase {
     pub pulls: Vec<Command>,
     /// Those that are done when all else has ended.
     pub rest: VecDeque<Command>,
+    pub ghost one_each: { length operations.items ≡ SESSIONS_NUMBER },
 }
 
 impl Phase {

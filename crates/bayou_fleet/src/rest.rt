@@ -1,4 +1,7 @@
 //! What is asked of a run when sessions and pulls have ended.
+ghost use Rattle.std.specs.Prelude.{◌≡◌, ◌<◌, ◌≤◌, IfOk, vec_len};
+ghost use Rattle.bayou_base.specs.declared.limits.TheConstants.{SERVERS};
+
 use crate::fault::FleetFault;
 use crate::fleet::Fleet;
 use crate::links::{SocketLink, links_to};
@@ -22,15 +25,15 @@ use std::sync::Wait;
 pub struct Rest {
     count: u8,
     links: Vec<SocketLink>,
+    ghost count_in_range: { (0 < count) × (count ≤ SERVERS) },
+    ghost one_each: { vec_len links ≡ count },
 }
 
 // What a refused reopening is answered; none where the refusal answers no reopening.
 fn unopened(refusal: Refusal) -> Option<Recovery> {
     match refusal {
         Refusal::NotDown => Some(Recovery::NotReopened(ReopenFault::NotDown)),
-        Refusal::Journal => Some(Recovery::NotReopened(ReopenFault::Journal(
-            JournalFault::Device,
-        ))),
+        Refusal::Journal => Some(Recovery::NotReopened(ReopenFault::Journal(JournalFault::Device))),
         Refusal::Lost => Some(Recovery::NotReopened(ReopenFault::Lost)),
         Refusal::BadRecord(at) => Some(Recovery::NotReopened(ReopenFault::BadRecord(at))),
         Refusal::OutOfMemory => Some(Recovery::NotReopened(ReopenFault::OutOfMemory)),
@@ -38,14 +41,25 @@ fn unopened(refusal: Refusal) -> Option<Recovery> {
     }
 }
 
+// What a server sends of what it holds.
+fn sent_over(alloc: Global, link: &mut SocketLink) -> Result<Vec<RestingWrite>, FleetFault> {
+    match link.dump(alloc) {
+        Ok(writes) => Ok(writes),
+        Err(LinkFault::OutOfMemory | LinkFault::Refused(Refusal::OutOfMemory)) => {
+            Err(FleetFault::Memory)
+        }
+        Err(_) => Err(FleetFault::Network),
+    }
+}
+
 impl Rest {
-    /// A link to each of so many servers.
+    /// A link to each server.
     pub fn new<F: Fleet, K: Ledgers, T: Net<Stream = TcpStream, Listener = TcpListener>>(
         rt: &T,
         alloc: Global,
         network: &Network<F, K>,
-        count: u8,
     ) -> Result<Self, FleetFault> {
+        let count = network.count;
         let links = links_to(rt, alloc, network.addresses.as_slice())?;
         Ok(Rest { count, links })
     }
@@ -69,16 +83,14 @@ impl Rest {
     }
 
     // What each server sends of what it holds.
-    fn sent(&mut self, alloc: Global) -> Result<Vec<Vec<RestingWrite>>, FleetFault> {
+    fn sent(&mut self, alloc: Global) -> Result<Vec<Vec<RestingWrite>>, FleetFault>
+        ensures dumps { IfOk result (λ dumps. vec_len dumps ≡ self.old.count) }
+        ensures same { self.new.count ≡ self.old.count }
+    {
         let mut dumps = Vec::new(alloc);
-        for link in &mut self.links {
-            match link.dump(alloc) {
-                Ok(writes) => dumps.push(writes)?,
-                Err(LinkFault::OutOfMemory | LinkFault::Refused(Refusal::OutOfMemory)) => {
-                    return Err(FleetFault::Memory);
-                }
-                Err(_) => return Err(FleetFault::Network),
-            }
+        for at in 0..self.count {
+            let link = &mut self.links[usize::from(at)];
+            dumps.push(sent_over(alloc, link)?)?;
         }
         Ok(dumps)
     }
@@ -142,7 +154,9 @@ fn dumps<F: Fleet, T: Wait>(
     alloc: Global,
     fleet: &F,
     count: u8,
-) -> Result<Vec<Vec<RestingWrite>>, AllocError> {
+) -> Result<Vec<Vec<RestingWrite>>, AllocError>
+    ensures { IfOk result (λ dumps. vec_len dumps ≡ count) }
+{
     let mut dumps = Vec::new(alloc);
     for at in 0..count {
         dumps.push(fleet.dump(rt, alloc, usize::from(at))?)?;
@@ -156,7 +170,9 @@ fn judged<F: Fleet, K: Ledgers, T: Wait>(
     alloc: Global,
     network: &Network<F, K>,
     count: u8,
-) -> Result<Answer, AllocError> {
+) -> Result<Answer, AllocError>
+    requires { (0 < count) × (count ≤ SERVERS) }
+{
     let entries = network.book.entries(rt, alloc)?;
     let held = dumps(rt, alloc, &network.fleet, count)?;
     match judge(alloc, count, entries.as_slice(), held.as_slice()) {
@@ -171,7 +187,9 @@ fn surveyed<F: Fleet, K: Ledgers, T: Wait>(
     alloc: Global,
     network: &Network<F, K>,
     count: u8,
-) -> Result<Answer, AllocError> {
+) -> Result<Answer, AllocError>
+    requires { (0 < count) × (count ≤ SERVERS) }
+{
     let entries = network.book.entries(rt, alloc)?;
     let held = dumps(rt, alloc, &network.fleet, count)?;
     match survey(alloc, count, entries.as_slice(), held.as_slice()) {

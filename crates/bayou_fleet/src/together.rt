@@ -1,11 +1,14 @@
 //! What is done side by side in a phase: sessions, each in its order, and pulls in theirs.
+ghost use Rattle.std.specs.Prelude.{◌≡◌};
+ghost use Rattle.std.specs.Thread.{IsSend};
+
 use crate::fault::FleetFault;
 use crate::fleet::Fleet;
 use crate::network::Network;
 use crate::phase::Phase;
 use crate::pulls::pull_each;
 use crate::visitor::{Member, Visitor};
-use bayou_audit::Ledgers;
+use bayou_audit::{AuditBook, Ledgers};
 use bayou_machine::Answer;
 use bayou_text::Command;
 use std::alloc::{AllocError, Global};
@@ -34,20 +37,15 @@ enum Going<K: Ledgers> {
 type Pulling = JoinHandle<Result<Vec<Answer>, AllocError>>;
 
 // The session does its operations.
-fn visited<F, K, T>(
+fn made_visit<K: Ledgers, T: Wait>(
     rt: &T,
     alloc: Global,
-    network: &Network<F, K>,
+    book: &AuditBook<K>,
     visitor: Visitor<K>,
     operations: Vec<Command>,
-) -> Visited<K>
-where
-    F: Fleet,
-    K: Ledgers,
-    T: Wait,
-{
+) -> Visited<K> {
     let mut visitor = visitor;
-    let answers = visitor.visit(rt, alloc, &network.book, operations);
+    let answers = visitor.visit(rt, alloc, book, operations);
     Visited { visitor, answers }
 }
 
@@ -67,7 +65,12 @@ where
 {
     match member {
         Member::Present(visitor) if !operations.is_empty() => {
-            match scope.spawn(move || visited(rt, alloc, network, visitor, operations)) {
+            let started = scope.spawn(
+                move || -> Visited<K>
+                    requires { IsSend K.Slips.row × IsSend K.Reads.row × IsSend K.Writes.row × IsSend K.Refusals.row }
+                { made_visit(rt, alloc, &network.book, visitor, operations) },
+            );
+            match started {
                 Ok(thread) => Ok(Going::Visits(thread)),
                 Err(_) => Err(FleetFault::Memory),
             }
@@ -115,8 +118,13 @@ where
     K: Ledgers + Send + Sync,
     T: Threads + Wait + Net<Stream = TcpStream, Listener = TcpListener> + Send + Sync,
 {
-    match scope.spawn(move || pull_each(rt, alloc, &network.fleet, network.addresses.as_slice(), pulls))
-    {
+    match scope.spawn(move || pull_each(
+        rt,
+        alloc,
+        &network.fleet,
+        network.addresses.as_slice(),
+        pulls,
+    )) {
         Ok(thread) => Ok(thread),
         Err(_) => Err(FleetFault::Memory),
     }

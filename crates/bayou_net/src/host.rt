@@ -33,17 +33,10 @@ pub(crate) struct GatedNode<'a, D, L: Desks, G> {
 }
 
 impl<D: Device + Send + Sync, L: Desks + Send + Sync, G: RequestGate + Send + Sync> Host
-    for GatedNode<'_, D, L, G>
-{
+    for GatedNode<'_, D, L, G> {
     type Desk = Desk<L>;
 
-    fn serve<T: Wait>(
-        &self,
-        rt: &T,
-        alloc: Global,
-        desk: Desk<L>,
-        stream: TcpStream,
-    ) -> Desk<L> {
+    fn serve<T: Wait>(&self, rt: &T, alloc: Global, desk: Desk<L>, stream: TcpStream) -> Desk<L> {
         serve_connection(rt, alloc, self.node, desk, self.gate, &stream)
     }
 }
