@@ -246,7 +246,11 @@ where
     for command in &opens {
         members = open_one(rt, alloc, network, members, command)?;
     }
-    thread::scope(thread::scope_env(), rt, move |scope| {
-        go(scope, rt, alloc, network, members, operations, pulls)
-    })
+    thread::scope(
+        thread::scope_env(),
+        rt,
+        move |scope| -> Result<Together<K>, FleetFault>
+            requires { IsSend F.row × IsSend K.row × IsSend T.row × IsSend K.Slips.row × IsSend K.Reads.row × IsSend K.Writes.row × IsSend K.Refusals.row }
+        { go(scope, rt, alloc, network, members, operations, pulls) },
+    )
 }
