@@ -1,5 +1,7 @@
 //! The commands of a phase, by what is done together.
-ghost use Rattle.std.specs.Prelude.{◌≡◌, length};
+ghost use Rattle.std.specs.Prelude.{◌≡◌, ◌∷◌, [], List, IfOk, OnOk, length, map};
+ghost use Rattle.bayou_fleet.specs.Phases.{AreArranged};
+ghost use Rattle.bayou_text.specs.Said.{Said, command_said};
 ghost use Rattle.bayou_base.specs.declared.limits.TheConstants.{SESSIONS as SESSIONS_NUMBER};
 
 use bayou_base::SESSIONS;
@@ -23,7 +25,9 @@ pub struct Phase {
 
 impl Phase {
     // A phase in which nothing is said.
-    fn new(alloc: Global) -> Result<Self, AllocError> {
+    fn new(alloc: Global) -> Result<Self, AllocError>
+        ensures { IfOk result (λ phase. (lines : List Said) → AreArranged phase.opens.items phase.operations.items phase.pulls.items phase.rest.items lines lines) }
+    {
         let mut operations = VecDeque::new(alloc);
         for _ in 0..SESSIONS {
             operations.push_back(Vec::new(alloc))?;
@@ -37,7 +41,10 @@ impl Phase {
     }
 
     // Puts a command behind those of its kind.
-    fn put(&mut self, command: Command) -> Result<(), AllocError> {
+    fn put(&mut self, command: Command) -> Result<(), AllocError>
+        ensures { OnOk result ((coming lines : List Said) → AreArranged self.old.opens.items self.old.operations.items self.old.pulls.items self.old.rest.items (command_said command ∷ coming) lines
+            → AreArranged self.new.opens.items self.new.operations.items self.new.pulls.items self.new.rest.items coming lines) }
+    {
         match Part::of(&command) {
             Part::Opens => self.opens.push(command)?,
             Part::Operation(who) => self.operations[usize::from(who.index)].push(command)?,
@@ -48,7 +55,9 @@ impl Phase {
     }
 
     /// The commands of a phase, by their kinds.
-    pub fn arranged(alloc: Global, commands: Vec<Command>) -> Result<Self, AllocError> {
+    pub fn arranged(alloc: Global, commands: Vec<Command>) -> Result<Self, AllocError>
+        ensures { IfOk result (λ phase. AreArranged phase.opens.items phase.operations.items phase.pulls.items phase.rest.items [] (map command_said commands.items)) }
+    {
         let mut phase = Phase::new(alloc)?;
         for command in commands {
             phase.put(command)?;

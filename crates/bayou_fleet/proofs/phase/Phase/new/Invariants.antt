@@ -1,6 +1,12 @@
--- a list for each session so far
-use Rattle.std.proofs.Common.{◌≡◌, length}
+-- an empty list for each session so far
+use Rattle.std.proofs.Common.{◌≡◌, ◌<◌, ℕ, [], length}
+use Rattle.std.specs.Global.{Vec}
+use Rattle.std.specs.Prelude.{slice_index_or}
+use Rattle.bayou_text.specs.declared.command.Command.{Command}
 use Rattle.bayou_fleet.proofs.phase.Phase.new.Given as goal
 
 abbrev pub invariant-loop : goal.invariant-loop
-invariant-loop l = length l.operations.items ≡ l.counter
+invariant-loop l = record {
+  number : length l.operations.items ≡ l.counter;
+  empty : (number : ℕ) (none : Vec Command) → number < l.counter → (slice_index_or l.operations.items number none).items ≡ [];
+}
