@@ -1,5 +1,8 @@
 //! Many nodes as one.
-ghost use Rattle.std.specs.Prelude.{◌≡◌};
+ghost use Rattle.std.specs.Prelude.{◌≡◌, ◌+◌, List, IfOk, OnOk, length, vec_len};
+ghost use Rattle.bayou_fleet.specs.Places.{InOne, Place};
+ghost use Rattle.bayou_lang.specs.Writes.{count_of};
+ghost use Rattle.bayou_log.specs.Listing.{listing_of};
 ghost use Rattle.bayou_node.specs.Books.{IsBlankOf};
 ghost use Rattle.bayou_server.specs.Server.{own_count};
 
@@ -20,6 +23,9 @@ use std::sync::{Mutex, Wait};
 
 /// Servers from 0 on, each behind its lock, which threads share.
 pub trait Fleet: Drop {
+    /// The servers, from 0 on.
+    ghost places: { List Place };
+
     /// Serves one connection at this server to its end. Where no desk is left there, nothing is served.
     fn serve<T: Wait>(&self, rt: &T, alloc: Global, at: usize, stream: &TcpStream);
 
@@ -33,10 +39,12 @@ pub trait Fleet: Drop {
     ) -> Result<Pulled, PullFault>;
 
     /// The Writes that this server holds, in stamp order, each with its outcome.
-    fn listing<T: Wait>(&self, rt: &T, alloc: Global, at: usize) -> Result<Vec<Listed>, AllocError>;
+    fn listing<T: Wait>(&self, rt: &T, alloc: Global, at: usize) -> Result<Vec<Listed>, AllocError>
+        ensures { InOne places at (λ core. IfOk result (λ list. list.items ≡ listing_of core.held)) };
 
     /// How many Writes of each server this one holds.
-    fn vector<T: Wait>(&self, rt: &T, at: usize) -> Vector;
+    fn vector<T: Wait>(&self, rt: &T, at: usize) -> Vector
+        ensures { InOne places at (λ core. result ≡ count_of core.held) };
 
     /// Copies of the Writes that this server holds, in order of receipt.
     fn dump<T: Wait>(
@@ -44,11 +52,13 @@ pub trait Fleet: Drop {
         rt: &T,
         alloc: Global,
         at: usize,
-    ) -> Result<Vec<RestingWrite>, AllocError>;
+    ) -> Result<Vec<RestingWrite>, AllocError>
+        ensures { InOne places at (λ core. IfOk result (λ writes. writes.items ≡ core.held)) };
 
     /// What the books of each server come to, from 0 on, put behind what is there; nothing of a server of which a desk is missing, nor of
     /// those behind it.
-    fn settle(self, settled: &mut Vec<Settled>) -> Result<(), FleetFault>;
+    fn settle(self, settled: &mut Vec<Settled>) -> Result<(), FleetFault>
+        ensures { OnOk result (vec_len settled.new ≡ vec_len settled.old + length places) };
 }
 
 /// No server.
@@ -65,6 +75,10 @@ pub struct Led<D, L: Desks, F: Fleet> {
 }
 
 impl Fleet for Nothing {
+    ghost use Rattle.std.specs.Prelude.{[]};
+
+    ghost places = { [] };
+
     fn serve<T: Wait>(&self, _rt: &T, _alloc: Global, _at: usize, _stream: &TcpStream) {}
 
     fn pull<T: Wait>(
@@ -135,6 +149,10 @@ fn put_back<L: Desks>(desks: &mut Vec<Desk<L>>, desk: Desk<L>) {
 }
 
 impl<D: Device, L: Desks, F: Fleet> Fleet for Led<D, L, F> {
+    ghost use Rattle.std.specs.Prelude.{◌∷◌};
+
+    ghost places = { record { server = L.server; stored = L.stored } ∷ F.places };
+
     fn serve<T: Wait>(&self, rt: &T, alloc: Global, at: usize, stream: &TcpStream) {
         if at > 0 {
             return self.others.serve(rt, alloc, at - 1, stream);
@@ -160,6 +178,7 @@ impl<D: Device, L: Desks, F: Fleet> Fleet for Led<D, L, F> {
         pull(rt, alloc, &self.node, &mut Channel::new(stream, stream))
     }
 
+    #[tactic(auto, using(crate::proofs::Leading::in_first, crate::proofs::Leading::in_others))]
     fn listing<T: Wait>(
         &self,
         rt: &T,
@@ -172,6 +191,7 @@ impl<D: Device, L: Desks, F: Fleet> Fleet for Led<D, L, F> {
         self.node.listing(rt, alloc)
     }
 
+    #[tactic(auto, using(crate::proofs::Leading::in_first, crate::proofs::Leading::in_others))]
     fn vector<T: Wait>(&self, rt: &T, at: usize) -> Vector {
         if at > 0 {
             return self.others.vector(rt, at - 1);
@@ -179,6 +199,7 @@ impl<D: Device, L: Desks, F: Fleet> Fleet for Led<D, L, F> {
         self.node.offer(rt)
     }
 
+    #[tactic(auto, using(crate::proofs::Leading::in_first, crate::proofs::Leading::in_others))]
     fn dump<T: Wait>(
         &self,
         rt: &T,
