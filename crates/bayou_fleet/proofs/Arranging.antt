@@ -45,22 +45,22 @@ kind (held place item counts) = inr (inr (inl (record { opening_is = refl; pulli
 -- an operation of this session is of no other kind, and of no other session
 pub of_operation : (said : Said) (who : ℕ) → IsTrue (is_operation_of who said) → Kinds false false false (λ number. who == number) said
 of_operation said who is = elim (kind said) as (λ _. Kinds false false false (λ number. who == number) said) [
+  | inl k ↦ absurd (both_ways _ (k.operation_is who) is)
+  | inr others ↦ elim others as (λ _. Kinds false false false (λ number. who == number) said) [
     | inl k ↦ absurd (both_ways _ (k.operation_is who) is)
-    | inr others ↦ elim others as (λ _. Kinds false false false (λ number. who == number) said) [
-        | inl k ↦ absurd (both_ways _ (k.operation_is who) is)
-        | inr more ↦ elim more as (λ _. Kinds false false false (λ number. who == number) said) [
-            | inl k ↦ absurd (both_ways _ (k.operation_is who) is)
-            | inr k ↦
-                let same = eqb-true k.0 who (sym (k.1.operation_is who) ∙ is) in
-                record {
-                  opening_is = k.1.opening_is;
-                  pulling_is = k.1.pulling_is;
-                  resting_is = k.1.resting_is;
-                  operation_is = λ number. k.1.operation_is number ∙ ap (λ (w : ℕ). w == number) same;
-                }
-          ]
-      ]
+    | inr more ↦ elim more as (λ _. Kinds false false false (λ number. who == number) said) [
+      | inl k ↦ absurd (both_ways _ (k.operation_is who) is)
+      | inr k ↦
+          let same = eqb-true k.0 who (sym (k.1.operation_is who) ∙ is) in
+          record {
+            opening_is = k.1.opening_is;
+            pulling_is = k.1.pulling_is;
+            resting_is = k.1.resting_is;
+            operation_is = λ number. k.1.operation_is number ∙ ap (λ (w : ℕ). w == number) same;
+          }
+    ]
   ]
+]
 
 picked : (test : Said → Bool) (said : Said) (xs : List Said) (is : Bool) → test said ≡ is → filter test (said ∷ xs) ≡ cond is (said ∷ filter test xs) (filter test xs)
 picked test said xs is same = ap (λ (b : Bool). cond b (said ∷ filter test xs) (filter test xs)) same

@@ -1,5 +1,5 @@
 //! What is done side by side in a phase: sessions, each in its order, and pulls in theirs.
-ghost use Rattle.std.specs.Prelude.{◌≡◌};
+ghost use Rattle.std.specs.Prelude.{◌≡◌, IfOk, vec_len};
 ghost use Rattle.std.specs.Thread.{IsSend};
 
 use crate::fault::FleetFault;
@@ -92,6 +92,7 @@ where
     F: Fleet + Send + Sync,
     K: Ledgers + Send + Sync,
     T: Threads + Wait + Net<Stream = TcpStream, Listener = TcpListener> + Send + Sync,
+    ensures { IfOk result (λ going. vec_len going ≡ vec_len members) }
 {
     let mut operations = operations;
     let mut going = Vec::with_capacity(alloc, members.len())?;
@@ -162,7 +163,9 @@ fn end_all<K: Ledgers + Send + Sync, T: Threads>(
     alloc: Global,
     going: Vec<Going<K>>,
     answers: &mut Vec<Answer>,
-) -> Result<Vec<Member<K>>, FleetFault> {
+) -> Result<Vec<Member<K>>, FleetFault>
+    ensures { IfOk result (λ members. vec_len members ≡ vec_len going) }
+{
     let mut members = Vec::with_capacity(alloc, going.len())?;
     for one in going {
         members.push(end_one(rt, one, answers)?)?;
@@ -177,7 +180,9 @@ fn open_one<F: Fleet, K: Ledgers, T: Net<Stream = TcpStream, Listener = TcpListe
     network: &Network<F, K>,
     members: Vec<Member<K>>,
     command: &Command,
-) -> Result<Vec<Member<K>>, FleetFault> {
+) -> Result<Vec<Member<K>>, FleetFault>
+    ensures { IfOk result (λ all. vec_len all ≡ vec_len members) }
+{
     let Command::Session { session, asks } = command else {
         return Ok(members);
     };
@@ -217,6 +222,7 @@ where
     F: Fleet + Send + Sync,
     K: Ledgers + Send + Sync,
     T: Threads + Wait + Net<Stream = TcpStream, Listener = TcpListener> + Send + Sync,
+    ensures { IfOk result (λ together. vec_len together.members ≡ vec_len members) }
 {
     let going = begin_all(scope, rt, alloc, network, members, operations)?;
     let pulling = begin_pulls(scope, rt, alloc, network, pulls)?;
@@ -241,6 +247,7 @@ where
     F: Fleet + Send + Sync,
     K: Ledgers + Send + Sync,
     T: Threads + Wait + Net<Stream = TcpStream, Listener = TcpListener> + Send + Sync,
+    ensures { IfOk result (λ together. vec_len together.members ≡ vec_len members) }
 {
     let mut members = members;
     for command in &opens {
@@ -251,6 +258,7 @@ where
         rt,
         move |scope| -> Result<Together<K>, FleetFault>
             requires { IsSend F.row × IsSend K.row × IsSend T.row × IsSend K.Slips.row × IsSend K.Reads.row × IsSend K.Writes.row × IsSend K.Refusals.row }
+            ensures { IfOk result (λ together. vec_len together.members ≡ vec_len members) }
         { go(scope, rt, alloc, network, members, operations, pulls) },
     )
 }
