@@ -2,7 +2,7 @@
 use crate::scripts::{Case, is_answered};
 use std::test::Fail;
 
-static CASES: [Case; 9] = [
+static CASES: [Case; 13] = [
     Case {
         name: "a fault of the journal, and a reopening that adopts nothing",
         script: r#"["servers",1,100]
@@ -89,6 +89,62 @@ static CASES: [Case; 9] = [
 ["log",0]
 "#,
         output: "0 wrote 0:1 clock 1 deps 0\n0 refused journal\nreopen refused journal\nlog 0 0:1 clock 1 updated\nlog 0 at 1\nreopened 0 adopted 0:2\nlog 0 0:1 clock 1 updated\nlog 0 0:2 clock 2 updated\nlog 0 at 2\n",
+        fault: "",
+        status: 0,
+    },
+    Case {
+        name: "a torn entry, and a reopening whose reading fails, and another",
+        script: r#"["servers",1,100]
+["session",0,[]]
+["fuse",0,1,50]
+["write",0,0,{"update":[["put","a",1]]}]
+["fuse",0,1,0]
+["reopen",0]
+["reopen",0]
+"#,
+        output: "0 refused journal\nreopen refused journal\nreopened 0 adopted none\n",
+        fault: "",
+        status: 0,
+    },
+    Case {
+        name: "a torn entry, and a reopening whose cut fails, and another",
+        script: r#"["servers",1,100]
+["session",0,[]]
+["fuse",0,1,50]
+["write",0,0,{"update":[["put","a",1]]}]
+["fuse",0,2,0]
+["reopen",0]
+["reopen",0]
+"#,
+        output: "0 refused journal\nreopen refused journal\nreopened 0 adopted none\n",
+        fault: "",
+        status: 0,
+    },
+    Case {
+        name: "a torn entry, and a reopening whose sync fails, and another",
+        script: r#"["servers",1,100]
+["session",0,[]]
+["fuse",0,1,50]
+["write",0,0,{"update":[["put","a",1]]}]
+["fuse",0,3,0]
+["reopen",0]
+["reopen",0]
+"#,
+        output: "0 refused journal\nreopen refused journal\nreopened 0 adopted none\n",
+        fault: "",
+        status: 0,
+    },
+    Case {
+        name: "a start whose header tears, and another, which makes it anew",
+        script: r#"["servers",1,100]
+["session",0,[]]
+["lose",0,10]
+["fuse",0,2,5]
+["restart",0]
+["read",0,0,"x"]
+["restart",0]
+"#,
+        output: "restart refused journal\n0 lost\nrestarted 0 holds 0 dropped 5\n",
         fault: "",
         status: 0,
     },

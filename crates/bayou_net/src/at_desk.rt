@@ -40,13 +40,17 @@ impl<'a, D, L: Desks, T> Model for AtDesk<'a, D, L, T> {
 }
 
 impl<D: Device, L: Desks, T: Wait> Replica for AtDesk<'_, D, L, T> {
-    ghost use Rattle.std.specs.Prelude.{None};
+    ghost use Rattle.std.specs.Prelude.{None, IfOk, length, take};
+    ghost use Rattle.bayou_lang.specs.Writes.{count_of, lacking_of};
 
     ghost list = { λ _. None };
 
     ghost takes = { DeskTakes L.server L.stored };
 
-    fn offer(&mut self) -> Vector {
+    fn offer(&mut self) -> Vector
+        ensures same { self.new ≡ self.old }
+        ensures held { InSome L.server L.stored (λ core. result ≡ count_of core.held) }
+    {
         self.node.offer(self.rt)
     }
 
@@ -55,7 +59,11 @@ impl<D: Device, L: Desks, T: Wait> Replica for AtDesk<'_, D, L, T> {
         alloc: Global,
         counts: &Vector,
         most: usize,
-    ) -> Result<Vec<RestingWrite>, AllocError> {
+    ) -> Result<Vec<RestingWrite>, AllocError>
+        ensures same { self.new ≡ self.old }
+        ensures few { IfOk result (λ writes. length writes.items ≤ most) }
+        ensures held { InSome L.server L.stored (λ core. IfOk result (λ writes. writes.items ≡ take most (lacking_of counts.now core.held))) }
+    {
         self.node.lacking(self.rt, alloc, counts, most)
     }
 
@@ -65,6 +73,9 @@ impl<D: Device, L: Desks, T: Wait> Replica for AtDesk<'_, D, L, T> {
 }
 
 impl<D: Device, L: Desks, T: Wait> Served for AtDesk<'_, D, L, T> {
+    ghost use Rattle.std.specs.Prelude.{IfOk, length};
+    ghost use Rattle.bayou_base.specs.declared.limits.TheConstants.{MAX_WRITES};
+
     ghost reads = { λ paid need key answer. InSome L.server L.stored (λ core. Reads core need key answer) };
 
     ghost writes = { DeskWrites L.server L.stored };
@@ -89,7 +100,11 @@ impl<D: Device, L: Desks, T: Wait> Served for AtDesk<'_, D, L, T> {
         self.node.reopen(self.rt, alloc)
     }
 
-    fn dump(&mut self, alloc: Global) -> Result<Vec<RestingWrite>, AllocError> {
+    fn dump(&mut self, alloc: Global) -> Result<Vec<RestingWrite>, AllocError>
+        ensures same { self.new ≡ self.old }
+        ensures few { IfOk result (λ writes. length writes.items ≤ MAX_WRITES) }
+        ensures held { InSome L.server L.stored (λ core. IfOk result (λ writes. writes.items ≡ core.held)) }
+    {
         self.node.dump(self.rt, alloc)
     }
 }

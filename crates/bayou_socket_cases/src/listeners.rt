@@ -4,12 +4,13 @@ ghost use Rattle.bayou_audit.specs.Blanks.{AreBlanksOf, named};
 ghost use Rattle.bayou_node.specs.Books.{IsBlankOf};
 ghost use Rattle.bayou_server.specs.Server.{own_count};
 
-use crate::visits::{ROUNDS, visits};
+use crate::gates::{AWAITED, HoldingGate, OPEN};
+use crate::visits::{ROUNDS, visits, visits_and_opens};
 use bayou_audit::{AuditBook, Blanks, Four, Ledgers, Share};
 use bayou_base::{Asks, ServerId};
 use bayou_client::Client;
 use bayou_device::{MemoryDevice, OpenGate};
-use bayou_net::{NoGate, listen};
+use bayou_net::listen;
 use bayou_node::{Desk, Desks, Node};
 use bayou_server::Server;
 use bayou_session::Session;
@@ -18,11 +19,12 @@ use std::marker::Brand;
 use std::net::{Net, SocketAddr, TcpListener, TcpStream};
 use std::process::Abort;
 use std::sync::Wait;
-use std::sync::atomic::{AtomicBool, Ordering};
+use std::sync::atomic::{AtomicBool, AtomicU64, Ordering};
 use std::sync::ledger::{Blank, Ledger};
 use std::test::Fail;
 use std::thread;
 use std::thread::Threads;
+use std::time::Clock;
 
 type Memory = MemoryDevice<OpenGate>;
 
@@ -60,20 +62,22 @@ fn client<K: Ledgers>(share: Share<K>) -> Client<K> {
     Client::new(Session::new(share.session(), asks), share)
 }
 
-/// Whether two sessions, each in a thread of its own, are served.
+/// Whether two sessions, each in a thread of its own, are served. Where the first one's first request is held, it is so until the second
+/// one was served.
 fn both_visit<S, T, U, V, R>(
     rt: &R,
     alloc: Global,
     book: &AuditBook<Four<S, T, U, V>>,
     shares: Vec<Share<Four<S, T, U, V>>>,
     streams: (&TcpStream, &TcpStream),
+    state: &AtomicU64,
 ) -> bool
 where
     S: Ledger + Send + Sync,
     T: Ledger + Send + Sync,
     U: Ledger + Send + Sync,
     V: Ledger + Send + Sync,
-    R: Threads + Wait + Abort + Sync,
+    R: Threads + Wait + Abort + Clock + Sync,
 {
     let mut shares = shares;
     let (Some(second), Some(first)) = (shares.pop(), shares.pop()) else {
@@ -84,7 +88,7 @@ where
     let ((_, is_first), (_, is_second)) = thread::join(
         rt,
         move || visits(rt, alloc, book, first, at_first),
-        move || visits(rt, alloc, book, second, at_second),
+        move || visits_and_opens(rt, alloc, book, second, at_second, state),
     );
     let totals = book.totals(rt);
     let rounds = 2 * ROUNDS as usize;
@@ -98,6 +102,7 @@ fn reaches<S, T, U, V, R>(
     book: &AuditBook<Four<S, T, U, V>>,
     shares: Vec<Share<Four<S, T, U, V>>>,
     address: SocketAddr,
+    state: &AtomicU64,
     stop: &AtomicBool,
 ) -> bool
 where
@@ -105,7 +110,7 @@ where
     T: Ledger + Send + Sync,
     U: Ledger + Send + Sync,
     V: Ledger + Send + Sync,
-    R: Threads + Wait + Abort + Net<Stream = TcpStream> + Sync,
+    R: Threads + Wait + Abort + Clock + Net<Stream = TcpStream> + Sync,
 {
     let (Ok(first), Ok(second)) = (
         TcpStream::connect(rt, address),
@@ -113,7 +118,7 @@ where
     ) else {
         return false;
     };
-    let is_so = both_visit(rt, alloc, book, shares, (&first, &second));
+    let is_so = both_visit(rt, alloc, book, shares, (&first, &second), state);
     stop.store(true, Ordering::SeqCst);
     let _ = TcpStream::connect(rt, address);
     is_so
@@ -127,10 +132,11 @@ fn settles<L: Desks>(node: Node<Memory, L>, desks: Vec<Desk<L>>) -> bool {
     settled.accepted == 2 * ROUNDS
 }
 
-/// Whether a listener with five desks serves two sessions, and gives its desks back.
+/// Whether a listener with five desks serves two sessions, by a gate that begins so, and gives its desks back.
 fn serves_sessions<S, T, U, V, L, R>(
     rt: &R,
     alloc: Global,
+    state: &AtomicU64,
     blanks: Blanks,
     blank: Blank,
     server: Server<Memory>,
@@ -141,7 +147,13 @@ where
     U: Ledger + Send + Sync,
     V: Ledger + Send + Sync,
     L: Desks + Send + Sync,
-    R: Threads + Wait + Abort + Net<Stream = TcpStream, Listener = TcpListener> + Send + Sync,
+    R: Threads
+        + Wait
+        + Abort
+        + Clock
+        + Net<Stream = TcpStream, Listener = TcpListener>
+        + Send
+        + Sync,
     requires blanks { AreBlanksOf blanks (named S.name S.parts) (named T.name T.parts) (named U.name U.parts) (named V.name V.parts) 2 }
     requires blank { IsBlankOf blank L.name L.parts 5 }
     requires whose { (server.core.id ≡ L.server) × (own_count server.core ≡ L.stored) }
@@ -159,11 +171,12 @@ where
         return false;
     };
     let stop = AtomicBool::new(false);
-    let (lent, lent_book, at, flag) = (&node, &book, &listener, &stop);
+    let gate = HoldingGate { clock: rt, state };
+    let (lent, lent_book, at, held_by, flag) = (&node, &book, &listener, &gate, &stop);
     let (ended, is_so) = thread::join(
         rt,
-        move || listen(rt, alloc, lent, at, desks, &NoGate, flag),
-        move || reaches(rt, alloc, lent_book, shares, address, flag),
+        move || listen(rt, alloc, lent, at, desks, held_by, flag),
+        move || reaches(rt, alloc, lent_book, shares, address, state, flag),
     );
     let Ok(ended) = ended else {
         return false;
@@ -171,17 +184,43 @@ where
     is_so && ended.connections == 2 && settles(node, ended.desks)
 }
 
-#[test]
-fn a_listener_serves_sessions_at_once(rt: HostRuntime) -> Result<(), Fail> {
-    let alloc = rt.alloc();
-    let server = begun(&rt, alloc).expect(&rt, "no server");
-    let are_served = serves_sessions::<Brand, Brand, Brand, Brand, Brand, HostRuntime>(
-        &rt,
+/// Whether two sessions are served where the gate begins so, and it is open in the end.
+fn are_served<R>(rt: &R, alloc: Global, begins: u64) -> bool
+where
+    R: Threads
+        + Wait
+        + Abort
+        + Clock
+        + Net<Stream = TcpStream, Listener = TcpListener>
+        + Send
+        + Sync,
+{
+    let Some(server) = begun(rt, alloc) else {
+        return false;
+    };
+    let state = AtomicU64::new(begins);
+    let is_so = serves_sessions::<Brand, Brand, Brand, Brand, Brand, R>(
+        rt,
         alloc,
+        &state,
         blanks(2),
         Blank::new(5),
         server,
     );
-    assert!(rt; are_served);
+    is_so && state.load(Ordering::SeqCst) == OPEN
+}
+
+#[test]
+fn a_listener_serves_sessions_at_once(rt: HostRuntime) -> Result<(), Fail> {
+    assert!(rt; are_served(&rt, rt.alloc(), OPEN));
+    Ok(())
+}
+
+/// The second session is served whole while the first one's first Write is held.
+#[test]
+fn a_request_that_waits_holds_up_no_other_connection_at_a_listener(
+    rt: HostRuntime,
+) -> Result<(), Fail> {
+    assert!(rt; are_served(&rt, rt.alloc(), AWAITED));
     Ok(())
 }

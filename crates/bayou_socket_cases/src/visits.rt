@@ -1,4 +1,5 @@
 //! What one session does at a listener.
+use crate::gates::{AWAITED, open, wait_while};
 use bayou_audit::{AuditBook, Ledgers};
 use bayou_base::{Key, ServerId, Value};
 use bayou_client::{Client, Link, LinkFault};
@@ -8,6 +9,8 @@ use std::alloc::Global;
 use std::net::{SocketAddr, TcpStream};
 use std::process::Abort;
 use std::sync::Wait;
+use std::sync::atomic::AtomicU64;
+use std::time::Clock;
 
 /// How often each session writes and reads.
 pub const ROUNDS: u32 = 50;
@@ -71,4 +74,19 @@ pub fn visits<K: Ledgers, R: Wait + Abort>(
         }
     }
     (client, dumps(alloc, &mut link, ROUNDS as usize))
+}
+
+/// The same, once no request is awaited at the gate any more; then the gate is opened.
+pub fn visits_and_opens<K: Ledgers, R: Wait + Abort + Clock>(
+    rt: &R,
+    alloc: Global,
+    book: &AuditBook<K>,
+    client: Client<K>,
+    stream: &TcpStream,
+    state: &AtomicU64,
+) -> (Client<K>, bool) {
+    wait_while(rt, state, AWAITED);
+    let visited = visits(rt, alloc, book, client, stream);
+    open(state);
+    visited
 }

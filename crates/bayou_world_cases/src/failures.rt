@@ -20,7 +20,7 @@ struct Row {
     dump: &'static [(u8, u32)],
 }
 
-static ROWS: [Row; 8] = [
+static ROWS: [Row; 10] = [
     // The call that fails is the sync: the Write is whole, and a reopening adopts it.
     Row {
         acts: &[
@@ -46,6 +46,24 @@ static ROWS: [Row; 8] = [
             (Act::Read(0, 0), Seen(Some(7), [1, 0])),
         ],
         dump: &[(0, 1)],
+    },
+    // The call that fails is the append, and all of the entry was added: a reopening adopts it.
+    Row {
+        acts: &[
+            (Act::Fuse(0, 1, 94), Fused),
+            (Act::Write(0, 0, 7), Doubted),
+            (Act::Reopen(0), Up(Some((0, 1)))),
+        ],
+        dump: &[(0, 1)],
+    },
+    // One byte of it is missing: it is forgotten.
+    Row {
+        acts: &[
+            (Act::Fuse(0, 1, 93), Fused),
+            (Act::Write(0, 0, 7), Doubted),
+            (Act::Reopen(0), Up(None)),
+        ],
+        dump: &[],
     },
     // A part of the entry is forgotten, and the next Write has its number.
     Row {
