@@ -9,25 +9,12 @@ import crowd
 import frames
 import rows
 import streams
+from checks import Checks
 from host import Host, begin, has, put
 
 P = frames.frames_of(rows.ROWS[5][0])[0][0][0][2]
 WRITE_P = frames.write_request(frames.ZERO, P)
 READ_ROOM = frames.read_request(frames.ZERO, "room")
-
-
-class Checks:
-    """How many checks passed, and how many failed."""
-
-    def __init__(self):
-        self.passed = self.failed = 0
-
-    def that(self, name, told, expected):
-        if told == expected:
-            self.passed += 1
-            return
-        self.failed += 1
-        print("%s: NOT as it must be: %.600r, not %.600r" % (name, told, expected))
 
 
 def bodies_of(writes):

@@ -2,21 +2,39 @@
 #![tactic(auto)]
 
 ghost use Rattle.std.specs.Prelude.{ℕ, List};
+ghost use Rattle.std.specs.Thread.{IsSend};
 
-use bayou_shell::{Files, refuse_words, run_main};
+mod progress;
+
+use bayou_script::Script;
+use bayou_shell::{Ended, Fault, Files, Networks, refuse_words, run_main, run_taken};
 use bayou_streams::{Channel, Output};
+use progress::{Counted, Screen, tell_progress};
 use std::alloc::Global;
 use std::fs::File;
+use std::io::{IsTerminal, Stderr, Stdin, Stdout, Write};
+use std::net::{Net, TcpListener, TcpStream};
 use std::process::ExitCode;
-use std::{env, io};
+use std::sync::{Mutex, Wait};
+use std::thread::Threads;
+use std::time::{Clock, Duration};
+use std::{env, fs, io, thread};
 
-/// The files of this machine, of whose content nothing is known.
+/// A script over sockets that is still to be run, and the folder of its servers' journals.
 #[derive(Drop)]
-struct HostFiles<'a> {
-    rt: &'a HostRuntime,
+struct Taken {
+    folder: String,
+    script: Script,
 }
 
-impl Files for HostFiles<'_> {
+/// The files of this machine, of whose content nothing is known, and the script that its sockets are wanted for.
+#[derive(Drop)]
+struct Host<'a, T> {
+    rt: &'a T,
+    taken: Option<Taken>,
+}
+
+impl<T: fs::Files<File = File>> Files for Host<'_, T> {
     type Reader = File;
 
     ghost opens = { λ name reader. Unit {0} };
@@ -28,22 +46,111 @@ impl Files for HostFiles<'_> {
     }
 }
 
+impl<T> Networks for Host<'_, T> {
+    fn run<W: Write>(
+        &mut self,
+        alloc: Global,
+        folder: &str,
+        script: Script,
+        _output: &mut Output<W>,
+    ) -> Result<Ended, Fault> {
+        let folder = folder.to_string(alloc)?;
+        self.taken = Some(Taken { folder, script });
+        Ok(Ended::Clean)
+    }
+}
+
 fn words_of(rt: &HostRuntime) -> io::Result<Vec<String>> {
     Ok(env::args(rt)?.collect(rt.alloc())?)
 }
 
-fn main(rt: HostRuntime) -> ExitCode {
-    let mut errors = Output::new(rt.stderr());
-    let status = match words_of(&rt) {
-        Ok(words) => run_main(
-            rt.alloc(),
-            words.as_slice(),
-            &mut HostFiles { rt: &rt },
-            &mut Channel::new(rt.stdin(), ()),
-            &mut Output::new(rt.stdout()),
+// The streams of the program, but the screen.
+#[derive(Drop)]
+struct Streams {
+    input: Stdin,
+    output: Stdout,
+    errors: Stderr,
+}
+
+// Does what the words say beside a screen, and gives the exit status.
+fn run<
+    T: Threads
+        + Wait
+        + fs::Files<File = File>
+        + Net<Stream = TcpStream, Listener = TcpListener>
+        + Send
+        + Sync,
+>(rt: &T, alloc: Global, words: &[String], streams: Streams, screen: &Mutex<Screen<Stderr>>) -> u8 {
+    let Streams {
+        input,
+        output,
+        errors,
+    } = streams;
+    let mut host = Host { rt, taken: None };
+    let mut output = Output::new(Counted::new(output, rt, screen));
+    let mut errors = Output::new(Counted::new(errors, rt, screen));
+    let mut input = Channel::new(input, ());
+    let status = run_main(
+        alloc,
+        words,
+        &mut host,
+        &mut input,
+        &mut output,
+        &mut errors,
+    );
+    match host.taken {
+        None => status,
+        Some(Taken { folder, script }) => run_taken(
+            rt,
+            alloc,
+            folder.as_str(),
+            script,
+            &mut output,
             &mut errors,
         ),
-        Err(error) => refuse_words(&mut errors, &error),
+    }
+}
+
+// The same, while progress is told at the terminal. Where no thread begins, none is told.
+fn run_told<
+    T: Threads
+        + Wait
+        + Clock
+        + fs::Files<File = File>
+        + Net<Stream = TcpStream, Listener = TcpListener>
+        + Send
+        + Sync,
+>(rt: &T, alloc: Global, words: &[String], streams: Streams, screen: &Mutex<Screen<Stderr>>) -> u8 {
+    thread::scope(
+        thread::scope_env(),
+        rt,
+        move |scope| -> u8
+            requires { IsSend T.row }
+        {
+            let _ = scope.spawn(move || tell_progress(rt, alloc, screen));
+            let status = run(rt, alloc, words, streams, screen);
+            screen.lock(rt).end();
+            status
+        },
+    )
+}
+
+fn main(rt: HostRuntime) -> ExitCode {
+    let words = match words_of(&rt) {
+        Ok(words) => words,
+        Err(error) => return ExitCode::from(refuse_words(&mut Output::new(rt.stderr()), &error)),
+    };
+    let streams = Streams {
+        input: rt.stdin(),
+        output: rt.stdout(),
+        errors: rt.stderr(),
+    };
+    let now = rt.monotonic().unwrap_or(Duration::from_secs(0));
+    let screen = Mutex::new(Screen::new(rt.stderr(), now));
+    let status = if rt.stderr().is_terminal() {
+        run_told(&rt, rt.alloc(), words.as_slice(), streams, &screen)
+    } else {
+        run(&rt, rt.alloc(), words.as_slice(), streams, &screen)
     };
     ExitCode::from(status)
 }

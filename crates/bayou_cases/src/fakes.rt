@@ -1,7 +1,9 @@
 //! Readers and writers that do what a system may do, and count their calls.
 ghost use Rattle.std.specs.Prelude.{ℕ, List};
 
-use bayou_shell::Files;
+use bayou_script::Script;
+use bayou_shell::{Ended, Fault, Files, Networks};
+use bayou_streams::Output;
 use std::alloc::Global;
 use std::io;
 use std::io::{ErrorKind, Read, Write};
@@ -33,6 +35,19 @@ impl<'a> Files for FakeFiles<'a> {
             }
         }
         Err(io::Error::from(ErrorKind::NotFound))
+    }
+}
+
+/// There is no network: a script that may run over one ends at once.
+impl Networks for FakeFiles<'_> {
+    fn run<W: Write>(
+        &mut self,
+        _alloc: Global,
+        _folder: &str,
+        _script: Script,
+        _output: &mut Output<W>,
+    ) -> Result<Ended, Fault> {
+        Err(Fault::Network)
     }
 }
 

@@ -12,6 +12,8 @@ mod faults;
 #[cfg(test)]
 mod memory;
 #[cfg(test)]
+mod nets;
+#[cfg(test)]
 mod pulls;
 #[cfg(test)]
 mod scripts;

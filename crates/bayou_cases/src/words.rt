@@ -12,7 +12,7 @@ fn has(text: &[u8], part: &str) -> bool {
 }
 
 /// Words, what is found in the output and in the errors, and the status.
-static WORDS: [(&[&str], &str, &str, u8); 8] = [
+static WORDS: [(&[&str], &str, &str, u8); 13] = [
     (&["bayou", "--help"], "bayou run FILE", "", 0),
     (&["bayou", "run", "--help"], "[\"servers\",N,LIMIT]", "", 0),
     (&["bayou", "--version"], "bayou 0.", "", 0),
@@ -26,6 +26,16 @@ static WORDS: [(&[&str], &str, &str, u8); 8] = [
     ),
     (&["bayou", "audit", "--help"], "[\"held\",S,[ORIGIN,", "", 0),
     (&["bayou", "audit"], "", "<FILE>", 2),
+    (&["bayou", "net", "--help"], "DIR/server-N.journal", "", 0),
+    (&["bayou", "net", "script.jsonl"], "", "--dir <DIR>", 2),
+    (&["bayou", "net", "--dir"], "", "--dir <DIR>", 2),
+    (&["bayou", "net", "--dir", ""], "", "--dir <DIR>", 2),
+    (
+        &["bayou", "net", "--dir", "folder", "one", "two"],
+        "",
+        "unexpected argument 'two'",
+        2,
+    ),
 ];
 
 #[test]

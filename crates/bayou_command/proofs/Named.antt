@@ -1,5 +1,5 @@
 -- What `clap` says of words that the program's command takes or refuses.
-use Rattle.std.proofs.Common.{◌≡◌, ◌∙◌, if◌then◌else◌, Bool, List, Option, None, Some, Err, inl, inr, true, false, ap, codes, refl, sym}
+use Rattle.std.proofs.Common.{◌≡◌, ◌∙◌, if◌then◌else◌, Bool, Bor, List, [], Option, None, Some, Err, inl, inr, true, false, ap, codes, option_map, refl, sym, unwrap_or}
 use Rattle.std.specs.Str.{bytes_eq}
 use Rattle.clap.proofs.WalkLemmas.{first_value-rows}
 use Rattle.clap.proofs.OnLiterals.{clap_on_literals}
@@ -11,7 +11,7 @@ use Rattle.clap.specs.declared.error.Error.{Error}
 use Rattle.clap.specs.declared.error.kind.ErrorKind.TheVariants.{OutOfMemory}
 use Rattle.bayou_command.specs.declared.Stop.{Stop}
 use Rattle.bayou_command.specs.declared.Stop.TheVariants.{Asked, Refused, Memory}
-use Rattle.bayou_command.specs.Words.{Input, Names, bayou_app, faults_of, file, file_name, input_named, input_of, standard}
+use Rattle.bayou_command.specs.Words.{Input, Names, bayou_app, faults_of, file, file_name, folder_name, folder_of, input_named, input_of, standard}
 use Rattle.bayou_command.specs.Inner.Stops.{StopsAt}
 
 pub simple : is_simple_and_free bayou_app ≡ true
@@ -40,3 +40,13 @@ dash name is = ap (λ (b : Bool). if b then standard else file name) (sym is)
 
 pub no_dash : (name : Text) → bytes_eq name (codes "-") ≡ false → file name ≡ input_named (Some name)
 no_dash name is = ap (λ (b : Bool). if b then standard else file name) (sym is)
+
+unwrap_or_now : (word : Option (Bor Text)) (other : Bor Text) → other.now ≡ [] → (unwrap_or word other).now ≡ unwrap_or (option_map (λ s. s.now) word) []
+unwrap_or_now None other empty = empty
+unwrap_or_now (Some name) other empty = refl
+
+-- the folder is the one that the word names
+pub folder_named : (found : Found) (word : Option (Bor Text)) (folder other : Bor Text) → option_map (λ s. s.now) word ≡ first_value found folder_name
+    → folder ≡ unwrap_or word other → other.now ≡ [] → folder.now ≡ folder_of (rows_of found)
+folder_named found word folder other is named empty =
+    ap (λ s. s.now) named ∙ unwrap_or_now word other empty ∙ ap (λ o. unwrap_or o []) (is ∙ first_value-rows found folder_name)

@@ -1,8 +1,9 @@
--- The command line, as `clap` sees it: a program that asks for its one subcommand.
-use Rattle.std.specs.Prelude.{◌≡◌, ◌⊎◌, if◌then◌else◌, List, [], Option, None, Some, Result, Ok, Err, true, codes}
+-- The command line, as `clap` sees it: a program that asks for one of its subcommands.
+use Rattle.std.specs.Prelude.{◌≡◌, ◌⊎◌, if◌then◌else◌, List, [], Option, None, Some, Result, Ok, Err, true, codes, unwrap_or}
 use Rattle.std.specs.Str.{bytes_eq}
 use Rattle.clap.specs.Kinds.{IsAmong, Kinds}
 use Rattle.clap.specs.Words.{App, Row, Rule, Text, fault_of, first_of, new_app, new_rule, subcommand_of, with_rule, with_subcommand}
+use Rattle.clap.specs.declared.builder.value_parser.ValueParser.TheVariants.{NonEmptyString}
 use Rattle.clap.specs.declared.error.kind.ErrorKind.{ErrorKind}
 use Rattle.clap.specs.declared.error.kind.ErrorKind.TheVariants.{DisplayHelp, DisplayVersion}
 use Rattle.bayou_command.specs.declared.Stop.{Stop}
@@ -10,7 +11,7 @@ use Rattle.bayou_command.specs.declared.Source.{Source}
 use Rattle.bayou_command.specs.declared.Source.TheVariants.{Standard, File}
 use Rattle.bayou_command.specs.declared.Stop.TheVariants as stops
 use Rattle.bayou_command.specs.declared.Task.{Task}
-use Rattle.bayou_command.specs.declared.Task.TheVariants.{Run, Audit}
+use Rattle.bayou_command.specs.declared.Task.TheVariants.{Run, Audit, Net}
 
 -- the word behind a command that names a file
 abbrev pub file_name : Text
@@ -26,6 +27,17 @@ run_app = with_rule (new_app (codes "run")) file_rule
 abbrev pub audit_app : App
 audit_app = with_rule (new_app (codes "audit")) (record file_rule { required = true })
 
+-- the option that names a folder: it must be there, and its name has a byte
+abbrev pub folder_name : Text
+folder_name = codes "DIR"
+
+abbrev pub folder_rule : Rule
+folder_rule = record (new_rule folder_name) { long = Some (codes "dir"); parser = Some NonEmptyString; required = true }
+
+-- `net` takes a folder, and a file or none
+abbrev pub net_app : App
+net_app = with_rule (with_rule (new_app (codes "net")) folder_rule) file_rule
+
 abbrev pub bare_app : App
 bare_app = new_app (codes "bayou")
 
@@ -34,7 +46,7 @@ abbrev pub main_app : App
 main_app = record bare_app { top = record bare_app.top { has_version = true; subcommand_required = true } }
 
 abbrev pub bayou_app : App
-bayou_app = with_subcommand (with_subcommand main_app run_app.top) audit_app.top
+bayou_app = with_subcommand (with_subcommand (with_subcommand main_app run_app.top) net_app.top) audit_app.top
 
 -- why the words, the program's own name before them, may name no task; there is nothing of that kind where they name one
 abbrev pub faults_of : List Text → Kinds
@@ -57,11 +69,19 @@ input_of rows = input_named (first_of file_name rows)
 pub data Asked : Type 0 where
   a_run : Input → Asked
   an_audit : Input → Asked
+  a_net : Text → Input → Asked
 
--- of the program's two commands, the one that was entered
+-- the folder that is named, as it is wherever a command that asks for one was entered
+abbrev pub folder_of : List Row → Text
+folder_of rows = unwrap_or (first_of folder_name rows) []
+
+-- of the program's three commands, the one that was entered
 abbrev pub asked_by : Option (Text × List Row) → Asked
 asked_by None = a_run standard
-asked_by (Some (name, rows)) = if bytes_eq name (codes "audit") then an_audit (input_of rows) else a_run (input_of rows)
+asked_by (Some (name, rows)) =
+    if bytes_eq name (codes "audit") then an_audit (input_of rows)
+    else if bytes_eq name (codes "net") then a_net (folder_of rows) (input_of rows)
+    else a_run (input_of rows)
 
 -- the words are no mistake, and ask for this
 pub record AskFor (words : List Text) (asked : Asked) : Type 0 where
@@ -76,6 +96,7 @@ input_seen (File name) = file name.now
 abbrev pub task_seen : Task → Asked
 task_seen (Run source) = a_run (input_seen source)
 task_seen (Audit source) = an_audit (input_seen source)
+task_seen (Net folder script) = a_net folder.now (input_seen script)
 
 -- it is no mistake, but asks for a text: a help, or the version
 abbrev pub IsRequest : ErrorKind → Type 0

@@ -7,10 +7,11 @@
 
 ghost use Rattle.std.specs.Prelude.{◌≡◌, ◌∷◌, [], IfOk, MatchResult, codes, false, map};
 ghost use Rattle.clap.specs.declared.builder.command.Command.TheViews.{out-Command as fields_of};
-ghost use Rattle.clap.specs.Words.{app_of, found_of, kind_of, rows_of, subcommand_rows_of};
-ghost use Rattle.bayou_command.specs.Words.{AskFor, Names, a_run, an_audit, asked_by, audit_app, bayou_app, file, input_of, input_seen, run_app, standard, task_seen};
+ghost use Rattle.clap.specs.Words.{app_of, found_of, kind_of, rows_of, rule_of, subcommand_rows_of};
+ghost use Rattle.bayou_command.specs.Words.{AskFor, Names, a_net, a_run, an_audit, asked_by, audit_app, bayou_app, faults_of, file, folder_of, folder_rule, input_of, input_seen, net_app, run_app, standard, task_seen};
 ghost use Rattle.bayou_command.specs.Inner.Stops.{StopsAt};
 
+use clap::builder::ValueParser;
 use clap::error::ErrorKind;
 use clap::{Arg, ArgMatches, Command, Error};
 use std::alloc::{AllocError, Global};
@@ -49,13 +50,70 @@ It prints the verdict, and for each session what became of each guarantee, asked
 The session didn't read its own Write: its read at place 2, at server 1, lacks the Write 0:1 of place 1. It asked for nothing, so
 the verdict is clean.
 
-`bayou run --help` has each line of a script, `bayou audit --help` each line of an audit file. Exit status: 0 nothing is wrong; 1 a
-verdict is broken; 2 the input or the command line is refused, or a verdict is; 3 memory, a device, the input or the output failed.
+`bayou run --help` has each line of a script, `bayou net --help` how a script is run over sockets, with journals in files,
+`bayou audit --help` each line of an audit file. Exit status: 0 nothing is wrong; 1 a verdict is broken; 2 the input or the command
+line is refused, or a verdict is; 3 memory, a device, the network, the input or the output failed.
 docs/TROUBLE.md says what to do about each fault; examples/ has scripts and audit files to begin from."#;
 
 const RUN_ABOUT: &str = "Reads a script, checks it, and prints a line for each answer.";
 
 const RUN_FILE: &str = "The script; without it, and where it is -, the standard input";
+
+const NET_ABOUT: &str =
+    "Runs a script over sockets, with a thread for each session and journals in files.";
+
+const NET_FOLDER: &str = "The folder that the journals are in; it must exist";
+
+const NET_FORM: &str =
+    r#"Each server listens on 127.0.0.1, at a port that the system picks, and keeps its journal in the file DIR/server-N.journal, N being its
+number. DIR must exist. A journal that isn't there is made; a second run in the same folder goes on from the journals that are there.
+
+The lines are those of bayou run (bayou run --help). What only servers in memory can do is out of place: fuse, lose, restart, resend,
+a pull with ITEMS, more than 4 servers. The line ["phase"] ends a phase, and so does the end of the script. In a phase
+  first      sessions are opened, as session lines say;
+  then       each session does its write and read lines in order, all sessions at once, and the pull lines are done in order beside
+             them: so a session may come before a pull that stands before its line, or behind it;
+  when all have ended, the other lines are done in order: log, reopen, totals, judge, survey and book.
+What a phase prints comes at its end: the lines of each session, by its number, then those of the pulls, then those of the rest.
+A phase that takes longer than a second is told of on standard error, where that is a terminal.
+
+This script has three phases. Two sessions write at two servers that are apart, the servers pull from each other, and both are read.
+
+      ["servers",2]
+      ["session",0,["ryw"]]
+      ["session",1,[]]
+      ["write",0,0,{"update":[["put","a",1]]}]
+      ["write",1,1,{"update":[["put","b",2]]}]
+      ["phase"]
+      ["pull",1,0]
+      ["pull",0,1]
+      ["phase"]
+      ["read",0,1,"a"]
+      ["read",1,0,"b"]
+
+Put it into a file and call: mkdir journals; bayou net --dir journals FILE
+It prints, where that folder is new:
+
+  0 wrote 0:1 clock 1 deps 0,0
+  1 wrote 1:1 clock 1 deps 0,0
+  pulled 1 had 0
+  pulled 1 had 0
+  0 read a num 1 at 1,1
+  1 read b num 2 at 1,1
+  totals reads 2 writes 2 refusals 0 slips 0
+  settled 0 accepted 1 adopted 0
+  settled 1 accepted 1 adopted 0
+  clean
+
+The last lines stand at the end of each run: what was filed in the book of what was served; for each server how many Writes it accepted
+in this run, and how many it adopted as it was reopened; and the verdict (bayou audit --help).
+
+Nothing is run, and no journal is made, before the whole script was read and found good. What is wrong is told on standard error, in one
+line. Exit status: 0 clean; 1 a verdict was broken; 2 the script or the command line is refused, or a verdict or a survey was; 3 memory, a
+device (a journal that can't be opened, is another server's or in use by another run), the network, the input or the output failed.
+
+Pages: docs/NET.md (two servers on one machine, their journals, each fault), docs/FORMATS.md (lines in and out), docs/GUARANTEES.md
+(what a session may ask for), docs/RECOVERY.md (reopen), docs/TROUBLE.md (what to do about each fault), examples/net/ (scripts)."#;
 
 const AUDIT_ABOUT: &str =
     "Reads entries and dumps, and says whether each session had what it asked for.";
@@ -169,6 +227,8 @@ pub enum Task<'a> {
     Run(Source<'a>),
     /// To audit the file that is there.
     Audit(Source<'a>),
+    /// To run the script that is there over sockets, with the servers' journals in this folder.
+    Net { folder: &'a str, script: Source<'a> },
 }
 
 /// Why the words name no task.
@@ -231,6 +291,29 @@ fn audit_command<'a>(alloc: Global) -> Result<Command<'a>, AllocError>
         .arg(file)
 }
 
+fn folder_option<'a>(alloc: Global) -> Arg<'a>
+    ensures rule { rule_of result ≡ folder_rule }
+    ensures local { result.global ≡ false }
+{
+    Arg::new(alloc, "DIR")
+        .long("dir")
+        .help(NET_FOLDER)
+        .value_parser(ValueParser::NonEmptyString)
+        .required(true)
+}
+
+fn net_command<'a>(alloc: Global) -> Result<Command<'a>, AllocError>
+    ensures app { IfOk result (λ command. app_of command ≡ net_app) }
+    ensures local { IfOk result (λ command. (fields_of command).has_globals ≡ false) }
+{
+    let file = Arg::new(alloc, "FILE").help(RUN_FILE);
+    Command::new(alloc, "net")
+        .about(NET_ABOUT)
+        .after_help(NET_FORM)
+        .arg(folder_option(alloc))?
+        .arg(file)
+}
+
 fn bayou_command<'a>(alloc: Global) -> Result<Command<'a>, AllocError>
     ensures { IfOk result (λ command. app_of command ≡ bayou_app) }
 {
@@ -241,6 +324,7 @@ fn bayou_command<'a>(alloc: Global) -> Result<Command<'a>, AllocError>
         .after_help(EXAMPLE)
         .subcommand_required(true)
         .subcommand(run_command(alloc)?)?
+        .subcommand(net_command(alloc)?)?
         .subcommand(audit_command(alloc)?)
 }
 
@@ -257,12 +341,23 @@ fn source_in<'a>(found: &ArgMatches<'a>) -> Source<'a>
     Source::File(name)
 }
 
+/// The folder that a command names. One that asks for it isn't entered without it.
+fn folder_in<'a>(found: &ArgMatches<'a>) -> &'a str
+    ensures { result.now ≡ folder_of (rows_of (found_of found.now)) }
+{
+    found.get_str("DIR").unwrap_or("")
+}
+
 /// What is asked for by the command that was entered.
 fn task_in<'a>(matches: &ArgMatches<'a>) -> Task<'a>
     ensures { task_seen result ≡ asked_by (subcommand_rows_of matches.now) }
 {
     match matches.subcommand() {
         Some(("audit", found)) => Task::Audit(source_in(found)),
+        Some(("net", found)) => Task::Net {
+            folder: folder_in(found),
+            script: source_in(found),
+        },
         Some((_, found)) => Task::Run(source_in(found)),
         None => Task::Run(Source::Standard),
     }
@@ -280,12 +375,20 @@ pub fn read_words<'a, S: AsStr>(alloc: Global, words: &'a [S]) -> Result<Task<'a
     }
 }
 
-/// A law: `bayou run`, `bayou run -` and `bayou run FILE` ask for a run, of the standard input or of the file, and `bayou audit FILE` and
-/// `bayou audit -` for an audit.
+/// A law: `bayou run`, `bayou run -` and `bayou run FILE` ask for a run, of the standard input or of the file, `bayou audit FILE` and
+/// `bayou audit -` for an audit, and `bayou net --dir D`, with the same words for its input and in any order, for a run over sockets with the
+/// journals in the folder D. Without a folder, or with one that has no name, `bayou net` is refused.
 pub fn commands_are_named()
     ensures run { AskFor (codes "bayou" ∷ codes "run" ∷ []) (a_run standard) }
     ensures run_dash { AskFor (codes "bayou" ∷ codes "run" ∷ codes "-" ∷ []) (a_run standard) }
     ensures run_file { AskFor (codes "bayou" ∷ codes "run" ∷ codes "a.jsonl" ∷ []) (a_run (file (codes "a.jsonl"))) }
     ensures audit { AskFor (codes "bayou" ∷ codes "audit" ∷ codes "a.jsonl" ∷ []) (an_audit (file (codes "a.jsonl"))) }
     ensures audit_dash { AskFor (codes "bayou" ∷ codes "audit" ∷ codes "-" ∷ []) (an_audit standard) }
+    ensures net { AskFor (codes "bayou" ∷ codes "net" ∷ codes "--dir" ∷ codes "d" ∷ []) (a_net (codes "d") standard) }
+    ensures net_joined { AskFor (codes "bayou" ∷ codes "net" ∷ codes "--dir=d" ∷ []) (a_net (codes "d") standard) }
+    ensures net_dash { AskFor (codes "bayou" ∷ codes "net" ∷ codes "--dir" ∷ codes "d" ∷ codes "-" ∷ []) (a_net (codes "d") standard) }
+    ensures net_file { AskFor (codes "bayou" ∷ codes "net" ∷ codes "--dir" ∷ codes "d" ∷ codes "a.jsonl" ∷ []) (a_net (codes "d") (file (codes "a.jsonl"))) }
+    ensures net_turned { AskFor (codes "bayou" ∷ codes "net" ∷ codes "a.jsonl" ∷ codes "--dir" ∷ codes "d" ∷ []) (a_net (codes "d") (file (codes "a.jsonl"))) }
+    ensures net_bare { faults_of (codes "bayou" ∷ codes "net" ∷ []) ≡ ErrorKind.MissingRequiredArgument ∷ [] }
+    ensures net_nowhere { faults_of (codes "bayou" ∷ codes "net" ∷ codes "--dir" ∷ [] ∷ []) ≡ ErrorKind.InvalidValue ∷ [] }
 {}

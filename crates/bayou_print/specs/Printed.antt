@@ -29,6 +29,7 @@ use Rattle.bayou_machine.specs.declared.answer.Exchange.{Exchange}
 use Rattle.bayou_machine.specs.declared.answer.Exchange.TheVariants.{NotRunning as NothingRuns, Ended}
 use Rattle.bayou_machine.specs.declared.answer.Recovery.{Recovery}
 use Rattle.bayou_machine.specs.declared.answer.Recovery.TheVariants.{Reopened, NotReopened, NotRunning, Restarted, NotRestarted}
+use Rattle.bayou_node.specs.declared.settled.Settled.{Settled}
 use Rattle.bayou_print.specs.Booked.{book_text}
 use Rattle.bayou_print.specs.Verdicts.{refused_text, surveyed_text, verdict_text}
 
@@ -152,6 +153,11 @@ abbrev pub totals_text : Totals → List ℕ
 totals_text totals =
     codes "totals reads " ++ (decimal totals.reads ++ (codes " writes " ++ (decimal totals.writes
     ++ (codes " refusals " ++ (decimal totals.refusals ++ (codes " slips " ++ (decimal totals.slips ++ codes "\n")))))))
+
+-- how many Writes a server accepted, and how many it adopted as it was reopened
+abbrev pub settled_text : ℕ → Settled → List ℕ
+settled_text server settled =
+    codes "settled " ++ (decimal server ++ (codes " accepted " ++ (decimal settled.accepted ++ (codes " adopted " ++ (decimal settled.adopted ++ codes "\n")))))
 
 -- the last line that is printed for an answer, or nothing where there is nothing to tell
 abbrev pub last_text : ℕ → Answer → List ℕ

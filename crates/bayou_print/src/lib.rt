@@ -13,6 +13,6 @@ pub mod printer;
 pub mod verdict;
 
 pub use book::{Entries, Holding, servers_line};
-pub use printed::last_line;
+pub use printed::{last_line, settled_line};
 pub use printer::{Listing, Printer, Survey};
 pub use verdict::verdict_line;

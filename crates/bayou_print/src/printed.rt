@@ -3,7 +3,7 @@ ghost use Rattle.serde_json.specs.Data.{string};
 ghost use Rattle.serde_json.specs.Written.{compact_text};
 ghost use Rattle.bayou_base.specs.declared.limits.TheConstants.{SERVERS};
 ghost use Rattle.bayou_machine.specs.declared.answer.Answer.TheVariants.{NotServed, Read, Wrote};
-ghost use Rattle.bayou_print.specs.Printed.{adopted_text, counts_text, exchange_text, last_text, listed_text, pulling_text, recovery_text, refusal_text, reopening_text, starting_text, taking_text, totals_text, value_text};
+ghost use Rattle.bayou_print.specs.Printed.{adopted_text, counts_text, exchange_text, last_text, listed_text, pulling_text, recovery_text, refusal_text, reopening_text, settled_text, starting_text, taking_text, totals_text, value_text};
 
 use crate::verdict::{refused_line, verdict_line};
 use bayou_audit::Totals;
@@ -11,6 +11,7 @@ use bayou_base::{Accepted, Key, Seen, ServerId, SessionId, Value, Vector, Wid};
 use bayou_lang::Outcome;
 use bayou_log::Listed;
 use bayou_machine::{Answer, Exchange, Recovery};
+use bayou_node::Settled;
 use bayou_peer::{Fault as Stream, PullFault, Pulled};
 use bayou_server::{ReopenFault, StartFault, TakeFault, WriteFault};
 use serde_json::Value as Json;
@@ -283,6 +284,19 @@ fn totals_line(alloc: Global, totals: Totals) -> Result<String, AllocError>
         refusals,
     } = totals;
     format!(in alloc; "totals reads {reads} writes {writes} refusals {refusals} slips {slips}\n")
+}
+
+/// The line of what a node of this server comes to, once all its desks are back.
+pub fn settled_line(
+    alloc: Global,
+    server: ServerId,
+    settled: &Settled,
+) -> Result<String, AllocError>
+    ensures { IfOk result (λ line. string_bytes line ≡ settled_text server.index settled.now) }
+{
+    let server = server.index;
+    let (accepted, adopted) = (settled.accepted, settled.adopted);
+    format!(in alloc; "settled {server} accepted {accepted} adopted {adopted}\n")
 }
 
 /// The last line that is printed for an answer where there are so many servers, or nothing.

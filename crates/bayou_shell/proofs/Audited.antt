@@ -16,7 +16,7 @@ use Rattle.bayou_shell.specs.Fault.{ended_status, verdict_status}
 use Rattle.bayou_shell.specs.Audit.{AuditsAs, IsAudit, IsAuditPart, IsBehind, IsSurveyOf, IsVerdictOf, nothing, of_both, of_verdict}
 use Rattle.bayou_shell.specs.declared.ended.Ended.{Ended}
 use Rattle.bayou_shell.specs.declared.fault.Fault.{Fault}
-use Rattle.bayou_shell.specs.declared.fault.Fault.TheVariants.{Line, Device, Input, Output}
+use Rattle.bayou_shell.specs.declared.fault.Fault.TheVariants.{Line, Device, Network, Input, Output}
 use Rattle.bayou_shell.specs.declared.fault.Fault.TheVariants as faults
 use Rattle.bayou_shell.specs.Inner.Faults.{IsReadFault, IsRunFault}
 use Rattle.bayou_shell.specs.Inner.Waiting.{Gathers, Stage}
@@ -85,6 +85,7 @@ AuditsAs-unread None contents fault is = tt
 AuditsAs-unread (Some input) contents (Line number why) refused = (refused, Keeps-refl contents)
 AuditsAs-unread (Some input) contents faults.Memory is = inl (Keeps-refl contents)
 AuditsAs-unread (Some input) contents Device is = absurd is
+AuditsAs-unread (Some input) contents Network is = absurd is
 AuditsAs-unread (Some input) contents Input is = Keeps-refl contents
 AuditsAs-unread (Some input) contents Output is = absurd is
 
@@ -104,6 +105,7 @@ AuditsAs-file (Some input) old new evidence (Ok ended) file (text, is, took) err
 AuditsAs-file (Some input) old new evidence (Err (Line number why)) file ok (is, text, part, took) = absurd is
 AuditsAs-file (Some input) old new evidence (Err faults.Memory) file ok (is, text, part, took) = inr (evidence, file, text, part, took.bytes)
 AuditsAs-file (Some input) old new evidence (Err Device) file ok (is, text, part, took) = absurd is
+AuditsAs-file (Some input) old new evidence (Err Network) file ok (is, text, part, took) = absurd is
 AuditsAs-file (Some input) old new evidence (Err Input) file ok (is, text, part, took) = absurd is
 AuditsAs-file (Some input) old new evidence (Err Output) file ok (is, text, part, took) = (evidence, file, text, part, took.bytes)
 

@@ -17,7 +17,7 @@ use Rattle.bayou_streams.specs.Account.{Account, Takes, TakesFront}
 use Rattle.bayou_text.specs.declared.command.Command.{Command}
 use Rattle.bayou_text.specs.Said.{Said, command_said}
 use Rattle.bayou_shell.specs.declared.fault.Fault.{Fault}
-use Rattle.bayou_shell.specs.declared.fault.Fault.TheVariants.{Line, Device, Input, Output}
+use Rattle.bayou_shell.specs.declared.fault.Fault.TheVariants.{Line, Device, Network, Input, Output}
 use Rattle.bayou_shell.specs.declared.fault.Fault.TheVariants as faults
 use Rattle.std.proofs.Math.Nat.{max-zero, suc-max-suc, zero-max}
 use Rattle.bayou_shell.specs.declared.ended.Ended.{Ended}
@@ -205,6 +205,7 @@ RunsAs-unread None contents fault is = tt
 RunsAs-unread (Some input) contents (Line number why) refused = (refused, Keeps-refl contents)
 RunsAs-unread (Some input) contents faults.Memory is = inl (Keeps-refl contents)
 RunsAs-unread (Some input) contents Device is = absurd is
+RunsAs-unread (Some input) contents Network is = absurd is
 RunsAs-unread (Some input) contents Input is = Keeps-refl contents
 RunsAs-unread (Some input) contents Output is = absurd is
 
@@ -226,6 +227,7 @@ RunsAs-script (Some input) old new plan (Ok done) script (text, prints, took) er
 RunsAs-script (Some input) old new plan (Err (Line number why)) script ok (is, text, prints, took) = absurd is
 RunsAs-script (Some input) old new plan (Err faults.Memory) script ok (is, text, prints, took) = inr (plan, script, text, prints, took.bytes)
 RunsAs-script (Some input) old new plan (Err Device) script ok (is, text, prints, took) = absurd is
+RunsAs-script (Some input) old new plan (Err Network) script ok (is, text, prints, took) = absurd is
 RunsAs-script (Some input) old new plan (Err Input) script ok (is, text, prints, took) = absurd is
 RunsAs-script (Some input) old new plan (Err Output) script ok (is, text, prints, took) = (plan, script, text, prints, took.bytes)
 

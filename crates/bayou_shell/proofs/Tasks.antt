@@ -1,7 +1,7 @@
 -- What words ask for, and what becomes of it.
 use Rattle.std.proofs.Common.{◌≡◌, ◌∙◌, ◌<◌, ℕ, Bool, List, [], Option, None, Some, IfSome, IfErr, Result, Ok, Err, ap, inl, sym, refl, subst, arith}
 use Rattle.std.proofs.KnownBytes.{Keeps-refl}
-use Rattle.bayou_command.specs.Words.{AskFor, Asked, Input as Named, a_run, an_audit, file, standard}
+use Rattle.bayou_command.specs.Words.{AskFor, Asked, Input as Named, a_net, a_run, an_audit, file, standard}
 use Rattle.bayou_streams.specs.Account.{Account, Pays}
 use Rattle.bayou_shell.specs.declared.ended.Ended.{Ended}
 use Rattle.bayou_shell.specs.declared.ended.Ended.TheVariants as ended
@@ -26,6 +26,7 @@ works_so (Some text) asked result status old new read_fails write_fails reads wr
 kept : (asked : Asked) (text : List ℕ) (contents : Option (List ℕ)) → Works asked text (Err Memory) contents contents
 kept (a_run source) text contents = inl (Keeps-refl contents)
 kept (an_audit source) text contents = inl (Keeps-refl contents)
+kept (a_net folder source) text contents = inl (Keeps-refl contents)
 
 -- want of memory before anything was read is an end of each task
 pub works_unread : (known : Option (List ℕ)) (asked : Asked) (status : ℕ) (contents : Option (List ℕ)) (read_fails write_fails : Bool) (reads writes : ℕ)

@@ -12,7 +12,7 @@ use Rattle.bayou_script.specs.AuditFile.{Evidence, IsAuditFile, IsAuditRefused}
 use Rattle.bayou_script.specs.Script.{lines_of}
 use Rattle.bayou_shell.specs.declared.ended.Ended.{Ended}
 use Rattle.bayou_shell.specs.declared.fault.Fault.{Fault}
-use Rattle.bayou_shell.specs.declared.fault.Fault.TheVariants.{Line, Device, Input, Output}
+use Rattle.bayou_shell.specs.declared.fault.Fault.TheVariants.{Line, Device, Network, Input, Output}
 use Rattle.bayou_shell.specs.declared.fault.Fault.TheVariants as fault
 use Rattle.bayou_shell.specs.Fault.{ended_status, verdict_status}
 
@@ -55,5 +55,6 @@ AuditsAs input (Err (Line number fault)) old new = IsAuditRefused (lines_of inpu
 AuditsAs input (Err fault.Memory) old new =
     Keeps old new ⊎ ((evidence : Evidence) × IsAuditFile (lines_of input) evidence × (text : List ℕ) × IsAuditPart evidence text × Appends old new text)
 AuditsAs input (Err Device) old new = ⊥
+AuditsAs input (Err Network) old new = ⊥
 AuditsAs input (Err Input) old new = Keeps old new
 AuditsAs input (Err Output) old new = (evidence : Evidence) × IsAuditFile (lines_of input) evidence × (text : List ℕ) × IsAuditPart evidence text × Appends old new text

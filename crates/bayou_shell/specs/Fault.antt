@@ -1,5 +1,7 @@
 -- How a run ends.
 use Rattle.std.specs.Prelude.{ℕ, List, [], ◌∷◌, Result, Ok, Err, max}
+use Rattle.bayou_fleet.specs.declared.fault.FleetFault.{FleetFault}
+use Rattle.bayou_fleet.specs.declared.fault.FleetFault.TheVariants as fleet
 use Rattle.bayou_judge.specs.declared.verdict.Refusal.{Refusal as NoVerdict}
 use Rattle.bayou_judge.specs.declared.verdict.Verdict.{Verdict}
 use Rattle.bayou_judge.specs.declared.verdict.Verdict.TheVariants.{Clean, Broken}
@@ -12,7 +14,7 @@ use Rattle.bayou_script.specs.declared.fault.Refusal.TheVariants as refusal
 use Rattle.bayou_shell.specs.declared.ended.Ended.{Ended}
 use Rattle.bayou_shell.specs.declared.ended.Ended.TheVariants as ended
 use Rattle.bayou_shell.specs.declared.fault.Fault.{Fault}
-use Rattle.bayou_shell.specs.declared.fault.Fault.TheVariants.{Line, Memory, Device, Input, Output}
+use Rattle.bayou_shell.specs.declared.fault.Fault.TheVariants.{Line, Memory, Device, Network, Input, Output}
 
 -- what a run ends with whose script is refused
 abbrev pub fault_of : Refusal → Fault
@@ -24,11 +26,17 @@ abbrev pub fault_of_begin : BeginFault → Fault
 fault_of_begin begin.OutOfMemory = Memory
 fault_of_begin begin.Device = Device
 
+-- and one over a network whose servers can't go on
+abbrev pub fault_of_fleet : FleetFault → Fault
+fault_of_fleet fleet.Memory = Memory
+fault_of_fleet fleet.Network = Network
+
 -- 2 for a script that is refused, 3 for what its author can't help
 abbrev pub status_of : Fault → ℕ
 status_of (Line number fault) = 2
 status_of Memory = 3
 status_of Device = 3
+status_of Network = 3
 status_of Input = 3
 status_of Output = 3
 

@@ -1,13 +1,14 @@
 -- What the program does with the words that it is called with.
 use Rattle.std.specs.Prelude.{◌≡◌, ℕ, List, Option, IfSome, Result, Ok, Err}
 use Rattle.std.specs.Io.KnownBytes.{Appends, Keeps}
-use Rattle.bayou_command.specs.Words.{AreMistaken, AskForText, Asked, Input, a_run, an_audit}
+use Rattle.bayou_command.specs.Words.{AreMistaken, AskForText, Asked, Input, a_net, a_run, an_audit}
 use Rattle.bayou_shell.specs.declared.ended.Ended.{Ended}
 use Rattle.bayou_shell.specs.declared.fault.Fault.{Fault}
-use Rattle.bayou_shell.specs.declared.fault.Fault.TheVariants.{Line, Memory, Device, Output}
+use Rattle.bayou_shell.specs.declared.fault.Fault.TheVariants.{Line, Memory, Device, Network, Output}
 use Rattle.bayou_shell.specs.declared.fault.Fault.TheVariants.{Input as InputFault}
 use Rattle.bayou_shell.specs.Fault.{status_of}
 use Rattle.bayou_shell.specs.Audit.{AuditsAs}
+use Rattle.bayou_shell.specs.Net.{NetsAs}
 use Rattle.bayou_shell.specs.Run.{RunsAs}
 use Rattle.bayou_streams.specs.Written.{AppendsFront}
 
@@ -21,6 +22,7 @@ WritesText text (Ok done) old new = Appends old new text
 WritesText text (Err Output) old new = AppendsFront old new text
 WritesText text (Err Memory) old new = ⊥
 WritesText text (Err Device) old new = ⊥
+WritesText text (Err Network) old new = ⊥
 WritesText text (Err InputFault) old new = ⊥
 WritesText text (Err (Line number fault)) old new = ⊥
 
@@ -40,10 +42,12 @@ pub data TellsOf (words : List (List ℕ)) (status : ℕ) (old new : Option (Lis
 abbrev pub Works : Asked → List ℕ → Result Ended Fault → Option (List ℕ) → Option (List ℕ) → Type 0
 Works (a_run source) input ended old new = RunsAs input ended old new
 Works (an_audit source) input ended old new = AuditsAs input ended old new
+Works (a_net folder source) input ended old new = NetsAs input ended old new
 
 abbrev pub input_of_asked : Asked → Input
 input_of_asked (a_run source) = source
 input_of_asked (an_audit source) = source
+input_of_asked (a_net folder source) = source
 
 -- What becomes of what is asked for on a file: the file may be refused, or memory may run out before it is opened, and nothing is printed;
 -- else it is done on what a reader of it gives.

@@ -8,7 +8,7 @@ use Rattle.bayou_machine.specs.Run.{Audited, IsNewRun, Run}
 use Rattle.bayou_script.specs.Script.{IsRefused, IsScript, Plan, lines_of}
 use Rattle.bayou_shell.specs.declared.ended.Ended.{Ended}
 use Rattle.bayou_shell.specs.declared.fault.Fault.{Fault}
-use Rattle.bayou_shell.specs.declared.fault.Fault.TheVariants.{Line, Device, Input, Output}
+use Rattle.bayou_shell.specs.declared.fault.Fault.TheVariants.{Line, Device, Network, Input, Output}
 use Rattle.bayou_shell.specs.declared.fault.Fault.TheVariants as fault
 use Rattle.bayou_print.specs.Printed.{answer_text}
 use Rattle.bayou_shell.specs.Fault.{answers_status, ended_status}
@@ -46,5 +46,6 @@ RunsAs input (Ok ended) old new = (plan : Plan) × IsScript (lines_of input) pla
 RunsAs input (Err (Line number fault)) old new = IsRefused (lines_of input) number fault × Keeps old new
 RunsAs input (Err fault.Memory) old new = Keeps old new ⊎ ((plan : Plan) × IsScript (lines_of input) plan × (text : List ℕ) × PrintsPart plan text × Appends old new text)
 RunsAs input (Err Device) old new = (plan : Plan) × IsScript (lines_of input) plan × FailsToBegin plan.count plan.limit beginning.Device × Keeps old new
+RunsAs input (Err Network) old new = ⊥
 RunsAs input (Err Input) old new = Keeps old new
 RunsAs input (Err Output) old new = (plan : Plan) × IsScript (lines_of input) plan × (text : List ℕ) × PrintsPart plan text × Appends old new text

@@ -1,7 +1,7 @@
 -- How the turns of a stream end a run: this project's own.
 use Rattle.std.specs.Prelude.{◌≡◌, ℕ, Bool, true, Result, Ok, Err, ◌⊎◌}
 use Rattle.bayou_shell.specs.declared.fault.Fault.{Fault}
-use Rattle.bayou_shell.specs.declared.fault.Fault.TheVariants.{Line, Memory, Device, Input, Output}
+use Rattle.bayou_shell.specs.declared.fault.Fault.TheVariants.{Line, Memory, Device, Network, Input, Output}
 
 -- a call failed, or there is no turn left
 abbrev pub HasEnded : Bool → ℕ → Type 0
@@ -12,6 +12,7 @@ abbrev pub EndsReading : Bool → ℕ → Fault → Type 0
 EndsReading has_failed turns_left (Line number fault) = Unit {0}
 EndsReading has_failed turns_left Memory = Unit {0}
 EndsReading has_failed turns_left Device = Unit {0}
+EndsReading has_failed turns_left Network = Unit {0}
 EndsReading has_failed turns_left Input = HasEnded has_failed turns_left
 EndsReading has_failed turns_left Output = Unit {0}
 
@@ -20,6 +21,7 @@ abbrev pub EndsWriting : Bool → ℕ → Fault → Type 0
 EndsWriting has_failed turns_left (Line number fault) = Unit {0}
 EndsWriting has_failed turns_left Memory = Unit {0}
 EndsWriting has_failed turns_left Device = Unit {0}
+EndsWriting has_failed turns_left Network = Unit {0}
 EndsWriting has_failed turns_left Input = Unit {0}
 EndsWriting has_failed turns_left Output = HasEnded has_failed turns_left
 

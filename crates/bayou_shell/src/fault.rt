@@ -1,4 +1,5 @@
 use arrayvec::ArrayString;
+use bayou_fleet::FleetFault;
 use bayou_machine::BeginFault;
 use bayou_script::{Refusal, ScriptFault};
 use std::alloc::{AllocError, AllocFailed};
@@ -17,9 +18,12 @@ pub enum Fault {
     /// Memory ran out where no printed line can say so.
     #[error("memory")]
     Memory,
-    /// A server's device failed as the server was started first.
+    /// A server's device failed as the server was started first, or has no journal of its own.
     #[error("device")]
     Device,
+    /// A socket of a server can't be listened to or reached, or a reply that isn't a session's was lost.
+    #[error("network")]
+    Network,
     /// The input couldn't be read, or took too many turns.
     #[error("input")]
     Input,
@@ -38,7 +42,7 @@ impl Fault {
     {
         match self {
             Fault::Line { .. } => 2,
-            Fault::Memory | Fault::Device | Fault::Input | Fault::Output => 3,
+            Fault::Memory | Fault::Device | Fault::Network | Fault::Input | Fault::Output => 3,
         }
     }
 
@@ -97,6 +101,20 @@ impl From<BeginFault> for Fault {
         match begin {
             BeginFault::OutOfMemory => Fault::Memory,
             BeginFault::Device => Fault::Device,
+        }
+    }
+}
+
+impl From<FleetFault> for Fault {
+    ghost use Rattle.std.specs.Prelude.{◌≡◌};
+    ghost use Rattle.bayou_shell.specs.Fault.{fault_of_fleet};
+
+    ghost from_gives = { λ fleet fault. fault ≡ fault_of_fleet fleet };
+
+    fn from(fleet: FleetFault) -> Fault {
+        match fleet {
+            FleetFault::Memory => Fault::Memory,
+            FleetFault::Network => Fault::Network,
         }
     }
 }

@@ -6,21 +6,30 @@ ghost use Rattle.bayou_shell.specs.declared.fault.Fault.{Fault};
 ghost use Rattle.bayou_shell.specs.declared.fault.Fault.TheVariants.{Memory};
 ghost use Rattle.bayou_shell.specs.Fault.{exit_status, status_of};
 ghost use Rattle.bayou_shell.specs.Program.{TellsOf, Works, WorksOn, WritesText, input_of_asked, refused_status, text_status};
-ghost use Rattle.bayou_streams.specs.Account.{Pays, account};
+ghost use Rattle.bayou_shell.specs.Net.{IsNetFault, KeepsUnstarted};
+ghost use Rattle.bayou_streams.specs.Account.{Pays, Takes, account};
 ghost use Rattle.bayou_shell.specs.Turns.{EndsReading, EndsWriting, cut_lines};
 
 use crate::audit::run_audit;
 use crate::ended::Ended;
 use crate::fault::Fault;
 use crate::files::Files;
+use crate::net::run_net;
+use crate::networks::Networks;
 use crate::run::run_script;
+use crate::sockets::run_on_sockets;
 use crate::writing::write_text;
 use bayou_command::{Source, Stop, Task, read_words};
+use bayou_script::Script;
 use bayou_streams::{Channel, Output};
 use std::alloc::Global;
 use std::convert::AsStr;
-use std::io;
+use std::fs::File;
 use std::io::{ErrorKind, Read, Write};
+use std::net::{Net, TcpListener, TcpStream};
+use std::sync::Wait;
+use std::thread::Threads;
+use std::{fs, io};
 
 /// The exit status of a command line that is refused.
 const REFUSED: u8 = 2;
@@ -78,13 +87,15 @@ fn source_of<'a>(task: Task<'a>) -> Source<'a>
 {
     match task {
         Task::Run(source) | Task::Audit(source) => source,
+        Task::Net { script, .. } => script,
     }
 }
 
 /// Does a task on this input.
-fn work<R: Read, W: Write>(
+fn work<N: Networks, R: Read, W: Write>(
     alloc: Global,
     task: Task,
+    networks: &mut N,
     input: &mut Channel<R, ()>,
     output: &mut Output<W>,
 ) -> Result<Ended, Fault>
@@ -97,11 +108,12 @@ fn work<R: Read, W: Write>(
     match task {
         Task::Run(_) => run_script(alloc, input, output),
         Task::Audit(_) => run_audit(alloc, input, output),
+        Task::Net { folder, .. } => run_net(alloc, networks, folder, input, output),
     }
 }
 
 /// Does a task on the file of this name.
-fn work_on<F: Files, W: Write>(
+fn work_on<F: Files + Networks, W: Write>(
     alloc: Global,
     task: Task,
     name: &str,
@@ -113,13 +125,13 @@ fn work_on<F: Files, W: Write>(
     ensures paid { Pays (account W.contents output.old) (account W.contents output.new) (cut_lines result) }
 {
     match files.open(alloc, name) {
-        Ok(reader) => work(alloc, task, &mut Channel::new(reader, ()), output),
+        Ok(reader) => work(alloc, task, files, &mut Channel::new(reader, ()), output),
         Err(_) => Err(Fault::Input),
     }
 }
 
 /// Does a task on the input that it names.
-fn do_task<F: Files, R: Read, W: Write>(
+fn do_task<F: Files + Networks, R: Read, W: Write>(
     alloc: Global,
     task: Task,
     files: &mut F,
@@ -137,13 +149,13 @@ fn do_task<F: Files, R: Read, W: Write>(
     ensures paid { Pays (account W.contents output.old) (account W.contents output.new) (cut_lines result) }
 {
     match source_of(task) {
-        Source::Standard => work(alloc, task, input, output),
+        Source::Standard => work(alloc, task, files, input, output),
         Source::File(name) => work_on(alloc, task, name, files, output),
     }
 }
 
 /// Does what the words say, of which the first is the program's own name, and gives the exit status.
-pub fn run_main<'a, S: AsStr, F: Files, R: Read, W: Write, E: Write>(
+pub fn run_main<'a, S: AsStr, F: Files + Networks, R: Read, W: Write, E: Write>(
     alloc: Global,
     words: &'a [S],
     files: &mut F,
@@ -181,4 +193,32 @@ pub fn run_main<'a, S: AsStr, F: Files, R: Read, W: Write, E: Write>(
         }
         Err(Stop::Memory) => tell(errors, Fault::Memory),
     }
+}
+
+/// Runs a script over sockets that a network took ([`Networks`]), tells a fault, and gives the exit status.
+pub fn run_taken<T, W, E>(
+    rt: &T,
+    alloc: Global,
+    folder: &str,
+    script: Script,
+    output: &mut Output<W>,
+    errors: &mut Output<E>,
+) -> u8
+where
+    T: Threads
+        + Wait
+        + fs::Files<File = File>
+        + Net<Stream = TcpStream, Listener = TcpListener>
+        + Send
+        + Sync,
+    W: Write,
+    E: Write,
+    ensures took { (text : List ℕ) × Takes (account W.contents output.old) (account W.contents output.new) text }
+    ensures ended { (ended : Result Ended Fault) × (result ≡ exit_status ended) × IfErr ended IsNetFault
+        × KeepsUnstarted ended (account W.contents output.old) (account W.contents output.new)
+        × IfErr ended (EndsWriting output.new.channel.write_failed output.new.channel.turns_left) }
+    ensures paid_errors { Pays (account E.contents errors.old) (account E.contents errors.new) 1 }
+{
+    let ended = run_on_sockets(rt, alloc, folder, script, output);
+    finish(errors, ended)
 }

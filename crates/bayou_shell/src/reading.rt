@@ -1,16 +1,17 @@
 //! Inputs that are read to their end, or to their least line with a fault.
 ghost use Rattle.std.specs.Prelude.{◌≤◌, [], ◌++◌, ℕ, List, IfOk, IfErr, IfSome, MatchResult};
 ghost use Rattle.bayou_script.specs.AuditFile.{IsAuditFile, audit_order, evidence_of};
+ghost use Rattle.bayou_script.specs.Network.{IsNetworkScript, RunsOverNetwork, network_order};
 ghost use Rattle.bayou_script.specs.Order.{Order, RefusedBy, lines_of};
 ghost use Rattle.bayou_script.specs.Plan.{plan_of};
-ghost use Rattle.bayou_script.specs.Reading.{HasRead, HasReadAudit, IsRefusedSoFar};
+ghost use Rattle.bayou_script.specs.Reading.{HasRead, HasReadAudit, HasReadNetwork, IsRefusedSoFar};
 ghost use Rattle.bayou_script.specs.Script.{IsScript, script_order};
 ghost use Rattle.bayou_shell.specs.Inner.Faults.{IsReadFault};
 ghost use Rattle.bayou_shell.specs.Turns.{EndsReading};
 
 use crate::fault::Fault;
 use bayou_base::limits::READ_BYTES;
-use bayou_script::{AuditFile, AuditReader, Refusal, Script, ScriptReader};
+use bayou_script::{AuditFile, AuditReader, NetworkScriptReader, Refusal, Script, ScriptReader};
 use bayou_streams::{Channel, Turn};
 use std::alloc::Global;
 use std::io::Read;
@@ -28,6 +29,9 @@ trait Taker: Drop {
     /// The lines say this.
     ghost says: { List (List ℕ) → Self.Text → Type 0 };
 
+    /// What holds of each text that is told, whatever the lines are.
+    ghost tells: { Self.Text → Type 0 };
+
     /// Takes a piece more, unless there is a line with a fault.
     fn take(&mut self, alloc: Global, piece: &[u8]) -> Result<(), Refusal>
         ensures { (bytes : List ℕ) → has_read self.old bytes
@@ -36,7 +40,8 @@ trait Taker: Drop {
     /// What the whole text says.
     fn end(self, alloc: Global) -> Result<Self::Text, Refusal>
         requires { (bytes : List ℕ) × has_read self bytes }
-        ensures { (bytes : List ℕ) → has_read self bytes → MatchResult result (says (lines_of bytes)) (RefusedBy order (lines_of bytes)) };
+        ensures said { (bytes : List ℕ) → has_read self bytes → MatchResult result (says (lines_of bytes)) (RefusedBy order (lines_of bytes)) }
+        ensures told { IfOk result tells };
 }
 
 impl Taker for ScriptReader {
@@ -47,6 +52,28 @@ impl Taker for ScriptReader {
     ghost has_read = { HasRead };
 
     ghost says = { λ lines script. IsScript lines (plan_of script) };
+
+    ghost tells = { λ script. Unit {0} };
+
+    fn take(&mut self, alloc: Global, piece: &[u8]) -> Result<(), Refusal> {
+        self.feed(alloc, piece)
+    }
+
+    fn end(self, alloc: Global) -> Result<Script, Refusal> {
+        self.finish(alloc)
+    }
+}
+
+impl Taker for NetworkScriptReader {
+    type Text = Script;
+
+    ghost order = { network_order };
+
+    ghost has_read = { HasReadNetwork };
+
+    ghost says = { λ lines script. IsNetworkScript lines (plan_of script) };
+
+    ghost tells = { λ script. RunsOverNetwork (plan_of script) };
 
     fn take(&mut self, alloc: Global, piece: &[u8]) -> Result<(), Refusal> {
         self.feed(alloc, piece)
@@ -66,6 +93,8 @@ impl Taker for AuditReader {
 
     ghost says = { λ lines file. IsAuditFile lines (evidence_of file) };
 
+    ghost tells = { λ file. Unit {0} };
+
     fn take(&mut self, alloc: Global, piece: &[u8]) -> Result<(), Refusal> {
         self.feed(alloc, piece)
     }
@@ -84,6 +113,7 @@ fn read_text<T: Taker, R: Read>(
 ) -> Result<T::Text, Fault>
     requires { T.has_read taker [] }
     ensures text { IfOk result (λ said. IfSome (R.remaining input.old.reader) (λ text. T.says (lines_of text) said)) }
+    ensures told { IfOk result T.tells }
     ensures fault { IfErr result (IsReadFault T.order (R.remaining input.old.reader)) }
     ensures ended { IfErr result (EndsReading input.new.read_failed input.new.turns_left) }
     ensures turns { input.new.turns_left ≤ input.old.turns_left }
@@ -111,6 +141,20 @@ pub(crate) fn read_script<R: Read>(
     ensures turns { input.new.turns_left ≤ input.old.turns_left }
 {
     read_text(alloc, ScriptReader::new(alloc), input)
+}
+
+/// The script over a network that the reader has left.
+pub(crate) fn read_network_script<R: Read>(
+    alloc: Global,
+    input: &mut Channel<R, ()>,
+) -> Result<Script, Fault>
+    ensures script { IfOk result (λ script. IfSome (R.remaining input.old.reader) (λ text. IsNetworkScript (lines_of text) (plan_of script))) }
+    ensures runs { IfOk result (λ script. RunsOverNetwork (plan_of script)) }
+    ensures fault { IfErr result (IsReadFault network_order (R.remaining input.old.reader)) }
+    ensures ended { IfErr result (EndsReading input.new.read_failed input.new.turns_left) }
+    ensures turns { input.new.turns_left ≤ input.old.turns_left }
+{
+    read_text(alloc, NetworkScriptReader::new(alloc), input)
 }
 
 /// The audit file that the reader has left.

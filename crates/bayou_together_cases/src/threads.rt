@@ -41,6 +41,24 @@ fn begun(
     Ok(server)
 }
 
+/// A hand with the next desk of each row, where there is one.
+fn next_hand<L: Desks, M: Desks, N: Desks>(
+    firsts: &mut Row<L>,
+    seconds: &mut Row<M>,
+    thirds: &mut Row<N>,
+    state: u32,
+) -> Option<Hand<L, M, N>> {
+    Some(Hand {
+        first: firsts.pop()?,
+        second: seconds.pop()?,
+        third: thirds.pop()?,
+        accepted: [0; 3],
+        done: 0,
+        is_so: true,
+        dice: Dice { state },
+    })
+}
+
 /// A hand for each thread.
 fn hands<L: Desks, M: Desks, N: Desks>(
     alloc: Global,
@@ -49,19 +67,10 @@ fn hands<L: Desks, M: Desks, N: Desks>(
     let (mut firsts, mut seconds, mut thirds) = rows;
     let mut hands = Vec::with_capacity(alloc, THREADS as usize)?;
     for state in 0..THREADS {
-        let (Some(first), Some(second), Some(third)) = (firsts.pop(), seconds.pop(), thirds.pop())
-        else {
-            return Ok(hands);
-        };
-        hands.push(Hand {
-            first,
-            second,
-            third,
-            accepted: [0; 3],
-            done: 0,
-            is_so: true,
-            dice: Dice { state },
-        })?;
+        let hand = next_hand(&mut firsts, &mut seconds, &mut thirds, state);
+        if let Some(hand) = hand {
+            hands.push(hand)?;
+        }
     }
     Ok(hands)
 }

@@ -1,4 +1,4 @@
-use Rattle.std.proofs.Common.{None, Some, codes, refl, rules}
+use Rattle.std.proofs.Common.{None, Some, refl, rules}
 use Rattle.clap.specs.Words.{found_of}
 use Rattle.bayou_command.specs.Words.{file, standard}
 use Rattle.bayou_command.proofs.Named.{dash, named_by, no_dash}

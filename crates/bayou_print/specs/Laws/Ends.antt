@@ -17,10 +17,11 @@ use Rattle.bayou_judge.specs.declared.verdict.Refusal.TheVariants.{BadDump, Forg
 use Rattle.bayou_judge.specs.declared.verdict.Surveyed.{Surveyed as SurveyedSession}
 use Rattle.bayou_judge.specs.declared.verdict.Verdict.{Verdict}
 use Rattle.bayou_judge.specs.declared.verdict.Verdict.TheVariants.{Clean, Broken}
+use Rattle.bayou_node.specs.declared.settled.Settled.{Settled}
 use Rattle.bayou_text.specs.Said.{Said}
 use Rattle.bayou_print.specs.Booked.{line_text}
 use Rattle.bayou_print.specs.Verdicts.{broken_text, found_text, guarantee_text, refused_text, surveyed_text, verdict_text}
-use Rattle.bayou_print.specs.Printed.{adopted_text, counts_text, exchange_text, last_text, listed_text, outcome_text, pulling_text, recovery_text, refusal_text, reopening_text, starting_text, value_text}
+use Rattle.bayou_print.specs.Printed.{adopted_text, counts_text, exchange_text, last_text, listed_text, outcome_text, pulling_text, recovery_text, refusal_text, reopening_text, settled_text, starting_text, value_text}
 
 -- it ends with a line feed
 record Ends (text : List ℕ) : Type 0 where
@@ -84,6 +85,10 @@ pub surveyed_ends : (surveyed : SurveyedSession) → IsEmptyOrEndsWith (surveyed
 surveyed_ends surveyed =
     ends_is _
     (behind (codes "survey ") _ (behind (decimal surveyed.session.index) _ (behind (codes " ryw ") _ (behind (found_text surveyed.ryw) _ (behind (codes " mr ") _ (behind (found_text surveyed.mr) _ (behind (codes " wfr ") _ (behind (found_text surveyed.wfr) _ (behind (codes " mw ") _ (behind (found_text surveyed.mw) _ feed))))))))))
+
+pub settled_ends : (server : ℕ) (settled : Settled) → IsEmptyOrEndsWith (settled_text server settled) 10
+settled_ends server settled =
+    ends_is _ (behind (codes "settled ") _ (behind (decimal server) _ (behind (codes " accepted ") _ (behind (decimal settled.accepted) _ (behind (codes " adopted ") _ (behind (decimal settled.adopted) _ feed))))))
 
 pub line_ends : (said : Said) → IsEmptyOrEndsWith (line_text said) 10
 line_ends said = ends_is _ (behind _ _ feed)

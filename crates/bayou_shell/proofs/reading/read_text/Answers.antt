@@ -22,7 +22,7 @@ returns-in_err-end-in-Moved-eq0-clause-fault g c =
     let all : Consumes start after bytes = subst (Consumes start after) (append-nil bytes) (Consumes-trans start before after bytes [] came none) in
     let room : 0 < length piece = omega arith in
     rw (p.1, p.2)
-    (refused_all g.T.Taker.order start after bytes c.in_err-end-in-Moved-eq0.field-0.0 all (end zero room) (c.in_err-end-in-Moved-eq0.ensures bytes read))
+    (refused_all g.T.Taker.order start after bytes c.in_err-end-in-Moved-eq0.field-0.0 all (end zero room) (c.in_err-end-in-Moved-eq0.ensures.said bytes read))
 
 pub loop-turn-preserved-in_ok-take-in-Moved : goal.loop-turn-preserved-in_ok-take-in-Moved
 loop-turn-preserved-in_ok-take-in-Moved g c =

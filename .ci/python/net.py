@@ -1,0 +1,156 @@
+"""Tries `bayou net` as a person calls it. Call: python3 net.py PROGRAM EXAMPLES KILLS. Its last line is 'N passed, M failed'."""
+import os
+import statistics
+import sys
+import tempfile
+import time
+import traceback
+
+import net_faults
+import net_kill
+import net_long
+import net_runs
+import net_script
+import net_told
+from checks import Checks
+from net_runs import contents, fresh, put, run, script
+
+RUNS = 20
+# Each script at random is run so often, since threads meet in another order each time.
+RUNS_A_SCRIPT = 5
+
+TOTALS = ["totals reads 2 writes 2 refusals 0 slips 0", "settled 0 accepted 1 adopted 0", "settled 1 accepted 1 adopted 0", "clean"]
+MET = [["servers", 2, 100], ["session", 0, ["ryw"]], ["session", 1, []], ["write", 0, 0, put("a", 1)], ["write", 1, 1, put("b", 2)],
+       ["phase"], ["pull", 1, 0], ["pull", 0, 1], ["phase"], ["read", 0, 1, "a"], ["read", 1, 0, "b"]]
+MET_TOLD = ["0 wrote 0:1 clock 1 deps 0,0", "1 wrote 1:1 clock 1 deps 0,0", "pulled 1 had 0", "pulled 1 had 0",
+            "0 read a num 1 at 1,1", "1 read b num 2 at 1,1"]
+LOG_TOLD = ["log 0 0:1 clock 1 updated", "log 0 1:1 clock 1 updated", "log 0 at 1,1", "reopen refused notdown"]
+ENTRIES = ['["entry",0,1,["ryw"],0,"write",1,1,[0,0]]', '["entry",0,2,["ryw"],1,"read","a",[1,1]]', '["entry",1,1,[],1,"write",1,1,[0,0]]',
+           '["entry",1,2,[],0,"read","b",[1,1]]']
+
+
+def held(server, origin, key, value):
+    return '["held",%d,[%d,1,1,[0,0],{"check":[],"merge":[],"update":[["put","%s",%d]]}]]' % (server, origin, key, value)
+
+
+HELD = [held(0, 0, "a", 1), held(0, 1, "b", 2), held(1, 1, "b", 2), held(1, 0, "a", 1)]
+
+
+def lines(told):
+    return "".join(line + "\n" for line in told)
+
+
+def meets(checks, program, room):
+    """Two servers that write apart, pull from each other, and are read; then with a log, a reopening and a book."""
+    checks.that("two servers that meet", run(program, fresh(room, "met"), script(*MET)), (0, lines(MET_TOLD + TOTALS), ""))
+    more = script(*MET, ["phase"], ["log", 0], ["reopen", 0], ["book"])
+    status, output, errors = run(program, fresh(room, "book"), more)
+    told = output.split("\n")
+    front, back = len(MET_TOLD + LOG_TOLD) + 1, len(MET_TOLD + LOG_TOLD) + 1 + len(ENTRIES)
+    booked = told[front:back]
+    checks.that("a book", (status, errors, told[:front] + told[back:]), (0, "", MET_TOLD + LOG_TOLD + ['["servers",2]'] + HELD + TOTALS + [""]))
+    # Sessions are served at once, so that the entries of two sessions may stand in any order.
+    kept = all(booked.index(a) < booked.index(b) for a, b in (ENTRIES[:2], ENTRIES[2:])) if sorted(booked) == sorted(ENTRIES) else booked
+    checks.that("its entries", kept, True)
+    path = os.path.join(room, "book.jsonl")
+    with open(path, "w", encoding="ascii") as it:
+        it.write(lines(told[front - 1:back + len(HELD)]))
+    surveyed = ["clean"] + ["survey %d ryw ok mr ok wfr ok mw ok" % i for i in (0, 1)]
+    checks.that("the audit of the book", net_runs.call(program, ["audit", path]), (0, lines(surveyed), ""))
+
+
+def text_of(path):
+    with open(path, encoding="utf-8") as it:
+        return it.read()
+
+
+def examples(checks, program, room, folder):
+    """Each script of the examples, over its own new folder, as the file and as the standard input; one goes on where another ended."""
+    names = sorted(name[:-len(".jsonl")] for name in os.listdir(folder) if name.endswith(".jsonl"))
+    checks.that("there are examples", len(names) > 0, True)
+    for name in names:
+        path = os.path.join(folder, name)
+        expected = (0, text_of(path + ".expected"), "")
+        if os.path.exists(path + ".errors"):
+            expected = (2, "", text_of(path + ".errors"))
+        for way in ("file", "input"):
+            own = fresh(room, "%s-%s" % (name, way))
+            if name == "again":
+                run(program, own, text_of(os.path.join(folder, "two_servers.jsonl")))
+            told = run(program, own, "", path + ".jsonl") if way == "file" else run(program, own, text_of(path + ".jsonl"))
+            checks.that("the script %s, as %s" % (name, way), told, expected)
+            checks.that("the journals of " + name, bool(os.listdir(own)), expected[0] == 0)
+
+
+def helps(checks, program, room):
+    """The script in the help prints what stands below it."""
+    status, shown, errors = net_runs.call(program, ["net", "--help"])
+    checks.that("the help", (status, errors), (0, ""))
+    given = [line[6:] + "\n" for line in shown.split("\n") if line.startswith('      ["')]
+    told = shown.partition("It prints, where that folder is new:\n\n")[2].partition("\n\n")[0]
+    printed = "".join(line[2:] + "\n" for line in told.split("\n"))
+    checks.that("the script of the help", run(program, fresh(room, "help"), "".join(given)), (0, printed, ""))
+
+
+def at_random(checks, program, room, reopens):
+    """2,000 operations of 8 sessions at 4 servers in 5 phases, with pulls beside them."""
+    times, refused = [], 0
+    for number in range(RUNS):
+        seed = number // RUNS_A_SCRIPT + (100 if reopens else 0)
+        made, text = net_script.at_random(seed, reopens)
+        folder = fresh(room, "random-%d-%d" % (reopens, number))
+        begin = time.monotonic()
+        status, output, errors = run(program, folder, text)
+        times.append(time.monotonic() - begin)
+        name = "run %d of 2,000 operations%s" % (number, ", with reopenings" if reopens else "")
+        checks.that(name, (status, errors, net_told.wrong_in(made, output)), (0, "", None))
+        refused += output.count(" refused behind ")
+    middle = statistics.median(times)
+    print("net: %d operations%s: %.2f s in the middle of %d runs, %d a second; %d refused in all" %
+          (net_script.OPERATIONS, " with reopenings" if reopens else "", middle, RUNS, net_script.OPERATIONS / middle, refused))
+    checks.that("some operations are refused, and most are not", 0 < refused < RUNS * net_script.OPERATIONS // 2, True)
+
+
+def goes_on(checks, program, room):
+    """A second and a third run in the same folder have what the first wrote."""
+    folder = fresh(room, "on")
+    checks.that("a first run", run(program, folder, script(*MET))[0], 0)
+    kept = contents(folder)
+    look = script(["servers", 2, 100], ["session", 0, ["ryw"]], ["read", 0, 0, "b"], ["log", 0], ["log", 1])
+    told = ["0 read b num 2 at 1,1"]
+    told += ["log %d %s" % (s, rest) for s in (0, 1) for rest in ("0:1 clock 1 updated", "1:1 clock 1 updated", "at 1,1")]
+    told += ["totals reads 1 writes 0 refusals 0 slips 0", "settled 0 accepted 0 adopted 0", "settled 1 accepted 0 adopted 0", "clean"]
+    for _ in range(2):
+        checks.that("a run behind it", run(program, folder, look), (0, lines(told), ""))
+        checks.that("what a run that writes nothing leaves", contents(folder), kept)
+    checks.that("a run with fewer servers than Writes are of", run(program, folder, script(["servers", 1], ["log", 0])), net_faults.DEVICE)
+    checks.that("what it leaves", contents(folder), kept)
+    # A server more has its own journal, which begins empty.
+    more = script(["servers", 3, 100], ["pull", 2, 0], ["log", 2])
+    told = ["pulled 2 had 0", "log 2 0:1 clock 1 updated", "log 2 1:1 clock 1 updated", "log 2 at 1,1,0"]
+    told += ["totals reads 0 writes 0 refusals 0 slips 0"]
+    told += ["settled %d accepted 0 adopted 0" % s for s in range(3)] + ["clean"]
+    checks.that("a run with one server more", run(program, folder, more), (0, lines(told), ""))
+    checks.that("its journals", sorted(contents(folder)), ["server-%d.journal" % s for s in range(3)])
+
+
+def main():
+    program, folder, number = os.path.abspath(sys.argv[1]), sys.argv[2], int(sys.argv[3])
+    checks = Checks()
+    groups = [meets, helps, lambda *given: examples(*given, folder), goes_on]
+    groups += [net_faults.folders, net_faults.journals, net_faults.torn, net_faults.held, net_faults.at_once, net_faults.places, net_faults.files,
+               net_long.long_phase]
+    groups += [lambda *given: at_random(*given, False), lambda *given: at_random(*given, True), lambda *given: net_kill.kills(*given, number)]
+    for group in groups:
+        with tempfile.TemporaryDirectory() as room:
+            try:
+                group(checks, program, room)
+            except Exception:
+                checks.failed += 1
+                traceback.print_exc(file=sys.stdout)
+    print("%d passed, %d failed" % (checks.passed, checks.failed))
+    return 1 if checks.failed else 0
+
+
+if __name__ == "__main__":
+    sys.exit(main())

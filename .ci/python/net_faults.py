@@ -1,0 +1,179 @@
+"""Folders, journals, scripts and streams with which `bayou net` runs nothing, or drops what was torn."""
+import os
+import shutil
+import stat
+import threading
+
+import net_runs
+from net_runs import content, contents, fresh, journal, put, run, script
+
+DEVICE = (3, "", "bayou: device\n")
+# A journal's header has so many bytes.
+HEADER = 10
+
+ONE = script(["servers", 1], ["session", 0, []], ["write", 0, 0, put("a", 1)])
+TWO = script(["servers", 2], ["session", 0, []], ["write", 0, 0, put("a", 1)], ["write", 0, 1, put("a", 2)])
+LOGS = script(["servers", 2], ["log", 0], ["log", 1])
+NOTHING = "totals reads 0 writes 0 refusals 0 slips 0\n"
+
+
+def settled(count):
+    return "".join("settled %d accepted 0 adopted 0\n" % server for server in range(count))
+
+
+def logs(count, held):
+    """What a run of a log of each server prints, of servers that each hold so many of their own Writes, and nobody else's."""
+    told = ""
+    for server in range(count):
+        told += "".join("log %d %d:%d clock %d updated\n" % (server, server, seq, seq) for seq in range(1, held[server] + 1))
+        told += "log %d at %s\n" % (server, ",".join(str(held[server] if s == server else 0) for s in range(count)))
+    return told + NOTHING + settled(count) + "clean\n"
+
+
+def as_nobody():
+    os.setgroups([])
+    os.setgid(65534)
+    os.setuid(65534)
+
+
+def folders(checks, program, room):
+    """Folders that aren't there, are none, or can't be written."""
+    file = os.path.join(room, "file")
+    with open(file, "w", encoding="ascii") as it:
+        it.write("nothing\n")
+    for name in (os.path.join(room, "absent"), os.path.join(room, "absent", "below"), file, "/proc"):
+        checks.that("the folder " + name, run(program, name, ONE), DEVICE)
+    checks.that("a folder that isn't there", os.path.exists(os.path.join(room, "absent")), False)
+    taken = fresh(room, "taken")
+    os.mkdir(journal(taken, 0))
+    checks.that("a folder in place of a journal", run(program, taken, ONE), DEVICE)
+    # Nothing is refused to who may do all, so another does it there.
+    closed, own = fresh(room, "closed"), os.path.join(room, "program")
+    os.chmod(closed, stat.S_IRUSR | stat.S_IXUSR | stat.S_IROTH | stat.S_IXOTH)
+    is_root = os.geteuid() == 0
+    if is_root:
+        shutil.copy(program, own)
+        os.chmod(own, 0o755)
+        os.chmod(room, 0o755)
+    told = net_runs.call(own if is_root else program, ["net", "--dir", closed], ONE, before=as_nobody if is_root else None)
+    checks.that("a folder that can't be written", told, DEVICE)
+    checks.that("what is in it", os.listdir(closed), [])
+
+
+def journals(checks, program, room):
+    """Journals of another server, files that are none, and journals that were changed."""
+    folder = fresh(room, "journals")
+    checks.that("a Write at each of two servers", run(program, folder, TWO)[0], 0)
+    good = [content(journal(folder, server)) for server in (0, 1)]
+    files = [("the journal of another server", good[0]), ("a file that is no journal", b"This is no journal.\n"), ("a short file", b"BAYOUS"),
+             ("a journal of another version", b"BAYOUJNL\x02\x01"), ("a header of another server", good[0][:HEADER])]
+    for name, bad in files:
+        with open(journal(folder, 1), "wb") as it:
+            it.write(bad)
+        checks.that(name, run(program, folder, LOGS), DEVICE)
+        checks.that(name + ": the journals", contents(folder), {"server-0.journal": good[0], "server-1.journal": bad})
+    with open(journal(folder, 1), "wb") as it:
+        it.write(good[1])
+    checks.that("both journals again", run(program, folder, LOGS), (0, logs(2, [1, 1]), ""))
+
+
+def torn(checks, program, room):
+    """A journal that ends within an entry: the entry is dropped, and what goes before it is there."""
+    writes = [["write", 0, 0, put("a", seq)] for seq in (1, 2, 3)]
+    folder = fresh(room, "torn")
+    text = script(["servers", 1], ["session", 0, []], *writes)
+    checks.that("three Writes", run(program, folder, text)[0], 0)
+    good = content(journal(folder, 0))
+    size = (len(good) - HEADER) // 3
+    look = script(["servers", 1], ["log", 0])
+    for left in [0, 1, HEADER - 1, HEADER, HEADER + 1, HEADER + size - 1, HEADER + size, HEADER + 2 * size - 32, len(good) - 1, len(good)]:
+        with open(journal(folder, 0), "wb") as it:
+            it.write(good[:left])
+        held = max(left - HEADER, 0) // size
+        checks.that("a journal cut to %d bytes" % left, run(program, folder, look), (0, logs(1, [held]), ""))
+        checks.that("what it is then", content(journal(folder, 0)), good[:HEADER + held * size])
+    changed = bytearray(good)
+    changed[HEADER + size + 5] ^= 1
+    with open(journal(folder, 0), "wb") as it:
+        it.write(changed)
+    checks.that("a byte that was changed", run(program, folder, look), (0, logs(1, [1]), ""))
+    again = script(["servers", 1], ["session", 0, []], ["write", 0, 0, put("b", 7)], ["phase"], ["log", 0])
+    told = "0 wrote 0:2 clock 2 deps 1\nlog 0 0:1 clock 1 updated\nlog 0 0:2 clock 2 updated\nlog 0 at 2\n"
+    told += "totals reads 0 writes 1 refusals 0 slips 0\nsettled 0 accepted 1 adopted 0\nclean\n"
+    checks.that("a Write behind it", run(program, folder, again), (0, told, ""))
+    small = script(["servers", 1, 1], ["log", 0])
+    checks.that("a journal of more Writes than a server may hold", run(program, folder, small), DEVICE)
+
+
+def held(checks, program, room):
+    """A folder that another run uses, which waits since nobody reads what it prints."""
+    folder = fresh(room, "held")
+    path = os.path.join(room, "long.jsonl")
+    writes, listings = 100, 100
+    with open(path, "w", encoding="ascii") as it:
+        it.write(script(["servers", 1], ["session", 0, []], ["write", 0, 0, put("a", 1)], ["phase"]))
+        it.write("".join(script(["write", 0, 0, put("a", 1)]) for _ in range(writes - 1)))
+        it.write("".join(script(["phase"], ["log", 0]) for _ in range(listings)))
+    running = net_runs.Running(program, folder, path)
+    checks.that("the first line of a run that waits", running.first(), "0 wrote 0:1 clock 1 deps 0\n")
+    for _ in range(3):
+        checks.that("a folder that another run uses", run(program, folder, ONE), DEVICE)
+    status, output = running.rest()
+    checks.that("the run that waited", (status, output.count("\n")), (0, writes - 1 + listings * (writes + 1) + 3))
+    checks.that("the folder behind it", run(program, folder, script(["servers", 1], ["log", 0])), (0, logs(1, [writes]), ""))
+
+
+def at_once(checks, program, room):
+    """Many runs in one folder at once: each is served whole, or refused whole."""
+    folder = fresh(room, "at-once")
+    ended = []
+
+    def one():
+        ended.append(run(program, folder, ONE))
+    threads = [threading.Thread(target=one) for _ in range(8)]
+    for thread in threads:
+        thread.start()
+    for thread in threads:
+        thread.join()
+    served = [told for told in ended if told != DEVICE]
+    firsts = ["0 wrote 0:%d clock %d deps %d\n" % (seq, seq, seq - 1) for seq in range(1, len(served) + 1)]
+    rest = "totals reads 0 writes 1 refusals 0 slips 0\nsettled 0 accepted 1 adopted 0\nclean\n"
+    checks.that("runs in one folder at once", (bool(served), sorted(served)), (True, sorted((0, first + rest, "") for first in firsts)))
+
+
+def places(checks, program, room):
+    """Lines that have no place in a run over sockets, and other faults of a script: nothing is run, and no journal is made."""
+    folder = fresh(room, "places")
+    start = [["servers", 2], ["session", 0, []], ["write", 0, 0, put("a", 1)]]
+    for bad in (["fuse", 0, 1, 0], ["lose", 0, 1], ["restart", 0], ["resend", 1, 0], ["pull", 1, 0, 3], ["pull", 1, 1], ["servers", 2],
+                ["session", 0, []], ["read", 1, 0, "a"], ["log", 2], ["entry", 0, 1, [], 0, "refused"]):
+        checks.that("the line %r" % bad, run(program, folder, script(*start, bad)), (2, "", "bayou: line 4: out of place\n"))
+    for count in range(5, 9):
+        checks.that("%d servers" % count, run(program, folder, script(["servers", count])), (2, "", "bayou: line 1: out of place\n"))
+    for text, fault in (("", "line 1: out of place"), ("{\n", "line 1: not JSON"), ('["servers",2]\n["walk"]\n', "line 2: bad shape"),
+                        ('["servers",2]\n["session",0,[]]\n["read",0,0,"A"]\n', "line 3: bad key")):
+        checks.that("the script %r" % text, run(program, folder, text), (2, "", "bayou: %s\n" % fault))
+    for words in (["net"], ["net", "--dir"], ["net", "--dir", ""], ["net", "--dir", folder, "one", "two"], ["net", folder]):
+        status, output, errors = net_runs.call(program, words, ONE)
+        checks.that("the words %r" % words, (status, output, errors[:6]), (2, "", "error:"))
+    for name in (os.path.join(room, "absent.jsonl"), room):
+        checks.that("the script " + name, run(program, folder, ONE, name), (3, "", "bayou: input\n"))
+    checks.that("a folder in which nothing was run", os.listdir(folder), [])
+
+
+def files(checks, program, room):
+    """The same script by its name, and as the standard input."""
+    path = os.path.join(room, "one.jsonl")
+    with open(path, "w", encoding="ascii") as it:
+        it.write(ONE)
+    told = (0, "0 wrote 0:1 clock 1 deps 0\ntotals reads 0 writes 1 refusals 0 slips 0\nsettled 0 accepted 1 adopted 0\nclean\n", "")
+    ways = [("", [path]), (ONE, []), (ONE, ["-"])]
+    kept = []
+    for number, (text, words) in enumerate(ways):
+        folder = fresh(room, "file-%d" % number)
+        checks.that("a script by the words %r" % words, run(program, folder, text, *words), told)
+        kept.append(contents(folder))
+    checks.that("what they leave", kept, [kept[0]] * len(ways))
+    with open("/dev/full", "wb") as full:
+        status, _, errors = net_runs.call(program, ["net", "--dir", fresh(room, "full")], ONE, to=full)
+    checks.that("an output that can't be written", (status, errors), (3, "bayou: output\n"))

@@ -1,0 +1,87 @@
+"""Runs that are killed at random moments: the next run in the folder has each Write that was told as accepted."""
+import os
+import random
+import re
+import time
+
+import net_runs
+from net_runs import fresh, put, script
+
+# A run that isn't killed has so many phases, each with a Write at each of two servers.
+PHASES = 400
+# So many kills leave their Writes in one folder.
+KILLS_A_FOLDER = 10
+
+WROTE = re.compile(r"[01] wrote (\d+:\d+) clock (\d+) deps (\d+),(\d+)")
+LISTED = re.compile(r"log ([01]) (\d+:\d+) clock (\d+) updated")
+
+
+def text():
+    """Many short phases: what a phase does is told at its end."""
+    lines = [["servers", 2, 65536], ["session", 0, ["ryw", "mw"]], ["session", 1, []]]
+    for phase in range(PHASES):
+        lines += [["write", 0, 0, put("a", phase)], ["write", 1, 1, put("b", phase)]]
+        lines += [["pull", phase % 2, 1 - phase % 2]] if phase % 5 == 4 else []
+        lines += [["phase"]]
+    return script(*lines)
+
+
+def wrong_behind(program, folder, output, before):
+    """What is wrong with the folder behind a run that wrote this much. `before` is what each server held as the run began, and becomes what
+    it holds now."""
+    # (the last line may have been cut)
+    told = [WROTE.fullmatch(line) for line in output.split("\n")[:-1]]
+    accepted = {match.group(1): match.group(2) for match in told if match}
+    status, listed, errors = net_runs.run(program, folder, script(["servers", 2, 65536], ["log", 0], ["log", 1]))
+    if (status, errors) != (0, "") or not listed.endswith("clean\n"):
+        return "the next run: %r" % ((status, listed[-200:], errors),)
+    held = ({}, {})
+    for match in map(LISTED.fullmatch, listed.split("\n")):
+        if match:
+            held[int(match.group(1))][match.group(2)] = match.group(3)
+    for server in (0, 1):
+        own = {name: clock for name, clock in accepted.items() if name.startswith("%d:" % server)}
+        for name, clock in {**before[server], **own}.items():
+            if held[server].get(name) != clock:
+                return "the Write %s, of clock %s, is missing at server %d" % (name, clock, server)
+        # What came since is the run's own: each Write of the script once, at the most.
+        mine = sum(name.startswith("%d:" % server) for name in held[server]) - sum(name.startswith("%d:" % server) for name in before[server])
+        if not len(own) <= mine <= PHASES:
+            return "server %d accepted %d Writes, and told of %d" % (server, mine, len(own))
+        before[server].clear()
+        before[server].update(held[server])
+    return None
+
+
+def killed(program, folder, path, moment):
+    """What a run wrote until this moment, in seconds from its begin, and whether it still ran then."""
+    running = net_runs.Running(program, folder, path)
+    time.sleep(moment)
+    was_running = running.kill()
+    # (a pipe holds all that a whole run writes)
+    output = running.process.stdout.read().decode("utf-8", "replace")
+    running.process.stdout.close()
+    return output, was_running
+
+
+def kills(checks, program, room, number):
+    path = os.path.join(room, "killed.jsonl")
+    with open(path, "w", encoding="ascii") as it:
+        it.write(text())
+    begin = time.monotonic()
+    status, output, _ = net_runs.run(program, fresh(room, "whole"), "", path)
+    whole = time.monotonic() - begin
+    checks.that("a run of Writes that isn't killed", (status, sum(bool(WROTE.fullmatch(told)) for told in output.split("\n"))), (0, 2 * PHASES))
+    order = random.Random(number)
+    folder, before, running, told = None, None, 0, 0
+    for kill in range(number):
+        if kill % KILLS_A_FOLDER == 0:
+            folder, before = fresh(room, "killed-%d" % kill), ({}, {})
+        output, was_running = killed(program, folder, path, order.uniform(0, whole))
+        running, told = running + was_running, told + output.count(" wrote ")
+        wrong = wrong_behind(program, folder, output, before)
+        checks.that("kill %d" % kill, wrong, None)
+        if wrong:
+            folder, before = fresh(room, "killed-behind-%d" % kill), ({}, {})
+    print("net: %d of %d runs were killed before their end; %d Writes that they told of are held" % (running, number, told))
+    checks.that("a run that was killed before its end", running > 0 or number == 0, True)

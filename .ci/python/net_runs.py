@@ -1,0 +1,86 @@
+"""Runs of `bayou net`, each a process over a folder."""
+import json
+import os
+import signal
+import subprocess
+
+# How long a run may take before it counts as hanging.
+SECONDS = 120
+
+
+def line(*members):
+    """A line of a script."""
+    return json.dumps(members, separators=(",", ":")) + "\n"
+
+
+def put(key, value):
+    """A program that puts the value."""
+    return {"update": [["put", key, value]]}
+
+
+def script(*lines):
+    return "".join(line(*members) for members in lines)
+
+
+def call(program, words, text="", to=subprocess.PIPE, before=None):
+    """The status, the output and the errors of the program with these words, over this text as its input."""
+    try:
+        ended = subprocess.run([program, *words], input=text.encode(), stdout=to, stderr=subprocess.PIPE, timeout=SECONDS, preexec_fn=before)
+    except subprocess.TimeoutExpired:
+        return "hangs", "", ""
+    output = "" if ended.stdout is None else ended.stdout.decode("utf-8", "replace")
+    return ended.returncode, output, ended.stderr.decode("utf-8", "replace")
+
+
+def run(program, folder, text, *words):
+    """The same of `bayou net` in this folder."""
+    return call(program, ["net", "--dir", folder, *words], text)
+
+
+def fresh(room, name):
+    """A new folder."""
+    path = os.path.join(room, name)
+    os.mkdir(path)
+    return path
+
+
+def journal(folder, server):
+    return os.path.join(folder, "server-%d.journal" % server)
+
+
+def content(path):
+    with open(path, "rb") as it:
+        return it.read()
+
+
+def contents(folder):
+    """What is in the folder, by name."""
+    return {name: content(os.path.join(folder, name)) for name in sorted(os.listdir(folder))}
+
+
+class Running:
+    """A run whose output is read as it comes, or not at all."""
+
+    def __init__(self, program, folder, path):
+        self.process = subprocess.Popen([program, "net", "--dir", folder, path], stdin=subprocess.DEVNULL, stdout=subprocess.PIPE,
+                                        stderr=subprocess.DEVNULL)
+
+    def first(self):
+        """The first line, read byte by byte, so that no more is taken than it has."""
+        taken = b""
+        while not taken.endswith(b"\n"):
+            byte = os.read(self.process.stdout.fileno(), 1)
+            if not byte:
+                break
+            taken += byte
+        return taken.decode("utf-8", "replace")
+
+    def rest(self):
+        """The status, and what is left of the output."""
+        output = self.process.communicate(timeout=SECONDS)[0]
+        return self.process.returncode, output.decode("utf-8", "replace")
+
+    def kill(self):
+        """Kills it, and tells whether it still ran."""
+        self.process.send_signal(signal.SIGKILL)
+        return self.process.wait() == -signal.SIGKILL

@@ -1,0 +1,160 @@
+//! What tells at a terminal that work goes on.
+ghost use Rattle.std.specs.Prelude.{◌≡◌, ◌+◌, ◌≤◌, ◌↔◌, true, false};
+ghost use Rattle.std.specs.Duration.{as_nanos};
+
+use std::alloc::{AllocError, Global};
+use std::io::Write;
+use std::sync::{Mutex, Wait};
+use std::time::{Clock, Duration};
+use std::{io, thread};
+
+/// How long no line is printed before progress is told, and how long one telling stands.
+const PERIOD_SECONDS: u64 = 1;
+
+/// How long the teller sleeps between two looks: the end of a run waits for at most one.
+const LOOK_MILLISECONDS: u64 = 20;
+
+/// What clears the line of a terminal.
+const CLEAR: &str = "\r\x1b[K";
+
+/// Whether progress is due, where a line was last printed or told of at `last`.
+fn is_due(now: Duration, last: Duration) -> bool
+    ensures { result ≡ true ↔ as_nanos last + 1000000000 ≤ as_nanos now }
+{
+    now.saturating_sub(last) >= Duration::from_secs(PERIOD_SECONDS)
+}
+
+/// The line that is shown.
+fn progress_line(alloc: Global, seconds: u64, lines: u64) -> Result<String, AllocError> {
+    format!(in alloc; "\rbayou: at work for {seconds} s, {lines} lines printed")
+}
+
+/// A terminal, and what is told there.
+#[derive(Drop)]
+pub struct Screen<E> {
+    terminal: E,
+    /// When the work began.
+    begun: Duration,
+    /// When a line was last seen to be printed, or progress was last told.
+    last: Duration,
+    /// How many lines were printed.
+    printed: u64,
+    /// How many of them the teller saw.
+    seen: u64,
+    /// Whether a line of progress stands there.
+    is_shown: bool,
+    /// Whether the work ended.
+    is_over: bool,
+}
+
+impl<E: Write> Screen<E> {
+    /// A screen with no progress.
+    pub fn new(terminal: E, now: Duration) -> Self {
+        Screen {
+            terminal,
+            begun: now,
+            last: now,
+            printed: 0,
+            seen: 0,
+            is_shown: false,
+            is_over: false,
+        }
+    }
+
+    /// Clears the line of progress.
+    fn clear(&mut self)
+        ensures { self.new.is_shown ≡ false }
+    {
+        if self.is_shown {
+            let _ = self.terminal.write_all(CLEAR.as_bytes());
+            self.is_shown = false;
+        }
+    }
+
+    /// Nothing is told any more.
+    pub fn end(&mut self)
+        ensures over { self.new.is_over ≡ true }
+        ensures clear { self.new.is_shown ≡ false }
+    {
+        self.clear();
+        self.is_over = true;
+    }
+
+    // Counts the line feeds.
+    fn count(&mut self, text: &[u8]) {
+        for byte in text {
+            if *byte == b'\n' {
+                self.printed = self.printed.saturating_add(1);
+            }
+        }
+    }
+
+    // Tells of progress, where it is due.
+    fn tell(&mut self, alloc: Global, now: Duration) {
+        if self.seen != self.printed {
+            self.seen = self.printed;
+            self.last = now;
+            return;
+        }
+        if !is_due(now, self.last) {
+            return;
+        }
+        self.last = now;
+        let seconds = now.saturating_sub(self.begun).as_secs();
+        if let Ok(line) = progress_line(alloc, seconds, self.printed) {
+            self.is_shown = true;
+            let _ = self.terminal.write_all(line.as_bytes());
+        }
+    }
+
+    // Looks once, and says whether the work goes on.
+    fn look(&mut self, alloc: Global, now: Duration) -> bool {
+        if self.is_over {
+            return false;
+        }
+        self.tell(alloc, now);
+        true
+    }
+}
+
+/// Tells of the work until it is over, or until no clock is there.
+pub fn tell_progress<E: Write, T: Clock + Wait>(rt: &T, alloc: Global, screen: &Mutex<Screen<E>>) {
+    for _ in rt.forever() {
+        let Ok(now) = rt.monotonic() else {
+            return;
+        };
+        if !screen.lock(rt).look(alloc, now) {
+            return;
+        }
+        thread::sleep(rt, Duration::from_millis(LOOK_MILLISECONDS));
+    }
+}
+
+/// A writer whose lines are counted, and which writes nothing beside a line of progress.
+#[derive(Drop)]
+pub struct Counted<'a, W, E, T> {
+    writer: W,
+    rt: &'a T,
+    screen: &'a Mutex<Screen<E>>,
+}
+
+impl<'a, W, E, T> Counted<'a, W, E, T> {
+    /// The writer beside the screen.
+    pub fn new(writer: W, rt: &'a T, screen: &'a Mutex<Screen<E>>) -> Self {
+        Counted { writer, rt, screen }
+    }
+}
+
+impl<W: Write, E: Write, T: Wait> Write for Counted<'_, W, E, T> {
+    fn write(&mut self, buf: &[u8]) -> io::Result<usize> {
+        let mut screen = self.screen.lock(self.rt);
+        screen.clear();
+        let count = self.writer.write(buf)?;
+        screen.count(&buf[..count]);
+        Ok(count)
+    }
+
+    fn flush(&mut self) -> io::Result<()> {
+        self.writer.flush()
+    }
+}

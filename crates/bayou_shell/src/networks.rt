@@ -1,0 +1,35 @@
+//! Networks that scripts are run over.
+ghost use Rattle.std.specs.Prelude.{◌≤◌, IfErr, List, OnOk, ℕ};
+ghost use Rattle.bayou_script.specs.Network.{RunsOverNetwork};
+ghost use Rattle.bayou_script.specs.Plan.{plan_of};
+ghost use Rattle.bayou_shell.specs.Net.{IsNetFault, KeepsUnstarted};
+ghost use Rattle.bayou_shell.specs.Turns.{EndsWriting};
+ghost use Rattle.bayou_streams.specs.Account.{Takes, account};
+
+use crate::ended::Ended;
+use crate::fault::Fault;
+use bayou_script::Script;
+use bayou_streams::Output;
+use std::alloc::Global;
+use std::io::Write;
+
+/// Where a script is run whose servers have journals in a folder and answer over connections.
+pub trait Networks {
+    /// Runs the script, with the servers' journals in the folder of this name, and writes what is printed for it; or takes it, to be run so
+    /// once the words were read, and prints nothing yet. The program's own takes it: a method of a trait can't start threads.
+    fn run<W: Write>(
+        &mut self,
+        alloc: Global,
+        folder: &str,
+        script: Script,
+        output: &mut Output<W>,
+    ) -> Result<Ended, Fault>
+        requires { RunsOverNetwork (plan_of script) }
+        // Lines are put behind what the output holds, and nothing else is done there.
+        ensures took { (text : List ℕ) × Takes (account W.contents output.old) (account W.contents output.new) text }
+        ensures fault { IfErr result IsNetFault }
+        // Where a server doesn't start, nothing is printed.
+        ensures unstarted { KeepsUnstarted result (account W.contents output.old) (account W.contents output.new) }
+        ensures ended { IfErr result (EndsWriting output.new.channel.write_failed output.new.channel.turns_left) }
+        ensures ready { OnOk result (output.old.channel.turns_left ≤ output.new.channel.turns_left) };
+}

@@ -1,0 +1,548 @@
+//! Scripts over sockets: servers with journals in files, each at a port of the loopback address.
+ghost use Rattle.std.specs.Thread.{IsSend};
+ghost use Rattle.std.specs.Prelude.{◌≡◌, ◌≤◌, IfErr, IfOk, IfSome, List, Ok, OnOk, ℕ};
+ghost use Rattle.bayou_audit.specs.Blanks.{AreBlanksOf, named};
+ghost use Rattle.bayou_base.specs.declared.limits.TheConstants.{SESSIONS as SESSIONS_NUMBER};
+ghost use Rattle.bayou_node.specs.Books.{IsBlankOf};
+ghost use Rattle.bayou_server.specs.Server.{own_count};
+ghost use Rattle.bayou_shell.specs.Inner.Faults.{IsPhaseFault};
+ghost use Rattle.bayou_shell.specs.Inner.Waiting.{Tells, stage};
+ghost use Rattle.bayou_shell.specs.Net.{IsNetFault, KeepsUnstarted};
+ghost use Rattle.bayou_shell.specs.Turns.{EndsWriting};
+ghost use Rattle.bayou_streams.specs.Account.{Takes, TakesFront, account};
+
+use crate::ended::Ended;
+use crate::fault::Fault;
+use crate::journals::{Journaled, start_all};
+use crate::phases::{Course, run_phases};
+use crate::settling::{settle, write_books};
+use crate::waiting::Waiting;
+use bayou_audit::{AuditBook, Blanks, Four, Ledgers, Share};
+use bayou_base::SESSIONS;
+use bayou_fleet::{Fleet, FleetFault, Led, Member, Network, Nothing, start_listeners};
+use bayou_machine::places_for;
+use bayou_node::Desks;
+use bayou_script::{Part, Script, Servers};
+use bayou_streams::Output;
+use bayou_text::Command;
+use std::alloc::{AllocError, Global};
+use std::collections::VecDeque;
+use std::fs::{File, Files};
+use std::io::Write;
+use std::marker::Brand;
+use std::net::{Net, TcpListener, TcpStream};
+use std::sync::Wait;
+use std::sync::ledger::{Blank, Ledger};
+use std::thread;
+use std::thread::{Scope, Threads};
+
+/// A server, and the ledger that its accepted Writes are to be counted in.
+#[derive(Drop)]
+struct Ready {
+    blank: Blank,
+    server: Journaled,
+}
+
+/// Has each server listen in a thread of its own, runs the phases, and has each listener end. The output comes back with what waits to be
+/// written.
+fn run_listened<'s, 'o, E, F, K, T, W>(
+    scope: &'s Scope<'s, E>,
+    rt: &'s T,
+    alloc: Global,
+    network: &'s Network<F, K>,
+    course: Course<K>,
+    output: &'o mut Output<W>,
+    waiting: Waiting,
+) -> (Result<Ended, Fault>, &'o mut Output<W>, Waiting)
+where
+    F: Fleet + Send + Sync,
+    K: Ledgers + Send + Sync,
+    T: Threads + Wait + Net<Stream = TcpStream, Listener = TcpListener> + Send + Sync,
+    W: Write,
+    ensures name { result.1.ghost_name ≡ output.entry.ghost_name }
+    ensures told { Tells result.0 (stage W.contents output.entry.now waiting) (stage W.contents result.1.now result.2) }
+    ensures ended { IfErr result.0 (EndsWriting result.1.now.channel.write_failed result.1.now.channel.turns_left) }
+    ensures ready { OnOk result.0 (output.entry.now.channel.turns_left ≤ result.1.now.channel.turns_left) }
+{
+    let mut waiting = waiting;
+    let connections = course.connections as usize;
+    match start_listeners(scope, rt, alloc, network, connections) {
+        Ok(_) => {
+            let passed = run_phases(rt, alloc, network, course, output, &mut waiting);
+            network.stop(rt);
+            (passed, output, waiting)
+        }
+        Err(FleetFault::Memory) => {
+            network.stop(rt);
+            (Err(Fault::Memory), output, waiting)
+        }
+        Err(FleetFault::Network) => {
+            network.stop(rt);
+            (Err(Fault::Network), output, waiting)
+        }
+    }
+}
+
+/// Writes what waits, once a run has ended so, unless the output is at fault.
+fn write_out<W: Write>(
+    ended: Result<Ended, Fault>,
+    output: &mut Output<W>,
+    waiting: Waiting,
+) -> Result<Ended, Fault>
+    requires fault { IfErr ended IsPhaseFault }
+    requires ended { IfErr ended (EndsWriting output.old.channel.write_failed output.old.channel.turns_left) }
+    ensures front { TakesFront (account W.contents output.old) (account W.contents output.new) waiting.lines.items }
+    ensures fault { IfErr result IsPhaseFault }
+    ensures ended { IfErr result (EndsWriting output.new.channel.write_failed output.new.channel.turns_left) }
+    ensures same { IfOk result (λ told. ended ≡ Ok told) }
+    ensures ready { OnOk result (output.old.channel.turns_left ≤ output.new.channel.turns_left) }
+{
+    let mut waiting = waiting;
+    match ended {
+        Ok(told) => {
+            waiting.write(output)?;
+            Ok(told)
+        }
+        // What was printed before is written. Where that fails, the fault still came first.
+        Err(Fault::Memory) => {
+            let _ = waiting.write(output);
+            Err(Fault::Memory)
+        }
+        Err(Fault::Network) => {
+            let _ = waiting.write(output);
+            Err(Fault::Network)
+        }
+        Err(fault) => Err(fault),
+    }
+}
+
+/// Runs the phases while the servers listen, and no longer. The output comes back with what waits to be written.
+fn run_meanwhile<'o, F, K, T, W>(
+    rt: &T,
+    alloc: Global,
+    network: &Network<F, K>,
+    course: Course<K>,
+    output: &'o mut Output<W>,
+    waiting: Waiting,
+) -> (Result<Ended, Fault>, &'o mut Output<W>, Waiting)
+where
+    F: Fleet + Send + Sync,
+    K: Ledgers + Send + Sync,
+    T: Threads + Wait + Net<Stream = TcpStream, Listener = TcpListener> + Send + Sync,
+    W: Write,
+    ensures name { result.1.ghost_name ≡ output.entry.ghost_name }
+    ensures told { Tells result.0 (stage W.contents output.entry.now waiting) (stage W.contents result.1.now result.2) }
+    ensures ended { IfErr result.0 (EndsWriting result.1.now.channel.write_failed result.1.now.channel.turns_left) }
+    ensures ready { OnOk result.0 (output.entry.now.channel.turns_left ≤ result.1.now.channel.turns_left) }
+{
+    thread::scope(
+        thread::scope_env(),
+        rt,
+        move |scope| -> (Result<Ended, Fault>, &mut Output<W>, Waiting)
+            requires { IsSend F.row × IsSend K.row × IsSend T.row × IsSend K.Slips.row × IsSend K.Reads.row × IsSend K.Writes.row × IsSend K.Refusals.row }
+            ensures name { result.1.ghost_name ≡ output.entry.ghost_name }
+            ensures told { Tells result.0 (stage W.contents output.entry.now waiting) (stage W.contents result.1.now result.2) }
+            ensures ended { IfErr result.0 (EndsWriting result.1.now.channel.write_failed result.1.now.channel.turns_left) }
+            ensures ready { OnOk result.0 (output.entry.now.channel.turns_left ≤ result.1.now.channel.turns_left) }
+        { run_listened(scope, rt, alloc, network, course, output, waiting) },
+    )
+}
+
+/// Runs the phases, and writes what still waits behind them: what was printed before a fault is written too.
+fn pass<F, K, T, W>(
+    rt: &T,
+    alloc: Global,
+    network: &Network<F, K>,
+    course: Course<K>,
+    output: &mut Output<W>,
+) -> Result<Ended, Fault>
+where
+    F: Fleet + Send + Sync,
+    K: Ledgers + Send + Sync,
+    T: Threads + Wait + Net<Stream = TcpStream, Listener = TcpListener> + Send + Sync,
+    W: Write,
+    ensures took { (text : List ℕ) × Takes (account W.contents output.old) (account W.contents output.new) text }
+    ensures fault { IfErr result IsPhaseFault }
+    ensures ended { IfErr result (EndsWriting output.new.channel.write_failed output.new.channel.turns_left) }
+    ensures ready { OnOk result (output.old.channel.turns_left ≤ output.new.channel.turns_left) }
+{
+    let waiting = Waiting::new(alloc)?;
+    let (passed, lent, waiting) = run_meanwhile(rt, alloc, network, course, output, waiting);
+    write_out(passed, lent, waiting)
+}
+
+/// Settles all books once nobody is served any more, and writes what they come to.
+fn conclude<F: Fleet, K: Ledgers, T: Wait, W: Write>(
+    rt: &T,
+    alloc: Global,
+    network: Network<F, K>,
+    servers: Servers,
+    output: &mut Output<W>,
+) -> Result<Ended, Fault>
+    ensures took { (text : List ℕ) × Takes (account W.contents output.old) (account W.contents output.new) text }
+    ensures fault { IfErr result IsPhaseFault }
+    ensures ended { IfErr result (EndsWriting output.new.channel.write_failed output.new.channel.turns_left) }
+    ensures ready { OnOk result (output.old.channel.turns_left ≤ output.new.channel.turns_left) }
+{
+    let mut waiting = Waiting::new(alloc)?;
+    let books = settle(rt, alloc, network, servers)?;
+    let told = write_books(alloc, servers, books, output, &mut waiting);
+    write_out(told, output, waiting)
+}
+
+/// Runs the phases at a network, and then settles all books.
+fn run_at<F, K, T, W>(
+    rt: &T,
+    alloc: Global,
+    network: Network<F, K>,
+    course: Course<K>,
+    output: &mut Output<W>,
+) -> Result<Ended, Fault>
+where
+    F: Fleet + Send + Sync,
+    K: Ledgers + Send + Sync,
+    T: Threads + Wait + Net<Stream = TcpStream, Listener = TcpListener> + Send + Sync,
+    W: Write,
+    ensures took { (text : List ℕ) × Takes (account W.contents output.old) (account W.contents output.new) text }
+    ensures fault { IfErr result IsPhaseFault }
+    ensures ended { IfErr result (EndsWriting output.new.channel.write_failed output.new.channel.turns_left) }
+    ensures ready { OnOk result (output.old.channel.turns_left ≤ output.new.channel.turns_left) }
+{
+    let servers = course.servers;
+    let passed = pass(rt, alloc, &network, course, output)?;
+    let told = conclude(rt, alloc, network, servers, output)?;
+    Ok(passed.and(told))
+}
+
+/// Runs the phases over a fleet, and writes what is printed.
+#[tactic(auto, using(crate::proofs::Told::took_nothing))]
+fn run_fleet<F, K, T, W>(
+    rt: &T,
+    alloc: Global,
+    fleet: F,
+    book: AuditBook<K>,
+    course: Course<K>,
+    output: &mut Output<W>,
+) -> Result<Ended, Fault>
+where
+    F: Fleet + Send + Sync,
+    K: Ledgers + Send + Sync,
+    T: Threads + Wait + Net<Stream = TcpStream, Listener = TcpListener> + Send + Sync,
+    W: Write,
+    ensures took { (text : List ℕ) × Takes (account W.contents output.old) (account W.contents output.new) text }
+    ensures fault { IfErr result IsPhaseFault }
+    ensures ended { IfErr result (EndsWriting output.new.channel.write_failed output.new.channel.turns_left) }
+    ensures ready { OnOk result (output.old.channel.turns_left ≤ output.new.channel.turns_left) }
+{
+    let network = Network::bind(rt, alloc, fleet, course.servers.count, book)?;
+    run_at(rt, alloc, network, course, output)
+}
+
+/// Runs the phases over one server.
+#[tactic(auto, using(crate::proofs::Told::took_nothing))]
+fn run_one<A, K, T, W>(
+    rt: &T,
+    alloc: Global,
+    book: AuditBook<K>,
+    course: Course<K>,
+    first: Ready,
+    output: &mut Output<W>,
+) -> Result<Ended, Fault>
+where
+    A: Desks + Send + Sync,
+    K: Ledgers + Send + Sync,
+    T: Threads + Wait + Net<Stream = TcpStream, Listener = TcpListener> + Send + Sync,
+    W: Write,
+    requires first { IsBlankOf first.blank A.name A.parts course.connections × (first.server.core.id ≡ A.server) × (own_count first.server.core ≡ A.stored) }
+    ensures took { (text : List ℕ) × Takes (account W.contents output.old) (account W.contents output.new) text }
+    ensures fault { IfErr result IsPhaseFault }
+    ensures ended { IfErr result (EndsWriting output.new.channel.write_failed output.new.channel.turns_left) }
+    ensures ready { OnOk result (output.old.channel.turns_left ≤ output.new.channel.turns_left) }
+{
+    let Ready { blank, server } = first;
+    let Ok(fleet) = Led::<_, A, _>::new(alloc, blank, server, course.connections, Nothing) else {
+        return Err(Fault::Memory);
+    };
+    run_fleet(rt, alloc, fleet, book, course, output)
+}
+
+/// Runs the phases over two servers.
+#[tactic(auto, using(crate::proofs::Told::took_nothing))]
+fn run_two<A, B, K, T, W>(
+    rt: &T,
+    alloc: Global,
+    book: AuditBook<K>,
+    course: Course<K>,
+    first: Ready,
+    second: Ready,
+    output: &mut Output<W>,
+) -> Result<Ended, Fault>
+where
+    A: Desks + Send + Sync,
+    B: Desks + Send + Sync,
+    K: Ledgers + Send + Sync,
+    T: Threads + Wait + Net<Stream = TcpStream, Listener = TcpListener> + Send + Sync,
+    W: Write,
+    requires first { IsBlankOf first.blank A.name A.parts course.connections × (first.server.core.id ≡ A.server) × (own_count first.server.core ≡ A.stored) }
+    requires second { IsBlankOf second.blank B.name B.parts course.connections × (second.server.core.id ≡ B.server) × (own_count second.server.core ≡ B.stored) }
+    ensures took { (text : List ℕ) × Takes (account W.contents output.old) (account W.contents output.new) text }
+    ensures fault { IfErr result IsPhaseFault }
+    ensures ended { IfErr result (EndsWriting output.new.channel.write_failed output.new.channel.turns_left) }
+    ensures ready { OnOk result (output.old.channel.turns_left ≤ output.new.channel.turns_left) }
+{
+    let Ready { blank, server } = second;
+    let Ok(fleet) = Led::<_, B, _>::new(alloc, blank, server, course.connections, Nothing) else {
+        return Err(Fault::Memory);
+    };
+    let Ready { blank, server } = first;
+    let Ok(fleet) = Led::<_, A, _>::new(alloc, blank, server, course.connections, fleet) else {
+        return Err(Fault::Memory);
+    };
+    run_fleet(rt, alloc, fleet, book, course, output)
+}
+
+/// Runs the phases over three servers.
+#[tactic(auto, using(crate::proofs::Told::took_nothing))]
+fn run_three<A, B, C, K, T, W>(
+    rt: &T,
+    alloc: Global,
+    book: AuditBook<K>,
+    course: Course<K>,
+    first: Ready,
+    second: Ready,
+    third: Ready,
+    output: &mut Output<W>,
+) -> Result<Ended, Fault>
+where
+    A: Desks + Send + Sync,
+    B: Desks + Send + Sync,
+    C: Desks + Send + Sync,
+    K: Ledgers + Send + Sync,
+    T: Threads + Wait + Net<Stream = TcpStream, Listener = TcpListener> + Send + Sync,
+    W: Write,
+    requires first { IsBlankOf first.blank A.name A.parts course.connections × (first.server.core.id ≡ A.server) × (own_count first.server.core ≡ A.stored) }
+    requires second { IsBlankOf second.blank B.name B.parts course.connections × (second.server.core.id ≡ B.server) × (own_count second.server.core ≡ B.stored) }
+    requires third { IsBlankOf third.blank C.name C.parts course.connections × (third.server.core.id ≡ C.server) × (own_count third.server.core ≡ C.stored) }
+    ensures took { (text : List ℕ) × Takes (account W.contents output.old) (account W.contents output.new) text }
+    ensures fault { IfErr result IsPhaseFault }
+    ensures ended { IfErr result (EndsWriting output.new.channel.write_failed output.new.channel.turns_left) }
+    ensures ready { OnOk result (output.old.channel.turns_left ≤ output.new.channel.turns_left) }
+{
+    let Ready { blank, server } = third;
+    let Ok(fleet) = Led::<_, C, _>::new(alloc, blank, server, course.connections, Nothing) else {
+        return Err(Fault::Memory);
+    };
+    let Ready { blank, server } = second;
+    let Ok(fleet) = Led::<_, B, _>::new(alloc, blank, server, course.connections, fleet) else {
+        return Err(Fault::Memory);
+    };
+    let Ready { blank, server } = first;
+    let Ok(fleet) = Led::<_, A, _>::new(alloc, blank, server, course.connections, fleet) else {
+        return Err(Fault::Memory);
+    };
+    run_fleet(rt, alloc, fleet, book, course, output)
+}
+
+/// Runs the phases over four servers.
+#[tactic(auto, using(crate::proofs::Told::took_nothing))]
+fn run_four<A, B, C, D, K, T, W>(
+    rt: &T,
+    alloc: Global,
+    book: AuditBook<K>,
+    course: Course<K>,
+    first: Ready,
+    second: Ready,
+    third: Ready,
+    fourth: Ready,
+    output: &mut Output<W>,
+) -> Result<Ended, Fault>
+where
+    A: Desks + Send + Sync,
+    B: Desks + Send + Sync,
+    C: Desks + Send + Sync,
+    D: Desks + Send + Sync,
+    K: Ledgers + Send + Sync,
+    T: Threads + Wait + Net<Stream = TcpStream, Listener = TcpListener> + Send + Sync,
+    W: Write,
+    requires first { IsBlankOf first.blank A.name A.parts course.connections × (first.server.core.id ≡ A.server) × (own_count first.server.core ≡ A.stored) }
+    requires second { IsBlankOf second.blank B.name B.parts course.connections × (second.server.core.id ≡ B.server) × (own_count second.server.core ≡ B.stored) }
+    requires third { IsBlankOf third.blank C.name C.parts course.connections × (third.server.core.id ≡ C.server) × (own_count third.server.core ≡ C.stored) }
+    requires fourth { IsBlankOf fourth.blank D.name D.parts course.connections × (fourth.server.core.id ≡ D.server) × (own_count fourth.server.core ≡ D.stored) }
+    ensures took { (text : List ℕ) × Takes (account W.contents output.old) (account W.contents output.new) text }
+    ensures fault { IfErr result IsPhaseFault }
+    ensures ended { IfErr result (EndsWriting output.new.channel.write_failed output.new.channel.turns_left) }
+    ensures ready { OnOk result (output.old.channel.turns_left ≤ output.new.channel.turns_left) }
+{
+    let Ready { blank, server } = fourth;
+    let Ok(fleet) = Led::<_, D, _>::new(alloc, blank, server, course.connections, Nothing) else {
+        return Err(Fault::Memory);
+    };
+    let Ready { blank, server } = third;
+    let Ok(fleet) = Led::<_, C, _>::new(alloc, blank, server, course.connections, fleet) else {
+        return Err(Fault::Memory);
+    };
+    let Ready { blank, server } = second;
+    let Ok(fleet) = Led::<_, B, _>::new(alloc, blank, server, course.connections, fleet) else {
+        return Err(Fault::Memory);
+    };
+    let Ready { blank, server } = first;
+    let Ok(fleet) = Led::<_, A, _>::new(alloc, blank, server, course.connections, fleet) else {
+        return Err(Fault::Memory);
+    };
+    run_fleet(rt, alloc, fleet, book, course, output)
+}
+
+/// The next server, with a ledger of so many parts.
+fn next_ready(servers: &mut VecDeque<Journaled>, desks: u32) -> Option<Ready>
+    ensures { IfSome result (λ ready. ready.blank.parts ≡ desks) }
+{
+    let server = servers.pop_front()?;
+    Some(Ready {
+        blank: Blank::new(u64::from(desks)),
+        server,
+    })
+}
+
+/// Runs the phases over these servers, which are one to four.
+fn run_servers<K, T, W>(
+    rt: &T,
+    alloc: Global,
+    book: AuditBook<K>,
+    course: Course<K>,
+    servers: VecDeque<Journaled>,
+    output: &mut Output<W>,
+) -> Result<Ended, Fault>
+where
+    K: Ledgers + Send + Sync,
+    T: Threads + Wait + Net<Stream = TcpStream, Listener = TcpListener> + Send + Sync,
+    W: Write,
+    ensures took { (text : List ℕ) × Takes (account W.contents output.old) (account W.contents output.new) text }
+    ensures fault { IfErr result IsPhaseFault }
+    ensures ended { IfErr result (EndsWriting output.new.channel.write_failed output.new.channel.turns_left) }
+    ensures ready { OnOk result (output.old.channel.turns_left ≤ output.new.channel.turns_left) }
+{
+    let mut servers = servers;
+    let desks = course.connections;
+    let Some(first) = next_ready(&mut servers, desks) else {
+        return Err(Fault::Memory);
+    };
+    let Some(second) = next_ready(&mut servers, desks) else {
+        return run_one::<Brand, K, T, W>(rt, alloc, book, course, first, output);
+    };
+    let Some(third) = next_ready(&mut servers, desks) else {
+        return run_two::<Brand, Brand, K, T, W>(rt, alloc, book, course, first, second, output);
+    };
+    let Some(fourth) = next_ready(&mut servers, desks) else {
+        return run_three::<Brand, Brand, Brand, K, T, W>(
+            rt, alloc, book, course, first, second, third, output,
+        );
+    };
+    run_four::<Brand, Brand, Brand, Brand, K, T, W>(
+        rt, alloc, book, course, first, second, third, fourth, output,
+    )
+}
+
+/// How many connections each server is reached by at the most: one by each session, one by each pull, and one for the rest.
+fn connections_for(commands: &VecDeque<Command>) -> u32 {
+    let mut connections: u32 = 1;
+    for at in 0..commands.len() {
+        if let Part::Opens | Part::Pull = Part::of(&commands[at]) {
+            connections = connections.saturating_add(1);
+        }
+    }
+    connections
+}
+
+/// The sessions whose shares these are, none of which is open.
+fn members_of<K: Ledgers>(
+    alloc: Global,
+    shares: Vec<Share<K>>,
+) -> Result<Vec<Member<K>>, AllocError> {
+    let mut members = Vec::with_capacity(alloc, shares.len())?;
+    for share in shares {
+        members.push(Member::Absent(share))?;
+    }
+    Ok(members)
+}
+
+/// Runs the script over these servers, with a book of what is served, and a ledger for each of its four totals.
+#[tactic(auto, using(crate::proofs::Told::took_nothing))]
+fn run_booked<S, R, U, V, T, W>(
+    rt: &T,
+    alloc: Global,
+    blanks: Blanks,
+    servers: VecDeque<Journaled>,
+    script: Script,
+    output: &mut Output<W>,
+) -> Result<Ended, Fault>
+where
+    S: Ledger + Send + Sync,
+    R: Ledger + Send + Sync,
+    U: Ledger + Send + Sync,
+    V: Ledger + Send + Sync,
+    T: Threads + Wait + Net<Stream = TcpStream, Listener = TcpListener> + Send + Sync,
+    W: Write,
+    requires blanks { AreBlanksOf blanks (named S.name S.parts) (named R.name R.parts) (named U.name U.parts) (named V.name V.parts) SESSIONS_NUMBER }
+    ensures took { (text : List ℕ) × Takes (account W.contents output.old) (account W.contents output.new) text }
+    ensures fault { IfErr result IsPhaseFault }
+    ensures ended { IfErr result (EndsWriting output.new.channel.write_failed output.new.channel.turns_left) }
+    ensures ready { OnOk result (output.old.channel.turns_left ≤ output.new.channel.turns_left) }
+{
+    let places = places_for(&script.commands);
+    let Ok((book, shares)) = AuditBook::<Four<S, R, U, V>>::new(
+        alloc,
+        blanks,
+        SESSIONS as u8,
+        places,
+    ) else {
+        return Err(Fault::Memory);
+    };
+    let Ok(members) = members_of(alloc, shares) else {
+        return Err(Fault::Memory);
+    };
+    let course = Course {
+        servers: script.servers,
+        connections: connections_for(&script.commands),
+        commands: script.commands,
+        members,
+    };
+    run_servers(rt, alloc, book, course, servers, output)
+}
+
+/// Runs a script over sockets: each of its servers has its journal in the folder of this name, and listens at a port of the loopback address
+/// that the system picks; each session has a thread of its own. The lines of a phase are written at its end.
+#[tactic(auto, using(crate::proofs::Told::took_nothing, crate::proofs::Told::start_net, crate::proofs::Told::start_unstarted, crate::proofs::Told::start_writes, crate::proofs::Told::phase_net, crate::proofs::Told::phase_unstarted))]
+pub fn run_on_sockets<T, W>(
+    rt: &T,
+    alloc: Global,
+    folder: &str,
+    script: Script,
+    output: &mut Output<W>,
+) -> Result<Ended, Fault>
+where
+    T: Threads
+        + Wait
+        + Files<File = File>
+        + Net<Stream = TcpStream, Listener = TcpListener>
+        + Send
+        + Sync,
+    W: Write,
+    ensures took { (text : List ℕ) × Takes (account W.contents output.old) (account W.contents output.new) text }
+    ensures fault { IfErr result IsNetFault }
+    ensures unstarted { KeepsUnstarted result (account W.contents output.old) (account W.contents output.new) }
+    ensures ended { IfErr result (EndsWriting output.new.channel.write_failed output.new.channel.turns_left) }
+    ensures ready { OnOk result (output.old.channel.turns_left ≤ output.new.channel.turns_left) }
+{
+    let blanks = Blanks {
+        slips: Blank::new(SESSIONS as u64),
+        reads: Blank::new(SESSIONS as u64),
+        writes: Blank::new(SESSIONS as u64),
+        refusals: Blank::new(SESSIONS as u64),
+    };
+    match start_all(rt, alloc, folder, script.servers) {
+        Ok(servers) => run_booked::<Brand, Brand, Brand, Brand, T, W>(
+            rt, alloc, blanks, servers, script, output,
+        ),
+        Err(fault) => Err(fault),
+    }
+}
