@@ -1,5 +1,5 @@
 -- Runs over a network.
-use Rattle.std.proofs.Common.{◌≡◌, ℕ, Bool, List, Option, None, Some, IfSome, IfErr, Result, Ok, Err, inl, inr, sym, subst}
+use Rattle.std.proofs.Common.{ℕ, Bool, List, Option, None, Some, IfSome, IfErr, Result, Ok, Err, inl, inr, sym, subst}
 use Rattle.std.proofs.KnownBytes.{Keeps-refl}
 use Rattle.std.specs.Io.KnownBytes.{Keeps}
 use Rattle.bayou_script.specs.Network.{IsNetworkScript, network_order}

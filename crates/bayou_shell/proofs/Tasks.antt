@@ -1,15 +1,13 @@
 -- What words ask for, and what becomes of it.
-use Rattle.std.proofs.Common.{◌≡◌, ◌∙◌, ◌<◌, ℕ, Bool, List, [], Option, None, Some, IfSome, IfErr, Result, Ok, Err, ap, inl, sym, refl, subst, arith}
+use Rattle.std.proofs.Common.{◌≡◌, ◌∙◌, ℕ, Bool, List, [], Option, None, Some, IfSome, IfErr, Result, Err, ap, inl, sym}
 use Rattle.std.proofs.KnownBytes.{Keeps-refl}
 use Rattle.bayou_command.specs.Words.{AskFor, Asked, Input as Named, a_net, a_run, an_audit, file, standard}
-use Rattle.bayou_streams.specs.Account.{Account, Pays}
 use Rattle.bayou_shell.specs.declared.ended.Ended.{Ended}
-use Rattle.bayou_shell.specs.declared.ended.Ended.TheVariants as ended
 use Rattle.bayou_shell.specs.declared.fault.Fault.{Fault}
-use Rattle.bayou_shell.specs.declared.fault.Fault.TheVariants.{Line, Memory, Device, Input, Output}
+use Rattle.bayou_shell.specs.declared.fault.Fault.TheVariants.{Memory}
 use Rattle.bayou_shell.specs.Fault.{exit_status, status_of}
-use Rattle.bayou_shell.specs.Program.{Works, WorksOn, no_memory}
-use Rattle.bayou_shell.specs.Turns.{EndsReading, EndsWriting, cut_lines}
+use Rattle.bayou_shell.specs.Program.{Works}
+use Rattle.bayou_shell.specs.Turns.{EndsReading, EndsWriting}
 
 -- words ask for one thing
 pub asked_once : (words : List (List ℕ)) (one other : Asked) → AskFor words one → AskFor words other → one ≡ other

@@ -1,5 +1,5 @@
 -- What is told of a run over a network, one text behind another.
-use Rattle.std.proofs.Common.{◌≡◌, ◌≤◌, ℕ, Bool, List, [], ◌++◌, Option, Result, Ok, Err, IfErr, refl, sym, subst}
+use Rattle.std.proofs.Common.{◌≡◌, ℕ, Bool, List, [], ◌++◌, Result, Ok, Err, IfErr, refl, subst}
 use Rattle.bayou_fleet.specs.declared.fault.FleetFault.{FleetFault}
 use Rattle.bayou_fleet.specs.declared.fault.FleetFault.TheVariants as fleet
 use Rattle.bayou_streams.specs.Account.{Account, Takes, TakesFront}

@@ -19,6 +19,7 @@ use crate::settling::{settle, write_books};
 use crate::waiting::Waiting;
 use bayou_audit::{AuditBook, Blanks, Four, Ledgers, Share};
 use bayou_base::SESSIONS;
+use bayou_device::FileDevice;
 use bayou_fleet::{Fleet, FleetFault, Led, Member, Network, Nothing, start_listeners};
 use bayou_machine::places_for;
 use bayou_node::Desks;
@@ -238,18 +239,36 @@ where
     run_at(rt, alloc, network, course, output)
 }
 
-/// Runs the phases over one server.
+/// The server in front of a fleet, with a desk for each connection.
+fn led<A: Desks, F: Fleet>(
+    alloc: Global,
+    connections: u32,
+    ready: Ready,
+    behind: F,
+) -> Result<Led<FileDevice<File>, A, F>, AllocError>
+    requires { IsBlankOf ready.blank A.name A.parts connections × (ready.server.core.id ≡ A.server) × (own_count ready.server.core ≡ A.stored) }
+{
+    let Ready { blank, server } = ready;
+    match Led::new(alloc, blank, server, connections, behind) {
+        Ok(fleet) => Ok(fleet),
+        Err(_) => Err(AllocError),
+    }
+}
+
+/// Runs the phases over one server in front of a fleet.
 #[tactic(auto, using(crate::proofs::Told::took_nothing))]
-fn run_one<A, K, T, W>(
+fn run_one<A, F, K, T, W>(
     rt: &T,
     alloc: Global,
     book: AuditBook<K>,
     course: Course<K>,
     first: Ready,
+    behind: F,
     output: &mut Output<W>,
 ) -> Result<Ended, Fault>
 where
     A: Desks + Send + Sync,
+    F: Fleet + Send + Sync,
     K: Ledgers + Send + Sync,
     T: Threads + Wait + Net<Stream = TcpStream, Listener = TcpListener> + Send + Sync,
     W: Write,
@@ -259,27 +278,28 @@ where
     ensures ended { IfErr result (EndsWriting output.new.channel.write_failed output.new.channel.turns_left) }
     ensures ready { OnOk result (output.old.channel.turns_left ≤ output.new.channel.turns_left) }
 {
-    let Ready { blank, server } = first;
-    let Ok(fleet) = Led::<_, A, _>::new(alloc, blank, server, course.connections, Nothing) else {
+    let Ok(fleet) = led::<A, F>(alloc, course.connections, first, behind) else {
         return Err(Fault::Memory);
     };
     run_fleet(rt, alloc, fleet, book, course, output)
 }
 
-/// Runs the phases over two servers.
+/// Runs the phases over two servers in front of a fleet.
 #[tactic(auto, using(crate::proofs::Told::took_nothing))]
-fn run_two<A, B, K, T, W>(
+fn run_two<A, B, F, K, T, W>(
     rt: &T,
     alloc: Global,
     book: AuditBook<K>,
     course: Course<K>,
     first: Ready,
     second: Ready,
+    behind: F,
     output: &mut Output<W>,
 ) -> Result<Ended, Fault>
 where
     A: Desks + Send + Sync,
     B: Desks + Send + Sync,
+    F: Fleet + Send + Sync,
     K: Ledgers + Send + Sync,
     T: Threads + Wait + Net<Stream = TcpStream, Listener = TcpListener> + Send + Sync,
     W: Write,
@@ -290,20 +310,17 @@ where
     ensures ended { IfErr result (EndsWriting output.new.channel.write_failed output.new.channel.turns_left) }
     ensures ready { OnOk result (output.old.channel.turns_left ≤ output.new.channel.turns_left) }
 {
-    let Ready { blank, server } = second;
-    let Ok(fleet) = Led::<_, B, _>::new(alloc, blank, server, course.connections, Nothing) else {
+    let Ok(fleet) = led::<B, F>(alloc, course.connections, second, behind) else {
         return Err(Fault::Memory);
     };
-    let Ready { blank, server } = first;
-    let Ok(fleet) = Led::<_, A, _>::new(alloc, blank, server, course.connections, fleet) else {
-        return Err(Fault::Memory);
-    };
-    run_fleet(rt, alloc, fleet, book, course, output)
+    run_one::<A, Led<FileDevice<File>, B, F>, K, T, W>(
+        rt, alloc, book, course, first, fleet, output,
+    )
 }
 
-/// Runs the phases over three servers.
+/// Runs the phases over three servers in front of a fleet.
 #[tactic(auto, using(crate::proofs::Told::took_nothing))]
-fn run_three<A, B, C, K, T, W>(
+fn run_three<A, B, C, F, K, T, W>(
     rt: &T,
     alloc: Global,
     book: AuditBook<K>,
@@ -311,12 +328,14 @@ fn run_three<A, B, C, K, T, W>(
     first: Ready,
     second: Ready,
     third: Ready,
+    behind: F,
     output: &mut Output<W>,
 ) -> Result<Ended, Fault>
 where
     A: Desks + Send + Sync,
     B: Desks + Send + Sync,
     C: Desks + Send + Sync,
+    F: Fleet + Send + Sync,
     K: Ledgers + Send + Sync,
     T: Threads + Wait + Net<Stream = TcpStream, Listener = TcpListener> + Send + Sync,
     W: Write,
@@ -328,24 +347,17 @@ where
     ensures ended { IfErr result (EndsWriting output.new.channel.write_failed output.new.channel.turns_left) }
     ensures ready { OnOk result (output.old.channel.turns_left ≤ output.new.channel.turns_left) }
 {
-    let Ready { blank, server } = third;
-    let Ok(fleet) = Led::<_, C, _>::new(alloc, blank, server, course.connections, Nothing) else {
+    let Ok(fleet) = led::<C, F>(alloc, course.connections, third, behind) else {
         return Err(Fault::Memory);
     };
-    let Ready { blank, server } = second;
-    let Ok(fleet) = Led::<_, B, _>::new(alloc, blank, server, course.connections, fleet) else {
-        return Err(Fault::Memory);
-    };
-    let Ready { blank, server } = first;
-    let Ok(fleet) = Led::<_, A, _>::new(alloc, blank, server, course.connections, fleet) else {
-        return Err(Fault::Memory);
-    };
-    run_fleet(rt, alloc, fleet, book, course, output)
+    run_two::<A, B, Led<FileDevice<File>, C, F>, K, T, W>(
+        rt, alloc, book, course, first, second, fleet, output,
+    )
 }
 
-/// Runs the phases over four servers.
+/// Runs the phases over four servers in front of a fleet.
 #[tactic(auto, using(crate::proofs::Told::took_nothing))]
-fn run_four<A, B, C, D, K, T, W>(
+fn run_four<A, B, C, D, F, K, T, W>(
     rt: &T,
     alloc: Global,
     book: AuditBook<K>,
@@ -354,6 +366,7 @@ fn run_four<A, B, C, D, K, T, W>(
     second: Ready,
     third: Ready,
     fourth: Ready,
+    behind: F,
     output: &mut Output<W>,
 ) -> Result<Ended, Fault>
 where
@@ -361,6 +374,7 @@ where
     B: Desks + Send + Sync,
     C: Desks + Send + Sync,
     D: Desks + Send + Sync,
+    F: Fleet + Send + Sync,
     K: Ledgers + Send + Sync,
     T: Threads + Wait + Net<Stream = TcpStream, Listener = TcpListener> + Send + Sync,
     W: Write,
@@ -373,23 +387,12 @@ where
     ensures ended { IfErr result (EndsWriting output.new.channel.write_failed output.new.channel.turns_left) }
     ensures ready { OnOk result (output.old.channel.turns_left ≤ output.new.channel.turns_left) }
 {
-    let Ready { blank, server } = fourth;
-    let Ok(fleet) = Led::<_, D, _>::new(alloc, blank, server, course.connections, Nothing) else {
+    let Ok(fleet) = led::<D, F>(alloc, course.connections, fourth, behind) else {
         return Err(Fault::Memory);
     };
-    let Ready { blank, server } = third;
-    let Ok(fleet) = Led::<_, C, _>::new(alloc, blank, server, course.connections, fleet) else {
-        return Err(Fault::Memory);
-    };
-    let Ready { blank, server } = second;
-    let Ok(fleet) = Led::<_, B, _>::new(alloc, blank, server, course.connections, fleet) else {
-        return Err(Fault::Memory);
-    };
-    let Ready { blank, server } = first;
-    let Ok(fleet) = Led::<_, A, _>::new(alloc, blank, server, course.connections, fleet) else {
-        return Err(Fault::Memory);
-    };
-    run_fleet(rt, alloc, fleet, book, course, output)
+    run_three::<A, B, C, Led<FileDevice<File>, D, F>, K, T, W>(
+        rt, alloc, book, course, first, second, third, fleet, output,
+    )
 }
 
 /// The next server, with a ledger of so many parts.
@@ -427,18 +430,20 @@ where
         return Err(Fault::Memory);
     };
     let Some(second) = next_ready(&mut servers, desks) else {
-        return run_one::<Brand, K, T, W>(rt, alloc, book, course, first, output);
+        return run_one::<Brand, Nothing, K, T, W>(rt, alloc, book, course, first, Nothing, output);
     };
     let Some(third) = next_ready(&mut servers, desks) else {
-        return run_two::<Brand, Brand, K, T, W>(rt, alloc, book, course, first, second, output);
-    };
-    let Some(fourth) = next_ready(&mut servers, desks) else {
-        return run_three::<Brand, Brand, Brand, K, T, W>(
-            rt, alloc, book, course, first, second, third, output,
+        return run_two::<Brand, Brand, Nothing, K, T, W>(
+            rt, alloc, book, course, first, second, Nothing, output,
         );
     };
-    run_four::<Brand, Brand, Brand, Brand, K, T, W>(
-        rt, alloc, book, course, first, second, third, fourth, output,
+    let Some(fourth) = next_ready(&mut servers, desks) else {
+        return run_three::<Brand, Brand, Brand, Nothing, K, T, W>(
+            rt, alloc, book, course, first, second, third, Nothing, output,
+        );
+    };
+    run_four::<Brand, Brand, Brand, Brand, Nothing, K, T, W>(
+        rt, alloc, book, course, first, second, third, fourth, Nothing, output,
     )
 }
 

@@ -1,4 +1,4 @@
-use Rattle.std.proofs.Common.{◌≡◌, ℕ, List, [], Ok, ap, inr, subst}
+use Rattle.std.proofs.Common.{List, Ok, ap, inr, subst}
 use Rattle.std.specs.Prelude.{flat_map}
 use Rattle.std.specs.Global.{Vec}
 use Rattle.std.proofs.lemmas.Result.{IfErr-weaker, on_ok_weaker}

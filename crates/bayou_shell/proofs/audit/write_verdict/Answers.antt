@@ -1,11 +1,8 @@
-use Rattle.std.proofs.Common.{◌≡◌, ◌∙◌, ◌++◌, ℕ, List, [], Result, Ok, Err, ap, refl, subst, sym}
+use Rattle.std.proofs.Common.{◌∙◌, ℕ, List, [], subst, sym}
 use Rattle.std.specs.Io.{IsEmptyOrEndsWith}
-use Rattle.std.proofs.lemmas.List.{append-nil}
 use Rattle.std.proofs.lemmas.Result.{err_from_is_err_and}
-use Rattle.bayou_print.specs.Verdicts.{verdict_text}
 use Rattle.bayou_print.specs.Laws.Ends.{verdict_ends}
 use Rattle.bayou_script.specs.AuditFile.{evidence_of}
-use Rattle.bayou_shell.specs.Audit.{IsAudit, IsAuditPart}
 use Rattle.bayou_shell.specs.Inner.Waiting.{Gathers, stage}
 use Rattle.bayou_shell.proofs.Audited.{audit_of, has_survey, nothing_behind, survey_behind, survey_part, verdict_part}
 use Rattle.bayou_shell.proofs.Gathered.{Gathers-nil}

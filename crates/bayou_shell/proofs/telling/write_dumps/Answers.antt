@@ -1,7 +1,7 @@
 use Rattle.std.proofs.Common.{◌∙◌, ap, add-one, arith, get_or}
 use Rattle.bayou_judge.specs.History.{lists_of}
-use Rattle.bayou_print.specs.Booked.{dumps_text, held_text}
-use Rattle.bayou_shell.specs.Inner.Waiting.{Gathers, stage}
+use Rattle.bayou_print.specs.Booked.{held_text}
+use Rattle.bayou_shell.specs.Inner.Waiting.{stage}
 use Rattle.bayou_shell.proofs.Sequence.{dump_at, dumps_more, dumps_part}
 use Rattle.bayou_shell.proofs.telling.write_dumps.Goals as goal
 
