@@ -49,7 +49,11 @@ pub struct Screen<E> {
 
 impl<E: Write> Screen<E> {
     /// A screen with no progress.
-    pub fn new(terminal: E, now: Duration) -> Self {
+    pub fn new(terminal: E, now: Duration) -> Self
+        ensures begun { (result.begun ≡ now) × (result.last ≡ now) }
+        ensures none { (result.printed ≡ 0) × (result.seen ≡ 0) }
+        ensures clear { (result.is_shown ≡ false) × (result.is_over ≡ false) }
+    {
         Screen {
             terminal,
             begun: now,
@@ -140,7 +144,9 @@ pub struct Counted<'a, W, E, T> {
 
 impl<'a, W, E, T> Counted<'a, W, E, T> {
     /// The writer beside the screen.
-    pub fn new(writer: W, rt: &'a T, screen: &'a Mutex<Screen<E>>) -> Self {
+    pub fn new(writer: W, rt: &'a T, screen: &'a Mutex<Screen<E>>) -> Self
+        ensures { result.writer ≡ writer }
+    {
         Counted { writer, rt, screen }
     }
 }

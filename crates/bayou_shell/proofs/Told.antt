@@ -12,7 +12,7 @@ use Rattle.bayou_shell.specs.Inner.Faults.{IsPhaseFault, IsRunFault, IsStartFaul
 use Rattle.bayou_shell.specs.Inner.Waiting.{Gathers, Stage, Tells}
 use Rattle.bayou_shell.specs.Net.{IsNetFault, KeepsUnstarted}
 use Rattle.bayou_shell.specs.Turns.{EndsWriting}
-use Rattle.bayou_shell.proofs.Gathered.{Gathers-nil, Gathers-trans, Takes-all, Takes-front, Takes-rest}
+use Rattle.bayou_shell.proofs.Gathered.{Gathers-nil, Gathers-trans, Takes-rest}
 
 -- some text was taken or waits
 abbrev pub Whole : Stage → Stage → Type 0
@@ -57,10 +57,6 @@ pub fleet_fault : (fault : FleetFault) → IsPhaseFault (fault_of_fleet fault)
 fleet_fault fleet.Memory = tt
 fleet_fault fleet.Network = tt
 
-pub fleet_writes : (fails : Bool) (turns : ℕ) (fault : FleetFault) → EndsWriting fails turns (fault_of_fleet fault)
-fleet_writes fails turns fleet.Memory = tt
-fleet_writes fails turns fleet.Network = tt
-
 pub start_writes : (fails : Bool) (turns : ℕ) (fault : Fault) → IsStartFault fault → EndsWriting fails turns fault
 start_writes fails turns (Line number why) is = absurd is
 start_writes fails turns Memory is = tt
@@ -69,24 +65,12 @@ start_writes fails turns Network is = absurd is
 start_writes fails turns Input is = absurd is
 start_writes fails turns Output is = absurd is
 
--- what waited at the end was written too
-pub took_whole : (a b : Stage) (c : Account) → a.waiting ≡ [] → Whole a b → Takes b.output c b.waiting → (text : List ℕ) × Takes a.output c text
-took_whole a b c none (text, some) took = (text, Takes-all a b c text none some took)
-
--- or a part of it
+-- what waited at the end was written too, or a part of it
 pub took_part : (a b : Stage) (c : Account) → a.waiting ≡ [] → Part a b → TakesFront b.output c b.waiting → (text : List ℕ) × Takes a.output c text
 took_part a b c none (text, missing, some) more = let (front, rest, split, took) = Takes-rest a b c text missing none some more in (front, took)
 
--- or nothing of it
-pub took_front : (a b : Stage) → a.waiting ≡ [] → Part a b → (text : List ℕ) × Takes a.output b.output text
-took_front a b none (text, missing, some) = let (front, rest, split, took) = Takes-front a b text missing none some in (front, took)
-
 pub took_nothing : (a : Account) → (text : List ℕ) × Takes a a text
 took_nothing a = ([], Takes-nil a)
-
-pub tells_fault : (result : Result Ended Fault) (a b : Stage) → Tells result a b → IfErr result IsPhaseFault
-tells_fault (Ok ended) a b told = tt
-tells_fault (Err fault) a b (is, text, missing, some) = is
 
 pub tells_part : (result : Result Ended Fault) (a b : Stage) → Tells result a b → Part a b
 tells_part (Ok ended) a b told = part_of_whole a b told

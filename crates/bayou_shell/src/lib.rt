@@ -1,9 +1,11 @@
-//! Scripts to printed lines: what the program does between the bytes that come in and the bytes that go out.
+//! Scripts and audit files to printed lines: what the program does between the bytes that come in and the bytes that go out.
 //!
-//! Callers see a run as a relation (`RunsAs` in `specs/`) between the bytes that the reader has left, how the run ended,
-//! and what the writer holds before and after. The whole input is read, and checked by `bayou_script` as it comes, before
-//! anything runs. What is printed are the lines of the answers of a run (`bayou_machine`). Where the input is refused, nothing
-//! is printed, and the least line with a fault is told; where a fault comes later, a front of those lines is printed.
+//! Callers see each task as a relation in `specs/` between the bytes that the reader has left, how the task ended, and what
+//! the writer holds before and after: `RunsAs` of a run, `AuditsAs` of an audit, `NetsAs` of a run over sockets. The whole
+//! input is read, and checked by `bayou_script` as it comes, before anything runs. Where it is refused, nothing is printed, and
+//! the least line with a fault is told; where a fault comes later, a front of what is to be printed is printed. What a run
+//! prints are the lines of its answers (`bayou_machine`). Which lines a run over sockets prints, no clause says: they are put
+//! behind what the writer holds, and nothing else is done there.
 //!
 //! Streams come as `bayou_streams`' `Channel` and `Output`, which alone call them: an input is read in at most
 //! [`MAX_TURNS`](bayou_base::MAX_TURNS) turns, and each printed line is written in at most as many, however lines are gathered
@@ -11,7 +13,7 @@
 //!
 //! A caller owes nothing. The theorem on what is printed is about readers and writers that tell their bytes, as those over
 //! memory do; of others only safety and the turns are promised. It isn't promised that memory suffices, or that a stream
-//! gives or takes anything.
+//! gives or takes anything. A run over sockets may wait for locks and connections, and all else for its streams alone.
 #![tactic(auto)]
 
 pub mod audit;
