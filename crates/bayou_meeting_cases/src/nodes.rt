@@ -123,7 +123,7 @@ fn goes<L: Desks, R: Wait + Abort>(
 fn a_node_sends_and_takes(rt: HostRuntime) -> Result<(), Fail> {
     let alloc = rt.alloc();
     for call in [Call::Serve, Call::Answer, Call::PullFromZero, Call::Pull] {
-        let server = full(&rt, alloc, 2, [1, 0])?;
+        let server = Box::into_inner(full(&rt, alloc, 2, [1, 0])?);
         let is_so = goes::<Brand, HostRuntime>(&rt, alloc, Blank::new(1), server, call)?;
         assert!(rt; is_so);
     }
@@ -183,7 +183,7 @@ fn is_free_between_items<L: Desks, R: Wait + Abort>(
 #[test]
 fn a_node_is_free_between_two_items_that_come(rt: HostRuntime) -> Result<(), Fail> {
     let alloc = rt.alloc();
-    let server = full(&rt, alloc, 2, [0, 0])?;
+    let server = Box::into_inner(full(&rt, alloc, 2, [0, 0])?);
     assert!(rt; is_free_between_items::<Brand, HostRuntime>(&rt, alloc, Blank::new(1), server));
     Ok(())
 }
@@ -235,7 +235,7 @@ fn batches<L: Desks, R: Wait + Abort>(rt: &R, alloc: Global, blank: Blank, serve
 #[test]
 fn a_node_is_free_between_two_batches(rt: HostRuntime) -> Result<(), Fail> {
     let alloc = rt.alloc();
-    let server = full(&rt, alloc, 2, [40, 0])?;
+    let server = Box::into_inner(full(&rt, alloc, 2, [40, 0])?);
     let number = batches::<Brand, HostRuntime>(&rt, alloc, Blank::new(1), server);
     assert!(rt; number == 4, "{number}");
     Ok(())

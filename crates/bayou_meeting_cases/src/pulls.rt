@@ -21,11 +21,11 @@ pub type Served = Server<MemoryDevice<OpenGate>>;
 const THREE: &str = "<item-1> <item-2> <item-3> 0005 16 00000003";
 
 /// One of eight servers, which holds nothing.
-fn begun(rt: &impl Abort, alloc: Global, index: u8) -> Result<Served, StartFault> {
+fn begun(rt: &impl Abort, alloc: Global, index: u8) -> Result<Box<Served>, StartFault> {
     let device = MemoryDevice::new(alloc, OpenGate);
     let id = ServerId::new(index).expect(rt, "no server");
     match Server::start(alloc, id, 8, 100, device) {
-        Ok((server, _)) => Ok(server),
+        Ok((server, _)) => takes::boxed(alloc, server),
         Err(refused) => Err(refused.fault),
     }
 }
@@ -52,10 +52,10 @@ pub fn full(
     alloc: Global,
     index: u8,
     [first, second]: [u8; 2],
-) -> Result<Served, StartFault> {
+) -> Result<Box<Served>, StartFault> {
     let mut server = begun(rt, alloc, index)?;
-    let are_taken = takes_all(rt, alloc, &mut server, 1, second)
-        && takes_all(rt, alloc, &mut server, 0, first);
+    let are_taken = takes_all(rt, alloc, server.as_mut(), 1, second)
+        && takes_all(rt, alloc, server.as_mut(), 0, first);
     assert!(rt; are_taken);
     Ok(server)
 }
@@ -106,7 +106,7 @@ fn an_offer_is_answered_byte_for_byte(rt: HostRuntime) -> Result<(), Fail> {
     for (counted, items, sent) in ANSWERS {
         let bytes = stream(alloc, sent)?;
         let counts = vector(&rt, counted, 0);
-        let is_so = answers(alloc, &mut server, &counts, (&bytes, items));
+        let is_so = answers(alloc, server.as_mut(), &counts, (&bytes, items));
         assert!(rt; is_so, "{counted}");
     }
     Ok(())
@@ -126,7 +126,7 @@ fn a_pull_writes_its_offer(rt: HostRuntime) -> Result<(), Fail> {
     for (counted, text) in [(0, "0021 05 <none>"), (1, "0021 05 00000001 <zeros>")] {
         let offer = stream(alloc, text)?;
         let mut server = full(&rt, alloc, 3, [counted, 0])?;
-        assert!(rt; writes(alloc, &mut server, &offer), "{text}");
+        assert!(rt; writes(alloc, server.as_mut(), &offer), "{text}");
     }
     Ok(())
 }
@@ -183,7 +183,7 @@ fn is_taken_so(rt: &impl Abort, alloc: Global, sent: &[u8], most: usize, expecte
     let Ok(mut server) = begun(rt, alloc, 1) else {
         return false;
     };
-    let answer = pulled_in_pieces(alloc, &mut server, sent, most);
+    let answer = pulled_in_pieces(alloc, server.as_mut(), sent, most);
     let counts = server.vector();
     let [held, ..] = counts.counts();
     is_told(alloc, *held, answer, expected)
@@ -252,7 +252,7 @@ fn forty_writes_of_two_servers_go_in_stamp_order(rt: HostRuntime) -> Result<(), 
     let whole = both(alloc)?;
     let mut server = full(&rt, alloc, 2, [EACH, EACH])?;
     let mut puller = begun(&rt, alloc, 3)?;
-    let are_sent = are_sent(&rt, alloc, &mut server, &mut puller, &whole);
+    let are_sent = are_sent(&rt, alloc, server.as_mut(), puller.as_mut(), &whole);
     assert!(rt; are_sent);
     Ok(())
 }
@@ -279,10 +279,10 @@ fn takes_front(rt: &impl Abort, alloc: Global, server: &mut Served, front: &[u8]
     let Ok(mut puller) = begun(rt, alloc, 3) else {
         return false;
     };
-    let is_cut = pulled(alloc, &mut puller, front) == Err(PullFault::Stream(Fault::Cut));
+    let is_cut = pulled(alloc, puller.as_mut(), front) == Err(PullFault::Stream(Fault::Cut));
     let held = whole_in(front.len());
     let is_held = puller.vector() == vector(rt, held, 0);
-    is_cut && is_held && takes_the_rest(alloc, server, &mut puller, 2_u32.saturating_sub(held))
+    is_cut && is_held && takes_the_rest(alloc, server, puller.as_mut(), 2_u32.saturating_sub(held))
 }
 
 /// A stream of two Items and the End that is cut; then what is lacking is sent.
@@ -292,7 +292,7 @@ fn what_is_cut_is_taken_up_to_there(rt: HostRuntime) -> Result<(), Fail> {
     let whole = stream(alloc, "<item-1> <item-2> 0005 16 00000002")?;
     let mut server = full(&rt, alloc, 2, [2, 0])?;
     for cut in 0..whole.len() {
-        let is_so = takes_front(&rt, alloc, &mut server, &whole[..cut]);
+        let is_so = takes_front(&rt, alloc, server.as_mut(), &whole[..cut]);
         assert!(rt; is_so && whole.len() == 127, "{cut}");
     }
     Ok(())
@@ -310,7 +310,7 @@ fn ends_at_read(rt: &impl Abort, alloc: Global, sent: &[u8], fails_at: u32) -> b
         calls: 0,
     };
     let mut channel = Channel::new(reader, io::sink());
-    let answer = pull_on(alloc, &mut puller, &mut channel);
+    let answer = pull_on(alloc, puller.as_mut(), &mut channel);
     let (reader, _) = channel.into_parts();
     let (expected, held) = match fails_at {
         5 => (came(3, 0), 3),
@@ -355,7 +355,7 @@ fn ends_at_write(rt: &impl Abort, alloc: Global, sent: &[u8], offer: &[u8], fail
         return false;
     };
     let mut channel = Channel::new(sent, failing(alloc, fails_at));
-    let answer = pull_on(alloc, &mut puller, &mut channel);
+    let answer = pull_on(alloc, puller.as_mut(), &mut channel);
     let (reader, writer) = channel.into_parts();
     let (expected, held, written, left) = match fails_at {
         5 => (came(3, 0), 3, 35, 0),
@@ -411,7 +411,7 @@ fn each_write_of_an_answer_may_fail(rt: HostRuntime) -> Result<(), Fail> {
     let whole = stream(alloc, THREE)?;
     let mut server = full(&rt, alloc, 2, [3, 0])?;
     for fails_at in 1..21_u32 {
-        let is_so = answers_up_to(&rt, alloc, &mut server, &whole, fails_at);
+        let is_so = answers_up_to(&rt, alloc, server.as_mut(), &whole, fails_at);
         assert!(rt; is_so, "call {fails_at}");
     }
     Ok(())
@@ -424,8 +424,8 @@ fn a_full_writer_fails(rt: HostRuntime) -> Result<(), Fail> {
     let mut server = full(&rt, alloc, 2, [3, 0])?;
     let mut nothing: [u8; 0] = [];
     let mut channel = Channel::new(io::empty(), nothing.as_mut_slice());
-    let answer = answer_offer_on(alloc, &mut server, &Vector::zero(), &mut channel);
-    let offer = pull_on(alloc, &mut server, &mut channel);
+    let answer = answer_offer_on(alloc, server.as_mut(), &Vector::zero(), &mut channel);
+    let offer = pull_on(alloc, server.as_mut(), &mut channel);
     assert!(rt; answer == Err(Fault::Write) && offer == Err(PullFault::Stream(Fault::Write)));
     Ok(())
 }
@@ -443,7 +443,7 @@ fn a_stream_without_an_end_is_given_up(rt: HostRuntime) -> Result<(), Fail> {
         calls: 0,
     };
     let mut channel = Channel::new(reader, io::sink());
-    let answer = pull_on(alloc, &mut puller, &mut channel);
+    let answer = pull_on(alloc, puller.as_mut(), &mut channel);
     let (reader, _) = channel.into_parts();
     let is_so = puller.vector() == vector(&rt, 1, 0) && reader.calls == 999_999;
     assert!(rt; answer == Err(PullFault::Stream(Fault::TooManyTurns)) && is_so);
@@ -477,7 +477,7 @@ fn an_answer_is_cut_after_so_many_items(rt: HostRuntime) -> Result<(), Fail> {
 }
 
 /// A server that holds nothing, and once more where that was refused.
-fn begun_at_last(rt: &impl Abort, alloc: Global, index: u8) -> Result<Served, StartFault> {
+fn begun_at_last(rt: &impl Abort, alloc: Global, index: u8) -> Result<Box<Served>, StartFault> {
     match begun(rt, alloc, index) {
         Err(_) => begun(rt, alloc, index),
         server => server,
@@ -551,8 +551,8 @@ fn are_handed_on(rt: &impl Abort, alloc: Global, server: &mut Served, puller: &m
 fn one_want_of_memory_costs_no_pulled_write(rt: HostRuntime) -> Result<(), Fail> {
     let alloc = rt.alloc();
     let mut server = begun_at_last(&rt, alloc, 2)?;
-    let are_taken = takes::take_three_at_last(&rt, alloc, &mut server);
+    let are_taken = takes::take_three_at_last(&rt, alloc, server.as_mut());
     let mut puller = begun_at_last(&rt, alloc, 3)?;
-    assert!(rt; are_taken && are_handed_on(&rt, alloc, &mut server, &mut puller));
+    assert!(rt; are_taken && are_handed_on(&rt, alloc, server.as_mut(), puller.as_mut()));
     Ok(())
 }

@@ -68,8 +68,8 @@ fn an_offer_is_read_and_answered(rt: HostRuntime) -> Result<(), Fail> {
     for row in STREAMS.lines() {
         let (text, expected) = row.split_once(" => ").unwrap_or((row, row));
         let sent = stream(alloc, text)?;
-        let is_so = serves_in_any_pieces(alloc, &mut server, &sent, expected)
-            && server.vector() == vector(&rt, 3, 0);
+        let is_so = serves_in_any_pieces(alloc, server.as_mut(), &sent, expected)
+            && server.as_ref().vector() == vector(&rt, 3, 0);
         assert!(rt; is_so, "{row}");
     }
     Ok(())
@@ -100,7 +100,7 @@ fn each_read_of_an_offer_may_fail(rt: HostRuntime) -> Result<(), Fail> {
     let sent = stream(alloc, "0021 05 <none> <item-1>")?;
     let mut server = full(&rt, alloc, 2, [3, 0])?;
     for fails_at in 1..9_u32 {
-        let is_so = answers_read(alloc, &mut server, &sent, fails_at);
+        let is_so = answers_read(alloc, server.as_mut(), &sent, fails_at);
         assert!(rt; is_so, "call {fails_at}");
     }
     Ok(())
@@ -125,7 +125,7 @@ fn each_write_behind_an_offer_may_fail(rt: HostRuntime) -> Result<(), Fail> {
     let offer = stream(alloc, "0021 05 <none>")?;
     let mut server = full(&rt, alloc, 2, [3, 0])?;
     for fails_at in 1..21_u32 {
-        let is_so = answers_up_to(alloc, &mut server, &offer, fails_at);
+        let is_so = answers_up_to(alloc, server.as_mut(), &offer, fails_at);
         assert!(rt; is_so, "call {fails_at}");
     }
     Ok(())
@@ -142,7 +142,7 @@ fn an_offer_that_never_comes_is_given_up(rt: HostRuntime) -> Result<(), Fail> {
         calls: 0,
     };
     let mut channel = Channel::new(reader, io::sink());
-    let answer = serve_offer_on(alloc, &mut server, &mut channel);
+    let answer = serve_offer_on(alloc, server.as_mut(), &mut channel);
     let (reader, _) = channel.into_parts();
     assert!(rt; answer == Err(Fault::TooManyTurns) && reader.calls == 1_000_000);
     Ok(())
