@@ -4,7 +4,7 @@ ghost use Rattle.bayou_audit.specs.Blanks.{AreBlanksOf, named};
 
 use crate::streams::{Counting, Slow};
 use crate::words::{bytes_of, is_said};
-use bayou_audit::{AuditBook, Blanks, Four, Ledgers, Totals};
+use bayou_audit::{AuditBook, Blanks, Four, Ledgers, Share, Totals};
 use bayou_base::{Asks, Key, SERVERS, Seen, ServerId, SessionId, Value, Vector};
 use bayou_client::{Client, ClientFault, Link, LinkFault};
 use bayou_lang::{Op, Program, Term};
@@ -202,6 +202,19 @@ where
         return None;
     };
     let share = shares.pop()?;
+    Some(tried_with(rt, alloc, &book, share, is_read, reader, write_fails_at))
+}
+
+/// The same of a session with this share.
+fn tried_with<K: Ledgers, R: Wait + Abort>(
+    rt: &R,
+    alloc: Global,
+    book: &AuditBook<K>,
+    share: Share<K>,
+    is_read: bool,
+    reader: Slow<'_>,
+    write_fails_at: u32,
+) -> Tried {
     let session = reader_before(rt, share.session());
     let mut client = Client::new(session, share);
     let mut writer = Counting {
@@ -209,52 +222,91 @@ where
         fails_at: write_fails_at,
         calls: 0,
     };
-    let mut link = Link::new(reader, &mut writer);
-    let first = operates(rt, alloc, &book, &mut client, &mut link, is_read);
-    let second = operates(rt, alloc, &book, &mut client, &mut link, is_read);
-    drop(link);
-    let entries = book.entries(rt, alloc).ok()?;
-    let now = client.parts().0;
-    Some(Tried {
+    let (first, second) = both_told(rt, alloc, book, &mut client, reader, &mut writer, is_read);
+    Tried {
         first,
         second,
         sent: writer.bytes,
-        is_as_before: now.need_read() == session.need_read()
-            && now.need_write() == session.need_write(),
-        is_first: entries.iter().all(|entry| {
-            entry.place == 1
-                && entry.session.index == 0
-                && entry.server.index == 0
-                && entry.asks == session.asks()
-        }),
+        is_as_before: needs_the_same(&session, &client.parts().0),
+        is_first: are_first(rt, alloc, book, session.asks()),
+    }
+}
+
+/// What the session is told of the two, over a link of this reader and this writer.
+fn both_told<K: Ledgers, R: Wait + Abort>(
+    rt: &R,
+    alloc: Global,
+    book: &AuditBook<K>,
+    client: &mut Client<K>,
+    reader: Slow<'_>,
+    writer: &mut Counting,
+    is_read: bool,
+) -> (Told, Told) {
+    let mut link = Link::new(reader, writer);
+    let first = operates(rt, alloc, book, client, &mut link, is_read);
+    let second = operates(rt, alloc, book, client, &mut link, is_read);
+    (first, second)
+}
+
+fn needs_the_same(before: &Session, now: &Session) -> bool {
+    now.need_read() == before.need_read() && now.need_write() == before.need_write()
+}
+
+/// Whether each entry of the book is of the first session, at its first place.
+fn are_first<K: Ledgers, R: Wait + Abort>(
+    rt: &R,
+    alloc: Global,
+    book: &AuditBook<K>,
+    asks: Asks,
+) -> bool {
+    let Ok(entries) = book.entries(rt, alloc) else {
+        return false;
+    };
+    entries.iter().all(|entry| {
+        entry.place == 1
+            && entry.session.index == 0
+            && entry.server.index == 0
+            && entry.asks == asks
     })
 }
 
 /// Whether this was told, and nothing is told over the link any more if no answer came.
 fn is_tried(alloc: Global, tried: &Tried, is_read: bool, expected: &str) -> bool {
-    let totals = &tried.first.totals;
-    let Ok(told) = format!(in alloc;
+    let is_served = expected.starts_with("served");
+    let is_answered = is_served || expected.starts_with("Refused");
+    is_worded(alloc, &tried.first, expected)
+        && tried.first.is_closed != is_answered
+        && is_over(&tried.second, &tried.first.totals)
+        && is_sent(alloc, &tried.sent, is_read, is_answered)
+        && (tried.is_as_before || is_served)
+        && tried.is_first
+}
+
+/// Whether this is what was told, and what stands in the book.
+fn is_worded(alloc: Global, told: &Told, expected: &str) -> bool {
+    let totals = &told.totals;
+    let Ok(said) = format!(in alloc;
         "{} {} {} {}",
-        tried.first.word, totals.reads, totals.writes, totals.refusals
+        told.word, totals.reads, totals.writes, totals.refusals
     ) else {
         return false;
     };
-    let is_answered = expected.starts_with("served") || expected.starts_with("Refused");
+    said.as_str() == expected
+}
+
+/// Whether nothing came any more, and the book is as it was, with no slip out.
+fn is_over(told: &Told, totals: &Totals) -> bool {
+    told.word == "Lost" && told.is_closed && told.totals == *totals && totals.slips == 0
+}
+
+/// Whether the request was sent, and sent twice where it was answered.
+fn is_sent(alloc: Global, sent: &[u8], is_read: bool, is_answered: bool) -> bool {
     let request = if is_read { READ } else { WRITE };
     let Some(request) = bytes_of(alloc, request) else {
         return false;
     };
-    let sent = if is_answered { 2 } else { 1 };
-    told.as_str() == expected
-        && totals.slips == 0
-        && tried.second.totals == *totals
-        && tried.first.is_closed != is_answered
-        && tried.second.word == "Lost"
-        && tried.second.is_closed
-        && tried.sent.len() == sent * request.len()
-        && tried.sent.starts_with(request.as_slice())
-        && (tried.is_as_before || expected.starts_with("served"))
-        && tried.is_first
+    let times = if is_answered { 2 } else { 1 };
+    sent.len() == times * request.len() && sent.starts_with(request.as_slice())
 }
 
 /// The two operations of a new session at a new book.
@@ -287,17 +339,28 @@ fn row_holds<R: Wait + Abort>(rt: &R, alloc: Global, row: &str, most: usize) -> 
     let Some(reply) = bytes_of(alloc, reply) else {
         return false;
     };
-    let is_read = request == "read";
+    is_told(rt, alloc, request == "read", &reply, most, expected)
+}
+
+/// Whether a session that is replied this, in pieces of at most so many bytes, is told what is expected.
+fn is_told<R: Wait + Abort>(
+    rt: &R,
+    alloc: Global,
+    is_read: bool,
+    reply: &[u8],
+    most: usize,
+    expected: &str,
+) -> bool {
     let reader = Slow {
-        bytes: &reply,
+        bytes: reply,
         most,
         fails_at: 0,
         calls: 0,
     };
-    match tried_anew(rt, alloc, is_read, reader, 0, 2) {
-        Some(tried) => is_tried(alloc, &tried, is_read, expected),
-        None => false,
-    }
+    let Some(tried) = tried_anew(rt, alloc, is_read, reader, 0, 2) else {
+        return false;
+    };
+    is_tried(alloc, &tried, is_read, expected)
 }
 
 /// Whether nothing is told and nothing entered where the call of the reader of this number fails, or the one of the writer, over a link
@@ -320,20 +383,20 @@ fn is_lost<R: Wait + Abort>(
     let Some(tried) = tried_anew(rt, alloc, true, reader, write_fails_at, 2) else {
         return false;
     };
+    tells_nothing(&tried) && (write_fails_at == 0) != tried.sent.is_empty()
+}
+
+fn tells_nothing(tried: &Tried) -> bool {
     tried.first.word == "Lost"
         && tried.first.is_closed
-        && tried.second.word == "Lost"
-        && tried.second.totals == Totals::default()
+        && is_over(&tried.second, &Totals::default())
         && tried.is_as_before
-        && (write_fails_at == 0) != tried.sent.is_empty()
+        && tried.is_first
 }
 
 /// Whether an operation that the book has no place for isn't sent.
 fn is_full<R: Wait + Abort>(rt: &R, alloc: Global) -> bool {
-    let (Some(reply), Some(request)) = (
-        bytes_of(alloc, "0022 11 00 <one> 0022 11 00 <one>"),
-        bytes_of(alloc, READ),
-    ) else {
+    let Some(reply) = bytes_of(alloc, "0022 11 00 <one> 0022 11 00 <one>") else {
         return false;
     };
     let reader = Slow {
@@ -345,33 +408,48 @@ fn is_full<R: Wait + Abort>(rt: &R, alloc: Global) -> bool {
     let Some(tried) = tried_anew(rt, alloc, true, reader, 0, 1) else {
         return false;
     };
+    tells_one(&tried) && is_sent(alloc, &tried.sent, true, false)
+}
+
+fn tells_one(tried: &Tried) -> bool {
     tried.first.word == "served"
         && tried.second.word == "AuditFull"
         && !tried.second.is_closed
         && tried.second.totals == tried.first.totals
-        && tried.sent == request
+        && tried.is_first
+}
+
+/// Whether a row holds, whatever pieces its reply comes in.
+fn holds_in_pieces<R: Wait + Abort>(rt: &R, alloc: Global, row: &str) -> bool {
+    row_holds(rt, alloc, row, 1) && row_holds(rt, alloc, row, 36) && row_holds(rt, alloc, row, 4096)
 }
 
 #[test]
 fn a_session_is_told_what_answers_it(rt: HostRuntime) -> Result<(), Fail> {
-    let alloc = rt.alloc();
     for row in REPLIES.lines() {
-        for most in [1, 36, 4096] {
-            assert!(rt; row_holds(&rt, alloc, row, most), "{row}");
-        }
-    }
-    for row in MORE.lines() {
-        assert!(rt; row_holds(&rt, alloc, row, 4096), "{row}");
+        assert!(rt; holds_in_pieces(&rt, rt.alloc(), row), "{row}");
     }
     Ok(())
 }
 
 #[test]
-fn each_call_of_a_link_may_fail(rt: HostRuntime) -> Result<(), Fail> {
-    let alloc = rt.alloc();
-    for at in 1..=36 {
-        assert!(rt; is_lost(&rt, alloc, at, 0), "{at}");
+fn a_session_is_told_of_nothing_behind_a_reply(rt: HostRuntime) -> Result<(), Fail> {
+    for row in MORE.lines() {
+        assert!(rt; row_holds(&rt, rt.alloc(), row, 4096), "{row}");
     }
-    assert!(rt; is_lost(&rt, alloc, 0, 1) && is_full(&rt, alloc));
+    Ok(())
+}
+
+#[test]
+fn each_read_of_a_link_may_fail(rt: HostRuntime) -> Result<(), Fail> {
+    for at in 1..=36 {
+        assert!(rt; is_lost(&rt, rt.alloc(), at, 0), "{at}");
+    }
+    Ok(())
+}
+
+#[test]
+fn a_write_to_a_link_may_fail_and_a_book_be_full(rt: HostRuntime) -> Result<(), Fail> {
+    assert!(rt; is_lost(&rt, rt.alloc(), 0, 1) && is_full(&rt, rt.alloc()));
     Ok(())
 }

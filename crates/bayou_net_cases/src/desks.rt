@@ -75,10 +75,16 @@ fn writes<L: Desks, G: RequestGate, R: Wait + Abort>(
     };
     let mut channel = Channel::new(sent.as_slice(), Vec::new(alloc));
     let (answer, desk) = serve(rt, alloc, node, desk, gate, &mut channel);
-    let written = channel.into_parts().1;
-    let is_accepted = is_said(alloc, "002a 12 00 00000001 00000001 <none>", &written)
-        || is_said(alloc, "002a 12 00 00000002 00000002 <one>", &written);
-    (desk, answer == Ok(1) && is_accepted)
+    (
+        desk,
+        answer == Ok(1) && is_accepted(alloc, &channel.into_parts().1),
+    )
+}
+
+/// Whether the Write was accepted, as the first or as the second.
+fn is_accepted(alloc: Global, written: &[u8]) -> bool {
+    is_said(alloc, "002a 12 00 00000001 00000001 <none>", written)
+        || is_said(alloc, "002a 12 00 00000002 00000002 <one>", written)
 }
 
 /// The same, and then the gate is opened.
@@ -100,20 +106,62 @@ fn is_two(settled: &Settled) -> bool {
     settled.accepted == 2 && settled.adopted == 0
 }
 
-fn settles<L: Desks>(
+/// The two desks, once each has had a connection, or none if one of these wasn't answered.
+fn both_had<L, R>(
+    rt: &R,
     alloc: Global,
-    node: Node<Memory, L>,
-    first: Desk<L>,
-    second: Desk<L>,
-) -> bool {
-    let mut desks = Vec::new(alloc);
-    if desks.push(first).is_err() || desks.push(second).is_err() {
-        return false;
+    state: &AtomicU64,
+    node: &Node<Memory, L>,
+    mut desks: Vec<Desk<L>>,
+) -> Vec<Desk<L>>
+where
+    L: Desks + Send + Sync,
+    R: Threads + Wait + Abort + Clock + Sync,
+{
+    let Some(second) = desks.pop() else {
+        return desks;
+    };
+    let Some(first) = desks.pop() else {
+        return desks;
+    };
+    let ((first, is_first), (second, is_second)) = both_write(
+        rt, alloc, state, node, first, second,
+    );
+    let is_held = desks.push(first).is_ok() && desks.push(second).is_ok();
+    if is_first && is_second && is_held {
+        desks
+    } else {
+        Vec::new(alloc)
     }
+}
+
+fn settles<L: Desks>(node: Node<Memory, L>, desks: Vec<Desk<L>>) -> bool {
     let Ok(settled) = node.settle(desks) else {
         return false;
     };
     is_two(&settled)
+}
+
+/// Each desk, once its connection has sent the Write, and whether that was accepted.
+fn both_write<L, R>(
+    rt: &R,
+    alloc: Global,
+    state: &AtomicU64,
+    node: &Node<Memory, L>,
+    first: Desk<L>,
+    second: Desk<L>,
+) -> ((Desk<L>, bool), (Desk<L>, bool))
+where
+    L: Desks + Send + Sync,
+    R: Threads + Wait + Abort + Clock + Sync,
+{
+    let gate = HoldingGate { state, clock: rt };
+    let held_by = &gate;
+    thread::join(
+        rt,
+        move || writes(rt, alloc, node, first, held_by),
+        move || writes_and_opens(rt, alloc, node, second, state),
+    )
 }
 
 /// Whether two connections at one node are both answered, though a gate holds the request of the one until the other was answered.
@@ -130,20 +178,11 @@ where
     requires blank { IsBlankOf blank L.name L.parts 2 }
     requires whose { (server.core.id ≡ L.server) × (own_count server.core ≡ L.stored) }
 {
-    let Ok((node, mut desks)) = Node::<_, L>::new(alloc, blank, server, 2) else {
+    let Ok((node, desks)) = Node::<_, L>::new(alloc, blank, server, 2) else {
         return false;
     };
-    let (Some(second), Some(first)) = (desks.pop(), desks.pop()) else {
-        return false;
-    };
-    let gate = HoldingGate { state, clock: rt };
-    let (lent, held_by) = (&node, &gate);
-    let ((first, is_first), (second, is_second)) = thread::join(
-        rt,
-        move || writes(rt, alloc, lent, first, held_by),
-        move || writes_and_opens(rt, alloc, lent, second, state),
-    );
-    is_first && is_second && settles(alloc, node, first, second)
+    let desks = both_had(rt, alloc, state, &node, desks);
+    settles(node, desks)
 }
 
 #[test]

@@ -114,25 +114,32 @@ fn row_holds(alloc: Global, row: &str, most: usize) -> bool {
     let Some(reply) = bytes_of(alloc, reply) else {
         return false;
     };
-    let is_dump = request == "dump";
     let reader = Slow {
         bytes: &reply,
         most,
         fails_at: 0,
         calls: 0,
     };
-    let told = asked(alloc, is_dump, reader, 0);
+    let is_dump = request == "dump";
+    is_told(alloc, &asked(alloc, is_dump, reader, 0), is_dump, expected)
+}
+
+/// Whether this is what was told, the request was sent, and the link is closed if no answer came.
+fn is_told(alloc: Global, told: &Told, is_dump: bool, expected: &str) -> bool {
     let is_lost = expected == "Lost" || expected == "BadFrame";
     let request = if is_dump { "0001 04" } else { "0001 03" };
     told.word == expected && told.is_closed == is_lost && is_said(alloc, request, &told.sent)
 }
 
+/// Whether a row holds, whatever pieces its reply comes in.
+fn holds_in_pieces(alloc: Global, row: &str) -> bool {
+    row_holds(alloc, row, 1) && row_holds(alloc, row, 36) && row_holds(alloc, row, 4096)
+}
+
 #[test]
 fn a_link_tells_what_answers_it(rt: HostRuntime) -> Result<(), Fail> {
     for row in ROWS.lines() {
-        for most in [1, 36, 4096] {
-            assert!(rt; row_holds(rt.alloc(), row, most), "{row}");
-        }
+        assert!(rt; holds_in_pieces(rt.alloc(), row), "{row}");
     }
     Ok(())
 }

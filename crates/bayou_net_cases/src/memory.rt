@@ -4,9 +4,10 @@ ghost use Rattle.bayou_audit.specs.Blanks.{AreBlanksOf, named};
 
 use crate::clients::{blanks, put, reader_before};
 use crate::words::bytes_of;
-use bayou_audit::{AuditBook, Blanks, Four, Ledgers, Share};
+use bayou_audit::{AuditBook, Blanks, Four, Ledgers, Share, Totals};
 use bayou_base::{Key, ServerId};
 use bayou_client::{Client, ClientFault, Link, LinkFault};
+use bayou_session::Session;
 use std::alloc::Global;
 use std::io;
 use std::io::Write;
@@ -72,10 +73,21 @@ fn reads<K: Ledgers, R: Wait + Abort>(
     if client.left() == 0 {
         return Some(false);
     }
-    match client.read(rt, alloc, book, link, server, &key) {
-        Ok(_) => Some(book.totals(rt).reads == before.reads.saturating_add(1)),
-        Err(ClientFault::Link(LinkFault::OutOfMemory)) if book.totals(rt) == before => None,
-        Err(_) => Some(false),
+    let fault = client.read(rt, alloc, book, link, server, &key).err();
+    let now = book.totals(rt);
+    comes_to(
+        fault,
+        now == before,
+        now.reads == before.reads.saturating_add(1),
+    )
+}
+
+/// What an operation comes to: whether it was counted; or nothing where memory was refused, and the book is as it was before.
+fn comes_to(fault: Option<ClientFault>, is_as_before: bool, is_counted: bool) -> Option<bool> {
+    match fault {
+        None => Some(is_counted),
+        Some(ClientFault::Link(LinkFault::OutOfMemory)) if is_as_before => None,
+        Some(_) => Some(false),
     }
 }
 
@@ -93,11 +105,13 @@ fn writes<K: Ledgers, R: Wait + Abort>(
     if client.left() == 0 {
         return Some(false);
     }
-    match client.write(rt, alloc, book, link, server, program) {
-        Ok(_) => Some(book.totals(rt).writes == before.writes.saturating_add(1)),
-        Err(ClientFault::Link(LinkFault::OutOfMemory)) if book.totals(rt) == before => None,
-        Err(_) => Some(false),
-    }
+    let fault = client.write(rt, alloc, book, link, server, program).err();
+    let now = book.totals(rt);
+    comes_to(
+        fault,
+        now == before,
+        now.writes == before.writes.saturating_add(1),
+    )
 }
 
 /// Whether the read is served: where memory was refused, over the same link where that is still open, which had sent nothing then, else over
@@ -182,15 +196,34 @@ fn goes<K: Ledgers, R: Wait + Abort>(
 ) -> bool {
     let session = reader_before(rt, share.session());
     let mut client = Client::new(session, share);
-    let is_read = reads_at_last(rt, alloc, book, &mut client, &replies.seen);
-    let is_written = writes_at_last(rt, alloc, book, &mut client, &replies.accepted);
+    let is_served = is_served(rt, alloc, book, &mut client, replies);
+    let now = client.parts().0;
+    is_served && needs_two(&now) && counts_one(&book.totals(rt))
+}
+
+/// Whether all that it asks for is answered.
+fn is_served<K: Ledgers, R: Wait + Abort>(
+    rt: &R,
+    alloc: Global,
+    book: &AuditBook<K>,
+    client: &mut Client<K>,
+    replies: &Replies,
+) -> bool {
+    let is_read = reads_at_last(rt, alloc, book, client, &replies.seen);
+    let is_written = writes_at_last(rt, alloc, book, client, &replies.accepted);
     let is_reopened = reopens_at_last(alloc, &replies.reopened);
     let is_dumped = dumps_at_last(alloc, &replies.dumped);
-    let now = client.parts().0;
-    let needs = now.need_read().counts()[0] == 2 && now.need_write().counts()[0] == 2;
-    let totals = book.totals(rt);
-    let is_counted = totals.reads == 1 && totals.writes == 1;
-    is_read && is_written && is_reopened && is_dumped && needs && is_counted && totals.slips == 0
+    is_read && is_written && is_reopened && is_dumped
+}
+
+/// Whether it needs the first server's first two Writes.
+fn needs_two(session: &Session) -> bool {
+    session.need_read().counts()[0] == 2 && session.need_write().counts()[0] == 2
+}
+
+/// Whether a read and a Write are counted, and no slip is out.
+fn counts_one(totals: &Totals) -> bool {
+    totals.reads == 1 && totals.writes == 1 && totals.slips == 0
 }
 
 /// The same at a new book; or nothing where there is no memory for one.

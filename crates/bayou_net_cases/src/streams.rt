@@ -88,11 +88,11 @@ impl Write for Counting {
 }
 
 /// The first of two servers, which holds nothing.
-fn begun(rt: &impl Abort, alloc: Global) -> Option<Served> {
+fn begun(rt: &impl Abort, alloc: Global) -> Option<Box<Served>> {
     let id = ServerId::new(0).expect(rt, "no server");
     let device = MemoryDevice::new(alloc, OpenGate);
     match Server::start(alloc, id, 2, 2, device) {
-        Ok((server, _)) => Some(server),
+        Ok((server, _)) => Box::new(alloc, server).ok(),
         Err(_) => None,
     }
 }
@@ -113,6 +113,11 @@ fn serves(rt: &impl Abort, alloc: Global, sent: &[u8], most: usize, expected: &s
     let Some(mut server) = begun(rt, alloc) else {
         return false;
     };
+    tells(alloc, &mut server, sent, most, expected)
+}
+
+/// Whether this server, which is sent this in pieces of at most so many bytes, ends so.
+fn tells(alloc: Global, server: &mut Served, sent: &[u8], most: usize, expected: &str) -> bool {
     let reader = Slow {
         bytes: sent,
         most,
@@ -120,7 +125,7 @@ fn serves(rt: &impl Abort, alloc: Global, sent: &[u8], most: usize, expected: &s
         calls: 0,
     };
     let mut channel = Channel::new(reader, Vec::new(alloc));
-    let answer = serve_on(alloc, &mut server, &NoGate, &mut channel);
+    let answer = serve_on(alloc, server, &NoGate, &mut channel);
     is_told(alloc, answer, &channel.into_parts().1, expected)
 }
 
@@ -130,11 +135,9 @@ fn holds(rt: &impl Abort, alloc: Global, row: &str) -> bool {
     let Some(sent) = bytes_of(alloc, text) else {
         return false;
     };
-    let mut is_so = true;
-    for most in [1, 36, 4096] {
-        is_so &= serves(rt, alloc, &sent, most, expected);
-    }
-    is_so
+    serves(rt, alloc, &sent, 1, expected)
+        && serves(rt, alloc, &sent, 36, expected)
+        && serves(rt, alloc, &sent, 4096, expected)
 }
 
 #[test]
@@ -148,21 +151,9 @@ fn requests_are_answered_byte_for_byte(rt: HostRuntime) -> Result<(), Fail> {
 /// A Write and a read of it, in 90 bytes.
 const TWO: &str = "0031 02 <none> <put-1> 0023 01 <one> 0161";
 
-/// How many calls of the reader, thirty bytes each, a server makes, how it ends, and how many bytes of replies it writes, where the call of
-/// this number fails. The Write is whole at the second call, and the read at the third.
-fn ends_reading(rt: &impl Abort, alloc: Global, fails_at: u32) -> bool {
-    let (Some(mut server), Some(sent)) = (begun(rt, alloc), bytes_of(alloc, TWO)) else {
-        return false;
-    };
-    let reader = Slow {
-        bytes: &sent,
-        most: 30,
-        fails_at,
-        calls: 0,
-    };
-    let mut channel = Channel::new(reader, Vec::new(alloc));
-    let answer = serve_on(alloc, &mut server, &NoGate, &mut channel);
-    let written = channel.into_parts().1.len();
+/// How serving ends, and how many bytes of replies are written, where the call of the reader of this number fails, thirty bytes each. The Write
+/// is whole at the second call, and the read at the third.
+fn ends_as(answer: Result<u32, Fault>, written: usize, fails_at: u32) -> bool {
     let (expected, count) = match fails_at {
         1 | 2 => (Err(Fault::Read), 0),
         3 => (Err(Fault::Read), 44),
@@ -170,6 +161,29 @@ fn ends_reading(rt: &impl Abort, alloc: Global, fails_at: u32) -> bool {
         _ => (Ok(2), 88),
     };
     answer == expected && written == count
+}
+
+/// Whether serving these bytes ends so.
+fn reads_to_an_end(alloc: Global, server: &mut Served, bytes: &[u8], fails_at: u32) -> bool {
+    let reader = Slow {
+        bytes,
+        most: 30,
+        fails_at,
+        calls: 0,
+    };
+    let mut channel = Channel::new(reader, Vec::new(alloc));
+    let answer = serve_on(alloc, server, &NoGate, &mut channel);
+    ends_as(answer, channel.into_parts().1.len(), fails_at)
+}
+
+fn ends_reading(rt: &impl Abort, alloc: Global, fails_at: u32) -> bool {
+    let Some(sent) = bytes_of(alloc, TWO) else {
+        return false;
+    };
+    let Some(mut server) = begun(rt, alloc) else {
+        return false;
+    };
+    reads_to_an_end(alloc, &mut server, &sent, fails_at)
 }
 
 #[test]
@@ -180,26 +194,36 @@ fn each_read_of_requests_may_fail(rt: HostRuntime) -> Result<(), Fail> {
     Ok(())
 }
 
-/// The same of its writer: one call writes a reply, and a request whose reply wasn't written was done.
-fn ends_writing(rt: &impl Abort, alloc: Global, fails_at: u32) -> bool {
-    let (Some(mut server), Some(sent)) = (begun(rt, alloc), bytes_of(alloc, TWO)) else {
-        return false;
-    };
-    let writer = Counting {
-        bytes: Vec::new(alloc),
-        fails_at,
-        calls: 0,
-    };
-    let mut channel = Channel::new(sent.as_slice(), writer);
-    let answer = serve_on(alloc, &mut server, &NoGate, &mut channel);
-    let writer = channel.into_parts().1;
+/// The same of its writer: one call writes a reply.
+fn replies_end_as(answer: Result<u32, Fault>, writer: &Counting, fails_at: u32) -> bool {
     let (expected, count, calls) = match fails_at {
         1 => (Err(Fault::Write), 0, 1),
         2 => (Err(Fault::Write), 44, 2),
         _ => (Ok(2), 88, 2),
     };
-    let is_so = answer == expected && writer.bytes.len() == count && writer.calls == calls;
-    is_so && server.receipts().len() == 1
+    answer == expected && writer.bytes.len() == count && writer.calls == calls
+}
+
+/// Whether serving these bytes ends so, and a request whose reply wasn't written was done.
+fn writes_to_an_end(alloc: Global, server: &mut Served, bytes: &[u8], fails_at: u32) -> bool {
+    let writer = Counting {
+        bytes: Vec::new(alloc),
+        fails_at,
+        calls: 0,
+    };
+    let mut channel = Channel::new(bytes, writer);
+    let answer = serve_on(alloc, server, &NoGate, &mut channel);
+    replies_end_as(answer, &channel.into_parts().1, fails_at) && server.receipts().len() == 1
+}
+
+fn ends_writing(rt: &impl Abort, alloc: Global, fails_at: u32) -> bool {
+    let Some(sent) = bytes_of(alloc, TWO) else {
+        return false;
+    };
+    let Some(mut server) = begun(rt, alloc) else {
+        return false;
+    };
+    writes_to_an_end(alloc, &mut server, &sent, fails_at)
 }
 
 #[test]
