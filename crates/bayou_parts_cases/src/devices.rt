@@ -1,6 +1,7 @@
 //! A device in memory: what it holds after each call, and which calls fail.
 use bayou_device::{Device, MemoryDevice, OpenGate, ReadFault};
 use std::alloc::Global;
+use std::process::Abort;
 
 /// What is done to a device. A device call says whether it succeeds.
 #[derive(Clone, Copy)]
@@ -84,11 +85,15 @@ static STEPS: [(Step, &str); 31] = [
 ];
 
 /// The steps go as the table says.
+fn all_go(rt: &impl Abort, alloc: Global, device: &mut MemoryDevice<OpenGate>) {
+    for (at, (step, held)) in STEPS.iter().enumerate() {
+        let is_so = goes(alloc, device, *step) && device.bytes() == held.as_bytes();
+        assert!(rt; is_so, "step {at}");
+    }
+}
+
 #[test]
 fn steps_of_a_device(rt: HostRuntime) {
     let mut device = MemoryDevice::new(rt.alloc(), OpenGate);
-    for (at, (step, held)) in STEPS.iter().enumerate() {
-        let is_so = goes(rt.alloc(), &mut device, *step);
-        assert!(rt; is_so && device.bytes() == held.as_bytes(), "step {at}");
-    }
+    all_go(&rt, rt.alloc(), &mut device);
 }

@@ -9,14 +9,21 @@ use std::alloc::{AllocError, Global};
 use std::process::Abort;
 use std::test::Fail;
 
+/// The frame as it prints itself, and its bytes.
+fn told_frame(alloc: Global, frame: &Frame) -> Result<(String, Vec<u8>), AllocError> {
+    Ok((format!(in alloc; "{frame:?}")?, encode_frame(alloc, frame)?))
+}
+
+/// The fault, and no bytes.
+fn told_fault(alloc: Global, fault: Fault) -> Result<(String, Vec<u8>), AllocError> {
+    Ok((format!(in alloc; "!{fault:?}")?, Vec::new(alloc)))
+}
+
 /// The frame that the bytes are read as, and its bytes again; or their fault, and none.
 fn frame_of(alloc: Global, bytes: &[u8]) -> Result<(String, Vec<u8>), AllocError> {
     match decode_frame(bytes) {
-        Ok(frame) => Ok((
-            format!(in alloc; "{frame:?}")?,
-            encode_frame(alloc, &frame)?,
-        )),
-        Err(fault) => Ok((format!(in alloc; "!{fault:?}")?, Vec::new(alloc))),
+        Ok(frame) => told_frame(alloc, &frame),
+        Err(fault) => told_fault(alloc, fault),
     }
 }
 
@@ -33,22 +40,40 @@ fn is_same(alloc: Global, resting: &RestingWrite, bytes: &[u8], item: &[u8]) -> 
     is_write && is_item
 }
 
-/// The bytes of the Write, which it has at rest too, also behind the front of its Item; else none.
-fn spelling_of(alloc: Global, write: Write) -> Result<Vec<u8>, AllocError> {
-    let resting = write.rest(alloc)?;
-    let mut spelling = encode_write(alloc, &write)?;
-    let item = encode_frame(alloc, &Frame::Item(write))?;
-    if !is_same(alloc, &resting, &spelling, &item) {
-        spelling.clear();
-    }
-    Ok(spelling)
+/// The Write as it prints itself, and its bytes.
+fn told_write(alloc: Global, write: &Write) -> Result<(String, Vec<u8>), AllocError> {
+    Ok((format!(in alloc; "{write:?}")?, encode_write(alloc, write)?))
 }
 
 /// As frame_of, of a Write.
 fn write_of(alloc: Global, bytes: &[u8]) -> Result<(String, Vec<u8>), AllocError> {
     match decode_write(bytes) {
-        Ok(write) => Ok((format!(in alloc; "{write:?}")?, spelling_of(alloc, write)?)),
-        Err(fault) => Ok((format!(in alloc; "!{fault:?}")?, Vec::new(alloc))),
+        Ok(write) => told_write(alloc, &write),
+        Err(fault) => told_fault(alloc, fault),
+    }
+}
+
+/// The Write at rest that the bytes are, if they are one.
+fn at_rest(alloc: Global, bytes: &[u8]) -> Option<RestingWrite> {
+    match decode_write(bytes) {
+        Ok(write) => write.rest(alloc).ok(),
+        Err(_) => None,
+    }
+}
+
+/// The bytes of the Item of the Write that the bytes are, if they are one.
+fn item_of(alloc: Global, bytes: &[u8]) -> Option<Vec<u8>> {
+    match decode_write(bytes) {
+        Ok(write) => encode_frame(alloc, &Frame::Item(write)).ok(),
+        Err(_) => None,
+    }
+}
+
+/// Whether the Write that the bytes are has them at rest too, also behind the front of its Item.
+fn rests(alloc: Global, bytes: &[u8]) -> bool {
+    match (at_rest(alloc, bytes), item_of(alloc, bytes)) {
+        (Some(resting), Some(item)) => is_same(alloc, &resting, bytes, &item),
+        _ => false,
     }
 }
 
@@ -147,9 +172,8 @@ fn is_frame(alloc: Global, bytes: &[u8], printed: &str) -> bool {
 #[test]
 fn frames_byte_for_byte(rt: HostRuntime) -> Result<(), Fail> {
     for row in FRAMES.lines() {
-        let (text, printed) = parts(row);
-        let bytes = bytes_of(rt.alloc(), text)?;
-        assert!(rt; is_frame(rt.alloc(), &bytes, printed), "{row}");
+        let is_so = is_row(rt.alloc(), &Table::Frames, row)?;
+        assert!(rt; is_so, "{row}");
     }
     Ok(())
 }
@@ -174,9 +198,8 @@ fn has_length(alloc: Global, bytes: &[u8], expected: &str) -> bool {
 #[test]
 fn lengths_of_frames(rt: HostRuntime) -> Result<(), Fail> {
     for row in LENGTHS.lines() {
-        let (text, expected) = parts(row);
-        let bytes = bytes_of(rt.alloc(), text)?;
-        assert!(rt; has_length(rt.alloc(), &bytes, expected), "{row}");
+        let is_so = is_row(rt.alloc(), &Table::Lengths, row)?;
+        assert!(rt; is_so, "{row}");
     }
     Ok(())
 }
@@ -210,19 +233,24 @@ ffff => !TooLong
 #[test]
 fn faults_in_a_frames_place(rt: HostRuntime) -> Result<(), Fail> {
     for row in FAULTS.lines() {
-        let (text, fault) = parts(row);
-        let bytes = bytes_of(rt.alloc(), text)?;
-        assert!(rt; has_fault(rt.alloc(), &bytes, fault), "{row}");
+        let is_so = is_row(rt.alloc(), &Table::Faults, row)?;
+        assert!(rt; is_so, "{row}");
     }
     Ok(())
+}
+
+/// Whether a frame of the greatest length with so many bytes behind its kind has that fault.
+fn ends_with(alloc: Global, count: usize, fault: &str) -> Result<bool, AllocError> {
+    let bytes = repeated(alloc, &[(b"\x20\x00\x03", 1), (b"\x00", count)])?;
+    Ok(has_fault(alloc, &bytes, fault))
 }
 
 /// A frame of the greatest length that ends a byte too soon, and one that is whole.
 #[test]
 fn frames_of_the_greatest_length(rt: HostRuntime) -> Result<(), Fail> {
     for (count, fault) in [(8190, "!BadBody"), (8191, "!Trailing")] {
-        let bytes = repeated(rt.alloc(), &[(b"\x20\x00\x03", 1), (b"\x00", count)])?;
-        assert!(rt; has_fault(rt.alloc(), &bytes, fault), "{count}");
+        let is_so = ends_with(rt.alloc(), count, fault)?;
+        assert!(rt; is_so, "{count}");
     }
     Ok(())
 }
@@ -239,16 +267,18 @@ fn is_write(alloc: Global, bytes: &[u8], printed: &str) -> bool {
     let Ok((found, again)) = write_of(alloc, bytes) else {
         return false;
     };
-    let is_spelled = again.as_slice() == bytes || printed.starts_with('!') && again.is_empty();
+    let is_spelled = match printed.starts_with('!') {
+        true => again.is_empty(),
+        false => again.as_slice() == bytes && rests(alloc, bytes),
+    };
     is_spelled && is_printed(alloc, &found, printed)
 }
 
 #[test]
 fn writes_have_one_spelling(rt: HostRuntime) -> Result<(), Fail> {
     for row in WRITES.lines() {
-        let (text, printed) = parts(row);
-        let bytes = bytes_of(rt.alloc(), text)?;
-        assert!(rt; is_write(rt.alloc(), &bytes, printed), "{row}");
+        let is_so = is_row(rt.alloc(), &Table::Writes, row)?;
+        assert!(rt; is_so, "{row}");
     }
     Ok(())
 }
@@ -290,6 +320,26 @@ static LONGEST: [(&[u8], usize); 23] = [
     (b"\x08", 1),
     (OP, 8),
 ];
+
+/// What the rows of a table say of bytes.
+enum Table {
+    Frames,
+    Lengths,
+    Faults,
+    Writes,
+}
+
+/// Whether the bytes of the row are what it says.
+fn is_row(alloc: Global, table: &Table, row: &str) -> Result<bool, Fail> {
+    let (text, expected) = parts(row);
+    let bytes = bytes_of(alloc, text)?;
+    Ok(match table {
+        Table::Frames => is_frame(alloc, &bytes, expected),
+        Table::Lengths => has_length(alloc, &bytes, expected),
+        Table::Faults => has_fault(alloc, &bytes, expected),
+        Table::Writes => is_write(alloc, &bytes, expected),
+    })
+}
 
 /// Whether the bytes are those of a Write.
 fn is_spelling(alloc: Global, bytes: &[u8]) -> bool {

@@ -20,19 +20,20 @@ impl Gate for TellingGate<'_> {
     }
 }
 
-/// Each append passes the gate before it adds anything, also one that fails, and no other call does.
+/// Whether each append passes the gate before it adds anything, also one that fails, and no other call does.
+fn passes(device: &mut MemoryDevice<TellingGate>, told: &Cell<(u32, usize)>) -> bool {
+    let is_added = device.append(b"ab").is_ok() && told.get() == (1, 0);
+    let is_synced = device.sync().is_ok();
+    device.fuse(1, 1);
+    let is_refused = device.append(b"cd").is_err() && told.get() == (2, 2);
+    let is_last = device.append(b"ef").is_ok() && told.get() == (3, 3);
+    let is_held = device.bytes() == b"abcef".as_slice();
+    is_added && is_synced && is_refused && is_last && is_held
+}
+
 #[test]
 fn each_append_passes_the_gate_first(rt: HostRuntime) {
     let told = Cell::new((0, 0));
     let mut device = MemoryDevice::new(rt.alloc(), TellingGate { told: &told });
-    let is_added = device.append(b"ab").is_ok();
-    let first = told.get();
-    let is_synced = device.sync().is_ok();
-    device.fuse(1, 1);
-    let is_refused = device.append(b"cd").is_err();
-    let second = told.get();
-    let is_last = device.append(b"ef").is_ok();
-    let are_answered = is_added && is_synced && is_refused && is_last;
-    let are_told = first == (1, 0) && second == (2, 2) && told.get() == (3, 3);
-    assert!(rt; are_answered && are_told && device.bytes() == b"abcef".as_slice());
+    assert!(rt; passes(&mut device, &told));
 }

@@ -318,12 +318,19 @@ enum Step {
 
 use Step::{Append, Fuse, Lose, Reopen};
 
-/// What a reopening finds.
-fn reopening(alloc: Global, journal: &mut Journal<Memory>) -> Found {
-    match journal.reopen(alloc) {
+/// Whether a reopening finds this, and leaves the journal down where it is refused.
+fn reopens(alloc: Global, journal: &mut Journal<Memory>, answer: Found) -> bool {
+    let given = match journal.reopen(alloc) {
         Ok(found) => Ok((found.len(), found.dropped())),
         Err(fault) => Err(fault),
-    }
+    };
+    given == answer && journal.is_down() == answer.is_err()
+}
+
+/// Whether an append answers so, and leaves the journal down where it is refused.
+fn appends(journal: &mut Journal<Memory>, answer: Result<(), AppendFault>) -> bool {
+    let given = journal.append(&WRITE);
+    given == answer && journal.is_down() == answer.is_err()
 }
 
 /// Does the step. Whether the journal answers so, and is down where it refused.
@@ -337,18 +344,28 @@ fn goes(alloc: Global, journal: &mut Journal<Memory>, step: Step) -> bool {
             journal.device().lose(count);
             true
         }
-        Append(answer) => {
-            let given = journal.append(&WRITE);
-            given == answer && journal.is_down() == answer.is_err()
-        }
-        Reopen(answer) => {
-            let given = reopening(alloc, journal);
-            given == answer && journal.is_down() == answer.is_err()
-        }
+        Append(answer) => appends(journal, answer),
+        Reopen(answer) => reopens(alloc, journal, answer),
     }
 }
 
-/// The steps go so, one after another, over the journal of the first bytes of that with three entries.
+/// The journal of server 0 over these bytes, whose device fails at this call.
+fn opened(rt: &impl Abort, alloc: Global, front: &[u8], fuse: u32) -> Option<Journal<Memory>> {
+    let device = failing_device(alloc, front, fuse, 0)?;
+    match Journal::open(alloc, server_id(rt, 0), device) {
+        Ok((journal, _)) => Some(journal),
+        Err(_) => None,
+    }
+}
+
+/// The steps go so, one after another.
+fn go_in_turn(rt: &impl Abort, alloc: Global, journal: &mut Journal<Memory>, steps: &[Step]) {
+    for (at, step) in steps.iter().enumerate() {
+        assert!(rt; goes(alloc, journal, *step), "step {at}");
+    }
+}
+
+/// The same over the journal of the first bytes of that with three entries.
 fn all_go(
     rt: &impl Abort,
     alloc: Global,
@@ -356,15 +373,10 @@ fn all_go(
     fuse: u32,
     steps: &[Step],
 ) -> Result<(), AllocError> {
-    let Some(device) = failing_device(alloc, front, fuse, 0) else {
+    let Some(mut journal) = opened(rt, alloc, front, fuse) else {
         return Err(AllocError);
     };
-    let Ok((mut journal, _)) = Journal::open(alloc, server_id(rt, 0), device) else {
-        return Err(AllocError);
-    };
-    for (at, step) in steps.iter().enumerate() {
-        assert!(rt; goes(alloc, &mut journal, *step), "step {at}");
-    }
+    go_in_turn(rt, alloc, &mut journal, steps);
     Ok(())
 }
 

@@ -102,13 +102,17 @@ fn takes(rt: &impl Abort, alloc: Global, log: &mut WriteLog, order: &[u8], a: &K
     are_added
 }
 
-/// Whether a log that takes the five Writes in this order then has their listing and their database.
+/// Whether the log, which takes the five Writes in this order, then has their listing and their database.
+fn has_all(rt: &impl Abort, alloc: Global, log: &mut WriteLog, order: &[u8], a: &Key) -> bool {
+    let are_taken = takes(rt, alloc, log, order, a);
+    let is_so = are_taken && lists_all(alloc, log, 5) && is_plain(alloc, log, a);
+    is_so && log.clock() == 1 && told(log, a) == (5, 1115) && log.is_full()
+}
+
+/// Whether a new log does so.
 fn makes_one_database(rt: &impl Abort, alloc: Global, order: &[u8], a: &Key) -> bool {
     let mut log = WriteLog::new(alloc, 5, 5);
-    let are_taken = takes(rt, alloc, &mut log, order, a);
-    let is_so = are_taken && lists_all(alloc, &log, 5) && is_plain(alloc, &log, a);
-    let is_told = log.clock() == 1 && told(&log, a) == (5, 1115);
-    is_so && is_told && log.is_full()
+    has_all(rt, alloc, &mut log, order, a)
 }
 
 #[test]
@@ -156,30 +160,52 @@ fn finds_the_last(rt: &impl Abort, log: &WriteLog) -> bool {
     log.find(wid(rt, 0, 200)).is_some() && log.find(wid(rt, 1, 2)).is_none()
 }
 
+/// Whether adding the first Write of the server answers so.
+fn answers(
+    rt: &impl Abort,
+    alloc: Global,
+    log: &mut WriteLog,
+    server: u8,
+    answer: Result<bool, AllocError>,
+) -> bool {
+    add(alloc, log, &first(rt, server)) == answer
+}
+
 /// The first of the Writes has nothing to add to; the late one, of the same clock and a later server, puts 5 before all others.
+fn puts_below(rt: &impl Abort, alloc: Global, log: &mut WriteLog, a: &Key) -> bool {
+    let was_empty = takes_apart(rt, alloc, log) && told(log, a) == (200, 0);
+    let is_added = answers(rt, alloc, log, 1, Ok(true)) && told(log, a) == (201, 204);
+    let is_so = updated(alloc, log) == 200 && finds_the_last(rt, log) && is_plain(alloc, log, a);
+    was_empty && is_added && is_so
+}
+
 #[test]
 fn a_late_write_goes_below_two_hundred(rt: HostRuntime) {
-    let alloc = rt.alloc();
-    let a = key(&rt, "a");
-    let mut log = WriteLog::new(alloc, 2, 300);
-    let was_empty = takes_apart(&rt, alloc, &mut log) && told(&log, &a) == (200, 0);
-    let is_added = add(alloc, &mut log, &first(&rt, 1)) == Ok(true);
-    let is_told = told(&log, &a) == (201, 204) && updated(alloc, &log) == 200;
-    let is_so = finds_the_last(&rt, &log) && is_plain(alloc, &log, &a);
-    assert!(rt; was_empty && is_added && is_told && is_so);
+    let mut log = WriteLog::new(rt.alloc(), 2, 300);
+    assert!(rt; puts_below(&rt, rt.alloc(), &mut log, &key(&rt, "a")));
+}
+
+/// Whether the log is full or not, as said, and holds and finds so many of the first Writes of two servers.
+fn finds(rt: &impl Abort, log: &WriteLog, is_full: bool, held: usize) -> bool {
+    let are_found = log.find(wid(rt, 0, 1)).is_some() == (held > 0);
+    are_found
+        && log.find(wid(rt, 1, 1)).is_none()
+        && log.is_full() == is_full
+        && log.receipts().len() == held
+}
+
+/// Whether the log takes one Write, and then no more.
+fn takes_one(rt: &impl Abort, alloc: Global, log: &mut WriteLog) -> bool {
+    let was_empty = finds(rt, log, false, 0);
+    let is_added = answers(rt, alloc, log, 0, Ok(true));
+    let is_refused = answers(rt, alloc, log, 1, Ok(false));
+    was_empty && is_added && is_refused && finds(rt, log, true, 1)
 }
 
 #[test]
 fn a_full_log_takes_no_write(rt: HostRuntime) {
-    let alloc = rt.alloc();
-    let (held, other) = (wid(&rt, 0, 1), wid(&rt, 1, 1));
-    let mut log = WriteLog::new(alloc, 2, 1);
-    let was_empty = !log.is_full() && log.find(held).is_none();
-    let is_added = add(alloc, &mut log, &first(&rt, 0)) == Ok(true);
-    let is_refused = add(alloc, &mut log, &first(&rt, 1)) == Ok(false);
-    let is_full = log.is_full() && log.receipts().len() == 1;
-    let are_found = log.find(held).is_some() && log.find(other).is_none();
-    assert!(rt; was_empty && is_added && is_refused && is_full && are_found);
+    let mut log = WriteLog::new(rt.alloc(), 2, 1);
+    assert!(rt; takes_one(&rt, rt.alloc(), &mut log));
 }
 
 /// A Write by its origin, its seq, its clock and what its server held, and what a log says of it.
@@ -202,13 +228,18 @@ fn is_told(rt: &impl Abort, log: &WriteLog, (origin, seq, clock, deps, answer): 
     log.fits(&write(rt, origin, seq, clock, deps, put(rt, 1))) == answer
 }
 
+/// The log takes the first Write, and tells of each that is offered then.
+fn tells_all(rt: &impl Abort, alloc: Global, log: &mut WriteLog) {
+    let is_added = answers(rt, alloc, log, 0, Ok(true));
+    for offer in OFFERS {
+        assert!(rt; is_added && is_told(rt, log, offer), "{offer:?}");
+    }
+}
+
 #[test]
 fn a_log_tells_which_writes_fit(rt: HostRuntime) {
     let mut log = WriteLog::new(rt.alloc(), 2, 3);
-    let is_added = add(rt.alloc(), &mut log, &first(&rt, 0)) == Ok(true);
-    for offer in OFFERS {
-        assert!(rt; is_added && is_told(&rt, &log, offer), "{offer:?}");
-    }
+    tells_all(&rt, rt.alloc(), &mut log);
 }
 
 /// A Write of a program that puts 1 at `a` where nothing is there, and else takes it away.
@@ -284,13 +315,17 @@ fn lacks(alloc: Global, log: &WriteLog, counts: &Vector, max: usize, names: &[(u
     }
 }
 
+/// The log receives the Writes, and then tells of each row what is lacking.
+fn tells_lacking(rt: &impl Abort, alloc: Global, log: &mut WriteLog) {
+    let are_held = receives_all(rt, alloc, log);
+    for ([first, second], max, names) in LACKED {
+        let is_so = are_held && lacks(alloc, log, &vector(rt, first, second), max, names);
+        assert!(rt; is_so, "{first} {second} {max}");
+    }
+}
+
 #[test]
 fn what_is_lacking_comes_in_stamp_order(rt: HostRuntime) {
     let mut log = WriteLog::new(rt.alloc(), 8, 6);
-    let are_held = receives_all(&rt, rt.alloc(), &mut log);
-    for ([first, second], max, names) in LACKED {
-        let counts = vector(&rt, first, second);
-        let is_so = are_held && lacks(rt.alloc(), &log, &counts, max, names);
-        assert!(rt; is_so, "{first} {second} {max}");
-    }
+    tells_lacking(&rt, rt.alloc(), &mut log);
 }

@@ -4,8 +4,8 @@ use std::alloc::{AllocError, Global};
 use std::test::Fail;
 
 /// What the marks stand for among bytes: the vector that counts no Write, the one that counts the Write 0:1 alone, the name of that
-/// Write, its clock, and a program that puts 1 at `room`.
-static AS_BYTES: [(&str, &str); 5] = [
+/// Write, its clock, and a program that puts 1 at `room`. What is between digits goes.
+static AS_BYTES: [(&str, &str); 7] = [
     (
         "<none>",
         "0000000000000000000000000000000000000000000000000000000000000000",
@@ -17,6 +17,8 @@ static AS_BYTES: [(&str, &str); 5] = [
     ("<0:1>", "0000000001"),
     ("<stamp>", "00000001"),
     ("<put>", "00010104726f6f6d0101000000000000000100"),
+    (" ", ""),
+    ("\n", ""),
 ];
 
 /// What they stand for in a value that prints itself.
@@ -45,9 +47,7 @@ pub fn expanded(alloc: Global, text: &str, marks: &[(&str, &str)]) -> Result<Str
 
 /// The bytes that the text says.
 pub fn bytes_of(alloc: Global, text: &str) -> Result<Vec<u8>, Fail> {
-    let digits = expanded(alloc, text, &AS_BYTES)?
-        .replace(alloc, " ", "")?
-        .replace(alloc, "\n", "")?;
+    let digits = expanded(alloc, text, &AS_BYTES)?;
     Ok(hex::decode(alloc, digits.as_str())?)
 }
 

@@ -58,21 +58,23 @@ fn puts(
     Ok(accepted.wid.seq)
 }
 
-/// Whether it puts 1, 2 and so on.
-fn puts_all(rt: &impl Abort, alloc: Global, server: &mut Served, count: u8) -> bool {
-    let mut are_put = true;
+/// It puts 1, 2 and so on.
+fn put_all(rt: &impl Abort, alloc: Global, server: &mut Served, count: u8) {
     for number in 0..count {
-        are_put &= puts(rt, alloc, server, i64::from(number) + 1).is_ok();
+        assert!(rt; puts(rt, alloc, server, i64::from(number) + 1).is_ok());
     }
-    are_put
+}
+
+/// The device that the server gives back.
+fn device_of(server: Served) -> Memory {
+    server.stop().device
 }
 
 /// The device of a server that has put 1, 2 and so on.
 fn with_writes(rt: &impl Abort, alloc: Global, count: u8) -> Result<Memory, StartFault> {
     let mut server = start(rt, alloc, 100, MemoryDevice::new(alloc, OpenGate))?;
-    let are_put = puts_all(rt, alloc, &mut server, count);
-    assert!(rt; are_put);
-    Ok(server.stop().device)
+    put_all(rt, alloc, &mut server, count);
+    Ok(device_of(server))
 }
 
 /// Replaces the server's device by that of one that has put 1, 2 and so on.
@@ -84,14 +86,21 @@ fn replaces(rt: &impl Abort, alloc: Global, server: &mut Served, count: u8) -> b
     true
 }
 
+/// Whether the value is the number, or there is neither.
+fn is_number(found: &Option<Value>, number: Option<i64>) -> bool {
+    match (found, number) {
+        (Some(Value::Num(found)), Some(number)) => *found == number,
+        (None, None) => true,
+        _ => false,
+    }
+}
+
 /// Whether `a` has that, and so many Writes are held.
 fn has(rt: &impl Abort, server: &Served, value: Option<i64>, held: u32) -> bool {
     let vector = vector(rt, held, 0);
     match server.read(&Vector::zero(), &key(rt, "a")) {
         Ok(seen) => {
-            seen.value == value.map(Value::Num)
-                && seen.vector == vector
-                && server.vector() == vector
+            is_number(&seen.value, value) && seen.vector == vector && server.vector() == vector
         }
         Err(_) => false,
     }
@@ -127,7 +136,14 @@ fn goes(rt: &impl Abort, alloc: Global, server: &mut Served, step: Step) -> bool
     }
 }
 
-/// The steps go so, one after another, at a server that may hold so many Writes. It gives the device back.
+/// The steps go so, one after another.
+fn go_in_turn(rt: &impl Abort, alloc: Global, server: &mut Served, steps: &[Step]) {
+    for (at, step) in steps.iter().enumerate() {
+        assert!(rt; goes(rt, alloc, server, *step), "step {at}");
+    }
+}
+
+/// The same at a server that may hold so many Writes. It gives the device back.
 fn all_go(
     rt: &impl Abort,
     alloc: Global,
@@ -136,10 +152,8 @@ fn all_go(
     steps: &[Step],
 ) -> Result<Memory, StartFault> {
     let mut server = start(rt, alloc, limit, device)?;
-    for (at, step) in steps.iter().enumerate() {
-        assert!(rt; goes(rt, alloc, &mut server, *step), "step {at}");
-    }
-    Ok(server.stop().device)
+    go_in_turn(rt, alloc, &mut server, steps);
+    Ok(device_of(server))
 }
 
 /// The append fails, and the Write is forgotten.
@@ -297,27 +311,37 @@ static REFUSED: [(&str, u32, StartFault); 9] = [
     ("4241594f55", 4, StartFault::Journal(JournalFault::Device)),
 ];
 
-/// Whether no server starts on a device of these bytes, which fails at this call, and for that fault.
+/// The device of these bytes, which fails at this call.
+fn failing_device(bytes: Vec<u8>, call: u32) -> Memory {
+    let mut device = MemoryDevice::with_bytes(bytes, OpenGate);
+    device.fuse(call.max(1), 3);
+    device
+}
+
+/// Why no server starts on the device, if none does.
+fn refusal(rt: &impl Abort, alloc: Global, device: Memory) -> Option<StartFault> {
+    match start(rt, alloc, 2, device) {
+        Ok(_) => None,
+        Err(fault) => Some(fault),
+    }
+}
+
+/// Whether no server starts on a device of the bytes that the text says, which fails at this call, and for that fault.
 fn is_refused(
     rt: &impl Abort,
     alloc: Global,
-    bytes: Vec<u8>,
+    text: &str,
     call: u32,
     fault: StartFault,
-) -> bool {
-    let mut device = MemoryDevice::with_bytes(bytes, OpenGate);
-    device.fuse(call.max(1), 3);
-    match start(rt, alloc, 2, device) {
-        Ok(_) => false,
-        Err(told) => told == fault,
-    }
+) -> Result<bool, Fail> {
+    let device = failing_device(bytes_of(alloc, text)?, call);
+    Ok(refusal(rt, alloc, device) == Some(fault))
 }
 
 #[test]
 fn what_no_server_stored_is_refused(rt: HostRuntime) -> Result<(), Fail> {
     for (text, call, fault) in REFUSED.iter() {
-        let bytes = bytes_of(rt.alloc(), text)?;
-        let is_so = is_refused(&rt, rt.alloc(), bytes, *call, *fault);
+        let is_so = is_refused(&rt, rt.alloc(), text, *call, *fault)?;
         assert!(rt; is_so, "{fault:?}");
     }
     Ok(())
@@ -356,17 +380,32 @@ fn lists_both(alloc: Global, server: &Served, last: Wid) -> bool {
     }
 }
 
+/// Whether it tells of the two Writes that it holds.
+fn tells_both(rt: &impl Abort, alloc: Global, server: &Served) -> bool {
+    let is_listed = lists_both(alloc, server, wid(rt, 0, 2));
+    is_listed && dumps_all(alloc, server) && is_behind(rt, server, 2)
+}
+
+/// How many Writes the server gives back, and how many bytes.
+fn given_back(server: Served) -> (usize, usize) {
+    let stopped = server.stop();
+    (stopped.log.receipts().len(), stopped.device.bytes().len())
+}
+
+/// Whether a server on the device tells so, and gives two Writes back.
+fn tells_and_stops(rt: &impl Abort, alloc: Global, device: Memory) -> Result<bool, StartFault> {
+    let server = start(rt, alloc, 2, device)?;
+    let are_told = tells_both(rt, alloc, &server);
+    Ok(given_back(server) == (2, 192) && are_told)
+}
+
 #[test]
 fn a_server_tells_what_it_holds(rt: HostRuntime) -> Result<(), Fail> {
     let alloc = rt.alloc();
     let steps = [Has(Some(2), 2), Put(3, Err(WriteFault::LogFull))];
     let device = all_go(&rt, alloc, 2, with_writes(&rt, alloc, 2)?, &steps)?;
-    let server = start(&rt, alloc, 2, device)?;
-    let are_told = dumps_all(alloc, &server) && lists_both(alloc, &server, wid(&rt, 0, 2));
-    let is_told = is_behind(&rt, &server, 2);
-    let stopped = server.stop();
-    let (held, stored) = (stopped.log.receipts().len(), stopped.device.bytes().len());
-    assert!(rt; are_told && is_told && held == 2 && stored == 192);
+    let is_so = tells_and_stops(&rt, alloc, device)?;
+    assert!(rt; is_so);
     Ok(())
 }
 
@@ -437,15 +476,35 @@ fn doubts_at_last(rt: &impl Abort, alloc: Global, server: &mut Served) -> bool {
     is_up && held >= 3 && tells_at_last(alloc, server, held)
 }
 
+/// Puts three numbers and leaves a Write in doubt: how many are held then, where all went so.
+fn held_at_last(rt: &impl Abort, alloc: Global, server: &mut Served) -> Option<usize> {
+    let are_put = put_three_at_last(rt, alloc, server);
+    let are_told = doubts_at_last(rt, alloc, server);
+    if are_put && are_told {
+        Some(server.receipts().len())
+    } else {
+        None
+    }
+}
+
+/// That of a new server, and its device.
+fn device_at_last(rt: &impl Abort, alloc: Global) -> Result<(Option<usize>, Memory), StartFault> {
+    let mut server = start_at_last(rt, alloc, MemoryDevice::new(alloc, OpenGate))?;
+    let held = held_at_last(rt, alloc, &mut server);
+    Ok((held, device_of(server)))
+}
+
+/// How many Writes a server on the device holds.
+fn held_again(rt: &impl Abort, alloc: Global, device: Memory) -> Result<usize, StartFault> {
+    let server = start_at_last(rt, alloc, device)?;
+    Ok(server.receipts().len())
+}
+
 /// For runs in which any one allocation is refused: what a server acknowledged it keeps, and what was refused can be done again.
 #[test]
 fn one_want_of_memory_costs_no_write(rt: HostRuntime) -> Result<(), Fail> {
-    let alloc = rt.alloc();
-    let mut server = start_at_last(&rt, alloc, MemoryDevice::new(alloc, OpenGate))?;
-    let are_put = put_three_at_last(&rt, alloc, &mut server);
-    let are_told = doubts_at_last(&rt, alloc, &mut server);
-    let held = server.receipts().len();
-    let server = start_at_last(&rt, alloc, server.stop().device)?;
-    assert!(rt; are_put && are_told && server.receipts().len() == held);
+    let (held, device) = device_at_last(&rt, rt.alloc())?;
+    let again = held_again(&rt, rt.alloc(), device)?;
+    assert!(rt; held == Some(again));
     Ok(())
 }

@@ -81,29 +81,19 @@ fn places(rt: HostRuntime) {
     assert!(rt; are_all_left && is_one_left && is_none_left && is_the_same);
 }
 
-/// Whether the server serves the session a read, and accepts a Write of it; `None` where it refuses the Write, but not as one that is
-/// behind.
-fn served(
+/// Whether the server accepts a Write that needs this; `None` where it refuses it, but not as one that is behind.
+fn accepts(
     rt: &impl Abort,
     alloc: Global,
     server: &mut Server<MemoryDevice<OpenGate>>,
-    session: &Session,
-) -> Option<(bool, bool)> {
-    let is_read = server.read(&session.need_read(), &key(rt, "a")).is_ok();
+    need: &Vector,
+) -> Option<bool> {
     let program = put(rt, 2).rest(alloc).ok()?;
-    match server.write(alloc, &session.need_write(), program) {
-        Ok(_) => Some((is_read, true)),
-        Err(WriteFault::Behind(_)) => Some((is_read, false)),
+    match server.write(alloc, need, program) {
+        Ok(_) => Some(true),
+        Err(WriteFault::Behind(_)) => Some(false),
         Err(_) => None,
     }
-}
-
-/// Whether the server takes a Write of its own.
-fn holds_one(rt: &impl Abort, alloc: Global, server: &mut Server<MemoryDevice<OpenGate>>) -> bool {
-    let Ok(program) = put(rt, 1).rest(alloc) else {
-        return false;
-    };
-    server.write(alloc, &Vector::zero(), program).is_ok()
 }
 
 /// Whether the server serves as it asks the session of this number: of sixteen combinations of asks, one that read a Write of either
@@ -117,8 +107,18 @@ fn checks(
     let (asks, read, wrote) = (asks_of(number % 16), number / 16 % 2, number / 32);
     let seen = vector(rt, u32::from(1 - read), u32::from(read));
     let session = told(rt, asks, seen, wid(rt, wrote, 1));
-    let wanted = may_be_served(asks, read > 0, wrote > 0);
-    served(rt, alloc, server, &session) == Some(wanted)
+    let (may_read, may_write) = may_be_served(asks, read > 0, wrote > 0);
+    let is_read = server.read(&session.need_read(), &key(rt, "a")).is_ok();
+    is_read == may_read && accepts(rt, alloc, server, &session.need_write()) == Some(may_write)
+}
+
+/// The server takes a Write of its own, and serves each session as it asks.
+fn checks_all(rt: &impl Abort, alloc: Global, server: &mut Server<MemoryDevice<OpenGate>>) {
+    let is_held = accepts(rt, alloc, server, &Vector::zero()) == Some(true);
+    for number in 0..64_u8 {
+        let is_so = is_held && checks(rt, alloc, server, number);
+        assert!(rt; is_so, "{number}");
+    }
 }
 
 /// The first of two servers, which holds Writes of its own.
@@ -126,10 +126,6 @@ fn checks(
 fn a_server_checks_what_is_asked(rt: HostRuntime) -> Result<(), Fail> {
     let alloc = rt.alloc();
     let mut server = start(&rt, alloc, 99, MemoryDevice::new(alloc, OpenGate))?;
-    let is_held = holds_one(&rt, alloc, &mut server);
-    for number in 0..64_u8 {
-        let is_so = is_held && checks(&rt, alloc, &mut server, number);
-        assert!(rt; is_so, "{number}");
-    }
+    checks_all(&rt, alloc, &mut server);
     Ok(())
 }
