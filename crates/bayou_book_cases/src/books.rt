@@ -73,6 +73,21 @@ fn entry<K: Ledgers>(rt: &impl Abort, share: &Share<K>, number: u32) -> Entry
     }
 }
 
+/// Files what the session did at its place of this number. Whether there is a place for it.
+fn files<K: Ledgers, R: Wait + Abort>(
+    rt: &R,
+    book: &AuditBook<K>,
+    share: &mut Share<K>,
+    number: u32,
+) -> bool {
+    let Ok(slip) = book.claim(rt, share) else {
+        return false;
+    };
+    let entry = entry(rt, share, number);
+    book.file(rt, slip, share, entry);
+    true
+}
+
 /// Files so many reads at a book that others may file at.
 fn file_reads<K: Ledgers, R: Wait + Abort>(
     rt: &R,
@@ -82,13 +97,58 @@ fn file_reads<K: Ledgers, R: Wait + Abort>(
 ) -> Share<K> {
     let mut share = share;
     for number in 0..count {
-        let Ok(slip) = book.claim(rt, &mut share) else {
-            rt.abort();
-        };
-        let entry = entry(rt, &share, (number % 1000) * 3);
-        book.file(rt, slip, &mut share, entry);
+        assert!(rt; files(rt, book, &mut share, (number % 1000) * 3));
     }
     share
+}
+
+/// What the book counts while a slip is out, which is voided.
+fn totals_with_slip<K: Ledgers, R: Wait + Abort>(
+    rt: &R,
+    book: &AuditBook<K>,
+    share: &mut Share<K>,
+) -> Totals {
+    let Ok(slip) = book.claim(rt, share) else {
+        rt.abort();
+    };
+    let totals = book.totals(rt);
+    book.void(rt, slip, share);
+    totals
+}
+
+/// Two threads file at the book with these two shares, three reads and two, and a slip of the first is voided.
+fn file_by_two<S, T, U, V, R>(
+    rt: &R,
+    book: &AuditBook<Four<S, T, U, V>>,
+    shares: &mut Vec<Share<Four<S, T, U, V>>>,
+) -> Result<(), AllocError>
+where
+    S: Ledger + Send + Sync,
+    T: Ledger + Send + Sync,
+    U: Ledger + Send + Sync,
+    V: Ledger + Send + Sync,
+    R: Threads + Wait + Abort + Sync,
+{
+    let (Some(second), Some(first)) = (shares.pop(), shares.pop()) else {
+        rt.abort();
+    };
+    let (mut first, second) = thread::join(
+        rt,
+        move || file_reads(rt, book, first, 3),
+        move || file_reads(rt, book, second, 2),
+    );
+    let _ = totals_with_slip(rt, book, &mut first);
+    shares.push(first)?;
+    shares.push(second)?;
+    Ok(())
+}
+
+/// What the book comes to with these shares.
+fn settled<K: Ledgers>(rt: &impl Abort, book: AuditBook<K>, shares: Vec<Share<K>>) -> Settled {
+    match book.settle(shares) {
+        Ok(settled) => settled,
+        Err(_) => rt.abort(),
+    }
 }
 
 /// What a book of eight places comes to at which two threads filed, three reads and two, and a slip was voided.
@@ -102,25 +162,8 @@ where
     requires blanks { AreBlanksOf blanks (named S.name S.parts) (named T.name T.parts) (named U.name U.parts) (named V.name V.parts) 2 }
 {
     let (book, mut shares) = AuditBook::<Four<S, T, U, V>>::new(alloc, blanks, 2, 8)?;
-    let (Some(second), Some(first)) = (shares.pop(), shares.pop()) else {
-        rt.abort();
-    };
-    let lent = &book;
-    let (mut first, second) = thread::join(
-        rt,
-        move || file_reads(rt, lent, first, 3),
-        move || file_reads(rt, lent, second, 2),
-    );
-    let Ok(slip) = book.claim(rt, &mut first) else {
-        rt.abort();
-    };
-    book.void(rt, slip, &mut first);
-    shares.push(first)?;
-    shares.push(second)?;
-    let Ok(settled) = book.settle(shares) else {
-        rt.abort();
-    };
-    Ok(settled)
+    file_by_two(rt, &book, &mut shares)?;
+    Ok(settled(rt, book, shares))
 }
 
 /// The places of the entries of this session, in the order in which they were filed.
@@ -178,7 +221,32 @@ where
     Ok(left.fault)
 }
 
-/// Why a book isn't settled with a slip out, and what it comes to once that is spent.
+/// Why the book isn't settled with a slip of this share out, and what it comes to once that is spent.
+fn settle_twice<K: Ledgers, R: Wait + Abort>(
+    rt: &R,
+    alloc: Global,
+    book: AuditBook<K>,
+    share: Share<K>,
+) -> Result<(SettleFault, Settled), AllocError> {
+    let mut shares = Vec::with_capacity(alloc, 1)?;
+    let mut share = share;
+    let Ok(slip) = book.claim(rt, &mut share) else {
+        rt.abort();
+    };
+    shares.push_reserved(share);
+    let Err(left) = book.settle(shares) else {
+        rt.abort();
+    };
+    let Unsettled {
+        fault,
+        book,
+        mut shares,
+    } = left;
+    book.void(rt, slip, &mut shares[0]);
+    Ok((fault, settled(rt, book, shares)))
+}
+
+/// The same of a new book.
 fn settle_with_slip<S, T, U, V, R>(
     rt: &R,
     alloc: Global,
@@ -193,27 +261,10 @@ where
     requires blanks { AreBlanksOf blanks (named S.name S.parts) (named T.name T.parts) (named U.name U.parts) (named V.name V.parts) 1 }
 {
     let (book, mut made) = AuditBook::<Four<S, T, U, V>>::new(alloc, blanks, 1, 8)?;
-    let mut shares = Vec::with_capacity(alloc, 1)?;
-    let Some(mut share) = made.pop() else {
+    let Some(share) = made.pop() else {
         rt.abort();
     };
-    let Ok(slip) = book.claim(rt, &mut share) else {
-        rt.abort();
-    };
-    shares.push_reserved(share);
-    let Err(left) = book.settle(shares) else {
-        rt.abort();
-    };
-    let Unsettled {
-        fault,
-        book,
-        mut shares,
-    } = left;
-    book.void(rt, slip, &mut shares[0]);
-    let Ok(settled) = book.settle(shares) else {
-        rt.abort();
-    };
-    Ok((fault, settled))
+    settle_twice(rt, alloc, book, share)
 }
 
 #[test]
@@ -261,7 +312,19 @@ fn holds_its_place<K: Ledgers>(book: &mut Book<K>, share: &mut Share<K>) -> bool
     is_full
 }
 
-/// How many entries find a place in a book of so many, and whether a slip keeps the last one.
+/// How many entries find a place in the book, which has so many, and whether a slip keeps the last one.
+fn fills<K: Ledgers>(
+    rt: &impl Abort,
+    book: &mut Book<K>,
+    share: &mut Share<K>,
+    places: usize,
+) -> (usize, bool) {
+    let is_kept = places != 1 || holds_its_place(book, share);
+    let filed = fill(rt, book, share);
+    (filed, is_kept && book.totals().slips == 0)
+}
+
+/// The same of a new book of so many places.
 fn fill_places<S, T, U, V>(
     rt: &impl Abort,
     alloc: Global,
@@ -279,9 +342,7 @@ where
     let Some(mut share) = shares.pop() else {
         rt.abort();
     };
-    let is_kept = places != 1 || holds_its_place(&mut book, &mut share);
-    let filed = fill(rt, &mut book, &mut share);
-    Ok((filed, is_kept && book.totals().slips == 0))
+    Ok(fills(rt, &mut book, &mut share, places))
 }
 
 #[test]
@@ -293,6 +354,15 @@ fn a_book_is_full_at_its_places(rt: HostRuntime) -> Result<(), Fail> {
     Ok(())
 }
 
+/// Whether the entries are the first seven of the session of this share.
+fn are_first<K: Ledgers>(rt: &impl Abort, entries: &[Entry], share: &Share<K>) -> bool {
+    let mut are_so = entries.len() == 7;
+    for (number, kept) in (0..).zip(entries.iter()) {
+        are_so = are_so && *kept == entry(rt, share, number);
+    }
+    are_so
+}
+
 /// Whether a book behind its lock counts and keeps what is filed, of each kind, and a slip that is out.
 fn keeps<K: Ledgers, R: Wait + Abort>(
     rt: &R,
@@ -300,30 +370,19 @@ fn keeps<K: Ledgers, R: Wait + Abort>(
     book: &AuditBook<K>,
     share: &mut Share<K>,
 ) -> Result<bool, AllocError> {
+    let mut are_filed = true;
     for number in 0..7 {
-        let Ok(slip) = book.claim(rt, share) else {
-            return Ok(false);
-        };
-        let entry = entry(rt, share, number);
-        book.file(rt, slip, share, entry);
+        are_filed &= files(rt, book, share, number);
     }
-    let Ok(slip) = book.claim(rt, share) else {
-        return Ok(false);
-    };
-    let totals = book.totals(rt);
-    book.void(rt, slip, share);
     let counts = Totals {
         slips: 1,
         reads: 3,
         writes: 2,
         refusals: 2,
     };
+    let are_counted = totals_with_slip(rt, book, share) == counts && book.totals(rt).slips == 0;
     let entries = book.entries(rt, alloc)?;
-    let mut are_kept = entries.len() == 7;
-    for (number, kept) in (0..).zip(entries.iter()) {
-        are_kept = are_kept && *kept == entry(rt, share, number);
-    }
-    Ok(are_kept && totals == counts && book.totals(rt).slips == 0)
+    Ok(are_filed && are_counted && are_first(rt, &entries, share))
 }
 
 /// The same of a new book.
