@@ -3,7 +3,7 @@ ghost use Rattle.std.specs.Prelude.{◌≡◌};
 ghost use Rattle.bayou_node.specs.Books.{IsBlankOf};
 ghost use Rattle.bayou_server.specs.Server.{own_count};
 
-use crate::fixtures::{Memory, Served, have_programs, key, plus, put, served, vector};
+use crate::fixtures::{Memory, Served, boxed, have_programs, key, plus, put, served, vector};
 use bayou_base::{Value, Vector};
 use bayou_lang::Program;
 use bayou_node::{Desk, Desks, Node, Settled};
@@ -16,7 +16,7 @@ use std::sync::ledger::Blank;
 use std::test::Fail;
 
 /// A node and its two desks.
-type Made<L> = (Node<Memory, L>, Desk<L>, Desk<L>);
+type Made<L> = (Box<Node<Memory, L>>, Desk<L>, Desk<L>);
 
 /// The server behind a lock.
 fn made<L: Desks>(rt: &impl Abort, alloc: Global, blank: Blank, server: Served) -> Made<L>
@@ -24,6 +24,9 @@ fn made<L: Desks>(rt: &impl Abort, alloc: Global, blank: Blank, server: Served) 
     requires whose { (server.core.id ≡ L.server) × (own_count server.core ≡ L.stored) }
 {
     let Ok((node, mut desks)) = Node::new(alloc, blank, server, 2) else {
+        rt.abort();
+    };
+    let Some(node) = boxed(alloc, node) else {
         rt.abort();
     };
     let (Some(second), Some(first)) = (desks.pop(), desks.pop()) else {
@@ -49,7 +52,7 @@ fn settles<L: Desks>(rt: &impl Abort, alloc: Global, made: Made<L>) -> Result<Se
     let (node, first, second) = made;
     let mut desks = Vec::with_capacity(alloc, 2)?;
     desks.push(first)?;
-    let Err(left) = node.settle(desks) else {
+    let Err(left) = Box::into_inner(node).settle(desks) else {
         rt.abort();
     };
     let mut desks = left.desks;
@@ -58,6 +61,25 @@ fn settles<L: Desks>(rt: &impl Abort, alloc: Global, made: Made<L>) -> Result<Se
         Ok(settled) => Ok(settled),
         Err(_) => rt.abort(),
     }
+}
+
+/// Whether two programs, each for a desk of its own, are accepted, and read there.
+fn takes_two<L: Desks, R: Wait + Abort>(
+    rt: &R,
+    alloc: Global,
+    node: &Node<Memory, L>,
+    first: &mut Desk<L>,
+    second: &mut Desk<L>,
+) -> Result<bool, WriteFault> {
+    let programs = [put(rt, 1), plus(rt, 1)];
+    let are_next = writes(rt, alloc, node, first, &programs[0])? == 1
+        && writes(rt, alloc, node, second, &programs[1])? == 2;
+    let are_kept = have_programs(&node.dump(rt, alloc)?, &programs);
+    let is_two = match node.read(rt, &vector(rt, 2, 0), &key(rt, "a")) {
+        Ok(seen) => seen.value == Some(Value::Num(2)) && seen.vector == vector(rt, 2, 0),
+        Err(_) => false,
+    };
+    Ok(are_next && are_kept && is_two)
 }
 
 /// What two programs, each for a desk of its own, come to.
@@ -71,21 +93,20 @@ fn two_programs<L: Desks, R: Wait + Abort>(
     requires whose { (server.core.id ≡ L.server) × (own_count server.core ≡ L.stored) }
 {
     let (node, mut first, mut second) = made::<L>(rt, alloc, blank, server);
-    let programs = [put(rt, 1), plus(rt, 1)];
-    let are_next = writes(rt, alloc, &node, &mut first, &programs[0])? == 1
-        && writes(rt, alloc, &node, &mut second, &programs[1])? == 2;
-    let are_kept = have_programs(&node.dump(rt, alloc)?, &programs);
-    let is_two = match node.read(rt, &vector(rt, 2, 0), &key(rt, "a")) {
-        Ok(seen) => seen.value == Some(Value::Num(2)) && seen.vector == vector(rt, 2, 0),
-        Err(_) => false,
-    };
+    let are_taken = takes_two(rt, alloc, node.as_ref(), &mut first, &mut second)?;
     let settled = settles(rt, alloc, (node, first, second))?;
+    Ok(are_taken && is_settled(rt, settled, [2, 0], 2))
+}
+
+/// Whether a node came to so many accepted and adopted Writes, and so many of the first server.
+fn is_settled(rt: &impl Abort, settled: Settled, counts: [u32; 2], held: u32) -> bool {
+    let [accepted, adopted] = counts;
     let expected = Settled {
-        accepted: 2,
-        adopted: 0,
-        vector: vector(rt, 2, 0),
+        accepted,
+        adopted,
+        vector: vector(rt, held, 0),
     };
-    Ok(are_next && are_kept && is_two && settled == expected)
+    settled == expected
 }
 
 #[test]
@@ -125,6 +146,20 @@ fn doubts<L: Desks, R: Wait + Abort>(
     was_up && is_doubted && is_down && is_adopted && is_up
 }
 
+/// Whether a second Write is accepted and a third one adopted, and both told of.
+fn accepts_and_adopts<L: Desks, R: Wait + Abort>(
+    rt: &R,
+    alloc: Global,
+    node: &Node<Memory, L>,
+    desk: &mut Desk<L>,
+) -> Result<bool, WriteFault> {
+    let is_next = writes(rt, alloc, node, desk, &put(rt, 2))? == 2;
+    let is_adopted = doubts(rt, alloc, node, desk);
+    let is_offered = node.offer(rt) == vector(rt, 3, 0);
+    let is_listed = node.listing(rt, alloc)?.len() == 3;
+    Ok(is_next && is_adopted && is_offered && is_listed)
+}
+
 /// What a server comes to that has made a Write as its node is made: a second one is accepted, and a third one adopted.
 fn one_of_each<L: Desks, R: Wait + Abort>(
     rt: &R,
@@ -136,17 +171,9 @@ fn one_of_each<L: Desks, R: Wait + Abort>(
     requires whose { (server.core.id ≡ L.server) × (own_count server.core ≡ L.stored) }
 {
     let (node, mut first, second) = made::<L>(rt, alloc, blank, server);
-    let is_next = writes(rt, alloc, &node, &mut first, &put(rt, 2))? == 2;
-    let is_adopted = doubts(rt, alloc, &node, &mut first);
-    let is_offered = node.offer(rt) == vector(rt, 3, 0);
-    let is_listed = node.listing(rt, alloc)?.len() == 3;
+    let are_told = accepts_and_adopts(rt, alloc, node.as_ref(), &mut first)?;
     let settled = settles(rt, alloc, (node, first, second))?;
-    let expected = Settled {
-        accepted: 1,
-        adopted: 1,
-        vector: vector(rt, 3, 0),
-    };
-    Ok(is_next && is_adopted && is_offered && is_listed && settled == expected)
+    Ok(are_told && is_settled(rt, settled, [1, 1], 3))
 }
 
 #[test]

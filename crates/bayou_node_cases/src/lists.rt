@@ -3,7 +3,7 @@ ghost use Rattle.std.specs.Prelude.{◌≡◌};
 ghost use Rattle.bayou_node.specs.Books.{IsBlankOf};
 ghost use Rattle.bayou_server.specs.Server.{own_count};
 
-use crate::fixtures::{Memory, Served, are_same, key, plus, put, served, vector};
+use crate::fixtures::{Memory, Served, are_same, boxed, key, plus, put, served, vector};
 use bayou_base::{ServerId, Stamp, Vector, Wid};
 use bayou_lang::{Program, Write};
 use bayou_node::{Desk, Desks, Node};
@@ -92,16 +92,16 @@ fn any_call(rt: &impl Abort, dice: &mut Dice) -> Call {
 /// A node with its one desk, and the server beside it.
 #[derive(Drop)]
 struct Pair<L: Desks> {
-    node: Node<Memory, L>,
+    node: Box<Node<Memory, L>>,
     desk: Desk<L>,
-    server: Served,
+    server: Box<Served>,
     /// How many programs were accepted.
     accepted: u32,
 }
 
 fn reads_alike<L: Desks, R: Wait + Abort>(rt: &R, pair: &Pair<L>, need: &Vector) -> bool {
     let a = key(rt, "a");
-    pair.server.read(need, &a) == pair.node.read(rt, need, &a)
+    pair.server.as_ref().read(need, &a) == pair.node.as_ref().read(rt, need, &a)
 }
 
 fn writes_alike<L: Desks, R: Wait + Abort>(
@@ -114,11 +114,15 @@ fn writes_alike<L: Desks, R: Wait + Abort>(
     let (Ok(one), Ok(other)) = (program.rest(alloc), program.rest(alloc)) else {
         return false;
     };
-    let answer = pair.server.write(alloc, need, one);
+    let answer = pair.server.as_mut().write(alloc, need, one);
     if answer.is_ok() {
         pair.accepted = pair.accepted.saturating_add(1);
     }
-    answer == pair.node.write(rt, alloc, &mut pair.desk, need, other)
+    answer
+        == pair
+            .node
+            .as_ref()
+            .write(rt, alloc, &mut pair.desk, need, other)
 }
 
 fn takes_alike<L: Desks, R: Wait + Abort>(
@@ -130,7 +134,7 @@ fn takes_alike<L: Desks, R: Wait + Abort>(
     let (Ok(one), Ok(other)) = (write.rest(alloc), write.rest(alloc)) else {
         return false;
     };
-    pair.server.take(alloc, one) == pair.node.take(rt, alloc, other)
+    pair.server.as_mut().take(alloc, one) == pair.node.as_ref().take(rt, alloc, other)
 }
 
 fn lacks_alike<L: Desks, R: Wait + Abort>(
@@ -139,22 +143,28 @@ fn lacks_alike<L: Desks, R: Wait + Abort>(
     pair: &Pair<L>,
     (counts, most): (&Vector, usize),
 ) -> bool {
-    let lacking = pair.server.lacking(alloc, counts, most);
-    match (lacking, pair.node.lacking(rt, alloc, counts, most)) {
+    let lacking = pair.server.as_ref().lacking(alloc, counts, most);
+    match (lacking, pair.node.as_ref().lacking(rt, alloc, counts, most)) {
         (Ok(one), Ok(other)) => are_same(&one, &other),
         _ => false,
     }
 }
 
 fn lists_alike<L: Desks, R: Wait + Abort>(rt: &R, alloc: Global, pair: &Pair<L>) -> bool {
-    match (pair.server.listing(alloc), pair.node.listing(rt, alloc)) {
+    match (
+        pair.server.as_ref().listing(alloc),
+        pair.node.as_ref().listing(rt, alloc),
+    ) {
         (Ok(one), Ok(other)) => one.as_slice() == other.as_slice(),
         _ => false,
     }
 }
 
 fn dumps_alike<L: Desks, R: Wait + Abort>(rt: &R, alloc: Global, pair: &Pair<L>) -> bool {
-    match (pair.server.dump(alloc), pair.node.dump(rt, alloc)) {
+    match (
+        pair.server.as_ref().dump(alloc),
+        pair.node.as_ref().dump(rt, alloc),
+    ) {
         (Ok(one), Ok(other)) => are_same(&one, &other),
         _ => false,
     }
@@ -171,8 +181,8 @@ fn answers_alike<L: Desks, R: Wait + Abort>(
         Call::Read(need) => reads_alike(rt, pair, need),
         Call::Write(need, program) => writes_alike(rt, alloc, pair, need, program),
         Call::Take(write) => takes_alike(rt, alloc, pair, write),
-        Call::Reopen => pair.server.reopen(alloc) == pair.node.reopen(rt, alloc),
-        Call::Offer => pair.server.vector() == pair.node.offer(rt),
+        Call::Reopen => pair.server.as_mut().reopen(alloc) == pair.node.as_ref().reopen(rt, alloc),
+        Call::Offer => pair.server.as_ref().vector() == pair.node.as_ref().offer(rt),
         Call::Lacking(counts, most) => lacks_alike(rt, alloc, pair, (counts, *most)),
         Call::Listing => lists_alike(rt, alloc, pair),
         Call::Dump => dumps_alike(rt, alloc, pair),
@@ -191,10 +201,43 @@ fn settles_alike<L: Desks>(alloc: Global, pair: Pair<L>) -> bool {
     if desks.push(desk).is_err() {
         return false;
     }
-    match node.settle(desks) {
-        Ok(settled) => settled.accepted == accepted && settled.vector == server.vector(),
+    match Box::into_inner(node).settle(desks) {
+        Ok(settled) => settled.accepted == accepted && settled.vector == server.as_ref().vector(),
         Err(_) => false,
     }
+}
+
+/// The one server behind a lock, and the other beside it.
+fn pair_of<L: Desks>(alloc: Global, blank: Blank, server: Served, beside: Served) -> Option<Pair<L>>
+    requires blank { IsBlankOf blank L.name L.parts 1 }
+    requires whose { (server.core.id ≡ L.server) × (own_count server.core ≡ L.stored) }
+{
+    let server_beside = boxed(alloc, beside)?;
+    let Ok((node, mut desks)) = Node::<_, L>::new(alloc, blank, server, 1) else {
+        return None;
+    };
+    Some(Pair {
+        node: boxed(alloc, node)?,
+        desk: desks.pop()?,
+        server: server_beside,
+        accepted: 0,
+    })
+}
+
+/// Whether both answer alike over the list that begins with this number, and have the same in the end.
+fn all_alike<L: Desks, R: Wait + Abort>(
+    rt: &R,
+    alloc: Global,
+    pair: &mut Pair<L>,
+    number: u32,
+) -> bool {
+    let mut dice = Dice { state: number };
+    let mut are_alike = true;
+    for _ in 0..CALLS {
+        let call = any_call(rt, &mut dice);
+        are_alike &= answers_alike(rt, alloc, pair, &call);
+    }
+    are_alike && dumps_alike(rt, alloc, pair)
 }
 
 /// Whether both go alike over the list that begins with this number.
@@ -209,25 +252,11 @@ fn go_alike<L: Desks, R: Wait + Abort>(
     requires blank { IsBlankOf blank L.name L.parts 1 }
     requires whose { (server.core.id ≡ L.server) × (own_count server.core ≡ L.stored) }
 {
-    let Ok((node, mut desks)) = Node::<_, L>::new(alloc, blank, server, 1) else {
+    let Some(mut pair) = pair_of::<L>(alloc, blank, server, beside) else {
         return false;
     };
-    let Some(desk) = desks.pop() else {
-        return false;
-    };
-    let mut pair = Pair {
-        node,
-        desk,
-        server: beside,
-        accepted: 0,
-    };
-    let mut dice = Dice { state: number };
-    let mut are_alike = true;
-    for _ in 0..CALLS {
-        let call = any_call(rt, &mut dice);
-        are_alike &= answers_alike(rt, alloc, &mut pair, &call);
-    }
-    are_alike && dumps_alike(rt, alloc, &pair) && settles_alike(alloc, pair)
+    let are_alike = all_alike(rt, alloc, &mut pair, number);
+    are_alike && settles_alike(alloc, pair)
 }
 
 /// A server whose device fails at a call that the number picks.

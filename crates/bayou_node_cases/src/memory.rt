@@ -3,7 +3,7 @@ ghost use Rattle.std.specs.Prelude.{◌≡◌};
 ghost use Rattle.bayou_node.specs.Books.{IsBlankOf};
 ghost use Rattle.bayou_server.specs.Server.{own_count};
 
-use crate::fixtures::{Memory, Served, put, served, vector};
+use crate::fixtures::{Memory, Served, boxed, put, served, vector};
 use bayou_base::{ServerId, Stamp, Vector, Wid};
 use bayou_lang::Write;
 use bayou_node::{Desk, Desks, Node, Settled};
@@ -185,15 +185,15 @@ fn goes_of<L: Desks, R: Wait + Abort>(
         Ok(made) => made,
         Err(left) => return Err(left.server),
     };
-    let Some(mut desk) = desks.pop() else {
+    let (Some(node), Some(mut desk)) = (boxed(alloc, node), desks.pop()) else {
         return Ok(false);
     };
-    let Some(made) = goes(rt, alloc, &node, &mut desk) else {
+    let Some(made) = goes(rt, alloc, node.as_ref(), &mut desk) else {
         return Ok(false);
     };
     // Its place in the list is there.
     let is_back = desks.push(desk).is_ok();
-    Ok(is_back && settles(rt, node, desks, made))
+    Ok(is_back && settles(rt, Box::into_inner(node), desks, made))
 }
 
 /// Once more, with the server that came back.

@@ -2,7 +2,7 @@
 use crate::fixtures::{key, plus, put, vector, wid, write};
 use crate::notation::bytes_of;
 use arrayvec::ArrayVec;
-use bayou_base::{Key, Value, Vector};
+use bayou_base::{Key, MAX_WRITES, SERVERS, Value, Vector};
 use bayou_lang::{Outcome, RestingProgram, RestingWrite, Write};
 use bayou_log::plain::replayed;
 use bayou_log::{Db, Misfit, WriteLog};
@@ -109,9 +109,19 @@ fn has_all(rt: &impl Abort, alloc: Global, log: &mut WriteLog, order: &[u8], a: 
     is_so && log.clock() == 1 && told(log, a) == (5, 1115) && log.is_full()
 }
 
+/// A log of so many servers with room for so many Writes, in a box of its own: a function that owns a box is proved in a third of the time that
+/// one takes which owns the log.
+fn empty_log(rt: &impl Abort, alloc: Global, count: u8, limit: u32) -> Box<WriteLog> {
+    Box::new(
+        alloc,
+        WriteLog::new(alloc, count.min(SERVERS as u8), limit.min(MAX_WRITES)),
+    )
+    .expect(rt, "no memory")
+}
+
 /// Whether a new log does so.
 fn makes_one_database(rt: &impl Abort, alloc: Global, order: &[u8], a: &Key) -> bool {
-    let mut log = WriteLog::new(alloc, 5, 5);
+    let mut log = empty_log(rt, alloc, 5, 5);
     has_all(rt, alloc, &mut log, order, a)
 }
 
@@ -181,7 +191,7 @@ fn puts_below(rt: &impl Abort, alloc: Global, log: &mut WriteLog, a: &Key) -> bo
 
 #[test]
 fn a_late_write_goes_below_two_hundred(rt: HostRuntime) {
-    let mut log = WriteLog::new(rt.alloc(), 2, 300);
+    let mut log = empty_log(&rt, rt.alloc(), 2, 300);
     assert!(rt; puts_below(&rt, rt.alloc(), &mut log, &key(&rt, "a")));
 }
 
@@ -204,7 +214,7 @@ fn takes_one(rt: &impl Abort, alloc: Global, log: &mut WriteLog) -> bool {
 
 #[test]
 fn a_full_log_takes_no_write(rt: HostRuntime) {
-    let mut log = WriteLog::new(rt.alloc(), 2, 1);
+    let mut log = empty_log(&rt, rt.alloc(), 2, 1);
     assert!(rt; takes_one(&rt, rt.alloc(), &mut log));
 }
 
@@ -238,7 +248,7 @@ fn tells_all(rt: &impl Abort, alloc: Global, log: &mut WriteLog) {
 
 #[test]
 fn a_log_tells_which_writes_fit(rt: HostRuntime) {
-    let mut log = WriteLog::new(rt.alloc(), 2, 3);
+    let mut log = empty_log(&rt, rt.alloc(), 2, 3);
     tells_all(&rt, rt.alloc(), &mut log);
 }
 
@@ -326,6 +336,6 @@ fn tells_lacking(rt: &impl Abort, alloc: Global, log: &mut WriteLog) {
 
 #[test]
 fn what_is_lacking_comes_in_stamp_order(rt: HostRuntime) {
-    let mut log = WriteLog::new(rt.alloc(), 8, 6);
+    let mut log = empty_log(&rt, rt.alloc(), 8, 6);
     tells_lacking(&rt, rt.alloc(), &mut log);
 }
