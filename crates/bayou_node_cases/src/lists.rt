@@ -3,6 +3,7 @@ ghost use Rattle.std.specs.Prelude.{◌≡◌};
 ghost use Rattle.bayou_node.specs.Books.{IsBlankOf};
 ghost use Rattle.bayou_server.specs.Server.{own_count};
 
+use crate::dice::Dice;
 use crate::fixtures::{Memory, Served, are_same, boxed, key, plus, put, served, vector};
 use bayou_base::{ServerId, Stamp, Vector, Wid};
 use bayou_lang::{Program, Write};
@@ -18,23 +19,6 @@ use std::test::Fail;
 const LISTS: u32 = 100;
 
 const CALLS: u32 = 60;
-
-/// Numbers that look as if they were thrown (a linear congruential generator with the constants of Numerical Recipes).
-#[derive(Drop)]
-struct Dice {
-    state: u32,
-}
-
-impl Dice {
-    /// A number below this one.
-    fn throw(&mut self, sides: u32) -> u32 {
-        self.state = self
-            .state
-            .wrapping_mul(1_664_525)
-            .wrapping_add(1_013_904_223);
-        (self.state >> 16) % sides.max(1)
-    }
-}
 
 /// One call.
 #[derive(Drop)]

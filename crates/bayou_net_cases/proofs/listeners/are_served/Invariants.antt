@@ -1,5 +1,5 @@
 -- the four ledgers of the book, the ledger of the desks, and what the node is of
-use Rattle.bayou_socket_cases.proofs.listeners.are_served.Given as goal
+use Rattle.bayou_net_cases.proofs.listeners.are_served.Given as goal
 use Rattle.bayou_server.specs.Server.{own_count}
 
 abbrev pub ghosts-serves_sessions-S-Ledger : goal.ghosts-serves_sessions-S-Ledger

@@ -1,5 +1,5 @@
 -- the ledgers of the desks, and what the nodes are of
-use Rattle.bayou_together_cases.proofs.threads.eight_threads_at_three_nodes_keep_exact_books.Given as goal
+use Rattle.bayou_node_cases.proofs.threads.eight_threads_at_three_nodes_keep_exact_books.Given as goal
 use Rattle.bayou_server.specs.Server.{own_count}
 
 abbrev pub ghosts-work_together-L-Ledger : goal.ghosts-work_together-L-Ledger

@@ -1,7 +1,8 @@
 //! Servers that send each other what they lack: what stands in the stream, what is taken of it however it ends, each call of a
 //! reader or a writer failing in turn, and want of memory.
 use crate::fakes::{EndlessReader, FakeReader, FakeWriter};
-use crate::items::{Given, item, stream, vector, write};
+use crate::fixtures::vector;
+use crate::items::{Given, item, stream, write};
 use crate::takes;
 use bayou_base::{ServerId, Vector};
 use bayou_device::{MemoryDevice, OpenGate};
@@ -25,7 +26,7 @@ fn begun(rt: &impl Abort, alloc: Global, index: u8) -> Result<Box<Served>, Start
     let device = MemoryDevice::new(alloc, OpenGate);
     let id = ServerId::new(index).expect(rt, "no server");
     match Server::start(alloc, id, 8, 100, device) {
-        Ok((server, _)) => takes::boxed(alloc, server),
+        Ok((server, _)) => takes::kept(alloc, server),
         Err(refused) => Err(refused.fault),
     }
 }

@@ -1,5 +1,5 @@
 -- the ledger of the desk, and what the node is of
-use Rattle.bayou_meeting_cases.proofs.nodes.a_node_is_free_between_two_items_that_come.Given as goal
+use Rattle.bayou_node_cases.proofs.nodes.a_node_is_free_between_two_items_that_come.Given as goal
 use Rattle.bayou_server.specs.Server.{own_count}
 
 abbrev pub ghosts-is_free_between_items-L-Ledger : goal.ghosts-is_free_between_items-L-Ledger

@@ -1,6 +1,7 @@
 //! Servers that are given Writes that others accepted: what each answers and leaves, which of two refusals comes, each device call
 //! failing in turn, every order of receipt, and want of memory.
-use crate::items::{Given, vector, write};
+use crate::fixtures::{boxed, vector};
+use crate::items::{Given, write};
 use bayou_base::{Key, MAX_WRITES, ServerId, Value, Vector};
 use bayou_device::{MemoryDevice, OpenGate};
 use bayou_lang::{Op, Outcome, Program, Term, Write};
@@ -30,16 +31,9 @@ enum Step {
 
 use Step::{Fuse, Has, Put, Reopen, Take};
 
-/// The server in a box of its own, also where one allocation is refused: a function that owns a box is proved in a third of the time that one
-/// takes which owns the server.
-pub fn boxed(alloc: Global, server: Served) -> Result<Box<Served>, StartFault> {
-    match Box::new(alloc, server) {
-        Ok(server) => Ok(server),
-        Err(refused) => match Box::new(alloc, refused.value) {
-            Ok(server) => Ok(server),
-            Err(_) => Err(StartFault::OutOfMemory),
-        },
-    }
+/// The server in a box of its own.
+pub fn kept(alloc: Global, server: Served) -> Result<Box<Served>, StartFault> {
+    boxed(alloc, server).ok_or(StartFault::OutOfMemory)
 }
 
 /// The second of two servers on the device.
@@ -51,7 +45,7 @@ fn start(
 ) -> Result<Box<Served>, StartFault> {
     let id = ServerId::new(1).expect(rt, "no server");
     match Server::start(alloc, id, 2, limit.min(MAX_WRITES), device) {
-        Ok((server, _)) => boxed(alloc, server),
+        Ok((server, _)) => kept(alloc, server),
         Err(refused) => Err(refused.fault),
     }
 }
@@ -234,7 +228,7 @@ fn first(rt: &impl Abort, origin: u8) -> Write {
 fn first_of_four(rt: &impl Abort, alloc: Global) -> Result<Box<Served>, StartFault> {
     let id = ServerId::new(0).expect(rt, "no server");
     match Server::start(alloc, id, 4, 100, MemoryDevice::new(alloc, OpenGate)) {
-        Ok((server, _)) => boxed(alloc, server),
+        Ok((server, _)) => kept(alloc, server),
         Err(refused) => Err(refused.fault),
     }
 }
@@ -354,7 +348,7 @@ fn start_at_last(
 ) -> Result<Box<Served>, StartFault> {
     let id = ServerId::new(1).expect(rt, "no server");
     match Server::start(alloc, id, 2, 100, device) {
-        Ok((server, _)) => boxed(alloc, server),
+        Ok((server, _)) => kept(alloc, server),
         Err(refused) => start(rt, alloc, 100, refused.device),
     }
 }

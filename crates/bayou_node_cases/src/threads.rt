@@ -3,7 +3,8 @@ ghost use Rattle.std.specs.Prelude.{◌≡◌};
 ghost use Rattle.bayou_node.specs.Books.{IsBlankOf};
 ghost use Rattle.bayou_server.specs.Server.{own_count};
 
-use crate::hands::{Dice, Hand, Three, reopens, works};
+use crate::dice::Dice;
+use crate::hands::{Hand, Three, reopens, works};
 use crate::meetings::{Memory, meets};
 use bayou_base::ServerId;
 use bayou_device::{MemoryDevice, OpenGate};
@@ -160,21 +161,17 @@ fn count_at(rt: &impl Abort, settled: &Settled, index: u8) -> u32 {
 /// Whether the three are settled, each with what the threads counted.
 fn settle<L: Desks, M: Desks, N: Desks>(
     rt: &impl Abort,
-    nodes: (
-        Box<Node<Memory, L>>,
-        Box<Node<Memory, M>>,
-        Box<Node<Memory, N>>,
-    ),
+    nodes: (Node<Memory, L>, Node<Memory, M>, Node<Memory, N>),
     rows: (Row<L>, Row<M>, Row<N>),
     accepted: [u32; 3],
 ) -> bool {
-    let Ok(first) = Box::into_inner(nodes.0).settle(rows.0) else {
+    let Ok(first) = nodes.0.settle(rows.0) else {
         return false;
     };
-    let Ok(second) = Box::into_inner(nodes.1).settle(rows.1) else {
+    let Ok(second) = nodes.1.settle(rows.1) else {
         return false;
     };
-    let Ok(third) = Box::into_inner(nodes.2).settle(rows.2) else {
+    let Ok(third) = nodes.2.settle(rows.2) else {
         return false;
     };
     first.vector == second.vector
@@ -182,20 +179,6 @@ fn settle<L: Desks, M: Desks, N: Desks>(
         && adds_up(&first, accepted[0], count_at(rt, &first, 0))
         && adds_up(&second, accepted[1], count_at(rt, &second, 1))
         && adds_up(&third, accepted[2], count_at(rt, &third, 2))
-}
-
-/// A node in a box of its own, and its desks: a function that owns a box is proved in a third of the time that one takes which owns a node.
-type Kept<L> = (Box<Node<Memory, L>>, Row<L>);
-
-/// The server behind a lock, with a desk for each thread.
-fn kept<L: Desks>(alloc: Global, blank: Blank, server: Server<Memory>) -> Option<Kept<L>>
-    requires blank { IsBlankOf blank L.name L.parts THREADS }
-    requires whose { (server.core.id ≡ L.server) × (own_count server.core ≡ L.stored) }
-{
-    let Ok((node, desks)) = Node::<_, L>::new(alloc, blank, server, THREADS) else {
-        return None;
-    };
-    Some((Box::new(alloc, node).ok()?, desks))
 }
 
 /// What eight threads at three new nodes come to.
@@ -214,19 +197,19 @@ where
     requires second { IsBlankOf blanks.1 M.name M.parts THREADS × (servers.1.core.id ≡ M.server) × (own_count servers.1.core ≡ M.stored) }
     requires third { IsBlankOf blanks.2 N.name N.parts THREADS × (servers.2.core.id ≡ N.server) × (own_count servers.2.core ≡ N.stored) }
 {
-    let Some((first, firsts)) = kept::<L>(alloc, blanks.0, servers.0) else {
+    let Ok((first, firsts)) = Node::<_, L>::new(alloc, blanks.0, servers.0, THREADS) else {
         return Ok(false);
     };
-    let Some((second, seconds)) = kept::<M>(alloc, blanks.1, servers.1) else {
+    let Ok((second, seconds)) = Node::<_, M>::new(alloc, blanks.1, servers.1, THREADS) else {
         return Ok(false);
     };
-    let Some((third, thirds)) = kept::<N>(alloc, blanks.2, servers.2) else {
+    let Ok((third, thirds)) = Node::<_, N>::new(alloc, blanks.2, servers.2, THREADS) else {
         return Ok(false);
     };
     let three = &Three {
-        first: first.as_ref(),
-        second: second.as_ref(),
-        third: third.as_ref(),
+        first: &first,
+        second: &second,
+        third: &third,
     };
     let hands = hands(alloc, (firsts, seconds, thirds))?;
     let done = thread::map_vec(rt, hands, &|hand| works(rt, alloc, three, hand))?;

@@ -1,4 +1,5 @@
 //! What one thread does at three nodes.
+use crate::dice::Dice;
 use crate::meetings::{Memory, meets};
 use bayou_base::{Key, Value, Vector};
 use bayou_lang::{Op, Program, Term};
@@ -32,23 +33,6 @@ pub struct Hand<L: Desks, M: Desks, N: Desks> {
     /// Whether each answer was one that may come.
     pub is_so: bool,
     pub dice: Dice,
-}
-
-/// Numbers that look as if they were thrown (a linear congruential generator with the constants of Numerical Recipes).
-#[derive(Drop)]
-pub struct Dice {
-    pub state: u32,
-}
-
-impl Dice {
-    /// A number below this one.
-    fn throw(&mut self, sides: u32) -> u32 {
-        self.state = self
-            .state
-            .wrapping_mul(1_664_525)
-            .wrapping_add(1_013_904_223);
-        (self.state >> 16) % sides.max(1)
-    }
 }
 
 fn a(rt: &impl Abort) -> Key {

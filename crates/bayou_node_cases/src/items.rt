@@ -1,5 +1,4 @@
 //! Writes that others accepted, as they stand in a stream, and streams of them.
-use bayou_base::{SERVERS, Vector};
 use bayou_lang::Write;
 use bayou_wire::decode_write;
 use std::alloc::Global;
@@ -23,13 +22,6 @@ pub const fn item(given: Given) -> [u8; 60] {
 /// The Write.
 pub fn write(rt: &impl Abort, given: Given) -> Write {
     decode_write(&item(given)[3..]).expect(rt, "no Write")
-}
-
-/// So many Writes of the first two servers, and none of the others.
-pub fn vector(rt: &impl Abort, first: u32, second: u32) -> Vector {
-    let mut counts = [0; SERVERS];
-    [counts[0], counts[1]] = [first, second];
-    Vector::from_counts(counts).expect(rt, "no vector")
 }
 
 /// The first server's first three Writes; another one of the first name; one whose past and clock don't go together; and the second

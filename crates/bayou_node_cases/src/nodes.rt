@@ -3,7 +3,8 @@ ghost use Rattle.std.specs.Prelude.{◌≡◌};
 ghost use Rattle.bayou_node.specs.Books.{IsBlankOf};
 ghost use Rattle.bayou_server.specs.Server.{own_count};
 
-use crate::items::{is_stream, item, stream, vector};
+use crate::fixtures::vector;
+use crate::items::{is_stream, item, stream};
 use crate::pulls::{Served, full};
 use bayou_base::Vector;
 use bayou_device::{MemoryDevice, OpenGate};

@@ -1,7 +1,8 @@
 //! Servers that are asked by an Offer: what is read of a stream and what is written, each call of a reader or a writer failing in turn,
 //! and want of memory.
 use crate::fakes::{EndlessReader, FakeReader};
-use crate::items::{is_stream, stream, vector};
+use crate::fixtures::vector;
+use crate::items::{is_stream, stream};
 use crate::pulls::{Served, failing, full, tens_before};
 use bayou_peer::{Fault, serve_offer_on};
 use bayou_streams::Channel;

@@ -1,5 +1,5 @@
 -- the ledger of the desk, and what the node is of
-use Rattle.bayou_meeting_cases.proofs.nodes.a_node_sends_and_takes.Given as goal
+use Rattle.bayou_node_cases.proofs.nodes.a_node_sends_and_takes.Given as goal
 use Rattle.bayou_server.specs.Server.{own_count}
 
 abbrev pub ghosts-goes-L-Ledger : goal.ghosts-goes-L-Ledger
