@@ -1,20 +1,18 @@
 //! Servers whose device calls fail: what each event is answered then, and that each run is clean.
-use crate::fixtures::sessions_of;
-use crate::scripts::{ALL, Act, NOTHING, Said, are_said, event_of, has_names};
+use crate::fixtures::history_of;
+use crate::scripts::{ALL, Act, NOTHING, Said, add, are_said, events_of, has_names};
 use Said::{
     Accepted, Delivered, Doubted, Down, Fused, Holds, Kept, NotDown, NotReopened, NotRestarted,
     Seen, Skipped, Up,
 };
 use bayou_judge::{Verdict, judge};
 use bayou_server::{JournalFault, ReopenFault, StartFault, TakeFault, WriteFault};
-use bayou_world::world::World;
 use bayou_world::{Event, History, Reply};
 use std::alloc::{AllocError, Global};
 use std::process::Abort;
 use std::test::Fail;
 
 /// Events at one server and of one session that asks for nothing, what each is answered, and what the server holds in the end.
-#[derive(Clone, Copy, Debug)]
 struct Row {
     acts: &'static [(Act, Said)],
     dump: &'static [(u8, u32)],
@@ -158,32 +156,24 @@ static ROWS: [Row; 10] = [
     },
 ];
 
-fn events_of_acts(
-    rt: &impl Abort,
-    alloc: Global,
-    acts: &[(Act, Said)],
-) -> Result<Vec<Event>, AllocError> {
-    let mut events = Vec::new(alloc);
-    for (act, _) in acts {
-        events.push(event_of(rt, alloc, *act)?)?;
-    }
-    Ok(events)
+fn is_answered(rt: &impl Abort, alloc: Global, row: &Row) -> Result<bool, AllocError> {
+    let events = events_of(rt, alloc, row.acts)?;
+    let history = history_of(rt, alloc, (1, 100), &[NOTHING], events.as_slice())?;
+    Ok(is_of(&history, row))
 }
 
-fn is_answered(rt: &impl Abort, alloc: Global, row: &Row) -> Result<bool, AllocError> {
-    let events = events_of_acts(rt, alloc, row.acts)?;
-    let sessions = sessions_of(rt, alloc, &[NOTHING])?;
-    let history = World::new(alloc, 1, 100, sessions.as_slice())?.run(alloc, events.as_slice())?;
+/// Whether these are the answers, and the dump, of the row.
+fn is_of(history: &History, row: &Row) -> bool {
     let Some(dump) = history.dumps.first() else {
-        return Ok(false);
+        return false;
     };
-    Ok(are_said(history.replies.as_slice(), row.acts) && has_names(dump.as_slice(), row.dump))
+    are_said(history.replies.as_slice(), row.acts) && has_names(dump.as_slice(), row.dump)
 }
 
 #[test]
 fn servers_fail_and_are_recovered(rt: HostRuntime) -> Result<(), Fail> {
-    for row in ROWS {
-        assert!(rt; is_answered(&rt, rt.alloc(), &row)?, "{row:?}");
+    for (at, row) in ROWS.iter().enumerate() {
+        assert!(rt; is_answered(&rt, rt.alloc(), row)?, "row {at}");
     }
     Ok(())
 }
@@ -229,7 +219,7 @@ fn fused_events(
     kept: usize,
 ) -> Result<Vec<Event>, AllocError> {
     let mut events = Vec::new(alloc);
-    events.push(event_of(rt, alloc, Act::Fuse(server, call, kept))?)?;
+    add(rt, alloc, &mut events, Act::Fuse(server, call, kept))?;
     for round in 0..ROUNDS {
         add_round(rt, alloc, &mut events, round)?;
     }
@@ -243,7 +233,7 @@ fn add_round(
     round: u8,
 ) -> Result<(), AllocError> {
     for act in round_of(round) {
-        events.push(event_of(rt, alloc, act)?)?;
+        add(rt, alloc, events, act)?;
     }
     Ok(())
 }
@@ -289,13 +279,15 @@ fn faults_of(
     kept: usize,
 ) -> Result<Option<u32>, AllocError> {
     let events = fused_events(rt, alloc, server, call, kept)?;
-    let sessions = sessions_of(rt, alloc, &[ALL])?;
-    let history = World::new(alloc, 2, 100, sessions.as_slice())?.run(alloc, events.as_slice())?;
-    if is_clean(alloc, &history) {
-        Ok(Some(faults_in(history.replies.as_slice())))
-    } else {
-        Ok(None)
+    let history = history_of(rt, alloc, (2, 100), &[ALL], events.as_slice())?;
+    Ok(clean_faults_in(alloc, &history))
+}
+
+fn clean_faults_in(alloc: Global, history: &History) -> Option<u32> {
+    if !is_clean(alloc, history) {
+        return None;
     }
+    Some(faults_in(history.replies.as_slice()))
 }
 
 /// Whether all is clean where that call of the server fails, whatever it keeps of its piece. Just one fault is told.

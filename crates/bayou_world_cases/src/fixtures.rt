@@ -2,6 +2,8 @@
 use bayou_base::{Asks, Key, ServerId, SessionId, Value};
 use bayou_lang::{Op, Program, RestingProgram, Term};
 use bayou_session::Session;
+use bayou_world::world::World;
+use bayou_world::{Event, History};
 use std::alloc::{AllocError, Global};
 use std::process::Abort;
 
@@ -38,4 +40,17 @@ pub fn sessions_of(
         index = index.saturating_add(1);
     }
     Ok(sessions)
+}
+
+/// What a run leaves, of so many servers, at most four, which hold so many Writes each, at most 1,000, and of sessions with these asks.
+pub fn history_of(
+    rt: &impl Abort,
+    alloc: Global,
+    (count, limit): (u8, u32),
+    asks: &[Asks],
+    events: &[Event],
+) -> Result<History, AllocError> {
+    let sessions = sessions_of(rt, alloc, asks)?;
+    let world = World::new(alloc, count.min(4), limit.min(1_000), sessions.as_slice())?;
+    world.run(alloc, events)
 }

@@ -26,10 +26,15 @@ static EACH_EVENT: Script = Script {
 };
 
 fn events_at_last(rt: &impl Abort, alloc: Global) -> Result<Vec<Event>, AllocError> {
-    match events_of(rt, alloc, &EACH_EVENT) {
+    match events_of(rt, alloc, EACH_EVENT.acts) {
         Ok(events) => Ok(events),
-        Err(AllocError) => events_of(rt, alloc, &EACH_EVENT),
+        Err(AllocError) => events_of(rt, alloc, EACH_EVENT.acts),
     }
+}
+
+/// Whether this may be said for want of memory.
+fn is_want(said: Said) -> bool {
+    said == Wanting || said == Doubted
 }
 
 /// Whether the replies tell of want of memory, behind those of ample memory.
@@ -38,7 +43,7 @@ fn are_cut_short(replies: &[Reply], acts: &[(Act, Said)]) -> bool {
     let mut is_each = replies.len() == acts.len();
     for (reply, (_, wanted)) in replies.iter().zip(acts.iter()) {
         let said = saying(reply);
-        is_wanting = is_wanting || said == Wanting || said == Doubted;
+        is_wanting = is_wanting || is_want(said);
         is_each = is_each && (is_wanting || said == *wanted);
     }
     is_each && is_wanting

@@ -4,11 +4,10 @@
 ghost use Rattle.std.specs.Prelude.{◌<◌};
 
 use crate::failures::is_fault;
-use crate::fixtures::{put, room, server_id, session_id, sessions_of};
+use crate::fixtures::{history_of, put, room, server_id, session_id};
 use bayou_base::{Asks, Entry, ServerId, SessionId};
 use bayou_judge::{Guarantee, Refusal, Verdict, judge};
 use bayou_server::{JournalFault, ReopenFault, StartFault, TakeFault, Took, WriteFault};
-use bayou_world::world::World;
 use bayou_world::{Event, History, Reply};
 use std::alloc::{AllocError, Global};
 use std::process::Abort;
@@ -113,26 +112,33 @@ impl List {
     /// A session tries something, and mostly hears of it at once.
     fn operate(&mut self, rt: &impl Abort, dice: &mut Dice) -> Result<(), AllocError> {
         let (session, server) = (dice.session(rt), dice.server(rt));
-        if dice.chance(2) {
+        let event = if dice.chance(2) {
             let key = room(rt);
-            self.events.push(Event::Read {
+            Event::Read {
                 session,
                 server,
                 key,
-            })?;
+            }
         } else {
             let program = put(rt, self.alloc, i64::from(dice.below(100)))?;
-            self.events.push(Event::Write {
+            Event::Write {
                 session,
                 server,
                 program,
-            })?;
-        }
-        match dice.below(8) {
-            0..=5 => self.events.push(Event::Deliver(session))?,
-            6 => self.events.push(Event::Lose(session))?,
-            _ => {}
-        }
+            }
+        };
+        self.events.push(event)?;
+        self.hear(session, dice)
+    }
+
+    /// The session hears of it, or loses it, or neither yet.
+    fn hear(&mut self, session: SessionId, dice: &mut Dice) -> Result<(), AllocError> {
+        let event = match dice.below(8) {
+            0..=5 => Event::Deliver(session),
+            6 => Event::Lose(session),
+            _ => return Ok(()),
+        };
+        self.events.push(event)?;
         Ok(())
     }
 
@@ -218,16 +224,51 @@ impl List {
     fn grow(&mut self, rt: &impl Abort, dice: &mut Dice, many: usize) -> Result<(), AllocError> {
         for _ in 0..EVENTS {
             if self.events.len() < many {
-                match dice.below(10) {
-                    0..=3 => self.operate(rt, dice)?,
-                    4 | 5 => self.collect(rt, dice)?,
-                    6 | 7 => self.take(rt, dice)?,
-                    8 if self.fails => self.fail(rt, dice)?,
-                    _ => self.stray(rt, dice)?,
-                }
+                self.grow_once(rt, dice)?;
             }
         }
         Ok(())
+    }
+
+    fn grow_once(&mut self, rt: &impl Abort, dice: &mut Dice) -> Result<(), AllocError> {
+        match dice.below(10) {
+            0..=3 => self.operate(rt, dice),
+            4 | 5 => self.collect(rt, dice),
+            6 | 7 => self.take(rt, dice),
+            8 if self.fails => self.fail(rt, dice),
+            _ => self.stray(rt, dice),
+        }
+    }
+
+    /// What a run of it kept and collected.
+    fn learn(&mut self, replies: &[Reply]) -> Result<(), AllocError> {
+        self.offers = offers_of(self.alloc, self.events.as_slice(), replies)?;
+        self.batches = batches_of(self.alloc, self, replies)?;
+        Ok(())
+    }
+
+    /// Grows to all of its events, for sessions that ask for these.
+    fn fill(
+        &mut self,
+        rt: &impl Abort,
+        dice: &mut Dice,
+        limit: u32,
+        asks: &[Asks; 8],
+    ) -> Result<(), AllocError> {
+        for round in 1..ROUNDS {
+            self.grow(rt, dice, round * (EVENTS / ROUNDS))?;
+            let history = run(rt, self.alloc, limit, asks, self.events.as_slice())?;
+            self.learn(history.replies.as_slice())?;
+        }
+        self.grow(rt, dice, EVENTS)
+    }
+}
+
+/// The server of an offer that was kept.
+fn offer_of(event: &Event, reply: &Reply) -> Option<u8> {
+    match (event, reply) {
+        (Event::Offer(server), Reply::Kept(_)) => Some(server.index),
+        _ => None,
     }
 }
 
@@ -235,22 +276,31 @@ impl List {
 fn offers_of(alloc: Global, events: &[Event], replies: &[Reply]) -> Result<Vec<u8>, AllocError> {
     let mut offers = Vec::new(alloc);
     for (event, reply) in events.iter().zip(replies.iter()) {
-        if let (Event::Offer(server), Reply::Kept(_)) = (event, reply) {
-            offers.push(server.index)?;
+        if let Some(offer) = offer_of(event, reply) {
+            offers.push(offer)?;
         }
     }
     Ok(offers)
+}
+
+/// What was collected, and for which server: the one of that offer.
+fn batch_of(offers: &[u8], event: &Event, reply: &Reply) -> Option<Batch> {
+    let (Event::Collect { offer, .. }, Reply::Flown { first, number }) = (event, reply) else {
+        return None;
+    };
+    let to = offers.get(*offer as usize)?;
+    if *number == 0 {
+        return None;
+    }
+    Some((*to, *first, *number))
 }
 
 /// What was collected for which server.
 fn batches_of(alloc: Global, list: &List, replies: &[Reply]) -> Result<Vec<Batch>, AllocError> {
     let mut batches = Vec::new(alloc);
     for (event, reply) in list.events.iter().zip(replies.iter()) {
-        if let (Event::Collect { offer, .. }, Reply::Flown { first, number }) = (event, reply)
-            && let Some(to) = list.offers.get(*offer as usize)
-            && *number > 0
-        {
-            batches.push((*to, *first, *number))?;
+        if let Some(batch) = batch_of(list.offers.as_slice(), event, reply) {
+            batches.push(batch)?;
         }
     }
     Ok(batches)
@@ -264,29 +314,7 @@ fn run(
     asks: &[Asks; 8],
     events: &[Event],
 ) -> Result<History, AllocError> {
-    let sessions = sessions_of(rt, alloc, asks)?;
-    World::new(alloc, 4, limit.min(1_000), sessions.as_slice())?.run(alloc, events)
-}
-
-/// A list from the dice, for sessions that ask for these.
-fn list_of(
-    rt: &impl Abort,
-    alloc: Global,
-    dice: &mut Dice,
-    limit: u32,
-    asks: &[Asks; 8],
-    fails: bool,
-) -> Result<List, AllocError> {
-    let mut list = List::new(alloc, fails);
-    for round in 1..ROUNDS {
-        list.grow(rt, dice, round * (EVENTS / ROUNDS))?;
-        let history = run(rt, alloc, limit, asks, list.events.as_slice())?;
-        let replies = history.replies.as_slice();
-        list.offers = offers_of(alloc, list.events.as_slice(), replies)?;
-        list.batches = batches_of(alloc, &list, replies)?;
-    }
-    list.grow(rt, dice, EVENTS)?;
-    Ok(list)
+    history_of(rt, alloc, (4, limit), asks, events)
 }
 
 /// The server that the event is of, if it is of one alone.
@@ -400,9 +428,13 @@ struct Tally {
 impl Tally {
     fn add_replies(&mut self, events: &[Event], replies: &[Reply]) {
         for (event, reply) in events.iter().zip(replies.iter()) {
-            let kind = kind_of(event, reply).min(KINDS);
-            self.kinds[kind] = self.kinds[kind].saturating_add(1);
+            self.add_kind(kind_of(event, reply));
         }
+    }
+
+    fn add_kind(&mut self, kind: usize) {
+        let kind = kind.min(KINDS);
+        self.kinds[kind] = self.kinds[kind].saturating_add(1);
     }
 
     fn add_breach(&mut self, verdict: Result<Verdict, Refusal>) {
@@ -428,16 +460,42 @@ impl Tally {
         fails: bool,
     ) -> Result<(), AllocError> {
         let asks = dice.asks_of_all();
-        let list = list_of(rt, alloc, dice, limit, &asks, fails)?;
-        let events = list.events.as_slice();
-        let history = run(rt, alloc, limit, &asks, events)?;
+        let mut list = List::new(alloc, fails);
+        list.fill(rt, dice, limit, &asks)?;
+        self.add_asked(rt, alloc, limit, &asks, list.events.as_slice())?;
+        self.add_free(rt, alloc, limit, list.events.as_slice())
+    }
+
+    fn add_asked(
+        &mut self,
+        rt: &impl Abort,
+        alloc: Global,
+        limit: u32,
+        asks: &[Asks; 8],
+        events: &[Event],
+    ) -> Result<(), AllocError> {
+        let history = run(rt, alloc, limit, asks, events)?;
+        self.add_history(alloc, events, &history);
+        Ok(())
+    }
+
+    fn add_history(&mut self, alloc: Global, events: &[Event], history: &History) {
         self.add_replies(events, history.replies.as_slice());
         if are_paid(events, history.replies.as_slice()) {
             self.paid = self.paid.saturating_add(1);
         }
-        if verdict_of(alloc, history.served.as_slice(), &history) == Ok(Verdict::Clean) {
+        if verdict_of(alloc, history.served.as_slice(), history) == Ok(Verdict::Clean) {
             self.clean = self.clean.saturating_add(1);
         }
+    }
+
+    fn add_free(
+        &mut self,
+        rt: &impl Abort,
+        alloc: Global,
+        limit: u32,
+        events: &[Event],
+    ) -> Result<(), AllocError> {
         let free = run(rt, alloc, limit, &[Asks::default(); 8], events)?;
         let entries = asking_for_all(alloc, free.served.as_slice())?;
         self.add_breach(verdict_of(alloc, entries.as_slice(), &free));

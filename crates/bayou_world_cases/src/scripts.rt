@@ -1,5 +1,5 @@
 //! Scripts at two servers: what each event is answered, and what is left.
-use crate::fixtures::{put, room, server_id, session_id, sessions_of};
+use crate::fixtures::{history_of, put, room, server_id, session_id};
 use Said::{
     Accepted, Delivered, Doubted, Down, Dropped, Filed, Flown, Full, Fused, Gap, Had, Holds, Kept,
     New, NotDown, NotReopened, NotRestarted, ReadBehind, Seen, Skipped, Up, Wanting, WriteBehind,
@@ -9,7 +9,6 @@ use bayou_audit::Totals;
 use bayou_base::{Asks, Entry, Value, Vector, What, Wid};
 use bayou_lang::RestingWrite;
 use bayou_server::{Behind, JournalFault, ReopenFault, StartFault, TakeFault, Took, WriteFault};
-use bayou_world::world::World;
 use bayou_world::{Event, History, Reply};
 use std::alloc::{AllocError, Global};
 use std::process::Abort;
@@ -19,7 +18,7 @@ use std::test::Fail;
 pub type Counts = [u32; 2];
 
 /// An event, of sessions and servers by their numbers. What is read and put is `room`.
-#[derive(Clone, Copy, Debug)]
+#[derive(Clone, Copy)]
 pub enum Act {
     Read(u8, u8),
     Write(u8, u8, i64),
@@ -35,7 +34,7 @@ pub enum Act {
 }
 
 /// A reply.
-#[derive(Clone, Copy, Debug, PartialEq, Eq)]
+#[derive(Clone, Copy, PartialEq, Eq)]
 pub enum Said {
     Seen(Option<i64>, Counts),
     ReadBehind(Counts),
@@ -69,7 +68,7 @@ pub enum Said {
 }
 
 /// What was served.
-#[derive(Clone, Copy, Debug, PartialEq, Eq)]
+#[derive(Clone, Copy, PartialEq, Eq)]
 pub enum Told {
     Saw(Counts),
     Wrote((u8, u32), Counts),
@@ -79,7 +78,6 @@ pub enum Told {
 /// An entry: its session, its place, its server, and what it tells.
 pub type Line = (u8, u32, u8, Told);
 
-#[derive(Clone, Copy, Debug)]
 pub struct Script {
     pub limit: u32,
     /// What the sessions ask for, from 0 on.
@@ -243,7 +241,7 @@ static OF_BOOKS: [Script; 3] = [
     },
 ];
 
-pub fn event_of(rt: &impl Abort, alloc: Global, act: Act) -> Result<Event, AllocError> {
+fn event_of(rt: &impl Abort, alloc: Global, act: Act) -> Result<Event, AllocError> {
     Ok(match act {
         Act::Read(session, server) => Event::Read {
             session: session_id(rt, session),
@@ -342,27 +340,39 @@ fn line_of(entry: &Entry) -> Line {
     (entry.session.index, entry.place, entry.server.index, told)
 }
 
+fn says(reply: &Reply, wanted: &Said) -> bool {
+    saying(reply) == *wanted
+}
+
 pub fn are_said(replies: &[Reply], acts: &[(Act, Said)]) -> bool {
     let mut is_each = replies.len() == acts.len();
     for (reply, (_, wanted)) in replies.iter().zip(acts.iter()) {
-        is_each = is_each && saying(reply) == *wanted;
+        is_each = is_each && says(reply, wanted);
     }
     is_each
+}
+
+fn is_line(entry: &Entry, line: &Line) -> bool {
+    line_of(entry) == *line
 }
 
 fn are_lines(served: &[Entry], lines: &[Line]) -> bool {
     let mut is_each = served.len() == lines.len();
     for (entry, line) in served.iter().zip(lines.iter()) {
-        is_each = is_each && line_of(entry) == *line;
+        is_each = is_each && is_line(entry, line);
     }
     is_each
+}
+
+fn has_name(write: &RestingWrite, (origin, seq): &(u8, u32)) -> bool {
+    let wid = write.wid();
+    wid.origin.index == *origin && wid.seq == *seq
 }
 
 pub fn has_names(dump: &[RestingWrite], names: &[(u8, u32)]) -> bool {
     let mut is_each = dump.len() == names.len();
     for (write, name) in dump.iter().zip(names.iter()) {
-        let wid = write.wid();
-        is_each = is_each && (wid.origin.index, wid.seq) == *name;
+        is_each = is_each && has_name(write, name);
     }
     is_each
 }
@@ -378,14 +388,25 @@ fn have_names(dumps: &[Vec<RestingWrite>], names: &[&'static [(u8, u32)]; 2]) ->
     }
 }
 
+/// Adds the event of this act.
+pub fn add(
+    rt: &impl Abort,
+    alloc: Global,
+    events: &mut Vec<Event>,
+    act: Act,
+) -> Result<(), AllocError> {
+    events.push(event_of(rt, alloc, act)?)?;
+    Ok(())
+}
+
 pub fn events_of(
     rt: &impl Abort,
     alloc: Global,
-    script: &Script,
+    acts: &[(Act, Said)],
 ) -> Result<Vec<Event>, AllocError> {
     let mut events = Vec::new(alloc);
-    for (act, _) in script.acts {
-        events.push(event_of(rt, alloc, *act)?)?;
+    for (act, _) in acts {
+        add(rt, alloc, &mut events, *act)?;
     }
     Ok(events)
 }
@@ -396,9 +417,7 @@ pub fn play(
     script: &Script,
     events: &[Event],
 ) -> Result<History, AllocError> {
-    let sessions = sessions_of(rt, alloc, script.asks)?;
-    let limit = script.limit.min(100);
-    World::new(alloc, 2, limit, sessions.as_slice())?.run(alloc, events)
+    history_of(rt, alloc, (2, script.limit), script.asks, events)
 }
 
 /// Whether replies, entries, dumps and totals are those of the script.
@@ -421,17 +440,17 @@ fn leaves_what_it_says(
     alloc: Global,
     script: &Script,
 ) -> Result<bool, AllocError> {
-    let events = events_of(rt, alloc, script)?;
+    let events = events_of(rt, alloc, script.acts)?;
     let history = play(rt, alloc, script, events.as_slice())?;
     Ok(is_as_it_says(script, &history))
 }
 
 #[test]
 fn a_session_finds_the_write_that_it_was_told_of(rt: HostRuntime) -> Result<(), Fail> {
-    for script in OF_ONE_WRITE {
+    for (at, script) in OF_ONE_WRITE.iter().enumerate() {
         assert!(rt;
-            leaves_what_it_says(&rt, rt.alloc(), &script)?,
-            "{script:?}"
+            leaves_what_it_says(&rt, rt.alloc(), script)?,
+            "script {at}"
         );
     }
     Ok(())
@@ -439,10 +458,10 @@ fn a_session_finds_the_write_that_it_was_told_of(rt: HostRuntime) -> Result<(), 
 
 #[test]
 fn what_was_delivered_is_entered_once(rt: HostRuntime) -> Result<(), Fail> {
-    for script in OF_BOOKS {
+    for (at, script) in OF_BOOKS.iter().enumerate() {
         assert!(rt;
-            leaves_what_it_says(&rt, rt.alloc(), &script)?,
-            "{script:?}"
+            leaves_what_it_says(&rt, rt.alloc(), script)?,
+            "script {at}"
         );
     }
     Ok(())

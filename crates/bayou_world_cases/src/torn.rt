@@ -38,28 +38,40 @@ fn puts(
     Ok(accepted.wid.seq)
 }
 
-/// A server that holds two Writes, with the third in doubt, of whose entry so much was added.
-fn torn(rt: &impl Abort, alloc: Global, kept: usize) -> Option<Served> {
-    let Some((mut server, _)) = started(rt, alloc, MemoryDevice::new(alloc, OpenGate)) else {
-        return None;
-    };
-    let first = puts(rt, alloc, &mut server, 1);
-    let second = puts(rt, alloc, &mut server, 2);
-    let before = server.device().bytes().len();
+/// A new server, alone.
+fn begun(rt: &impl Abort, alloc: Global) -> Option<Served> {
+    let (server, _) = started(rt, alloc, MemoryDevice::new(alloc, OpenGate))?;
+    Some(server)
+}
+
+/// Whether a new server holds two Writes then, with the third in doubt, of whose entry so much was added.
+fn tears(rt: &impl Abort, alloc: Global, server: &mut Served, kept: usize) -> bool {
+    let are_put = are_one_and_two(puts(rt, alloc, server, 1), puts(rt, alloc, server, 2));
+    let is_before = server.device().bytes().len() == BEFORE;
     server.device().fuse(1, kept);
-    let third = puts(rt, alloc, &mut server, 3);
-    if (first, second, before, third) == (Ok(1), Ok(2), BEFORE, Err(WriteFault::Journal)) {
-        Some(server)
-    } else {
-        None
-    }
+    is_in_doubt(puts(rt, alloc, server, 3)) && are_put && is_before
+}
+
+fn are_one_and_two(first: Result<u32, WriteFault>, second: Result<u32, WriteFault>) -> bool {
+    first == Ok(1) && second == Ok(2)
+}
+
+fn is_in_doubt(third: Result<u32, WriteFault>) -> bool {
+    third == Err(WriteFault::Journal)
 }
 
 /// Whether a reopening adopts it just where its entry is whole.
 fn is_reopened(rt: &impl Abort, alloc: Global, kept: usize) -> bool {
-    let Some(mut server) = torn(rt, alloc, kept) else {
+    let Some(mut server) = begun(rt, alloc) else {
         return false;
     };
+    reopens(rt, alloc, &mut server, kept)
+}
+
+fn reopens(rt: &impl Abort, alloc: Global, server: &mut Served, kept: usize) -> bool {
+    if !tears(rt, alloc, server, kept) {
+        return false;
+    }
     let Ok(reopened) = server.reopen(alloc) else {
         return false;
     };
@@ -69,22 +81,45 @@ fn is_reopened(rt: &impl Abort, alloc: Global, kept: usize) -> bool {
     }
 }
 
-/// Whether a start behind a crash that left so much of its entry holds it just where that is whole, and drops the rest.
-fn is_started(rt: &impl Abort, alloc: Global, kept: usize) -> Result<bool, AllocError> {
-    let Some(server) = torn(rt, alloc, ENTRY) else {
-        return Ok(false);
-    };
-    let mut device = server.stop().device;
+/// The device of a server that was stopped with all of the third entry added, and whether that is in doubt.
+fn stopped(rt: &impl Abort, alloc: Global) -> Option<(Memory, bool)> {
+    let mut server = begun(rt, alloc)?;
+    let is_torn = tears(rt, alloc, &mut server, ENTRY);
+    Some((server.stop().device, is_torn))
+}
+
+/// Whether it had all of the entry, and a crash leaves so much of it.
+fn crashes(alloc: Global, device: &mut Memory, kept: usize) -> Result<bool, AllocError> {
     let bytes = device.bytes().to_vec(alloc)?;
     if bytes.len() != BEFORE + ENTRY || kept > ENTRY {
         return Ok(false);
     }
     device.crash(&bytes.as_slice()[BEFORE..BEFORE + kept])?;
-    let wanted = if kept < ENTRY { (2, kept) } else { (3, 0) };
-    match started(rt, alloc, device) {
-        Some((server, dropped)) => Ok((server.receipts().len(), dropped) == wanted),
-        None => Ok(false),
+    Ok(true)
+}
+
+/// Whether a start on this device holds the third Write just where its entry is whole, and drops the rest.
+fn holds_what_is_whole(rt: &impl Abort, alloc: Global, device: Memory, kept: usize) -> bool {
+    let Some((server, dropped)) = started(rt, alloc, device) else {
+        return false;
+    };
+    is_left(server.receipts().len(), dropped, kept)
+}
+
+fn is_left(held: usize, dropped: usize, kept: usize) -> bool {
+    if kept < ENTRY {
+        return held == 2 && dropped == kept;
     }
+    held == 3 && dropped == 0
+}
+
+/// The same of a start behind a crash that left so much of its entry.
+fn is_started(rt: &impl Abort, alloc: Global, kept: usize) -> Result<bool, AllocError> {
+    let Some((mut device, is_torn)) = stopped(rt, alloc) else {
+        return Ok(false);
+    };
+    let is_crashed = crashes(alloc, &mut device, kept)?;
+    Ok(holds_what_is_whole(rt, alloc, device, kept) && is_crashed && is_torn)
 }
 
 #[test]
