@@ -2,7 +2,7 @@
 //! each kind of answer is among theirs.
 ghost use Rattle.std.specs.Prelude.{◌<◌};
 
-use crate::fixtures::{COUNT, asked, asks_of, entry, put, server_id};
+use crate::evidence::{COUNT, asked, asks_of, entry, put, server_id};
 use crate::twin;
 use bayou_base::{Entry, Key, ServerId, Stamp, Vector, What, Wid};
 use bayou_judge::{Guarantee, Refusal, Verdict};

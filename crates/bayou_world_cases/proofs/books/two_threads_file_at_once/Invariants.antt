@@ -1,5 +1,5 @@
 -- the four ledgers of the book
-use Rattle.bayou_book_cases.proofs.books.two_threads_file_at_once.Given as goal
+use Rattle.bayou_world_cases.proofs.books.two_threads_file_at_once.Given as goal
 
 abbrev pub ghosts-file_at_once-S-Ledger : goal.ghosts-file_at_once-S-Ledger
 ghosts-file_at_once-S-Ledger g a = record { name = a.blanks.slips.name; parts = a.blanks.slips.parts }

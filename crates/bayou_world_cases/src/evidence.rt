@@ -1,19 +1,12 @@
-//! What the tests are made of. Vectors have the counts of the first three servers.
-use bayou_base::{Asks, Entry, Key, SERVERS, ServerId, SessionId, Stamp, Value, Vector, What, Wid};
+//! What the tests of the judge are made of. Vectors have the counts of the first three servers.
+pub use crate::fixtures::{server_id, session_id};
+use bayou_base::{Asks, Entry, Key, SERVERS, Stamp, Value, Vector, What, Wid};
 use bayou_judge::{Refusal, Surveyed, Verdict, judge, survey};
 use bayou_lang::{Op, Program, RestingWrite, Term};
 use std::alloc::{AllocError, Global};
 use std::process::Abort;
 
 pub const COUNT: u8 = 3;
-
-pub fn server_id(rt: &impl Abort, index: u8) -> ServerId {
-    ServerId::new(index).expect(rt, "no server")
-}
-
-pub fn session_id(rt: &impl Abort, index: u8) -> SessionId {
-    SessionId::new(index).expect(rt, "no session")
-}
 
 pub fn vector(rt: &impl Abort, counts: [u32; 3]) -> Vector {
     let mut all = [0; SERVERS];

@@ -1,7 +1,7 @@
 //! A breach of each guarantee at each of as many servers as there can be: where a Write is missing there, and where it stands there
 //! and isn't before the later one. The last server tells of none in order where the two Writes are two: who makes a Write behind
 //! another stamps it later, and a server that makes it before the other is where the other is missing.
-use crate::fixtures::{asks_of, entry, put, server_id, session_id};
+use crate::evidence::{asks_of, entry, put, server_id, session_id};
 use Guarantee::{MonotonicReads, MonotonicWrites, ReadYourWrites, WritesFollowReads};
 use bayou_base::{Entry, Key, SERVERS, Stamp, Vector, What, Wid};
 use bayou_judge::{Breach, Guarantee, Surveyed, Verdict, judge, survey};

@@ -1,5 +1,5 @@
 //! The judge and the survey where memory is refused.
-use crate::fixtures::{COUNT, Held, Line, Told, dumps_of, entries_of, server_id, session_id};
+use crate::evidence::{COUNT, Held, Line, Told, dumps_of, entries_of, server_id, session_id};
 use Told::{Read, Wrote};
 use bayou_base::{Entry, Wid};
 use bayou_judge::{Breach, Guarantee, Refusal, Surveyed, Verdict, judge, survey};

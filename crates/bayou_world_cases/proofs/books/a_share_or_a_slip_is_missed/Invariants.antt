@@ -1,5 +1,5 @@
 -- the four ledgers of the book
-use Rattle.bayou_book_cases.proofs.books.a_share_or_a_slip_is_missed.Given as goal
+use Rattle.bayou_world_cases.proofs.books.a_share_or_a_slip_is_missed.Given as goal
 
 abbrev pub ghosts-settle_without-S-Ledger : goal.ghosts-settle_without-S-Ledger
 ghosts-settle_without-S-Ledger g a = record { name = a.blanks.slips.name; parts = a.blanks.slips.parts }

@@ -1,6 +1,6 @@
 //! A breach of each guarantee, in presence and in order, at each server; and what the judge makes of a session that asks for
 //! it, and of one that doesn't.
-use crate::fixtures::{Held, Line, Told, asked, dumps_of, entries_of, server_id, session_id};
+use crate::evidence::{Held, Line, Told, asked, dumps_of, entries_of, server_id, session_id};
 use crate::twin;
 use Guarantee::{MonotonicReads, MonotonicWrites, ReadYourWrites, WritesFollowReads};
 use Told::{Read, Refused, Wrote};

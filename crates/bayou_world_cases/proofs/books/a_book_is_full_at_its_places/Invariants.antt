@@ -1,5 +1,5 @@
 -- the four ledgers of the book
-use Rattle.bayou_book_cases.proofs.books.a_book_is_full_at_its_places.Given as goal
+use Rattle.bayou_world_cases.proofs.books.a_book_is_full_at_its_places.Given as goal
 
 abbrev pub ghosts-fill_places-S-Ledger : goal.ghosts-fill_places-S-Ledger
 ghosts-fill_places-S-Ledger g a = record { name = a.blanks.slips.name; parts = a.blanks.slips.parts }

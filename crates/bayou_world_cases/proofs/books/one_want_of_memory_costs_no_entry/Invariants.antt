@@ -1,5 +1,5 @@
 -- the four ledgers of the book
-use Rattle.bayou_book_cases.proofs.books.one_want_of_memory_costs_no_entry.Given as goal
+use Rattle.bayou_world_cases.proofs.books.one_want_of_memory_costs_no_entry.Given as goal
 
 abbrev pub ghosts-keeps_all-S-Ledger : goal.ghosts-keeps_all-S-Ledger
 ghosts-keeps_all-S-Ledger g a = record { name = a.blanks.slips.name; parts = a.blanks.slips.parts }

@@ -1,6 +1,6 @@
 //! Entries and dumps that stand for no history: each way in which a dump is bad, and each in which an entry is forged. And the file of
 //! docs/FORMATS.md, with what was changed in it.
-use crate::fixtures::{Held, Line, Told, asked, dumps_of, entries_of, server_id, session_id};
+use crate::evidence::{Held, Line, Told, asked, dumps_of, entries_of, server_id, session_id};
 use crate::twin;
 use Told::{Read, Refused, Wrote};
 use bayou_base::Wid;
