@@ -1,5 +1,5 @@
 //! Servers that are started on journals in files.
-ghost use Rattle.std.specs.Prelude.{◌≡◌, ◌<◌, IfErr};
+ghost use Rattle.std.specs.Prelude.{◌≡◌, ◌<◌, IfErr, IfOk};
 ghost use Rattle.bayou_shell.specs.Inner.Faults.{IsStartFault};
 
 use crate::fault::Fault;
@@ -27,6 +27,17 @@ fn fault_of(refused: StartFault) -> Fault
     }
 }
 
+/// The server in a box of its own, in which it is handed from function to function.
+fn boxed(alloc: Global, server: Journaled) -> Result<Box<Journaled>, Fault>
+    ensures same { IfOk result (λ boxed. boxed.value ≡ server) }
+    ensures fault { IfErr result IsStartFault }
+{
+    match Box::new(alloc, server) {
+        Ok(server) => Ok(server),
+        Err(_) => Err(Fault::Memory),
+    }
+}
+
 /// The server of this number, on the journal that the folder has of it. A missing one is made.
 fn start_one<T: Files<File = File>>(
     rt: &T,
@@ -34,7 +45,7 @@ fn start_one<T: Files<File = File>>(
     folder: &str,
     servers: Servers,
     index: u8,
-) -> Result<Journaled, Fault>
+) -> Result<Box<Journaled>, Fault>
     requires { index < servers.count }
     ensures { IfErr result IsStartFault }
 {
@@ -49,7 +60,7 @@ fn start_one<T: Files<File = File>>(
         servers.limit,
         device,
     ) {
-        Ok((server, _)) => Ok(server),
+        Ok((server, _)) => boxed(alloc, server),
         Err(refused) => Err(fault_of(refused.fault)),
     }
 }
@@ -60,7 +71,7 @@ pub(crate) fn start_all<T: Files<File = File>>(
     alloc: Global,
     folder: &str,
     servers: Servers,
-) -> Result<VecDeque<Journaled>, Fault>
+) -> Result<VecDeque<Box<Journaled>>, Fault>
     ensures { IfErr result IsStartFault }
 {
     let mut started = VecDeque::new(alloc);

@@ -41,7 +41,7 @@ use std::thread::{Scope, Threads};
 #[derive(Drop)]
 struct Ready {
     blank: Blank,
-    server: Journaled,
+    server: Box<Journaled>,
 }
 
 /// Has each server listen in a thread of its own, runs the phases, and has each listener end. The output comes back with what waits to be
@@ -246,10 +246,10 @@ fn led<A: Desks, F: Fleet>(
     ready: Ready,
     behind: F,
 ) -> Result<Led<FileDevice<File>, A, F>, AllocError>
-    requires { IsBlankOf ready.blank A.name A.parts connections × (ready.server.core.id ≡ A.server) × (own_count ready.server.core ≡ A.stored) }
+    requires { IsBlankOf ready.blank A.name A.parts connections × (ready.server.value.core.id ≡ A.server) × (own_count ready.server.value.core ≡ A.stored) }
 {
     let Ready { blank, server } = ready;
-    match Led::new(alloc, blank, server, connections, behind) {
+    match Led::new(alloc, blank, Box::into_inner(server), connections, behind) {
         Ok(fleet) => Ok(fleet),
         Err(_) => Err(AllocError),
     }
@@ -272,7 +272,7 @@ where
     K: Ledgers + Send + Sync,
     T: Threads + Wait + Net<Stream = TcpStream, Listener = TcpListener> + Send + Sync,
     W: Write,
-    requires first { IsBlankOf first.blank A.name A.parts course.connections × (first.server.core.id ≡ A.server) × (own_count first.server.core ≡ A.stored) }
+    requires first { IsBlankOf first.blank A.name A.parts course.connections × (first.server.value.core.id ≡ A.server) × (own_count first.server.value.core ≡ A.stored) }
     ensures took { (text : List ℕ) × Takes (account W.contents output.old) (account W.contents output.new) text }
     ensures fault { IfErr result IsPhaseFault }
     ensures ended { IfErr result (EndsWriting output.new.channel.write_failed output.new.channel.turns_left) }
@@ -303,8 +303,8 @@ where
     K: Ledgers + Send + Sync,
     T: Threads + Wait + Net<Stream = TcpStream, Listener = TcpListener> + Send + Sync,
     W: Write,
-    requires first { IsBlankOf first.blank A.name A.parts course.connections × (first.server.core.id ≡ A.server) × (own_count first.server.core ≡ A.stored) }
-    requires second { IsBlankOf second.blank B.name B.parts course.connections × (second.server.core.id ≡ B.server) × (own_count second.server.core ≡ B.stored) }
+    requires first { IsBlankOf first.blank A.name A.parts course.connections × (first.server.value.core.id ≡ A.server) × (own_count first.server.value.core ≡ A.stored) }
+    requires second { IsBlankOf second.blank B.name B.parts course.connections × (second.server.value.core.id ≡ B.server) × (own_count second.server.value.core ≡ B.stored) }
     ensures took { (text : List ℕ) × Takes (account W.contents output.old) (account W.contents output.new) text }
     ensures fault { IfErr result IsPhaseFault }
     ensures ended { IfErr result (EndsWriting output.new.channel.write_failed output.new.channel.turns_left) }
@@ -339,9 +339,9 @@ where
     K: Ledgers + Send + Sync,
     T: Threads + Wait + Net<Stream = TcpStream, Listener = TcpListener> + Send + Sync,
     W: Write,
-    requires first { IsBlankOf first.blank A.name A.parts course.connections × (first.server.core.id ≡ A.server) × (own_count first.server.core ≡ A.stored) }
-    requires second { IsBlankOf second.blank B.name B.parts course.connections × (second.server.core.id ≡ B.server) × (own_count second.server.core ≡ B.stored) }
-    requires third { IsBlankOf third.blank C.name C.parts course.connections × (third.server.core.id ≡ C.server) × (own_count third.server.core ≡ C.stored) }
+    requires first { IsBlankOf first.blank A.name A.parts course.connections × (first.server.value.core.id ≡ A.server) × (own_count first.server.value.core ≡ A.stored) }
+    requires second { IsBlankOf second.blank B.name B.parts course.connections × (second.server.value.core.id ≡ B.server) × (own_count second.server.value.core ≡ B.stored) }
+    requires third { IsBlankOf third.blank C.name C.parts course.connections × (third.server.value.core.id ≡ C.server) × (own_count third.server.value.core ≡ C.stored) }
     ensures took { (text : List ℕ) × Takes (account W.contents output.old) (account W.contents output.new) text }
     ensures fault { IfErr result IsPhaseFault }
     ensures ended { IfErr result (EndsWriting output.new.channel.write_failed output.new.channel.turns_left) }
@@ -378,10 +378,10 @@ where
     K: Ledgers + Send + Sync,
     T: Threads + Wait + Net<Stream = TcpStream, Listener = TcpListener> + Send + Sync,
     W: Write,
-    requires first { IsBlankOf first.blank A.name A.parts course.connections × (first.server.core.id ≡ A.server) × (own_count first.server.core ≡ A.stored) }
-    requires second { IsBlankOf second.blank B.name B.parts course.connections × (second.server.core.id ≡ B.server) × (own_count second.server.core ≡ B.stored) }
-    requires third { IsBlankOf third.blank C.name C.parts course.connections × (third.server.core.id ≡ C.server) × (own_count third.server.core ≡ C.stored) }
-    requires fourth { IsBlankOf fourth.blank D.name D.parts course.connections × (fourth.server.core.id ≡ D.server) × (own_count fourth.server.core ≡ D.stored) }
+    requires first { IsBlankOf first.blank A.name A.parts course.connections × (first.server.value.core.id ≡ A.server) × (own_count first.server.value.core ≡ A.stored) }
+    requires second { IsBlankOf second.blank B.name B.parts course.connections × (second.server.value.core.id ≡ B.server) × (own_count second.server.value.core ≡ B.stored) }
+    requires third { IsBlankOf third.blank C.name C.parts course.connections × (third.server.value.core.id ≡ C.server) × (own_count third.server.value.core ≡ C.stored) }
+    requires fourth { IsBlankOf fourth.blank D.name D.parts course.connections × (fourth.server.value.core.id ≡ D.server) × (own_count fourth.server.value.core ≡ D.stored) }
     ensures took { (text : List ℕ) × Takes (account W.contents output.old) (account W.contents output.new) text }
     ensures fault { IfErr result IsPhaseFault }
     ensures ended { IfErr result (EndsWriting output.new.channel.write_failed output.new.channel.turns_left) }
@@ -396,7 +396,7 @@ where
 }
 
 /// The next server, with a ledger of so many parts.
-fn next_ready(servers: &mut VecDeque<Journaled>, desks: u32) -> Option<Ready>
+fn next_ready(servers: &mut VecDeque<Box<Journaled>>, desks: u32) -> Option<Ready>
     ensures { IfSome result (λ ready. ready.blank.parts ≡ desks) }
 {
     let server = servers.pop_front()?;
@@ -412,7 +412,7 @@ fn run_servers<K, T, W>(
     alloc: Global,
     book: AuditBook<K>,
     course: Course<K>,
-    servers: VecDeque<Journaled>,
+    servers: VecDeque<Box<Journaled>>,
     output: &mut Output<W>,
 ) -> Result<Ended, Fault>
 where
@@ -476,7 +476,7 @@ fn run_booked<S, R, U, V, T, W>(
     rt: &T,
     alloc: Global,
     blanks: Blanks,
-    servers: VecDeque<Journaled>,
+    servers: VecDeque<Box<Journaled>>,
     script: Script,
     output: &mut Output<W>,
 ) -> Result<Ended, Fault>
