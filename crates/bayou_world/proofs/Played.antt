@@ -1,7 +1,7 @@
 -- Runs, event by event.
-use Rattle.std.proofs.Common.{◌≡◌, ℕ, ◌+◌, ◌<◌, ◌≤◌, List, [], ◌∷◌, ◌++◌, Option, None, Some, Result, Ok, Err, IfOk, map, length, get_or, take, ap, sym, ◌∙◌, refl, subst, arith}
+use Rattle.std.proofs.Common.{◌≡◌, ℕ, ◌+◌, ◌<◌, List, [], ◌∷◌, ◌++◌, Option, None, Some, Result, Ok, Err, IfOk, map, length, get_or, take, ap, sym, ◌∙◌, refl, subst, arith}
 use Rattle.std.specs.Option.{option_map}
-use Rattle.std.proofs.lemmas.List.{get_or-map, length-map, length-replicate, take_all, take_more}
+use Rattle.std.proofs.lemmas.List.{get_or-map, length-map, length-replicate, take_more}
 use Rattle.std.proofs.lemmas.List.Elements.{All-nil}
 use Rattle.bayou_base.specs.declared.asks.Asks.{Asks}
 use Rattle.bayou_base.specs.declared.entry.Entry.{Entry}
@@ -17,16 +17,17 @@ use Rattle.bayou_world.specs.declared.event.Event.TheVariants as events
 use Rattle.bayou_world.specs.declared.replica.Replica.{Replica}
 use Rattle.bayou_world.specs.declared.reply.Reply.{Reply}
 use Rattle.bayou_world.specs.declared.state.State.{State}
-use Rattle.bayou_world.specs.Inner.Beginning.{AreFirstSeats, AreStarted, IsFirstSeat, Leaves, SoFar}
+use Rattle.bayou_world.specs.Inner.Beginning.{AreFirstSeats, AreStarted, IsFirstSeat, IsFirstState, IsLeft, Leaves, SoFar}
 use Rattle.bayou_world.specs.Inner.Booking.{Booking, FollowsInBook, IsBookOf}
 use Rattle.bayou_world.specs.Inner.Good.{IsGood}
 use Rattle.bayou_world.specs.Inner.Replicas.{held_by}
-use Rattle.bayou_world.specs.Inner.Tie.{Follows, IsFlightOf, IsSeatOf, IsTied, seat}
+use Rattle.bayou_world.specs.Inner.Tie.{Follows, IsFlightOf, IsOf, IsSeatOf, IsTied, seat}
 use Rattle.bayou_world.specs.Invariant.{IsVectorOf}
 use Rattle.bayou_world.specs.Machine.{Machine, writes}
 use Rattle.bayou_world.specs.Runs.{Run, asks_of, first_machine, new_session, places_for}
 use Rattle.bayou_world.specs.Histories.{Begun, IsHistory}
 use Rattle.bayou_world.specs.declared.history.History.{History}
+use Rattle.bayou_audit.specs.declared.totals.Totals.{Totals}
 use Rattle.bayou_audit.specs.Totals.{is_read, is_refusal, is_write, number_of, totals_of}
 use Rattle.std.specs.Global.{Vec}
 use Rattle.bayou_world.specs.Steps.{Collects, Delivers, Files, Fuses, Loses, Offers, Reads, Reopens, Restarts, Step, Takes, Writes}
@@ -230,39 +231,42 @@ dump_at f dumps (server ∷ servers) place d held same inside each =
     let there : get_or (map held_by (server ∷ servers)) place (held_by server) ≡ held_by (get_or (server ∷ servers) place server) = get_or-map held_by (server ∷ servers) place server (held_by server) inside in
     sym here ∙ ap (λ list. get_or list place (held_by server)) same ∙ there ∙ each server
 
-pub leaves : (first : Machine) (events : List Event) (at : ℕ) (replies : List Reply) (state : State) (booking : Booking) (history : History) → SoFar first (take at events) replies state booking → length events ≤ at
-    → history.replies.items ≡ replies → history.served.items ≡ state.served.items
-    → map (λ (dump : Vec Write). dump.items) history.dumps.items ≡ map held_by state.servers.items
-    → history.totals ≡ totals_of 0 (number_of is_read booking.entries) (number_of is_write booking.entries) (number_of is_refusal booking.entries) → Leaves first events history
-leaves first events at replies state booking history so_far all replies_are served dumps totals =
+leaves : (first : Machine) (events : List Event) (state : State) (booking : Booking) (replies : List Reply) (totals : Totals) (history : History) → SoFar first events replies state booking
+    → IsLeft state.servers.items state.served.items replies totals history
+    → totals ≡ totals_of 0 (number_of is_read booking.entries) (number_of is_write booking.entries) (number_of is_refusal booking.entries) → Leaves first events history
+leaves first events state booking replies totals history so_far left counted =
     let now = so_far.now in
     let items = λ (dump : Vec Write). dump.items in
     let many : length history.dumps.items ≡ first.count =
-    sym (length-map history.dumps.items items) ∙ ap length dumps ∙ length-map state.servers.items held_by ∙ so_far.tied.many ∙ so_far.count in
+    sym (length-map history.dumps.items items) ∙ ap length left.dumps ∙ length-map state.servers.items held_by ∙ so_far.tied.many ∙ so_far.count in
     record {
       last = now;
-      run = subst (λ list. Run first list history.replies.items now) (take_all at events all) (subst (λ list. Run first (take at events) list now) (sym replies_are) so_far.run);
-      served = served ∙ so_far.tied.served_are;
+      run = subst (λ list. Run first events list now) (sym left.replies) so_far.run;
+      served = left.served ∙ so_far.tied.served_are;
       one_each = many;
       dumps = λ place d inside.
           let here : place < now.count = omega (arith, inside, so_far.count) in
-          dump_at items history.dumps.items state.servers.items place d (writes (now.servers place).held) dumps (omega (arith, here, so_far.tied.many))
+          dump_at items history.dumps.items state.servers.items place d (writes (now.servers place).held) left.dumps (omega (arith, here, so_far.tied.many))
           (λ e. ap (λ (c : Core). c.held) (so_far.tied.servers_are place e here).core.is);
-      totals = totals ∙ ap (λ list. totals_of 0 (number_of is_read list) (number_of is_write list) (number_of is_refusal list)) so_far.book.entries;
+      totals = left.totals ∙ counted ∙ ap (λ list. totals_of 0 (number_of is_read list) (number_of is_write list) (number_of is_refusal list)) so_far.book.entries;
     }
 
 -- from the beginning
-pub history_is : (begun : Begun) (servers : List Replica) (clients : List (Option Client)) (offers : List (List ℕ)) (items : List Write) (served : List Entry) (booking : Booking) (events : List Event) (history : History)
-    → AreStarted begun.count begun.count begun.limit servers → AreFirstSeats SESSIONS begun.sessions clients
-    → offers ≡ [] → items ≡ [] → served ≡ [] → booking ≡ record { places = places_for events; entries = [] }
-    → ((first : Machine) → IsGood first → IsTied servers clients offers items served first → IsBookOf booking first → Leaves first events history) → IsHistory begun events history
-history_is begun servers clients offers items served booking events history started seated none_offered none_flying none_served book plays =
+pub history_is : (begun : Begun) (state new : State) (booking new_booking : Booking) (events : List Event) (replies : List Reply) (totals : Totals) (history : History)
+    → IsFirstState begun state → booking ≡ record { places = places_for events; entries = [] }
+    → ((first : Machine) → IsGood first → IsOf state first → IsBookOf booking first → SoFar first events replies new new_booking)
+    → IsLeft new.servers.items new.served.items replies totals history
+    → totals ≡ totals_of 0 (number_of is_read new_booking.entries) (number_of is_write new_booking.entries) (number_of is_refusal new_booking.entries) → IsHistory begun events history
+history_is begun state new booking new_booking events replies totals history begins book plays left counted =
+    let servers = state.servers.items in
+    let clients = state.clients.items in
     let first = first_machine begun.count begun.limit (places_for events) (asks_of begun.sessions) in
-    let tied = begins_tied servers clients begun.count begun.limit (places_for events) begun.sessions started seated in
-    let is_of : IsTied servers clients offers items served first =
-    subst (λ x. IsTied servers clients x items served first) (sym none_offered)
-    (subst (λ x. IsTied servers clients [] x served first) (sym none_flying)
-    (subst (λ x. IsTied servers clients [] [] x first) (sym none_served) tied)) in
-    let left = plays first (first_good begun.count begun.limit (places_for events) (asks_of begun.sessions)) is_of
+    let tied = begins_tied servers clients begun.count begun.limit (places_for events) begun.sessions begins.started begins.seated in
+    let is_of : IsTied servers clients state.offers.items state.items.items state.served.items first =
+    subst (λ x. IsTied servers clients x state.items.items state.served.items first) (sym begins.offers)
+    (subst (λ x. IsTied servers clients [] x state.served.items first) (sym begins.items)
+    (subst (λ x. IsTied servers clients [] [] x first) (sym begins.served) tied)) in
+    let so_far = plays first (first_good begun.count begun.limit (places_for events) (asks_of begun.sessions)) is_of
     (record { places = ap (λ (b : Booking). b.places) book; entries = ap (λ (b : Booking). b.entries) book }) in
-    record { last = left.last; run = left.run; served = left.served; one_each = left.one_each; dumps = left.dumps; totals = left.totals }
+    let told = leaves first events new new_booking replies totals history so_far left counted in
+    record { last = told.last; run = told.run; served = told.served; one_each = told.one_each; dumps = told.dumps; totals = told.totals }

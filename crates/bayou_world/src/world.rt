@@ -4,7 +4,7 @@ ghost use Rattle.bayou_audit.specs.Blanks.{AreBlanksOf, named};
 ghost use Rattle.bayou_base.specs.declared.limits.TheConstants.{MAX_WRITES, SERVERS as SERVERS_NUMBER, SESSIONS as SESSIONS_NUMBER};
 ghost use Rattle.bayou_world.specs.Faults.{AreFused};
 ghost use Rattle.bayou_world.specs.Histories.{IsHistory};
-ghost use Rattle.bayou_world.specs.Inner.Beginning.{AreFirstSeats, AreStarted, IsFirstSeat, Leaves};
+ghost use Rattle.bayou_world.specs.Inner.Beginning.{AreFirstSeats, AreStarted, IsFirstSeat, IsFirstState, IsLeft, SoFar};
 ghost use Rattle.bayou_world.specs.Inner.Booking.{FollowsInBook, IsBookOf};
 ghost use Rattle.bayou_world.specs.Inner.Charges.{AreAmple, AreCharged, SpendsAt};
 ghost use Rattle.bayou_world.specs.Inner.Good.{IsGood};
@@ -22,7 +22,7 @@ use crate::replica::Replica;
 use crate::reply::Reply;
 use crate::role::Role;
 use crate::state::State;
-use bayou_audit::{Blanks, Four, Ledgers};
+use bayou_audit::{Blanks, Four, Ledgers, Totals};
 use bayou_base::{MAX_ENTRIES, SESSIONS, ServerId};
 use bayou_lang::RestingWrite;
 use bayou_session::Session;
@@ -164,31 +164,64 @@ fn step<K: Ledgers>(
     }
 }
 
-/// The events one after another, and what they leave.
+/// The events one after another, and what they are answered.
 fn play<K: Ledgers>(
     alloc: Global,
-    state: State,
-    filing: Filing<K>,
+    state: &mut State,
+    filing: &mut Filing<K>,
     events: &[Event],
-) -> Result<History, AllocError>
-    ensures leaves { IfOk result (λ history. (first : Machine) → IsGood first → IsOf state first → IsBookOf filing first → Leaves first events.now history) }
-    ensures fused { IfOk result (λ history. AreCharged (length state.servers.items) [] [] state.servers.items → AreFused (length state.servers.items) events.now history.replies.items) }
+) -> Result<Vec<Reply>, AllocError>
+    ensures so_far { IfOk result (λ replies. (first : Machine) → IsGood first → IsOf state.old first → IsBookOf filing.old first → SoFar first events.now replies.items state.new filing.new) }
+    ensures charged { IfOk result (λ replies. AreCharged (length state.old.servers.items) [] [] state.old.servers.items → AreCharged (length state.old.servers.items) events.now replies.items state.new.servers.items) }
 {
-    let mut state = state;
-    let mut filing = filing;
     let mut replies = Vec::new(alloc);
     for event in events {
-        replies.push(step(alloc, &mut state, &mut filing, event)?)?;
+        replies.push(step(alloc, state, filing, event)?)?;
     }
-    let dumps = dumps_of(alloc, &state.servers)?;
-    if !are_ample(&mut state.servers) {
+    Ok(replies)
+}
+
+/// What a run leaves whose operations had these answers.
+fn leave(
+    alloc: Global,
+    state: State,
+    replies: Vec<Reply>,
+    totals: Totals,
+) -> Result<History, AllocError>
+    ensures { IfOk result (λ history. IsLeft state.servers.items state.served.items replies.items totals history) }
+{
+    let State {
+        mut servers,
+        served,
+        ..
+    } = state;
+    let dumps = dumps_of(alloc, &servers)?;
+    if !are_ample(&mut servers) {
         return Err(AllocError);
     }
     Ok(History {
         replies,
-        served: state.served,
+        served,
         dumps,
-        totals: filing.totals(),
+        totals,
+    })
+}
+
+/// The servers and sessions as a run begins.
+fn first_state(alloc: Global, world: World) -> Result<State, AllocError>
+    ensures { IfOk result (IsFirstState world) }
+{
+    let World {
+        servers,
+        sessions,
+        ..
+    } = world;
+    Ok(State {
+        servers,
+        clients: seats(alloc, &sessions)?,
+        offers: Vec::new(alloc),
+        items: Vec::new(alloc),
+        served: Vec::new(alloc),
     })
 }
 
@@ -203,20 +236,10 @@ fn run_with<K: Ledgers>(
     ensures history { IfOk result (IsHistory world events.now) }
     ensures fused { IfOk result (λ history. AreFused world.count events.now history.replies.items) }
 {
-    let World {
-        servers,
-        sessions,
-        ..
-    } = world;
-    let state = State {
-        servers,
-        clients: seats(alloc, &sessions)?,
-        offers: Vec::new(alloc),
-        items: Vec::new(alloc),
-        served: Vec::new(alloc),
-    };
-    let filing = Filing::<K>::new(alloc, blanks, places_for(events))?;
-    play(alloc, state, filing, events)
+    let mut state = first_state(alloc, world)?;
+    let mut filing = Filing::<K>::new(alloc, blanks, places_for(events))?;
+    let replies = play(alloc, &mut state, &mut filing, events)?;
+    leave(alloc, state, replies, filing.totals())
 }
 
 /// The same, with a ledger for each of the four totals.

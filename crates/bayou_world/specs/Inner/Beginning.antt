@@ -2,8 +2,11 @@
 use Rattle.std.specs.Prelude.{◌≡◌, ℕ, ◌<◌, List, [], Option, None, Some, length, map}
 use Rattle.std.specs.List.{slice_index_or}
 use Rattle.bayou_base.specs.declared.asks.Asks.{Asks}
+use Rattle.bayou_base.specs.declared.entry.Entry.{Entry}
+use Rattle.bayou_base.specs.declared.limits.TheConstants.{SESSIONS}
 use Rattle.bayou_session.specs.Needs.{Told, new_session}
 use Rattle.std.specs.Global.{Vec}
+use Rattle.bayou_audit.specs.declared.totals.Totals.{Totals}
 use Rattle.bayou_audit.specs.Totals.{is_read, is_refusal, is_write, number_of, totals_of}
 use Rattle.bayou_lang.specs.declared.write.Write.{Write}
 use Rattle.bayou_world.specs.declared.client.Client.{Client}
@@ -12,10 +15,11 @@ use Rattle.bayou_world.specs.declared.history.History.{History}
 use Rattle.bayou_world.specs.declared.replica.Replica.{Replica}
 use Rattle.bayou_world.specs.declared.reply.Reply.{Reply}
 use Rattle.bayou_world.specs.declared.state.State.{State}
+use Rattle.bayou_world.specs.Histories.{Begun}
 use Rattle.bayou_world.specs.Inner.Booking.{Booking, IsBookOf}
 use Rattle.bayou_world.specs.Inner.Good.{IsGood}
-use Rattle.bayou_world.specs.Inner.Charges.{IsUnused}
-use Rattle.bayou_world.specs.Inner.Replicas.{IsFresh, device_of}
+use Rattle.bayou_world.specs.Inner.Charges.{AreAmple, IsUnused}
+use Rattle.bayou_world.specs.Inner.Replicas.{IsFresh, device_of, held_by}
 use Rattle.bayou_world.specs.Inner.Tie.{IsOf}
 use Rattle.bayou_world.specs.Machine.{Answered, Machine, writes}
 use Rattle.bayou_world.specs.Runs.{Run, asks_of}
@@ -43,6 +47,22 @@ IsFirstSeat who (Some asks) None = ⊥
 pub record AreFirstSeats (done : ℕ) (sessions : List Told) (clients : List (Option Client)) : Type 0 where
   pub many : length clients ≡ done
   pub each : (who : ℕ) → who < done → IsFirstSeat who (asks_of sessions who) (slice_index_or clients who None)
+
+-- servers that were started first, and sessions to which nothing has happened
+pub record IsFirstState (begun : Begun) (state : State) : Type 0 where
+  pub started : AreStarted begun.count begun.count begun.limit state.servers.items
+  pub seated : AreFirstSeats SESSIONS begun.sessions state.clients.items
+  pub offers : state.offers.items ≡ []
+  pub items : state.items.items ≡ []
+  pub served : state.served.items ≡ []
+
+-- what is told of a run in the end; no append of a server's device found no memory
+pub record IsLeft (servers : List Replica) (served_last : List Entry) (answers : List Reply) (booked : Totals) (history : History) : Type 0 where
+  pub ample : AreAmple servers
+  pub replies : history.replies.items ≡ answers
+  pub served : history.served.items ≡ served_last
+  pub dumps : map (λ (dump : Vec Write). dump.items) history.dumps.items ≡ map held_by servers
+  pub totals : history.totals ≡ booked
 
 -- what events leave behind a machine
 pub record Leaves (first : Machine) (events : List Event) (history : History) : Type 0 where

@@ -1,11 +1,10 @@
-use Rattle.std.proofs.Common.{◌+◌, ◌<◌, ◌≤◌, arith, length, map, take, ap, sym, ◌∙◌, refl, subst}
+use Rattle.std.proofs.Common.{◌+◌, ◌<◌, ◌≤◌, arith, length, take, sym, subst}
 use Rattle.std.proofs.lemmas.List.{take_all}
 use Rattle.bayou_world.specs.Inner.Beginning.{SoFar}
 use Rattle.bayou_device.specs.Device.{greatest_count}
 use Rattle.bayou_world.specs.Inner.Charges.{AreCharged}
-use Rattle.bayou_world.specs.Inner.Replicas.{held_by}
-use Rattle.bayou_world.proofs.Charging.{charged_step, fused}
-use Rattle.bayou_world.proofs.Played.{SoFar-more, leaves}
+use Rattle.bayou_world.proofs.Charging.{charged_step}
+use Rattle.bayou_world.proofs.Played.{SoFar-more}
 use Rattle.bayou_world.proofs.world.play.Goals as goal
 
 pub loop-event-preserved : goal.loop-event-preserved
@@ -20,23 +19,20 @@ loop-event-preserved g c =
           (SoFar-more first events at c.loop-event.replies.items c.loop-event.state c.step.new.state c.loop-event.filing c.step.new.filing c.event-item.result c.in_ok-step.field-0 inside c.event-item.is
           (c.loop-event.invariant.so_far first good tied book) c.in_ok-step.ensures.follows);
       charged = λ unused.
-          subst (λ list. AreCharged (length c.args.state.servers.items) (take (at + 1) events) list c.step.new.state.servers.items) (sym c.in_ok-push.ensures.items)
-          (charged_step (length c.args.state.servers.items) events at c.loop-event.replies.items c.event-item.result c.in_ok-step.field-0 c.loop-event.state.servers.items c.step.new.state.servers.items inside c.event-item.is few
+          subst (λ list. AreCharged (length c.args.state.now.servers.items) (take (at + 1) events) list c.step.new.state.servers.items) (sym c.in_ok-push.ensures.items)
+          (charged_step (length c.args.state.now.servers.items) events at c.loop-event.replies.items c.event-item.result c.in_ok-step.field-0 c.loop-event.state.servers.items c.step.new.state.servers.items inside c.event-item.is few
           (c.loop-event.invariant.charged unused) c.in_ok-step.ensures.spent);
     }
 
-pub returns-clause-leaves : goal.returns-clause-leaves
-returns-clause-leaves g c first good tied book =
+pub returns-clause-so_far : goal.returns-clause-so_far
+returns-clause-so_far g c first good tied book =
     let events = c.args.events.now in
     let at = c.loop-event.event-index in
     let all : length events ≤ at = omega (arith, c.loop-event-test.false) in
-    leaves first events at c.loop-event.replies.items c.loop-event.state c.loop-event.filing _ (c.loop-event.invariant.so_far first good tied book) all refl refl
-    (c.in_ok-dumps.ensures ∙ ap (map held_by) c.deref.ensures.value) c.totals.ensures
+    subst (λ list. SoFar first list c.loop-event.replies.items c.loop-event.state c.loop-event.filing) (take_all at events all) (c.loop-event.invariant.so_far first good tied book)
 
-pub returns-clause-fused : goal.returns-clause-fused
-returns-clause-fused g c unused =
+pub returns-clause-charged : goal.returns-clause-charged
+returns-clause-charged g c unused =
     let events = c.args.events.now in
-    let many = length c.args.state.servers.items in
     let all : length events ≤ c.loop-event.event-index = omega (arith, c.loop-event-test.false) in
-    let charged = subst (λ list. AreCharged many list c.loop-event.replies.items c.loop-event.state.servers.items) (take_all c.loop-event.event-index events all) (c.loop-event.invariant.charged unused) in
-    fused many events c.loop-event.replies.items c.loop-event.state.servers.items charged (c.if-not-are_ample.ensures refl)
+    subst (λ list. AreCharged (length c.args.state.now.servers.items) list c.loop-event.replies.items c.loop-event.state.servers.items) (take_all c.loop-event.event-index events all) (c.loop-event.invariant.charged unused)

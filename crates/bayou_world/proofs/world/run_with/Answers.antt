@@ -1,24 +1,25 @@
-use Rattle.std.proofs.Common.{◌≡◌, [], length, ap, ◌∙◌, subst}
-use Rattle.bayou_base.specs.declared.limits.TheConstants.{SESSIONS}
+use Rattle.std.proofs.Common.{[], length, ap, sym, ◌∙◌, subst}
 use Rattle.bayou_world.specs.Faults.{AreFused}
-use Rattle.bayou_world.specs.Histories.{Begun, IsHistory}
-use Rattle.bayou_world.specs.Inner.Beginning.{AreFirstSeats}
+use Rattle.bayou_world.specs.Histories.{IsHistory}
+use Rattle.bayou_world.specs.Inner.Beginning.{IsLeft}
+use Rattle.bayou_world.proofs.Charging.{fused}
 use Rattle.bayou_world.proofs.Played.{history_is, if_ok}
 use Rattle.bayou_world.proofs.Restarting.{charged_first}
 use Rattle.bayou_world.proofs.world.run_with.Goals as goal
 
 pub returns-clause-history : goal.returns-clause-history
 returns-clause-history g c =
-    let begun : Begun = record { count = c.world.inside.count; limit = c.world.inside.limit; sessions = c.world.inside.sessions.items } in
-    let seated = subst (λ list. AreFirstSeats SESSIONS list c.in_ok-seats.field-0.items) c.deref.ensures.value c.in_ok-seats.ensures in
     let book = c.in_ok-filing.ensures ∙ ap (λ n. record { places = n; entries = [] }) c.places_for.ensures in
-    if_ok _ (IsHistory c.args.world c.args.events.now)
-    (λ history plays. subst (λ b. IsHistory b c.args.events.now history) c.world.view_is
-    (history_is begun c.world.inside.servers.items c.in_ok-seats.field-0.items c.new.result.items c.new-2.result.items c.new-3.result.items c.in_ok-filing.filing c.args.events.now history c.world.invariant seated c.new.ensures.items c.new-2.ensures.items c.new-3.ensures.items book plays)) c.play.result c.play.ensures.leaves
+    if_ok (IsLeft c.play.new.state.servers.items c.play.new.state.served.items c.in_ok-replies.replies.items c.totals.result) (IsHistory c.args.world c.args.events.now)
+    (λ history left. history_is c.args.world c.in_ok-state.state c.play.new.state c.in_ok-filing.filing c.play.new.filing c.args.events.now c.in_ok-replies.replies.items c.totals.result history
+    c.in_ok-state.ensures book c.in_ok-replies.ensures.so_far left c.totals.ensures) c.leave.result c.leave.ensures
 
 pub returns-clause-fused : goal.returns-clause-fused
 returns-clause-fused g c =
-    let servers = c.world.inside.servers.items in
-    let count : length servers ≡ c.args.world.count = c.world.invariant.many ∙ ap (λ (b : Begun). b.count) c.world.view_is in
-    if_ok _ (λ history. AreFused c.args.world.count c.args.events.now history.replies.items)
-    (λ history fused. subst (λ n. AreFused n c.args.events.now history.replies.items) count (fused (charged_first c.world.inside.count c.world.inside.limit servers c.world.invariant))) c.play.result c.play.ensures.fused
+    let first = c.in_ok-state.ensures.started in
+    let servers = c.in_ok-state.state.servers.items in
+    let charged = c.in_ok-replies.ensures.charged (charged_first c.args.world.count c.args.world.limit servers first) in
+    if_ok (IsLeft c.play.new.state.servers.items c.play.new.state.served.items c.in_ok-replies.replies.items c.totals.result) (λ history. AreFused c.args.world.count c.args.events.now history.replies.items)
+    (λ history left. subst (λ n. AreFused n c.args.events.now history.replies.items) first.many
+    (subst (λ list. AreFused (length servers) c.args.events.now list) (sym left.replies)
+    (fused (length servers) c.args.events.now c.in_ok-replies.replies.items c.play.new.state.servers.items charged left.ample))) c.leave.result c.leave.ensures

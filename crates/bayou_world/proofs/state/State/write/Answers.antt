@@ -1,10 +1,13 @@
-use Rattle.std.proofs.Common.{◌≡◌, ◌<◌, Some, None, ap, sym, ◌∙◌, arith, length, get_or, set, refl, subst}
-use Rattle.std.proofs.lemmas.List.{get_or_default}
+use Rattle.std.proofs.Common.{◌≡◌, ◌<◌, Some, None, ap, sym, ◌∙◌, arith, length, get_or, set, refl, subst, false}
+use Rattle.std.proofs.lemmas.List.{set-get_or, get_or_default}
 use Rattle.bayou_world.specs.declared.replica.Replica.TheVariants.{Running}
 use Rattle.bayou_world.specs.Inner.Tie.{IsTied, seat}
 use Rattle.bayou_world.specs.Machine.{Machine}
 use Rattle.bayou_world.specs.Steps.{Writes}
 use Rattle.bayou_world.specs.declared.reply.Reply.TheVariants as replies
+use Rattle.bayou_world.specs.Faults.{tells_fault}
+use Rattle.bayou_world.specs.Inner.Charges.{AreSpent}
+use Rattle.bayou_world.proofs.Charging.{none_spent, one_spent}
 use Rattle.bayou_world.proofs.Tied.{stands_at}
 use Rattle.bayou_world.proofs.TiedWrites.{write_tied}
 use Rattle.bayou_world.proofs.state.State.write.Goals as goal
@@ -29,3 +32,30 @@ returns-clause-follows c machine good tied =
     × IsTied (set servers place (Running c.write.new.server)) (set clients n (Some c.write.new.self)) c.args.self.now.offers.items c.args.self.now.items.items c.args.self.now.served.items next) (sym c.from-seat.ensures)
     (write_tied c.write_need_is_what_is_asked.ensures servers clients c.args.self.now.offers.items c.args.self.now.items.items c.args.self.now.served.items machine good tied who place c.args.program
     c.in-Some.client c.write.new.self server c.write.new.server c.write.result c.args.who.in_range at may.0 may.1 known stands c.write.ensures.honest c.write.ensures.counts c.write.ensures.answer c.write.ensures.begun))
+
+pub returns-then-seat-len-clause-spent : goal.returns-then-seat-len-clause-spent
+returns-then-seat-len-clause-spent c = none_spent c.args.self.now.servers.items c.args.place.index
+
+pub returns-in_default-clause-spent : goal.returns-in_default-clause-spent
+returns-in_default-clause-spent c = none_spent c.args.self.now.servers.items c.args.place.index
+
+pub returns-then-not-may_begin-clause-spent : goal.returns-then-not-may_begin-clause-spent
+returns-then-not-may_begin-clause-spent c = none_spent c.args.self.now.servers.items c.args.place.index
+
+pub returns-in_default-index_mut-clause-spent : goal.returns-in_default-index_mut-clause-spent
+returns-in_default-index_mut-clause-spent c =
+    let servers = c.args.self.now.servers.items in
+    let found = c.index_mut-2.result.now in
+    let kept : set servers c.from-at.result found ≡ servers = ap (set servers c.from-at.result) c.index_mut-2.ensures.value ∙ set-get_or servers c.from-at.result found in
+    subst (AreSpent c.args.place.index false false servers) (sym kept) (none_spent servers c.args.place.index)
+
+pub returns-clause-spent : goal.returns-clause-spent
+returns-clause-spent c =
+    let place = c.args.place.index in
+    let servers = c.args.self.now.servers.items in
+    let old = c.in-Running.server in
+    let known : place < length servers = omega (arith, c.if-at-len.false, c.from-at.ensures, c.len-else-seat-len.ensures) in
+    let stands : get_or servers place (Running old) ≡ Running old =
+    stands_at servers place c.from-at.result c.index_mut-2.result.now (Running old) c.index_mut-2.ensures.value c.from-at.ensures c.in-Running.is in
+    subst (λ n. AreSpent place (tells_fault (replies.Wrote c.write.result)) false servers (set servers n (Running c.write.new.server))) (sym c.from-at.ensures)
+    (one_spent servers place (tells_fault (replies.Wrote c.write.result)) false (Running old) (Running c.write.new.server) known stands c.write.ensures.spends)
