@@ -2,7 +2,7 @@
 use crate::borders::has_told;
 use crate::fakes::FakeFiles;
 use crate::memory::{Given, call, call_on, joined, run};
-use crate::scripts::{Case, is_answered};
+use crate::scripts::{Case, are_answered};
 use std::alloc::{AllocError, Global};
 use std::str;
 use std::test::Fail;
@@ -162,6 +162,11 @@ static AUDITS: [Case; 14] = [
     },
 ];
 
+/// The one function that names the table: each that does is checked over all of its bytes.
+fn worked() -> &'static [Case] {
+    &AUDITS
+}
+
 /// Audits the text on the standard input.
 fn audit(alloc: Global, text: &[u8]) -> Result<Given, AllocError> {
     call(alloc, &["bayou", "audit", "-"], text)
@@ -180,7 +185,7 @@ fn is_audited(alloc: Global, case: &Case) -> Result<bool, AllocError> {
 
 #[test]
 fn worked_audits(rt: HostRuntime) -> Result<(), Fail> {
-    for case in AUDITS.iter() {
+    for case in worked() {
         assert!(rt; is_audited(rt.alloc(), case)?, "{}", case.name);
     }
     Ok(())
@@ -303,10 +308,7 @@ totals reads 0 writes 1 refusals 1 slips 0
 
 #[test]
 fn worked_verdicts_of_scripts(rt: HostRuntime) -> Result<(), Fail> {
-    for case in SCRIPTS.iter() {
-        assert!(rt; is_answered(rt.alloc(), case)?, "{}", case.name);
-    }
-    Ok(())
+    Ok(are_answered(&rt, rt.alloc(), &SCRIPTS)?)
 }
 
 /// Scripts, and how many of their sessions have an entry.
@@ -351,24 +353,32 @@ static BOOKED: [(&str, usize); 3] = [
     ("[\"servers\",1]\n[\"book\"]\n", 0),
 ];
 
+/// The audit file that stands last in what a script printed.
+fn last_file(output: &[u8]) -> Option<&str> {
+    let printed = str::from_utf8(output).ok()?;
+    let (_, rest) = printed.split_once("[\"servers\",")?;
+    Some(rest)
+}
+
+/// Whether the audit is clean, and has a line of the survey for each of so many sessions.
+fn is_clean(told: &Given, sessions: usize) -> bool {
+    let Ok(lines) = str::from_utf8(told.output.as_slice()) else {
+        return false;
+    };
+    let Some(survey) = lines.strip_prefix("clean\n") else {
+        return false;
+    };
+    survey.lines().count() == sessions && told.status == 0
+}
+
 /// Whether the audit file that the script prints last is clean, and has a line of the survey for each of so many sessions.
 fn comes_back(alloc: Global, script: &str, sessions: usize) -> Result<bool, AllocError> {
     let given = run(alloc, script.as_bytes())?;
-    let Ok(printed) = str::from_utf8(given.output.as_slice()) else {
-        return Ok(false);
-    };
-    let Some((_, rest)) = printed.split_once("[\"servers\",") else {
+    let Some(rest) = last_file(given.output.as_slice()) else {
         return Ok(false);
     };
     let file = joined(alloc, &[b"[\"servers\",", rest.as_bytes()])?;
-    let told = audit(alloc, &file)?;
-    let Ok(lines) = str::from_utf8(told.output.as_slice()) else {
-        return Ok(false);
-    };
-    let Some(survey) = lines.strip_prefix("clean\n") else {
-        return Ok(false);
-    };
-    Ok(survey.lines().count() == sessions && told.status == 0)
+    Ok(is_clean(&audit(alloc, &file)?, sessions))
 }
 
 #[test]
@@ -631,7 +641,7 @@ fn ends_well(alloc: Global, case: &Case) -> Result<bool, AllocError> {
 
 #[test]
 fn want_of_memory_over_the_worked_audits(rt: HostRuntime) -> Result<(), Fail> {
-    for case in AUDITS.iter() {
+    for case in worked() {
         assert!(rt; ends_well(rt.alloc(), case)?, "{}", case.name);
     }
     Ok(())

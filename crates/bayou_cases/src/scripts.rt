@@ -1,6 +1,7 @@
 //! The worked scripts: what each prints, what fault it tells, and its exit status.
 use crate::memory::{Given, run};
 use std::alloc::{AllocError, Global};
+use std::process::Abort;
 use std::str;
 use std::test::Fail;
 
@@ -364,6 +365,11 @@ static CASES: [Case; 35] = [
     },
 ];
 
+/// The one function that names the table: each that does is checked over all of its bytes.
+fn worked() -> &'static [Case] {
+    &CASES
+}
+
 impl Case {
     /// Whether it was given what it is with memory enough.
     pub fn is_whole(&self, given: &Given) -> bool {
@@ -412,12 +418,17 @@ pub fn is_answered(alloc: Global, case: &Case) -> Result<bool, AllocError> {
     Ok(case.is_whole(&run(alloc, case.script.as_bytes())?))
 }
 
-#[test]
-fn worked_scripts(rt: HostRuntime) -> Result<(), Fail> {
-    for case in CASES.iter() {
-        assert!(rt; is_answered(rt.alloc(), case)?, "{}", case.name);
+/// Each case is answered as it is written.
+pub fn are_answered(rt: &impl Abort, alloc: Global, cases: &[Case]) -> Result<(), AllocError> {
+    for case in cases {
+        assert!(rt; is_answered(alloc, case)?, "{}", case.name);
     }
     Ok(())
+}
+
+#[test]
+fn worked_scripts(rt: HostRuntime) -> Result<(), Fail> {
+    Ok(are_answered(&rt, rt.alloc(), worked())?)
 }
 
 /// This is for runs in which any one allocation is refused: the case is answered as ever, or ends for want of memory, or
@@ -427,10 +438,15 @@ fn ends_well(alloc: Global, case: &Case) -> Result<bool, AllocError> {
     Ok(case.is_whole(&given) || case.has_ended(&given) || case.has_lacked(&given))
 }
 
-#[test]
-fn want_of_memory_over_the_worked_scripts(rt: HostRuntime) -> Result<(), Fail> {
-    for case in CASES.iter() {
-        assert!(rt; ends_well(rt.alloc(), case)?, "{}", case.name);
+/// Each case ends so.
+fn all_end_well(rt: &impl Abort, alloc: Global, cases: &[Case]) -> Result<(), AllocError> {
+    for case in cases {
+        assert!(rt; ends_well(alloc, case)?, "{}", case.name);
     }
     Ok(())
+}
+
+#[test]
+fn want_of_memory_over_the_worked_scripts(rt: HostRuntime) -> Result<(), Fail> {
+    Ok(all_end_well(&rt, rt.alloc(), worked())?)
 }

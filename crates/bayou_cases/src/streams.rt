@@ -54,53 +54,65 @@ fn run(
     )
 }
 
+/// Whether a run whose reader fails at this call, of so many, tells it, and prints nothing; or prints all where it doesn't come to it.
+fn ends_at_read(alloc: Global, fails_at: u64, calls: u64) -> Result<bool, AllocError> {
+    let mut reader = reader_of(2, fails_at);
+    let mut writer = writer_of(alloc, 1, 0)?;
+    let mut errors = writer_of(alloc, 1, 0)?;
+    let status = run(alloc, &mut reader, &mut writer, &mut errors);
+    let (wanted, printed, told) = if fails_at > calls {
+        (0, PRINTED, "")
+    } else {
+        (3, "", "bayou: input\n")
+    };
+    Ok(
+        status == wanted
+            && errors.bytes.as_slice() == told.as_bytes()
+            && writer.bytes.as_slice() == printed.as_bytes()
+            && reader.calls == fails_at.min(calls),
+    )
+}
+
 /// Each call of a reader failing, in turn: the fault is told, and nothing is printed. The last doesn't come to it.
 #[test]
 fn readers(rt: HostRuntime) -> Result<(), Fail> {
-    let alloc = rt.alloc();
     let calls = 2 * SCRIPT.len() as u64 + 2;
     for fails_at in 1..calls + 2 {
-        let mut reader = reader_of(2, fails_at);
-        let mut writer = writer_of(alloc, 1, 0)?;
-        let mut errors = writer_of(alloc, 1, 0)?;
-        let status = run(alloc, &mut reader, &mut writer, &mut errors);
-        let (wanted, printed, told) = if fails_at > calls {
-            (0, PRINTED, "")
-        } else {
-            (3, "", "bayou: input\n")
-        };
-        let is_told = errors.bytes.as_slice() == told.as_bytes();
-        let is_printed = writer.bytes.as_slice() == printed.as_bytes();
-        let is_called = reader.calls == fails_at.min(calls);
         assert!(rt;
-            status == wanted && is_told && is_printed && is_called,
+            ends_at_read(rt.alloc(), fails_at, calls)?,
             "call {fails_at}"
         );
     }
     Ok(())
 }
 
+/// Whether a run whose writer fails at this call, of so many, tells it behind what was taken; or prints all where it doesn't come to it.
+fn ends_at_write(alloc: Global, fails_at: u64, calls: u64) -> Result<bool, AllocError> {
+    let mut reader = reader_of(1, 0);
+    let mut writer = writer_of(alloc, 2, fails_at)?;
+    let mut errors = writer_of(alloc, 1, 0)?;
+    let status = run(alloc, &mut reader, &mut writer, &mut errors);
+    let (wanted, told) = if fails_at > calls {
+        (0, "")
+    } else {
+        (3, "bayou: output\n")
+    };
+    Ok(
+        status == wanted
+            && errors.bytes.as_slice() == told.as_bytes()
+            && PRINTED.as_bytes().starts_with(&writer.bytes)
+            && writer.bytes.len() as u64 == fails_at.saturating_sub(1) / 2
+            && writer.calls == fails_at.min(calls),
+    )
+}
+
 /// Each call of a writer failing, in turn: the fault is told behind what was taken. The last doesn't come to it.
 #[test]
 fn writers(rt: HostRuntime) -> Result<(), Fail> {
-    let alloc = rt.alloc();
     let calls = 2 * PRINTED.len() as u64;
     for fails_at in 1..calls + 2 {
-        let mut reader = reader_of(1, 0);
-        let mut writer = writer_of(alloc, 2, fails_at)?;
-        let mut errors = writer_of(alloc, 1, 0)?;
-        let status = run(alloc, &mut reader, &mut writer, &mut errors);
-        let (wanted, told) = if fails_at > calls {
-            (0, "")
-        } else {
-            (3, "bayou: output\n")
-        };
-        let is_told = errors.bytes.as_slice() == told.as_bytes();
-        let is_front = PRINTED.as_bytes().starts_with(&writer.bytes)
-            && writer.bytes.len() as u64 == (fails_at - 1) / 2;
-        let is_called = writer.calls == fails_at.min(calls);
         assert!(rt;
-            status == wanted && is_told && is_front && is_called,
+            ends_at_write(rt.alloc(), fails_at, calls)?,
             "call {fails_at}"
         );
     }
@@ -233,21 +245,20 @@ fn streams_without_an_end(rt: HostRuntime) -> Result<(), Fail> {
 /// How many reads of 19 printed bytes make more than a piece.
 const READS: usize = 4_000;
 
-/// Printed lines are written in pieces of whole lines, of at most 65,536 bytes, and the last ones too.
-#[test]
-fn pieces(rt: HostRuntime) -> Result<(), Fail> {
-    let alloc = rt.alloc();
+/// So many reads of a key that nothing was written to, as a script.
+fn many_reads(alloc: Global, count: usize) -> Result<Vec<u8>, AllocError> {
     let mut script = Vec::new(alloc);
     script.extend_from_slice(b"[\"servers\",1]\n[\"session\",0,[]]\n")?;
-    for _ in 0..READS {
+    for _ in 0..count {
         script.extend_from_slice(b"[\"read\",0,0,\"x\"]\n")?;
     }
-    let mut reader = script.as_slice();
-    let mut writer = Pieces {
-        lengths: Vec::new(alloc),
-    };
-    let mut errors = roomy(alloc)?;
-    let status = run_main(
+    Ok(script)
+}
+
+/// The status that the script ends with, whose output is written to these.
+fn run_pieces(alloc: Global, script: &[u8], writer: &mut Pieces, errors: &mut Vec<u8>) -> u8 {
+    let mut reader = script;
+    run_main(
         alloc,
         &["bayou", "run"],
         &mut FakeFiles {
@@ -255,9 +266,21 @@ fn pieces(rt: HostRuntime) -> Result<(), Fail> {
             fails_at: 0,
         },
         &mut Channel::new(&mut reader, ()),
-        &mut Output::new(&mut writer),
-        &mut Output::new(&mut errors),
-    );
+        &mut Output::new(writer),
+        &mut Output::new(errors),
+    )
+}
+
+/// Printed lines are written in pieces of whole lines, of at most 65,536 bytes, and the last ones too.
+#[test]
+fn pieces(rt: HostRuntime) -> Result<(), Fail> {
+    let alloc = rt.alloc();
+    let script = many_reads(alloc, READS)?;
+    let mut writer = Pieces {
+        lengths: Vec::new(alloc),
+    };
+    let mut errors = roomy(alloc)?;
+    let status = run_pieces(alloc, &script, &mut writer, &mut errors);
     let wanted = [3_449 * 19, (READS - 3_449) * 19];
     assert!(rt;
         status == 0 && writer.lengths.as_slice() == wanted.as_slice(),
@@ -292,29 +315,41 @@ static REFUSED: [(&str, u8, usize, &str, u64); 4] = [
     ),
 ];
 
+/// Whether the script is refused so, once so many bytes were read of it and of the line feeds behind it.
+fn is_refused(alloc: Global, script: &[u8], told: &str, calls: u64) -> Result<bool, AllocError> {
+    let mut reader = FakeReader {
+        bytes: script,
+        is_endless: true,
+        pace: 1,
+        fails_at: 0,
+        calls: 0,
+    };
+    let mut writer = writer_of(alloc, 1, 0)?;
+    let mut errors = writer_of(alloc, 1, 0)?;
+    let status = run(alloc, &mut reader, &mut writer, &mut errors);
+    Ok(
+        status == 2
+            && errors.bytes.as_slice() == told.as_bytes()
+            && writer.bytes.is_empty()
+            && reader.calls == calls,
+    )
+}
+
+/// The text, and so many of this byte behind it.
+fn followed(alloc: Global, front: &str, byte: u8, count: usize) -> Result<Vec<u8>, AllocError> {
+    let mut script = Vec::new(alloc);
+    script.extend_from_slice(front.as_bytes())?;
+    script.resize(front.len().saturating_add(count), byte)?;
+    Ok(script)
+}
+
 /// The input is read no further than to where its least line with a fault is sure to have one.
 #[test]
 fn refused_as_it_comes(rt: HostRuntime) -> Result<(), Fail> {
     let alloc = rt.alloc();
     for (front, byte, count, told, calls) in REFUSED.iter() {
-        let mut script = Vec::new(alloc);
-        script.extend_from_slice(front.as_bytes())?;
-        script.resize(front.len() + *count, *byte)?;
-        let mut reader = FakeReader {
-            bytes: script.as_slice(),
-            is_endless: true,
-            pace: 1,
-            fails_at: 0,
-            calls: 0,
-        };
-        let mut writer = writer_of(alloc, 1, 0)?;
-        let mut errors = writer_of(alloc, 1, 0)?;
-        let status = run(alloc, &mut reader, &mut writer, &mut errors);
-        let is_told = errors.bytes.as_slice() == told.as_bytes();
-        assert!(rt;
-            status == 2 && is_told && writer.bytes.is_empty() && reader.calls == *calls,
-            "{told}"
-        );
+        let script = followed(alloc, front, *byte, *count)?;
+        assert!(rt; is_refused(alloc, &script, told, *calls)?, "{told}");
     }
     Ok(())
 }
