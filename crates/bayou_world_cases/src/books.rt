@@ -1,5 +1,5 @@
 //! The book of what was served: what is filed in it, when it is full, when it is settled, and two threads that file at once.
-ghost use Rattle.std.specs.Prelude.{◌≡◌, ◌<◌, ◌≤◌};
+ghost use Rattle.std.specs.Prelude.{◌≡◌, ◌<◌, ◌≤◌, length};
 ghost use Rattle.bayou_audit.specs.Blanks.{AreBlanksOf, named};
 ghost use Rattle.bayou_base.specs.declared.limits.TheConstants.{SESSIONS};
 
@@ -92,14 +92,12 @@ fn files<K: Ledgers, R: Wait + Abort>(
 fn file_reads<K: Ledgers, R: Wait + Abort>(
     rt: &R,
     book: &AuditBook<K>,
-    share: Share<K>,
+    share: &mut Share<K>,
     count: u32,
-) -> Share<K> {
-    let mut share = share;
+) {
     for number in 0..count {
-        assert!(rt; files(rt, book, &mut share, (number % 1000) * 3));
+        assert!(rt; files(rt, book, share, (number % 1000) * 3));
     }
-    share
 }
 
 /// What the book counts while a slip is out, which is voided.
@@ -120,8 +118,8 @@ fn totals_with_slip<K: Ledgers, R: Wait + Abort>(
 fn file_by_two<S, T, U, V, R>(
     rt: &R,
     book: &AuditBook<Four<S, T, U, V>>,
-    shares: &mut Vec<Share<Four<S, T, U, V>>>,
-) -> Result<(), AllocError>
+    shares: &mut [Share<Four<S, T, U, V>>],
+)
 where
     S: Ledger + Send + Sync,
     T: Ledger + Send + Sync,
@@ -129,18 +127,16 @@ where
     V: Ledger + Send + Sync,
     R: Threads + Wait + Abort + Sync,
 {
-    let (Some(second), Some(first)) = (shares.pop(), shares.pop()) else {
+    thread::for_each_mut(
+        rt,
+        shares,
+        2,
+        &|at, share| file_reads(rt, book, share, if at == 0 { 3 } else { 2 }),
+    );
+    let Some(first) = shares.first_mut() else {
         rt.abort();
     };
-    let (mut first, second) = thread::join(
-        rt,
-        move || file_reads(rt, book, first, 3),
-        move || file_reads(rt, book, second, 2),
-    );
-    let _ = totals_with_slip(rt, book, &mut first);
-    shares.push(first)?;
-    shares.push(second)?;
-    Ok(())
+    let _ = totals_with_slip(rt, book, first);
 }
 
 /// What the book comes to with these shares.
@@ -162,7 +158,7 @@ where
     requires blanks { AreBlanksOf blanks (named S.name S.parts) (named T.name T.parts) (named U.name U.parts) (named V.name V.parts) 2 }
 {
     let (book, mut shares) = AuditBook::<Four<S, T, U, V>>::new(alloc, blanks, 2, 8)?;
-    file_by_two(rt, &book, &mut shares)?;
+    file_by_two(rt, &book, &mut shares);
     Ok(settled(rt, book, shares))
 }
 
@@ -221,19 +217,18 @@ where
     Ok(left.fault)
 }
 
-/// Why the book isn't settled with a slip of this share out, and what it comes to once that is spent.
+/// Why the book isn't settled with a slip of its one share out, and what it comes to once that is spent.
 fn settle_twice<K: Ledgers, R: Wait + Abort>(
     rt: &R,
-    alloc: Global,
     book: AuditBook<K>,
-    share: Share<K>,
-) -> Result<(SettleFault, Settled), AllocError> {
-    let mut shares = Vec::with_capacity(alloc, 1)?;
-    let mut share = share;
-    let Ok(slip) = book.claim(rt, &mut share) else {
+    shares: Vec<Share<K>>,
+) -> (SettleFault, Settled)
+    requires { length shares.items ≡ 1 }
+{
+    let mut shares = shares;
+    let Ok(slip) = book.claim(rt, &mut shares[0]) else {
         rt.abort();
     };
-    shares.push_reserved(share);
     let Err(left) = book.settle(shares) else {
         rt.abort();
     };
@@ -243,7 +238,7 @@ fn settle_twice<K: Ledgers, R: Wait + Abort>(
         mut shares,
     } = left;
     book.void(rt, slip, &mut shares[0]);
-    Ok((fault, settled(rt, book, shares)))
+    (fault, settled(rt, book, shares))
 }
 
 /// The same of a new book.
@@ -260,11 +255,8 @@ where
     R: Wait + Abort,
     requires blanks { AreBlanksOf blanks (named S.name S.parts) (named T.name T.parts) (named U.name U.parts) (named V.name V.parts) 1 }
 {
-    let (book, mut made) = AuditBook::<Four<S, T, U, V>>::new(alloc, blanks, 1, 8)?;
-    let Some(share) = made.pop() else {
-        rt.abort();
-    };
-    settle_twice(rt, alloc, book, share)
+    let (book, shares) = AuditBook::<Four<S, T, U, V>>::new(alloc, blanks, 1, 8)?;
+    Ok(settle_twice(rt, book, shares))
 }
 
 #[test]
@@ -339,10 +331,7 @@ where
     requires blanks { AreBlanksOf blanks (named S.name S.parts) (named T.name T.parts) (named U.name U.parts) (named V.name V.parts) 1 }
 {
     let (mut book, mut shares) = Book::<Four<S, T, U, V>>::new(alloc, blanks, 1, places)?;
-    let Some(mut share) = shares.pop() else {
-        rt.abort();
-    };
-    Ok(fills(rt, &mut book, &mut share, places))
+    Ok(fills(rt, &mut book, &mut shares[0], places))
 }
 
 #[test]
@@ -356,11 +345,38 @@ fn a_book_is_full_at_its_places(rt: HostRuntime) -> Result<(), Fail> {
 
 /// Whether the entries are the first seven of the session of this share.
 fn are_first<K: Ledgers>(rt: &impl Abort, entries: &[Entry], share: &Share<K>) -> bool {
-    let mut are_so = entries.len() == 7;
-    for (number, kept) in (0..).zip(entries.iter()) {
-        are_so = are_so && *kept == entry(rt, share, number);
+    for number in 0..7 {
+        if !is_entry(rt, entries.get(number as usize), share, number) {
+            return false;
+        }
     }
-    are_so
+    entries.len() == 7
+}
+
+/// Whether it is the entry of this number of the session of this share.
+fn is_entry<K: Ledgers>(
+    rt: &impl Abort,
+    kept: Option<&Entry>,
+    share: &Share<K>,
+    number: u32,
+) -> bool {
+    match kept {
+        Some(kept) => *kept == entry(rt, share, number),
+        None => false,
+    }
+}
+
+/// Files the first seven entries of the session of this share. Whether there is a place for each.
+fn files_first<K: Ledgers, R: Wait + Abort>(
+    rt: &R,
+    book: &AuditBook<K>,
+    share: &mut Share<K>,
+) -> bool {
+    let mut are_filed = true;
+    for number in 0..7 {
+        are_filed &= files(rt, book, share, number);
+    }
+    are_filed
 }
 
 /// Whether a book behind its lock counts and keeps what is filed, of each kind, and a slip that is out.
@@ -370,10 +386,7 @@ fn keeps<K: Ledgers, R: Wait + Abort>(
     book: &AuditBook<K>,
     share: &mut Share<K>,
 ) -> Result<bool, AllocError> {
-    let mut are_filed = true;
-    for number in 0..7 {
-        are_filed &= files(rt, book, share, number);
-    }
+    let are_filed = files_first(rt, book, share);
     let counts = Totals {
         slips: 1,
         reads: 3,
@@ -396,10 +409,7 @@ where
     requires blanks { AreBlanksOf blanks (named S.name S.parts) (named T.name T.parts) (named U.name U.parts) (named V.name V.parts) 1 }
 {
     let (book, mut shares) = AuditBook::<Four<S, T, U, V>>::new(alloc, blanks, 1, 8)?;
-    let Some(mut share) = shares.pop() else {
-        rt.abort();
-    };
-    keeps(rt, alloc, &book, &mut share)
+    keeps(rt, alloc, &book, &mut shares[0])
 }
 
 #[test]

@@ -1,8 +1,9 @@
 //! What the tests of the judge are made of. Vectors have the counts of the first three servers.
+use crate::fixtures::put_at;
 pub use crate::fixtures::{server_id, session_id};
-use bayou_base::{Asks, Entry, Key, SERVERS, Stamp, Value, Vector, What, Wid};
+use bayou_base::{Asks, Entry, Key, SERVERS, Stamp, Vector, What, Wid};
 use bayou_judge::{Refusal, Surveyed, Verdict, judge, survey};
-use bayou_lang::{Op, Program, RestingWrite, Term};
+use bayou_lang::{RestingProgram, RestingWrite};
 use std::alloc::{AllocError, Global};
 use std::process::Abort;
 
@@ -18,10 +19,8 @@ pub fn vector(rt: &impl Abort, counts: [u32; 3]) -> Vector {
 }
 
 /// A program that puts the number at `a`.
-pub fn put(rt: &impl Abort, number: i64) -> Program {
-    let key = Key::new("a").expect(rt, "no key");
-    let op = Op::Put(key, Term::Lit(Value::Num(number)));
-    Program::new(&[], &[op], &[]).expect(rt, "no program")
+pub fn put(rt: &impl Abort, alloc: Global, number: i64) -> Result<RestingProgram, AllocError> {
+    put_at(rt, alloc, Key::new("a").expect(rt, "no key"), number)
 }
 
 /// A Write at rest of this origin, seq, clock and past, which puts the number at `a`.
@@ -36,12 +35,12 @@ pub fn held(
         Wid::new(server, seq).expect(rt, "no name"),
         Stamp::new(clock, server).expect(rt, "no stamp"),
         vector(rt, deps),
-        put(rt, number).rest(alloc)?,
+        put(rt, alloc, number)?,
     ))
 }
 
 /// What an entry tells.
-#[derive(Clone, Copy, Debug)]
+#[derive(Clone, Copy)]
 pub enum Told {
     Read([u32; 3]),
     /// A Write of this origin and seq, with a stamp of this clock and origin.
@@ -84,6 +83,27 @@ pub fn entry(rt: &impl Abort, asks: Asks, of: (u8, u32, u8), what: What) -> Entr
     }
 }
 
+/// What is told, and what each server holds. It is in a box, since a function that owns one is proved sooner.
+#[derive(Drop)]
+pub struct Evidence {
+    pub entries: Vec<Entry>,
+    pub dumps: Vec<Vec<RestingWrite>>,
+}
+
+/// What is told by these lines, and what each server holds by these lists.
+pub fn evidence_of(
+    rt: &impl Abort,
+    alloc: Global,
+    lists: &[&[Held]; 3],
+    lines: &[Line],
+) -> Result<Box<Evidence>, AllocError> {
+    let evidence = Evidence {
+        entries: entries_of(rt, alloc, lines)?,
+        dumps: dumps_of(rt, alloc, lists)?,
+    };
+    Ok(Box::new(alloc, evidence)?)
+}
+
 /// What the judge answers, and what it surveys.
 pub fn asked(
     rt: &impl Abort,
@@ -104,11 +124,7 @@ pub type Held = (u8, u32, u32, [u32; 3], i64);
 /// An entry: its session, its place, what is asked for, its server and what it tells.
 pub type Line = (u8, u32, &'static str, u8, Told);
 
-pub fn entries_of(
-    rt: &impl Abort,
-    alloc: Global,
-    lines: &[Line],
-) -> Result<Vec<Entry>, AllocError> {
+fn entries_of(rt: &impl Abort, alloc: Global, lines: &[Line]) -> Result<Vec<Entry>, AllocError> {
     let mut entries = Vec::new(alloc);
     for (session, place, asks, server, told) in lines {
         let what = what_of(rt, *told);
@@ -130,15 +146,14 @@ fn dump_of(
     Ok(dump)
 }
 
-pub fn dumps_of(
+fn dumps_of(
     rt: &impl Abort,
     alloc: Global,
-    lists: [&[Held]; 3],
+    lists: &[&[Held]; 3],
 ) -> Result<Vec<Vec<RestingWrite>>, AllocError> {
-    let [first, second, third] = lists;
     let mut dumps = Vec::new(alloc);
-    dumps.push(dump_of(rt, alloc, first)?)?;
-    dumps.push(dump_of(rt, alloc, second)?)?;
-    dumps.push(dump_of(rt, alloc, third)?)?;
+    for list in lists {
+        dumps.push(dump_of(rt, alloc, list)?)?;
+    }
     Ok(dumps)
 }

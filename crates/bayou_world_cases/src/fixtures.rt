@@ -19,12 +19,22 @@ pub fn room(rt: &impl Abort) -> Key {
     Key::new("room").expect(rt, "no key")
 }
 
-/// A program that puts the number at `room`.
-pub fn put(rt: &impl Abort, alloc: Global, number: i64) -> Result<RestingProgram, AllocError> {
-    let op = Op::Put(room(rt), Term::Lit(Value::Num(number)));
+/// A program that puts the number at the key.
+pub fn put_at(
+    rt: &impl Abort,
+    alloc: Global,
+    key: Key,
+    number: i64,
+) -> Result<RestingProgram, AllocError> {
+    let op = Op::Put(key, Term::Lit(Value::Num(number)));
     Program::new(&[], &[op], &[])
         .expect(rt, "no program")
         .rest(alloc)
+}
+
+/// A program that puts the number at `room`.
+pub fn put(rt: &impl Abort, alloc: Global, number: i64) -> Result<RestingProgram, AllocError> {
+    put_at(rt, alloc, room(rt), number)
 }
 
 /// New sessions with these asks, numbered from 0 on.
@@ -42,15 +52,25 @@ pub fn sessions_of(
     Ok(sessions)
 }
 
-/// What a run leaves, of so many servers, at most four, which hold so many Writes each, at most 1,000, and of sessions with these asks.
-pub fn history_of(
+/// So many servers, at most four, which hold so many Writes each, at most 1,000, and sessions with these asks.
+fn world_of(
     rt: &impl Abort,
     alloc: Global,
     (count, limit): (u8, u32),
     asks: &[Asks],
-    events: &[Event],
-) -> Result<History, AllocError> {
+) -> Result<World, AllocError> {
     let sessions = sessions_of(rt, alloc, asks)?;
-    let world = World::new(alloc, count.min(4), limit.min(1_000), sessions.as_slice())?;
-    world.run(alloc, events)
+    World::new(alloc, count.min(4), limit.min(1_000), sessions.as_slice())
+}
+
+/// What a run of these servers and sessions leaves. It is in a box, since a function that owns one is proved sooner.
+pub fn history_of(
+    rt: &impl Abort,
+    alloc: Global,
+    of: (u8, u32),
+    asks: &[Asks],
+    events: &[Event],
+) -> Result<Box<History>, AllocError> {
+    let history = world_of(rt, alloc, of, asks)?.run(alloc, events)?;
+    Ok(Box::new(alloc, history)?)
 }

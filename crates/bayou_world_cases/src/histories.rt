@@ -59,6 +59,37 @@ fn has(writes: &[RestingWrite], wid: Wid) -> bool {
     writes.iter().any(|write| write.wid() == wid)
 }
 
+/// Another Write of the same name, stamp and past.
+fn other_of(
+    rt: &impl Abort,
+    alloc: Global,
+    write: &RestingWrite,
+) -> Result<RestingWrite, AllocError> {
+    let program = put(rt, alloc, 7)?;
+    Ok(RestingWrite::new(write.wid(), write.stamp(), *write.deps(), program))
+}
+
+/// Two Writes that stand side by side are swapped, or the first one of them is removed or is another.
+fn spoil_at(
+    rt: &impl Abort,
+    alloc: Global,
+    list: &mut Vec<RestingWrite>,
+    at: usize,
+    kind: u32,
+) -> Result<(), AllocError> {
+    if at >= list.len().saturating_sub(1) {
+        return Ok(());
+    }
+    match kind {
+        0 => list.swap(at, at + 1),
+        1 => {
+            let _ = list.remove(at);
+        }
+        _ => list[at] = other_of(rt, alloc, &list[at])?,
+    }
+    Ok(())
+}
+
 /// Three servers, and sessions that go from one to the other, whatever they ask for.
 #[derive(Drop)]
 struct World {
@@ -130,7 +161,7 @@ impl World {
         let seq = deps.get(id).saturating_add(1);
         let wid = Wid::new(id, seq).expect(rt, "no name");
         let stamp = Stamp::new(clock, id).expect(rt, "no stamp");
-        let program = put(rt, i64::from(dice.below(3))).rest(self.alloc)?;
+        let program = put(rt, self.alloc, i64::from(dice.below(3)))?;
         self.take(server, RestingWrite::new(wid, stamp, deps, program))?;
         if dice.chance(8) {
             return Ok(());
@@ -172,25 +203,20 @@ impl World {
     /// One entry is changed, or told again.
     fn forge(&mut self, rt: &impl Abort, dice: &mut Dice) -> Result<(), AllocError> {
         let many = self.entries.len();
-        let other = match self.entries.get(dice.below(40) as usize % many.max(1)) {
-            Some(entry) => entry.copy(),
-            None => return Ok(()),
-        };
+        let other = dice.below(40) as usize % many.max(1);
+        if many == 0 {
+            return Ok(());
+        }
         let at = dice.below(40) as usize % many.max(1);
         let kind = dice.below(5);
         let server = server_id(rt, dice.below(4) as u8);
         let asks = asks_of(ASKS[dice.below(8) as usize % 8]);
-        if kind == 4 {
-            self.entries.push(other)?;
-            return Ok(());
-        }
-        if let Some(entry) = self.entries.get_mut(at) {
-            match kind {
-                0 => entry.place = other.place,
-                1 => entry.server = server,
-                2 => entry.asks = asks,
-                _ => entry.what = other.what.copy(),
-            }
+        match kind {
+            0 => self.entries[at].place = self.entries[other].place,
+            1 => self.entries[at].server = server,
+            2 => self.entries[at].asks = asks,
+            3 => self.entries[at].what = self.entries[other].what.copy(),
+            _ => self.entries.push(self.entries[other].copy())?,
         }
         Ok(())
     }
@@ -201,24 +227,10 @@ impl World {
         let many = self.list(server).len();
         let at = dice.below(40) as usize % many.max(1);
         let kind = dice.below(3);
-        let program = put(rt, 7).rest(self.alloc)?;
-        let Some(list) = self.dumps.get_mut(usize::from(server)) else {
-            return Ok(());
-        };
-        if at + 1 >= list.len() {
-            return Ok(());
+        match self.dumps.get_mut(usize::from(server)) {
+            Some(list) => spoil_at(rt, self.alloc, list, at, kind),
+            None => Ok(()),
         }
-        match kind {
-            0 => list.swap(at, at + 1),
-            1 => {
-                let _ = list.remove(at);
-            }
-            _ => {
-                let old = &list[at];
-                list[at] = RestingWrite::new(old.wid(), old.stamp(), *old.deps(), program);
-            }
-        }
-        Ok(())
     }
 }
 

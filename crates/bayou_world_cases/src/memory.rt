@@ -1,5 +1,7 @@
 //! A run in which memory is refused.
-use crate::scripts::{Act, OWN_WRITES, Said, Script, Told, events_of, is_as_it_says, play, saying};
+use crate::scripts::{
+    Act, OWN_WRITES, Said, Script, Told, events_of, is_as_it_says, is_said, play, saying,
+};
 use Said::{Accepted, Delivered, Doubted, Dropped, Filed, Flown, Kept, New, Seen, Wanting};
 use bayou_world::{Event, Reply};
 use std::alloc::{AllocError, Global};
@@ -40,13 +42,13 @@ fn is_want(said: Said) -> bool {
 /// Whether the replies tell of want of memory, behind those of ample memory.
 fn are_cut_short(replies: &[Reply], acts: &[(Act, Said)]) -> bool {
     let mut is_wanting = false;
-    let mut is_each = replies.len() == acts.len();
-    for (reply, (_, wanted)) in replies.iter().zip(acts.iter()) {
-        let said = saying(reply);
-        is_wanting = is_wanting || is_want(said);
-        is_each = is_each && (is_wanting || said == *wanted);
+    for (at, reply) in replies.iter().enumerate() {
+        is_wanting = is_wanting || is_want(saying(reply));
+        if !is_wanting && !is_said(reply, acts.get(at)) {
+            return false;
+        }
     }
-    is_each && is_wanting
+    is_wanting && replies.len() == acts.len()
 }
 
 /// Whether the run leaves what it leaves with ample memory.

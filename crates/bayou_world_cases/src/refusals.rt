@@ -1,11 +1,11 @@
 //! Entries and dumps that stand for no history: each way in which a dump is bad, and each in which an entry is forged. And the file of
 //! docs/FORMATS.md, with what was changed in it.
-use crate::evidence::{Held, Line, Told, asked, dumps_of, entries_of, server_id, session_id};
+use crate::evidence::{Evidence, Held, Line, Told, asked, evidence_of, server_id, session_id};
 use crate::twin;
 use Told::{Read, Refused, Wrote};
 use bayou_base::Wid;
 use bayou_judge::{Breach, Guarantee, Refusal, Surveyed, Verdict};
-use std::alloc::Global;
+use std::alloc::{AllocError, Global};
 use std::process::Abort;
 use std::test::Fail;
 
@@ -149,35 +149,66 @@ static FORGERIES: [Forged; 18] = [
 fn is_refused(
     rt: &impl Abort,
     alloc: Global,
-    lists: [&[Held]; 3],
+    lists: &[&[Held]; 3],
     lines: &[Line],
     refusal: Refusal,
-) -> Result<bool, Fail> {
-    let dumps = dumps_of(rt, alloc, lists)?;
-    let entries = entries_of(rt, alloc, lines)?;
-    let (verdict, survey) = asked(rt, alloc, entries.as_slice(), dumps.as_slice());
-    let of_twin = twin::judge(3, entries.as_slice(), dumps.as_slice());
-    Ok(verdict == Err(refusal) && of_twin == Err(refusal) && survey == Err(refusal))
+) -> Result<bool, AllocError> {
+    let evidence = evidence_of(rt, alloc, lists, lines)?;
+    Ok(are_refusals(rt, alloc, &evidence, refusal))
+}
+
+fn are_refusals(rt: &impl Abort, alloc: Global, evidence: &Evidence, refusal: Refusal) -> bool {
+    let (entries, dumps) = (evidence.entries.as_slice(), evidence.dumps.as_slice());
+    let (verdict, survey) = asked(rt, alloc, entries, dumps);
+    let is_surveyed = survey == Err(refusal);
+    verdict == Err(refusal) && twin::judge(3, entries, dumps) == Err(refusal) && is_surveyed
+}
+
+/// A forged entry, which is told after a dump that is bad.
+static FORGED: [Line; 1] = [(0, 1, "", 7, Refused)];
+
+fn is_bad(rt: &impl Abort, alloc: Global, dump: &BadDump) -> Result<bool, AllocError> {
+    let (lists, (server, at)) = dump;
+    let refusal = Refusal::BadDump(server_id(rt, *server), *at);
+    is_refused(rt, alloc, lists, &FORGED, refusal)
+}
+
+/// How many of the dumps are refused, up to one that isn't.
+fn bad_among(rt: &impl Abort, alloc: Global, dumps: &[BadDump]) -> Result<usize, AllocError> {
+    for (at, dump) in dumps.iter().enumerate() {
+        if !is_bad(rt, alloc, dump)? {
+            return Ok(at);
+        }
+    }
+    Ok(dumps.len())
 }
 
 #[test]
 fn bad_dumps(rt: HostRuntime) -> Result<(), Fail> {
-    for (lists, (server, at)) in BAD_DUMPS {
-        let refusal = Refusal::BadDump(server_id(&rt, server), at);
-        // A forged entry is told after it.
-        let lines = [(0, 1, "", 7, Refused)];
-        let is_told = is_refused(&rt, rt.alloc(), lists, &lines, refusal)?;
-        assert!(rt; is_told, "{lists:?}");
-    }
+    let bad = bad_among(&rt, rt.alloc(), &BAD_DUMPS)?;
+    assert!(rt; bad == BAD_DUMPS.len(), "dump {bad}");
     Ok(())
+}
+
+fn is_forged(rt: &impl Abort, alloc: Global, forged: &Forged) -> Result<bool, AllocError> {
+    let (lists, lines, at) = forged;
+    is_refused(rt, alloc, lists, lines, Refusal::Forged(*at))
+}
+
+/// How many of the forgeries are refused, up to one that isn't.
+fn forged_among(rt: &impl Abort, alloc: Global, forgeries: &[Forged]) -> Result<usize, AllocError> {
+    for (at, forged) in forgeries.iter().enumerate() {
+        if !is_forged(rt, alloc, forged)? {
+            return Ok(at);
+        }
+    }
+    Ok(forgeries.len())
 }
 
 #[test]
 fn forged_entries(rt: HostRuntime) -> Result<(), Fail> {
-    for (lists, lines, at) in FORGERIES {
-        let is_told = is_refused(&rt, rt.alloc(), lists, lines, Refusal::Forged(at))?;
-        assert!(rt; is_told, "{lines:?}");
-    }
+    let forged = forged_among(&rt, rt.alloc(), &FORGERIES)?;
+    assert!(rt; forged == FORGERIES.len(), "forgery {forged}");
     Ok(())
 }
 
@@ -200,12 +231,21 @@ fn is_judged(
     alloc: Global,
     file: (u32, &'static str, [u32; 3]),
     wanted: Result<Verdict, Refusal>,
-) -> Result<bool, Fail> {
+) -> Result<bool, AllocError> {
     let (clock, asks, counts) = file;
-    let dumps = dumps_of(rt, alloc, [&[(0, 1, clock, ZERO, 1)], &[], &[]])?;
     let lines = [(0, 1, asks, 0, WROTE_FIRST), (0, 2, asks, 1, Read(counts))];
-    let entries = entries_of(rt, alloc, &lines)?;
-    let (verdict, survey) = asked(rt, alloc, entries.as_slice(), dumps.as_slice());
+    let evidence = evidence_of(rt, alloc, &[&[(0, 1, clock, ZERO, 1)], &[], &[]], &lines)?;
+    Ok(are_answers(rt, alloc, &evidence, wanted))
+}
+
+fn are_answers(
+    rt: &impl Abort,
+    alloc: Global,
+    evidence: &Evidence,
+    wanted: Result<Verdict, Refusal>,
+) -> bool {
+    let (entries, dumps) = (evidence.entries.as_slice(), evidence.dumps.as_slice());
+    let (verdict, survey) = asked(rt, alloc, entries, dumps);
     let surveyed = Surveyed {
         session: session_id(rt, 0),
         ryw: Some(breach_of_the_file(rt)),
@@ -217,7 +257,7 @@ fn is_judged(
         Ok(list) => list.as_slice() == [surveyed].as_slice(),
         Err(refusal) => wanted == Err(refusal),
     };
-    Ok(verdict == wanted && is_surveyed)
+    verdict == wanted && is_surveyed
 }
 
 #[test]

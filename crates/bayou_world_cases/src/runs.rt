@@ -265,9 +265,9 @@ impl List {
 }
 
 /// The server of an offer that was kept.
-fn offer_of(event: &Event, reply: &Reply) -> Option<u8> {
+fn offer_of(event: &Event, reply: Option<&Reply>) -> Option<u8> {
     match (event, reply) {
-        (Event::Offer(server), Reply::Kept(_)) => Some(server.index),
+        (Event::Offer(server), Some(Reply::Kept(_))) => Some(server.index),
         _ => None,
     }
 }
@@ -275,8 +275,8 @@ fn offer_of(event: &Event, reply: &Reply) -> Option<u8> {
 /// The server of each offer that was kept.
 fn offers_of(alloc: Global, events: &[Event], replies: &[Reply]) -> Result<Vec<u8>, AllocError> {
     let mut offers = Vec::new(alloc);
-    for (event, reply) in events.iter().zip(replies.iter()) {
-        if let Some(offer) = offer_of(event, reply) {
+    for (at, event) in events.iter().enumerate() {
+        if let Some(offer) = offer_of(event, replies.get(at)) {
             offers.push(offer)?;
         }
     }
@@ -284,8 +284,8 @@ fn offers_of(alloc: Global, events: &[Event], replies: &[Reply]) -> Result<Vec<u
 }
 
 /// What was collected, and for which server: the one of that offer.
-fn batch_of(offers: &[u8], event: &Event, reply: &Reply) -> Option<Batch> {
-    let (Event::Collect { offer, .. }, Reply::Flown { first, number }) = (event, reply) else {
+fn batch_of(offers: &[u8], event: &Event, reply: Option<&Reply>) -> Option<Batch> {
+    let (Event::Collect { offer, .. }, Some(Reply::Flown { first, number })) = (event, reply) else {
         return None;
     };
     let to = offers.get(*offer as usize)?;
@@ -298,8 +298,8 @@ fn batch_of(offers: &[u8], event: &Event, reply: &Reply) -> Option<Batch> {
 /// What was collected for which server.
 fn batches_of(alloc: Global, list: &List, replies: &[Reply]) -> Result<Vec<Batch>, AllocError> {
     let mut batches = Vec::new(alloc);
-    for (event, reply) in list.events.iter().zip(replies.iter()) {
-        if let Some(batch) = batch_of(list.offers.as_slice(), event, reply) {
+    for (at, event) in list.events.iter().enumerate() {
+        if let Some(batch) = batch_of(list.offers.as_slice(), event, replies.get(at)) {
             batches.push(batch)?;
         }
     }
@@ -313,7 +313,7 @@ fn run(
     limit: u32,
     asks: &[Asks; 8],
     events: &[Event],
-) -> Result<History, AllocError> {
+) -> Result<Box<History>, AllocError> {
     history_of(rt, alloc, (4, limit), asks, events)
 }
 
@@ -331,17 +331,19 @@ fn server_of(event: &Event) -> Option<ServerId> {
 /// Whether each fault of a server has a fuse of that server before it, of its own.
 fn are_paid(events: &[Event], replies: &[Reply]) -> bool {
     let mut fuses: [u32; 4] = [0; 4];
-    let mut is_each = true;
-    for (event, reply) in events.iter().zip(replies.iter()) {
-        if let Some(server) = server_of(event) {
-            is_each = pay(&mut fuses, server, reply) && is_each;
+    for (at, event) in events.iter().enumerate() {
+        if !pay(&mut fuses, server_of(event), replies.get(at)) {
+            return false;
         }
     }
-    is_each
+    true
 }
 
 /// The server's fuses behind a reply. Whether there was one for a fault.
-fn pay(fuses: &mut [u32; 4], server: ServerId, reply: &Reply) -> bool {
+fn pay(fuses: &mut [u32; 4], server: Option<ServerId>, reply: Option<&Reply>) -> bool {
+    let (Some(server), Some(reply)) = (server, reply) else {
+        return true;
+    };
     let at = usize::from(server.index).min(3);
     if let Reply::Fused = reply {
         fuses[at] = fuses[at].saturating_add(1);
@@ -427,13 +429,16 @@ struct Tally {
 
 impl Tally {
     fn add_replies(&mut self, events: &[Event], replies: &[Reply]) {
-        for (event, reply) in events.iter().zip(replies.iter()) {
-            self.add_kind(kind_of(event, reply));
+        for (at, event) in events.iter().enumerate() {
+            self.add_kind(event, replies.get(at));
         }
     }
 
-    fn add_kind(&mut self, kind: usize) {
-        let kind = kind.min(KINDS);
+    fn add_kind(&mut self, event: &Event, reply: Option<&Reply>) {
+        let Some(reply) = reply else {
+            return;
+        };
+        let kind = kind_of(event, reply).min(KINDS);
         self.kinds[kind] = self.kinds[kind].saturating_add(1);
     }
 

@@ -45,18 +45,27 @@ struct Scene {
 }
 
 impl Scene {
-    fn new(alloc: Global) -> Result<Self, AllocError> {
+    fn new(alloc: Global) -> Result<Box<Self>, AllocError> {
         let mut dumps = Vec::new(alloc);
         for _ in 0..COUNT {
             dumps.push(Vec::new(alloc))?;
         }
-        let entries = Vec::new(alloc);
-        Ok(Scene {
+        let scene = Scene {
             alloc,
             dumps,
-            entries,
+            entries: Vec::new(alloc),
             places: 0,
-        })
+        };
+        Ok(Box::new(alloc, scene)?)
+    }
+
+    /// Nothing has happened yet, as in a new scene.
+    fn clear(&mut self) {
+        for dump in &mut self.dumps {
+            dump.clear();
+        }
+        self.entries.clear();
+        self.places = 0;
     }
 
     /// The server receives that Write, which was made behind those of its origin alone.
@@ -68,10 +77,10 @@ impl Scene {
         seq: u32,
     ) -> Result<(), AllocError> {
         let deps = counts_of(rt, origin, seq.saturating_sub(1));
-        let program = put(rt, 1).rest(self.alloc)?;
         let id = server_id(rt, origin);
         let wid = Wid::new(id, seq).expect(rt, "no name");
         let stamp = Stamp::new(seq, id).expect(rt, "no stamp");
+        let program = put(rt, self.alloc, 1)?;
         if let Some(dump) = self.dumps.get_mut(usize::from(server)) {
             dump.push(RestingWrite::new(wid, stamp, deps, program))?;
         }
@@ -149,12 +158,12 @@ impl Scene {
 /// Whether the guarantee is broken at the server for what only the other one has.
 fn is_missing(
     rt: &impl Abort,
-    alloc: Global,
+    scene: &mut Scene,
     guarantee: Guarantee,
     server: u8,
     other: u8,
 ) -> Result<bool, AllocError> {
-    let mut scene = Scene::new(alloc)?;
+    scene.clear();
     scene.hold(rt, other, other, 1)?;
     scene.begin(rt, guarantee, other, 1)?;
     match guarantee {
@@ -171,12 +180,12 @@ fn is_missing(
 /// them and is before the second of them.
 fn is_behind(
     rt: &impl Abort,
-    alloc: Global,
+    scene: &mut Scene,
     guarantee: Guarantee,
     server: u8,
     home: u8,
 ) -> Result<bool, AllocError> {
-    let mut scene = Scene::new(alloc)?;
+    scene.clear();
     scene.hold(rt, server, server, 1)?;
     scene.hold(rt, server, server, 2)?;
     scene.hold(rt, server, home, 1)?;
@@ -187,8 +196,8 @@ fn is_behind(
 }
 
 /// Whether Writes Follow Reads is broken at the server by a Write that was read before it was written.
-fn is_itself(rt: &impl Abort, alloc: Global, server: u8) -> Result<bool, AllocError> {
-    let mut scene = Scene::new(alloc)?;
+fn is_itself(rt: &impl Abort, scene: &mut Scene, server: u8) -> Result<bool, AllocError> {
+    scene.clear();
     scene.hold(rt, server, server, 1)?;
     scene.read(rt, server, 1)?;
     scene.write(rt, server, 1)?;
@@ -197,11 +206,12 @@ fn is_itself(rt: &impl Abort, alloc: Global, server: u8) -> Result<bool, AllocEr
 
 #[test]
 fn presence_at_each_server(rt: HostRuntime) -> Result<(), Fail> {
-    for guarantee in GUARANTEES {
+    let mut scene = Scene::new(rt.alloc())?;
+    for guarantee in &GUARANTEES {
         for server in 0..COUNT {
             for other in 0..COUNT {
                 let is_told = server == other
-                    || is_missing(&rt, rt.alloc(), guarantee, server, other)?;
+                    || is_missing(&rt, &mut scene, *guarantee, server, other)?;
                 assert!(rt; is_told, "{guarantee:?} {server} {other}");
             }
         }
@@ -211,10 +221,11 @@ fn presence_at_each_server(rt: HostRuntime) -> Result<(), Fail> {
 
 #[test]
 fn order_at_each_server(rt: HostRuntime) -> Result<(), Fail> {
-    for guarantee in [WritesFollowReads, MonotonicWrites] {
+    let mut scene = Scene::new(rt.alloc())?;
+    for guarantee in &GUARANTEES[2..] {
         for home in 0..COUNT {
             for server in 0..home {
-                let is_told = is_behind(&rt, rt.alloc(), guarantee, server, home)?;
+                let is_told = is_behind(&rt, &mut scene, *guarantee, server, home)?;
                 assert!(rt; is_told, "{guarantee:?} {server} {home}");
             }
         }
@@ -224,8 +235,9 @@ fn order_at_each_server(rt: HostRuntime) -> Result<(), Fail> {
 
 #[test]
 fn a_write_that_was_read_before(rt: HostRuntime) -> Result<(), Fail> {
+    let mut scene = Scene::new(rt.alloc())?;
     for server in 0..COUNT {
-        assert!(rt; is_itself(&rt, rt.alloc(), server)?, "{server}");
+        assert!(rt; is_itself(&rt, &mut scene, server)?, "{server}");
     }
     Ok(())
 }

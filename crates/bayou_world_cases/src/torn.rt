@@ -18,10 +18,10 @@ const BEFORE: usize = 198;
 const ENTRY: usize = 94;
 
 /// The server on the device, alone, and how many bytes were dropped.
-fn started(rt: &impl Abort, alloc: Global, device: Memory) -> Option<(Served, usize)> {
+fn started(rt: &impl Abort, alloc: Global, device: Memory) -> Option<(Box<Served>, usize)> {
     let id = ServerId::new(0).expect(rt, "no server");
     match Server::start(alloc, id, 1, 100, device) {
-        Ok(started) => Some(started),
+        Ok((server, dropped)) => Some((Box::new(alloc, server).ok()?, dropped)),
         Err(_) => None,
     }
 }
@@ -39,7 +39,7 @@ fn puts(
 }
 
 /// A new server, alone.
-fn begun(rt: &impl Abort, alloc: Global) -> Option<Served> {
+fn begun(rt: &impl Abort, alloc: Global) -> Option<Box<Served>> {
     let (server, _) = started(rt, alloc, MemoryDevice::new(alloc, OpenGate))?;
     Some(server)
 }
@@ -81,20 +81,27 @@ fn reopens(rt: &impl Abort, alloc: Global, server: &mut Served, kept: usize) -> 
     }
 }
 
-/// The device of a server that was stopped with all of the third entry added, and whether that is in doubt.
-fn stopped(rt: &impl Abort, alloc: Global) -> Option<(Memory, bool)> {
+/// The device of a server that was stopped with all of the third entry added, if that was in doubt.
+fn stopped(rt: &impl Abort, alloc: Global) -> Option<Memory> {
     let mut server = begun(rt, alloc)?;
-    let is_torn = tears(rt, alloc, &mut server, ENTRY);
-    Some((server.stop().device, is_torn))
+    if !tears(rt, alloc, &mut server, ENTRY) {
+        return None;
+    }
+    Some(device_of(server))
+}
+
+fn device_of(server: Box<Served>) -> Memory {
+    Box::into_inner(server).stop().device
 }
 
 /// Whether it had all of the entry, and a crash leaves so much of it.
 fn crashes(alloc: Global, device: &mut Memory, kept: usize) -> Result<bool, AllocError> {
-    let bytes = device.bytes().to_vec(alloc)?;
+    let bytes = device.bytes();
     if bytes.len() != BEFORE + ENTRY || kept > ENTRY {
         return Ok(false);
     }
-    device.crash(&bytes.as_slice()[BEFORE..BEFORE + kept])?;
+    let left = bytes[BEFORE..BEFORE + kept].to_vec(alloc)?;
+    device.crash(left.as_slice())?;
     Ok(true)
 }
 
@@ -115,11 +122,11 @@ fn is_left(held: usize, dropped: usize, kept: usize) -> bool {
 
 /// The same of a start behind a crash that left so much of its entry.
 fn is_started(rt: &impl Abort, alloc: Global, kept: usize) -> Result<bool, AllocError> {
-    let Some((mut device, is_torn)) = stopped(rt, alloc) else {
+    let Some(mut device) = stopped(rt, alloc) else {
         return Ok(false);
     };
     let is_crashed = crashes(alloc, &mut device, kept)?;
-    Ok(holds_what_is_whole(rt, alloc, device, kept) && is_crashed && is_torn)
+    Ok(holds_what_is_whole(rt, alloc, device, kept) && is_crashed)
 }
 
 #[test]

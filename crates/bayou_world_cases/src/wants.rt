@@ -1,9 +1,8 @@
 //! The judge and the survey where memory is refused.
-use crate::evidence::{COUNT, Held, Line, Told, dumps_of, entries_of, server_id, session_id};
+use crate::evidence::{COUNT, Evidence, Held, Line, Told, evidence_of, server_id, session_id};
 use Told::{Read, Wrote};
-use bayou_base::{Entry, Wid};
+use bayou_base::Wid;
 use bayou_judge::{Breach, Guarantee, Refusal, Surveyed, Verdict, judge, survey};
-use bayou_lang::RestingWrite;
 use std::alloc::{AllocError, Global};
 use std::process::Abort;
 use std::test::Fail;
@@ -45,27 +44,16 @@ fn surveyed_of(rt: &impl Abort, session: u8, server: u8, seq: u32) -> Surveyed {
     }
 }
 
-fn dumps_at_last(rt: &impl Abort, alloc: Global) -> Result<Vec<Vec<RestingWrite>>, AllocError> {
-    match dumps_of(rt, alloc, HELD) {
-        Ok(dumps) => Ok(dumps),
-        Err(AllocError) => dumps_of(rt, alloc, HELD),
-    }
-}
-
-fn entries_at_last(rt: &impl Abort, alloc: Global) -> Result<Vec<Entry>, AllocError> {
-    match entries_of(rt, alloc, &LINES) {
-        Ok(entries) => Ok(entries),
-        Err(AllocError) => entries_of(rt, alloc, &LINES),
+fn evidence_at_last(rt: &impl Abort, alloc: Global) -> Result<Box<Evidence>, AllocError> {
+    match evidence_of(rt, alloc, &HELD, &LINES) {
+        Ok(evidence) => Ok(evidence),
+        Err(AllocError) => evidence_of(rt, alloc, &HELD, &LINES),
     }
 }
 
 /// Whether the verdict comes, at once or after want of memory.
-fn is_judged(
-    rt: &impl Abort,
-    alloc: Global,
-    entries: &[Entry],
-    dumps: &[Vec<RestingWrite>],
-) -> bool {
+fn is_judged(rt: &impl Abort, alloc: Global, evidence: &Evidence) -> bool {
+    let (entries, dumps) = (evidence.entries.as_slice(), evidence.dumps.as_slice());
     assert!(rt; dumps.len() == usize::from(COUNT));
     let wanted = Ok(Verdict::Broken(breach_of(rt, 0, 2, 1)));
     let first = judge(alloc, COUNT, entries, dumps);
@@ -74,12 +62,8 @@ fn is_judged(
 }
 
 /// Whether the survey comes, at once or after want of memory.
-fn is_surveyed(
-    rt: &impl Abort,
-    alloc: Global,
-    entries: &[Entry],
-    dumps: &[Vec<RestingWrite>],
-) -> bool {
+fn is_surveyed(rt: &impl Abort, alloc: Global, evidence: &Evidence) -> bool {
+    let (entries, dumps) = (evidence.entries.as_slice(), evidence.dumps.as_slice());
     assert!(rt; dumps.len() == usize::from(COUNT));
     let wanted = [surveyed_of(rt, 0, 2, 1), surveyed_of(rt, 9, 1, 2)];
     let first = survey(alloc, COUNT, entries, dumps);
@@ -97,10 +81,9 @@ fn is_surveyed(
 #[test]
 fn one_want_of_memory_changes_no_verdict(rt: HostRuntime) -> Result<(), Fail> {
     let alloc = rt.alloc();
-    let dumps = dumps_at_last(&rt, alloc)?;
-    let entries = entries_at_last(&rt, alloc)?;
-    let is_verdict = is_judged(&rt, alloc, entries.as_slice(), dumps.as_slice());
-    let is_survey = is_surveyed(&rt, alloc, entries.as_slice(), dumps.as_slice());
+    let evidence = evidence_at_last(&rt, alloc)?;
+    let is_verdict = is_judged(&rt, alloc, &evidence);
+    let is_survey = is_surveyed(&rt, alloc, &evidence);
     assert!(rt; is_verdict && is_survey);
     Ok(())
 }
