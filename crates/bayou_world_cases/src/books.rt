@@ -366,19 +366,6 @@ fn is_entry<K: Ledgers>(
     }
 }
 
-/// Files the first seven entries of the session of this share. Whether there is a place for each.
-fn files_first<K: Ledgers, R: Wait + Abort>(
-    rt: &R,
-    book: &AuditBook<K>,
-    share: &mut Share<K>,
-) -> bool {
-    let mut are_filed = true;
-    for number in 0..7 {
-        are_filed &= files(rt, book, share, number);
-    }
-    are_filed
-}
-
 /// Whether a book behind its lock counts and keeps what is filed, of each kind, and a slip that is out.
 fn keeps<K: Ledgers, R: Wait + Abort>(
     rt: &R,
@@ -386,7 +373,10 @@ fn keeps<K: Ledgers, R: Wait + Abort>(
     book: &AuditBook<K>,
     share: &mut Share<K>,
 ) -> Result<bool, AllocError> {
-    let are_filed = files_first(rt, book, share);
+    let mut are_filed = true;
+    for number in 0..7 {
+        are_filed &= files(rt, book, share, number);
+    }
     let counts = Totals {
         slips: 1,
         reads: 3,

@@ -118,6 +118,14 @@ pub fn asked(
     )
 }
 
+/// Whether the survey has this one, and no other.
+pub fn is_alone(survey: &[Surveyed], surveyed: Surveyed) -> bool {
+    match survey {
+        [found] => *found == surveyed,
+        _ => false,
+    }
+}
+
 /// A Write: its origin, its seq, its clock, its past, and the number that it puts at `a`.
 pub type Held = (u8, u32, u32, [u32; 3], i64);
 

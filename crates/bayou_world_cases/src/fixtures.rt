@@ -52,25 +52,17 @@ pub fn sessions_of(
     Ok(sessions)
 }
 
-/// So many servers, at most four, which hold so many Writes each, at most 1,000, and sessions with these asks.
-fn world_of(
+/// What a run leaves, of so many servers, at most four, which hold so many Writes each, at most 1,000, and of sessions with these asks.
+/// It is in a box, since a function that owns one is proved sooner.
+pub fn history_of(
     rt: &impl Abort,
     alloc: Global,
     (count, limit): (u8, u32),
     asks: &[Asks],
-) -> Result<World, AllocError> {
-    let sessions = sessions_of(rt, alloc, asks)?;
-    World::new(alloc, count.min(4), limit.min(1_000), sessions.as_slice())
-}
-
-/// What a run of these servers and sessions leaves. It is in a box, since a function that owns one is proved sooner.
-pub fn history_of(
-    rt: &impl Abort,
-    alloc: Global,
-    of: (u8, u32),
-    asks: &[Asks],
     events: &[Event],
 ) -> Result<Box<History>, AllocError> {
-    let history = world_of(rt, alloc, of, asks)?.run(alloc, events)?;
+    let sessions = sessions_of(rt, alloc, asks)?;
+    let world = World::new(alloc, count.min(4), limit.min(1_000), sessions.as_slice())?;
+    let history = world.run(alloc, events)?;
     Ok(Box::new(alloc, history)?)
 }

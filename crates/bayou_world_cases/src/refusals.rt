@@ -1,6 +1,8 @@
 //! Entries and dumps that stand for no history: each way in which a dump is bad, and each in which an entry is forged. And the file of
 //! docs/FORMATS.md, with what was changed in it.
-use crate::evidence::{Evidence, Held, Line, Told, asked, evidence_of, server_id, session_id};
+use crate::evidence::{
+    Evidence, Held, Line, Told, asked, evidence_of, is_alone, server_id, session_id,
+};
 use crate::twin;
 use Told::{Read, Refused, Wrote};
 use bayou_base::Wid;
@@ -254,7 +256,7 @@ fn are_answers(
         mw: None,
     };
     let is_surveyed = match survey {
-        Ok(list) => list.as_slice() == [surveyed].as_slice(),
+        Ok(list) => is_alone(list.as_slice(), surveyed),
         Err(refusal) => wanted == Err(refusal),
     };
     verdict == wanted && is_surveyed

@@ -1,8 +1,9 @@
 //! A breach of each guarantee at each of as many servers as there can be: where a Write is missing there, and where it stands there
 //! and isn't before the later one. The last server tells of none in order where the two Writes are two: who makes a Write behind
 //! another stamps it later, and a server that makes it before the other is where the other is missing.
-use crate::evidence::{asks_of, entry, put, server_id, session_id};
+use crate::evidence::{asks_of, entry, is_alone, put, server_id, session_id};
 use Guarantee::{MonotonicReads, MonotonicWrites, ReadYourWrites, WritesFollowReads};
+use Told::{Read, Wrote};
 use bayou_base::{Entry, Key, SERVERS, Stamp, Vector, What, Wid};
 use bayou_judge::{Breach, Guarantee, Surveyed, Verdict, judge, survey};
 use bayou_lang::RestingWrite;
@@ -35,6 +36,18 @@ fn stamp_of(rt: &impl Abort, server: u8, seq: u32) -> Stamp {
     Stamp::new(seq, server_id(rt, server)).expect(rt, "no stamp")
 }
 
+/// A server that holds a Write: which server, and origin and seq of the Write.
+type Held = (u8, u8, u32);
+
+/// What the session was told of, its server first.
+#[derive(Clone, Copy)]
+enum Told {
+    /// A read where so many of the server's own Writes are held.
+    Read(u8, u32),
+    /// The server's Write of this number.
+    Wrote(u8, u32),
+}
+
 /// What one session was told of, and what each server holds.
 #[derive(Drop)]
 struct Scene {
@@ -45,27 +58,17 @@ struct Scene {
 }
 
 impl Scene {
-    fn new(alloc: Global) -> Result<Box<Self>, AllocError> {
+    fn new(alloc: Global) -> Result<Self, AllocError> {
         let mut dumps = Vec::new(alloc);
         for _ in 0..COUNT {
             dumps.push(Vec::new(alloc))?;
         }
-        let scene = Scene {
+        Ok(Scene {
             alloc,
             dumps,
             entries: Vec::new(alloc),
             places: 0,
-        };
-        Ok(Box::new(alloc, scene)?)
-    }
-
-    /// Nothing has happened yet, as in a new scene.
-    fn clear(&mut self) {
-        for dump in &mut self.dumps {
-            dump.clear();
-        }
-        self.entries.clear();
-        self.places = 0;
+        })
     }
 
     /// The server receives that Write, which was made behind those of its origin alone.
@@ -87,131 +90,166 @@ impl Scene {
         Ok(())
     }
 
-    fn tell(&mut self, rt: &impl Abort, server: u8, what: What) -> Result<(), AllocError> {
+    fn hold_all(&mut self, rt: &impl Abort, all: &[Held]) -> Result<(), AllocError> {
+        for (server, origin, seq) in all {
+            self.hold(rt, *server, *origin, *seq)?;
+        }
+        Ok(())
+    }
+
+    fn tell(&mut self, rt: &impl Abort, told: Told) -> Result<(), AllocError> {
         self.places = self.places.saturating_add(1);
-        let line = entry(rt, asks_of("rmfw"), (0, self.places, server), what);
+        let server = match told {
+            Read(server, _) | Wrote(server, _) => server,
+        };
+        let line = entry(
+            rt,
+            asks_of("rmfw"),
+            (0, self.places, server),
+            what_of(rt, told),
+        );
         self.entries.push(line)?;
         Ok(())
     }
 
-    /// The session reads at the server where so many of its own Writes are held.
-    fn read(&mut self, rt: &impl Abort, server: u8, count: u32) -> Result<(), AllocError> {
-        let what = What::Read(Key::default(), counts_of(rt, server, count));
-        self.tell(rt, server, what)
-    }
-
-    /// The session writes the server's Write of this number.
-    fn write(&mut self, rt: &impl Abort, server: u8, seq: u32) -> Result<(), AllocError> {
-        let (wid, stamp) = (wid_of(rt, server, seq), stamp_of(rt, server, seq));
-        let deps = counts_of(rt, server, seq.saturating_sub(1));
-        self.tell(rt, server, What::Write(wid, stamp, deps))
-    }
-
-    /// The session is told of the server's Writes up to this number, as the guarantee's earlier operation tells.
-    fn begin(
-        &mut self,
-        rt: &impl Abort,
-        guarantee: Guarantee,
-        server: u8,
-        seq: u32,
-    ) -> Result<(), AllocError> {
-        match guarantee {
-            ReadYourWrites | MonotonicWrites => self.write(rt, server, seq),
-            MonotonicReads | WritesFollowReads => self.read(rt, server, seq),
+    fn tell_all(&mut self, rt: &impl Abort, all: &[Told]) -> Result<(), AllocError> {
+        for told in all {
+            self.tell(rt, *told)?;
         }
+        Ok(())
     }
 
-    /// Whether the verdict is this breach of the guarantee by the session's first two operations, and no other guarantee is broken.
-    fn breaks(&self, rt: &impl Abort, guarantee: Guarantee, server: u8, name: (u8, u32)) -> bool {
-        let (origin, seq) = name;
-        let breach = Breach {
-            guarantee,
-            session: session_id(rt, 0),
-            first: 1,
-            second: 2,
-            server: server_id(rt, server),
-            wid: wid_of(rt, origin, seq),
-        };
-        let mut surveyed = Surveyed {
-            session: session_id(rt, 0),
-            ryw: None,
-            mr: None,
-            wfr: None,
-            mw: None,
-        };
-        match guarantee {
-            ReadYourWrites => surveyed.ryw = Some(breach),
-            MonotonicReads => surveyed.mr = Some(breach),
-            WritesFollowReads => surveyed.wfr = Some(breach),
-            MonotonicWrites => surveyed.mw = Some(breach),
-        }
+    /// Whether the verdict is this breach, and no other guarantee is broken.
+    fn breaks(&self, rt: &impl Abort, breach: Breach) -> bool {
         assert!(rt; self.dumps.len() == SERVERS);
         let (entries, dumps) = (self.entries.as_slice(), self.dumps.as_slice());
         let is_surveyed = match survey(self.alloc, COUNT, entries, dumps) {
-            Ok(list) => list.as_slice() == [surveyed].as_slice(),
+            Ok(list) => is_alone(list.as_slice(), surveyed_of(breach)),
             Err(_) => false,
         };
         is_surveyed && judge(self.alloc, COUNT, entries, dumps) == Ok(Verdict::Broken(breach))
     }
 }
 
+fn what_of(rt: &impl Abort, told: Told) -> What {
+    match told {
+        Read(server, count) => What::Read(Key::default(), counts_of(rt, server, count)),
+        Wrote(server, seq) => What::Write(
+            wid_of(rt, server, seq),
+            stamp_of(rt, server, seq),
+            counts_of(rt, server, seq.saturating_sub(1)),
+        ),
+    }
+}
+
+/// What tells of the server's Writes up to this number, as the guarantee's earlier operation does.
+fn first_of(guarantee: Guarantee, server: u8, seq: u32) -> Told {
+    match guarantee {
+        ReadYourWrites | MonotonicWrites => Wrote(server, seq),
+        MonotonicReads | WritesFollowReads => Read(server, seq),
+    }
+}
+
+/// The breach by the session's first two operations.
+fn breach_of(rt: &impl Abort, guarantee: Guarantee, server: u8, name: (u8, u32)) -> Breach {
+    let (origin, seq) = name;
+    Breach {
+        guarantee,
+        session: session_id(rt, 0),
+        first: 1,
+        second: 2,
+        server: server_id(rt, server),
+        wid: wid_of(rt, origin, seq),
+    }
+}
+
+/// That breach alone.
+fn surveyed_of(breach: Breach) -> Surveyed {
+    let mut surveyed = Surveyed {
+        session: breach.session,
+        ryw: None,
+        mr: None,
+        wfr: None,
+        mw: None,
+    };
+    match breach.guarantee {
+        ReadYourWrites => surveyed.ryw = Some(breach),
+        MonotonicReads => surveyed.mr = Some(breach),
+        WritesFollowReads => surveyed.wfr = Some(breach),
+        MonotonicWrites => surveyed.mw = Some(breach),
+    }
+    surveyed
+}
+
+/// Whether what the servers hold, and what the session is told of, is that breach.
+fn is_broken(
+    rt: &impl Abort,
+    alloc: Global,
+    held: &[Held],
+    told: &[Told],
+    breach: Breach,
+) -> Result<bool, AllocError> {
+    let mut scene = Scene::new(alloc)?;
+    scene.hold_all(rt, held)?;
+    scene.tell_all(rt, told)?;
+    Ok(scene.breaks(rt, breach))
+}
+
 /// Whether the guarantee is broken at the server for what only the other one has.
 fn is_missing(
     rt: &impl Abort,
-    scene: &mut Scene,
+    alloc: Global,
     guarantee: Guarantee,
     server: u8,
     other: u8,
 ) -> Result<bool, AllocError> {
-    scene.clear();
-    scene.hold(rt, other, other, 1)?;
-    scene.begin(rt, guarantee, other, 1)?;
+    let first = first_of(guarantee, other, 1);
+    let breach = breach_of(rt, guarantee, server, (other, 1));
+    let held = [(other, other, 1), (server, server, 1)];
     match guarantee {
-        ReadYourWrites | MonotonicReads => scene.read(rt, server, 0)?,
+        ReadYourWrites | MonotonicReads => {
+            is_broken(rt, alloc, &held[..1], &[first, Read(server, 0)], breach)
+        }
         WritesFollowReads | MonotonicWrites => {
-            scene.hold(rt, server, server, 1)?;
-            scene.write(rt, server, 1)?;
+            is_broken(rt, alloc, &held, &[first, Wrote(server, 1)], breach)
         }
     }
-    Ok(scene.breaks(rt, guarantee, server, (other, 1)))
 }
 
 /// Whether the guarantee is broken at the server, which has its own two Writes before the later Write, which was made at home without
 /// them and is before the second of them.
 fn is_behind(
     rt: &impl Abort,
-    scene: &mut Scene,
+    alloc: Global,
     guarantee: Guarantee,
     server: u8,
     home: u8,
 ) -> Result<bool, AllocError> {
-    scene.clear();
-    scene.hold(rt, server, server, 1)?;
-    scene.hold(rt, server, server, 2)?;
-    scene.hold(rt, server, home, 1)?;
-    scene.hold(rt, home, home, 1)?;
-    scene.begin(rt, guarantee, server, 2)?;
-    scene.write(rt, home, 1)?;
-    Ok(scene.breaks(rt, guarantee, server, (server, 2)))
+    let held = [
+        (server, server, 1),
+        (server, server, 2),
+        (server, home, 1),
+        (home, home, 1),
+    ];
+    let told = [first_of(guarantee, server, 2), Wrote(home, 1)];
+    let breach = breach_of(rt, guarantee, server, (server, 2));
+    is_broken(rt, alloc, &held, &told, breach)
 }
 
 /// Whether Writes Follow Reads is broken at the server by a Write that was read before it was written.
-fn is_itself(rt: &impl Abort, scene: &mut Scene, server: u8) -> Result<bool, AllocError> {
-    scene.clear();
-    scene.hold(rt, server, server, 1)?;
-    scene.read(rt, server, 1)?;
-    scene.write(rt, server, 1)?;
-    Ok(scene.breaks(rt, WritesFollowReads, server, (server, 1)))
+fn is_itself(rt: &impl Abort, alloc: Global, server: u8) -> Result<bool, AllocError> {
+    let told = [Read(server, 1), Wrote(server, 1)];
+    let breach = breach_of(rt, WritesFollowReads, server, (server, 1));
+    is_broken(rt, alloc, &[(server, server, 1)], &told, breach)
 }
 
 #[test]
 fn presence_at_each_server(rt: HostRuntime) -> Result<(), Fail> {
-    let mut scene = Scene::new(rt.alloc())?;
     for guarantee in &GUARANTEES {
         for server in 0..COUNT {
             for other in 0..COUNT {
                 let is_told = server == other
-                    || is_missing(&rt, &mut scene, *guarantee, server, other)?;
+                    || is_missing(&rt, rt.alloc(), *guarantee, server, other)?;
                 assert!(rt; is_told, "{guarantee:?} {server} {other}");
             }
         }
@@ -221,11 +259,10 @@ fn presence_at_each_server(rt: HostRuntime) -> Result<(), Fail> {
 
 #[test]
 fn order_at_each_server(rt: HostRuntime) -> Result<(), Fail> {
-    let mut scene = Scene::new(rt.alloc())?;
-    for guarantee in &GUARANTEES[2..] {
+    for guarantee in &[WritesFollowReads, MonotonicWrites] {
         for home in 0..COUNT {
             for server in 0..home {
-                let is_told = is_behind(&rt, &mut scene, *guarantee, server, home)?;
+                let is_told = is_behind(&rt, rt.alloc(), *guarantee, server, home)?;
                 assert!(rt; is_told, "{guarantee:?} {server} {home}");
             }
         }
@@ -235,9 +272,8 @@ fn order_at_each_server(rt: HostRuntime) -> Result<(), Fail> {
 
 #[test]
 fn a_write_that_was_read_before(rt: HostRuntime) -> Result<(), Fail> {
-    let mut scene = Scene::new(rt.alloc())?;
     for server in 0..COUNT {
-        assert!(rt; is_itself(&rt, &mut scene, server)?, "{server}");
+        assert!(rt; is_itself(&rt, rt.alloc(), server)?, "{server}");
     }
     Ok(())
 }
