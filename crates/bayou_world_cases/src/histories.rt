@@ -55,10 +55,6 @@ fn clock_of(writes: &[RestingWrite]) -> u32 {
     clock
 }
 
-fn has(writes: &[RestingWrite], wid: Wid) -> bool {
-    writes.iter().any(|write| write.wid() == wid)
-}
-
 /// Another Write of the same name, stamp and past.
 fn other_of(
     rt: &impl Abort,
@@ -178,7 +174,7 @@ impl World {
             let Some(write) = self.list(from).get(place) else {
                 return Ok(());
             };
-            if !has(self.list(to), write.wid()) {
+            if !twin::has(self.list(to), write.wid()) {
                 let copy = write.copy(self.alloc)?;
                 self.take(to, copy)?;
             }
@@ -299,7 +295,7 @@ fn the_judge_is_its_twin(rt: HostRuntime) -> Result<(), Fail> {
     for seed in [1994, 1997] {
         let (kinds, others) = answers(&rt, rt.alloc(), seed)?;
         let (told, want_of_memory) = (&kinds[..7], kinds[7]);
-        let is_each = told.iter().all(|many| *many > 0);
+        let is_each = !told.contains(&0);
         assert!(rt;
             is_each && want_of_memory == 0 && others == 0,
             "{kinds:?} {others}"

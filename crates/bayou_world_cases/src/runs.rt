@@ -512,9 +512,9 @@ impl Tally {
         let (kinds, others) = (&self.kinds[..KINDS], self.kinds[KINDS]);
         self.clean == LISTS
             && self.paid == LISTS
-            && kinds.iter().all(|many| *many > 0)
+            && !kinds.contains(&0)
             && others == 0
-            && self.broken.iter().all(|many| *many > 0)
+            && !self.broken.contains(&0)
     }
 }
 

@@ -1,5 +1,5 @@
 //! The judge as its definitions are: pair by pair, over sets of names. It is plain and slow.
-use bayou_base::{Asks, Entry, SERVERS, SESSIONS, ServerId, SessionId, Vector, What, Wid};
+use bayou_base::{Asks, Entry, SERVERS, SESSIONS, ServerId, SessionId, Stamp, Vector, What, Wid};
 use bayou_judge::{Breach, Guarantee, Refusal, Surveyed, Verdict};
 use bayou_lang::RestingWrite;
 use std::alloc::Global;
@@ -20,10 +20,13 @@ fn dump_of(dumps: &[Vec<RestingWrite>], server: usize) -> &[RestingWrite] {
 
 /// How many of the Writes are the server's.
 fn held_of(database: &[RestingWrite], server: usize) -> usize {
-    database
-        .iter()
-        .filter(|write| usize::from(write.wid().origin.index) == server)
-        .count()
+    let mut count: usize = 0;
+    for write in database {
+        if usize::from(write.wid().origin.index) == server {
+            count = count.saturating_add(1);
+        }
+    }
+    count
 }
 
 /// Whether the vector has for each server the number of its Writes.
@@ -57,8 +60,13 @@ fn clock_among(database: &[RestingWrite], vector: &Vector) -> u32 {
     clock
 }
 
-fn has(database: &[RestingWrite], wid: Wid) -> bool {
-    database.iter().any(|write| write.wid() == wid)
+pub fn has(database: &[RestingWrite], wid: Wid) -> bool {
+    for write in database {
+        if write.wid() == wid {
+            return true;
+        }
+    }
+    false
 }
 
 fn fits(count: u8, held: &[RestingWrite], write: &RestingWrite) -> bool {
@@ -122,16 +130,34 @@ fn tells_of(entry: &Entry, wid: Wid) -> bool {
     }
 }
 
+/// Whether an entry tells of the Write.
+fn is_told(entries: &[Entry], wid: Wid) -> bool {
+    for entry in entries {
+        if tells_of(entry, wid) {
+            return true;
+        }
+    }
+    false
+}
+
+/// Whether the dump has the Write with this stamp and past.
+fn is_made(dump: &[RestingWrite], wid: Wid, stamp: Stamp, deps: &Vector) -> bool {
+    for write in dump {
+        if write.wid() == wid && write.stamp() == stamp && write.deps() == deps {
+            return true;
+        }
+    }
+    false
+}
+
 /// Whether it tells of what can have been at its server.
 fn is_true(dump: &[RestingWrite], earlier: &[Entry], entry: &Entry) -> bool {
     match &entry.what {
         What::Read(_, vector) => front_of(dump, vector).is_some(),
         What::Write(wid, stamp, deps) => {
             wid.origin == entry.server
-                && dump.iter().any(|write| {
-                    write.wid() == *wid && write.stamp() == *stamp && write.deps() == deps
-                })
-                && !earlier.iter().any(|other| tells_of(other, *wid))
+                && is_made(dump, *wid, *stamp, deps)
+                && !is_told(earlier, *wid)
         }
         What::Refused => true,
     }
@@ -172,7 +198,10 @@ fn refusal(count: u8, entries: &[Entry], dumps: &[Vec<RestingWrite>]) -> Option<
             }
         }
     }
-    forged_in(count, entries, dumps).map(Refusal::Forged)
+    match forged_in(count, entries, dumps) {
+        Some(at) => Some(Refusal::Forged(at)),
+        None => None,
+    }
 }
 
 /// The Writes that a guarantee speaks of, of those that the earlier operation told its session.
@@ -214,6 +243,20 @@ fn fails_to_precede(dump: &[RestingWrite], earlier: &RestingWrite, later: &Resti
     false
 }
 
+/// Whether that holds of one of the later Writes.
+fn fail_to_precede(
+    dump: &[RestingWrite],
+    earlier: &RestingWrite,
+    all_later: &[RestingWrite],
+) -> bool {
+    for later in all_later {
+        if fails_to_precede(dump, earlier, later) {
+            return true;
+        }
+    }
+    false
+}
+
 /// Whether the later operation fails, at this server, what the guarantee demands of the earlier Write.
 fn fails(
     dumps: &[Vec<RestingWrite>],
@@ -232,11 +275,8 @@ fn fails(
                 )
         }
         (Guarantee::WritesFollowReads | Guarantee::MonotonicWrites, What::Write(wid, _, _)) => {
-            only(dump_of(dumps, home), *wid).iter().any(|later| fails_to_precede(
-                dump_of(dumps, server),
-                earlier,
-                later,
-            ))
+            let all_later = only(dump_of(dumps, home), *wid);
+            fail_to_precede(dump_of(dumps, server), earlier, all_later)
         }
         _ => false,
     }
@@ -254,7 +294,10 @@ fn least_name(
     for earlier in told {
         if fails(dumps, guarantee, earlier, second, server) {
             let wid = earlier.wid();
-            least = Some(least.map_or(wid, |name| name.min(wid)));
+            least = match least {
+                Some(name) => Some(name.min(wid)),
+                None => Some(wid),
+            };
         }
     }
     least
@@ -331,10 +374,12 @@ fn is_asked(asks: Asks, guarantee: Guarantee) -> bool {
 
 /// What the session asks for, if it has an entry.
 fn asks_of(entries: &[Entry], session: SessionId) -> Option<Asks> {
-    entries
-        .iter()
-        .find(|entry| entry.session == session)
-        .map(|entry| entry.asks)
+    for entry in entries {
+        if entry.session == session {
+            return Some(entry.asks);
+        }
+    }
+    None
 }
 
 /// The least breach of what the session asks for.
