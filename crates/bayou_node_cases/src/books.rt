@@ -3,12 +3,14 @@ ghost use Rattle.std.specs.Prelude.{◌≡◌};
 ghost use Rattle.bayou_node.specs.Books.{IsBlankOf};
 ghost use Rattle.bayou_server.specs.Server.{own_count};
 
-use crate::fixtures::{Memory, Served, boxed, have_programs, key, plus, put, served, vector};
+use crate::fixtures::{
+    Memory, Served, Site, have_programs, key, new_site, plus, put, resting, served, vector,
+};
 use bayou_base::{Value, Vector};
 use bayou_lang::Program;
-use bayou_node::{Desk, Desks, Node, Settled};
+use bayou_node::{Desk, DeskMissing, Desks, Node, Settled};
 use bayou_server::{ReopenFault, WriteFault};
-use std::alloc::{AllocError, Global};
+use std::alloc::Global;
 use std::marker::Brand;
 use std::process::Abort;
 use std::sync::Wait;
@@ -16,23 +18,24 @@ use std::sync::ledger::Blank;
 use std::test::Fail;
 
 /// A node and its two desks.
-type Made<L> = (Box<Node<Memory, L>>, Desk<L>, Desk<L>);
+#[derive(Drop)]
+struct Place<L: Desks> {
+    site: Box<Site<Memory, L>>,
+    first: Desk<L>,
+    second: Desk<L>,
+}
 
 /// The server behind a lock.
-fn made<L: Desks>(rt: &impl Abort, alloc: Global, blank: Blank, server: Served) -> Made<L>
+fn made<L: Desks>(rt: &impl Abort, alloc: Global, blank: Blank, server: Box<Served>) -> Place<L>
     requires blank { IsBlankOf blank L.name L.parts 2 }
-    requires whose { (server.core.id ≡ L.server) × (own_count server.core ≡ L.stored) }
+    requires whose { (server.value.core.id ≡ L.server) × (own_count server.value.core ≡ L.stored) }
 {
-    let Ok((node, mut desks)) = Node::new(alloc, blank, server, 2) else {
-        rt.abort();
-    };
-    let Some(node) = boxed(alloc, node) else {
-        rt.abort();
-    };
-    let (Some(second), Some(first)) = (desks.pop(), desks.pop()) else {
-        rt.abort();
-    };
-    (node, first, second)
+    let mut site = new_site::<_, L>(rt, alloc, blank, server, 2);
+    Place {
+        second: site.as_mut().desks.pop().expect(rt, "no desk"),
+        first: site.as_mut().desks.pop().expect(rt, "no desk"),
+        site,
+    }
 }
 
 /// The seq of the Write that is accepted for the desk.
@@ -47,20 +50,22 @@ fn writes<L: Desks, R: Wait + Abort>(
     Ok(accepted.wid.seq)
 }
 
-/// Whether a node with one desk kept back isn't settled; else, what it comes to with both.
-fn settles<L: Desks>(rt: &impl Abort, alloc: Global, made: Made<L>) -> Result<Settled, AllocError> {
-    let (node, first, second) = made;
-    let mut desks = Vec::with_capacity(alloc, 2)?;
-    desks.push(first)?;
-    let Err(left) = Box::into_inner(node).settle(desks) else {
+/// What a node comes to with both desks, which isn't settled with one kept back.
+fn settles<L: Desks>(rt: &impl Abort, place: Place<L>) -> Settled {
+    let Place {
+        site,
+        first,
+        second,
+    } = place;
+    let Site { node, mut desks } = Box::into_inner(site);
+    let is_back = desks.push(first).is_ok();
+    let Err(left) = node.settle(desks) else {
         rt.abort();
     };
-    let mut desks = left.desks;
-    desks.push(second)?;
-    match left.node.settle(desks) {
-        Ok(settled) => Ok(settled),
-        Err(_) => rt.abort(),
-    }
+    let DeskMissing { node, mut desks } = left;
+    let are_back = desks.push(second).is_ok();
+    assert!(rt; is_back && are_back);
+    node.settle(desks).ok().expect(rt, "not settled")
 }
 
 /// Whether two programs, each for a desk of its own, are accepted, and read there.
@@ -70,16 +75,17 @@ fn takes_two<L: Desks, R: Wait + Abort>(
     node: &Node<Memory, L>,
     first: &mut Desk<L>,
     second: &mut Desk<L>,
-) -> Result<bool, WriteFault> {
+) -> bool {
     let programs = [put(rt, 1), plus(rt, 1)];
-    let are_next = writes(rt, alloc, node, first, &programs[0])? == 1
-        && writes(rt, alloc, node, second, &programs[1])? == 2;
-    let are_kept = have_programs(&node.dump(rt, alloc)?, &programs);
+    let is_first = writes(rt, alloc, node, first, &programs[0]) == Ok(1);
+    let is_second = writes(rt, alloc, node, second, &programs[1]) == Ok(2);
+    let dumped = node.dump(rt, alloc).expect(rt, "no memory for Writes");
+    let are_kept = have_programs(&dumped, &programs);
     let is_two = match node.read(rt, &vector(rt, 2, 0), &key(rt, "a")) {
         Ok(seen) => seen.value == Some(Value::Num(2)) && seen.vector == vector(rt, 2, 0),
         Err(_) => false,
     };
-    Ok(are_next && are_kept && is_two)
+    is_first && is_second && are_kept && is_two
 }
 
 /// What two programs, each for a desk of its own, come to.
@@ -87,15 +93,16 @@ fn two_programs<L: Desks, R: Wait + Abort>(
     rt: &R,
     alloc: Global,
     blank: Blank,
-    server: Served,
-) -> Result<bool, WriteFault>
+    server: Box<Served>,
+) -> bool
     requires blank { IsBlankOf blank L.name L.parts 2 }
-    requires whose { (server.core.id ≡ L.server) × (own_count server.core ≡ L.stored) }
+    requires whose { (server.value.core.id ≡ L.server) × (own_count server.value.core ≡ L.stored) }
 {
-    let (node, mut first, mut second) = made::<L>(rt, alloc, blank, server);
-    let are_taken = takes_two(rt, alloc, node.as_ref(), &mut first, &mut second)?;
-    let settled = settles(rt, alloc, (node, first, second))?;
-    Ok(are_taken && is_settled(rt, settled, [2, 0], 2))
+    let mut place = made::<L>(rt, alloc, blank, server);
+    let node = &place.site.as_ref().node;
+    let are_taken = takes_two(rt, alloc, node, &mut place.first, &mut place.second);
+    let is_settled = is_settled(rt, settles(rt, place), [2, 0], 2);
+    are_taken && is_settled
 }
 
 /// Whether a node came to so many accepted and adopted Writes, and so many of the first server.
@@ -114,7 +121,7 @@ fn a_node_is_settled_once_all_desks_are_back(rt: HostRuntime) -> Result<(), Fail
     let alloc = rt.alloc();
     let server = served(&rt, alloc, 0)?;
     let is_so = two_programs::<Brand, HostRuntime>(&rt, alloc, Blank::new(2), server);
-    assert!(rt; is_so == Ok(true));
+    assert!(rt; is_so);
     Ok(())
 }
 
@@ -152,12 +159,12 @@ fn accepts_and_adopts<L: Desks, R: Wait + Abort>(
     alloc: Global,
     node: &Node<Memory, L>,
     desk: &mut Desk<L>,
-) -> Result<bool, WriteFault> {
-    let is_next = writes(rt, alloc, node, desk, &put(rt, 2))? == 2;
+) -> bool {
+    let is_next = writes(rt, alloc, node, desk, &put(rt, 2)) == Ok(2);
     let is_adopted = doubts(rt, alloc, node, desk);
     let is_offered = node.offer(rt) == vector(rt, 3, 0);
-    let is_listed = node.listing(rt, alloc)?.len() == 3;
-    Ok(is_next && is_adopted && is_offered && is_listed)
+    let listed = node.listing(rt, alloc).expect(rt, "no memory for a list");
+    is_next && is_adopted && is_offered && listed.len() == 3
 }
 
 /// What a server comes to that has made a Write as its node is made: a second one is accepted, and a third one adopted.
@@ -165,26 +172,30 @@ fn one_of_each<L: Desks, R: Wait + Abort>(
     rt: &R,
     alloc: Global,
     blank: Blank,
-    server: Served,
-) -> Result<bool, WriteFault>
+    server: Box<Served>,
+) -> bool
     requires blank { IsBlankOf blank L.name L.parts 2 }
-    requires whose { (server.core.id ≡ L.server) × (own_count server.core ≡ L.stored) }
+    requires whose { (server.value.core.id ≡ L.server) × (own_count server.value.core ≡ L.stored) }
 {
-    let (node, mut first, second) = made::<L>(rt, alloc, blank, server);
-    let are_told = accepts_and_adopts(rt, alloc, node.as_ref(), &mut first)?;
-    let settled = settles(rt, alloc, (node, first, second))?;
-    Ok(are_told && is_settled(rt, settled, [1, 1], 3))
+    let mut place = made::<L>(rt, alloc, blank, server);
+    let node = &place.site.as_ref().node;
+    let are_told = accepts_and_adopts(rt, alloc, node, &mut place.first);
+    let is_settled = is_settled(rt, settles(rt, place), [1, 1], 3);
+    are_told && is_settled
 }
 
 #[test]
 fn what_is_adopted_is_told_beside_what_was_accepted(rt: HostRuntime) -> Result<(), Fail> {
     let alloc = rt.alloc();
     let mut server = served(&rt, alloc, 0)?;
-    let program = put(&rt, 1).rest(alloc)?;
-    let was_put = server.write(alloc, &Vector::zero(), program).is_ok();
+    let program = resting(&rt, alloc, &put(&rt, 1));
+    let was_put = server
+        .as_mut()
+        .write(alloc, &Vector::zero(), program)
+        .is_ok();
     // The second Write's two calls succeed; the third one's entry is added, and not synced.
-    server.device().fuse(4, 0);
+    server.as_mut().device().fuse(4, 0);
     let is_so = one_of_each::<Brand, HostRuntime>(&rt, alloc, Blank::new(2), server);
-    assert!(rt; was_put && is_so == Ok(true));
+    assert!(rt; was_put && is_so);
     Ok(())
 }

@@ -3,7 +3,7 @@ ghost use Rattle.std.specs.Prelude.{◌≡◌};
 ghost use Rattle.bayou_node.specs.Books.{IsBlankOf};
 ghost use Rattle.bayou_server.specs.Server.{own_count};
 
-use crate::fixtures::{Served, begun, boxed, key, put, served};
+use crate::fixtures::{Memory, Served, begun, boxed, key, put, served};
 use bayou_base::Vector;
 use bayou_device::{Device, Gate, MemoryDevice};
 use bayou_node::{Desk, Desks, Node};
@@ -75,43 +75,68 @@ fn is_read<D: Device, M: Desks, R: Wait + Abort>(
     is_answered && was_held
 }
 
-/// Whether both are answered.
-fn serves_both<'a, C, L, M, R>(
+/// The server behind a lock, and its one desk.
+fn desked<D: Device, L: Desks>(
+    rt: &impl Abort,
+    alloc: Global,
+    blank: Blank,
+    server: Box<Server<D>>,
+) -> (Box<Node<D, L>>, Desk<L>)
+    requires blank { IsBlankOf blank L.name L.parts 1 }
+    requires whose { (server.value.core.id ≡ L.server) × (own_count server.value.core ≡ L.stored) }
+{
+    let Ok((node, mut desks)) = Node::new(alloc, blank, Box::into_inner(server), 1) else {
+        rt.abort();
+    };
+    let desk = desks.pop().expect(rt, "no desk");
+    (boxed(alloc, node).expect(rt, "no memory for a node"), desk)
+}
+
+/// Whether both are answered, each in a thread of its own.
+fn are_answered<'a, C, L, M, R>(
     rt: &R,
     alloc: Global,
     state: &AtomicU64,
-    first: Blank,
-    slow: HeldUp<'a, C>,
-    second: Blank,
-    quick: Served,
+    slow: &Node<MemoryDevice<HoldingGate<'a, C>>, L>,
+    desk: Desk<L>,
+    quick: &Node<Memory, M>,
 ) -> bool
 where
     C: Clock + Sync,
     L: Desks + Send + Sync,
     M: Desks + Send + Sync,
     R: Threads + Wait + Abort + Sync,
-    requires slow { IsBlankOf first L.name L.parts 1 × (slow.core.id ≡ L.server) × (own_count slow.core ≡ L.stored) }
-    requires quick { IsBlankOf second M.name M.parts 1 × (quick.core.id ≡ M.server) × (own_count quick.core ≡ M.stored) }
 {
-    let Ok((slow, mut desks)) = Node::<_, L>::new(alloc, first, slow, 1) else {
-        return false;
-    };
-    let Ok((quick, _)) = Node::<_, M>::new(alloc, second, quick, 1) else {
-        return false;
-    };
-    let (Some(slow), Some(quick)) = (boxed(alloc, slow), boxed(alloc, quick)) else {
-        return false;
-    };
-    let Some(mut desk) = desks.pop() else {
-        return false;
-    };
-    let (lent, beside) = (slow.as_ref(), quick.as_ref());
+    let mut desk = desk;
     let (is_put, is_seen) = thread::join(
         rt,
-        move || is_written(rt, alloc, lent, &mut desk),
-        move || is_read(rt, beside, state),
+        move || is_written(rt, alloc, slow, &mut desk),
+        move || is_read(rt, quick, state),
     );
     is_put && is_seen
+}
+
+/// Whether the nodes over both are answered.
+fn serves_both<'a, C, L, M, R>(
+    rt: &R,
+    alloc: Global,
+    state: &AtomicU64,
+    first: Blank,
+    slow: Box<HeldUp<'a, C>>,
+    second: Blank,
+    quick: Box<Served>,
+) -> bool
+where
+    C: Clock + Sync,
+    L: Desks + Send + Sync,
+    M: Desks + Send + Sync,
+    R: Threads + Wait + Abort + Sync,
+    requires slow { IsBlankOf first L.name L.parts 1 × (slow.value.core.id ≡ L.server) × (own_count slow.value.core ≡ L.stored) }
+    requires quick { IsBlankOf second M.name M.parts 1 × (quick.value.core.id ≡ M.server) × (own_count quick.value.core ≡ M.stored) }
+{
+    let (slow, desk) = desked::<_, L>(rt, alloc, first, slow);
+    let (quick, _) = desked::<_, M>(rt, alloc, second, quick);
+    are_answered(rt, alloc, state, slow.as_ref(), desk, quick.as_ref())
 }
 
 #[test]

@@ -3,7 +3,6 @@ use bayou_lang::Write;
 use bayou_wire::decode_write;
 use std::alloc::Global;
 use std::process::Abort;
-use std::test::Fail;
 
 /// A Write that puts a number at `a`: its origin, its seq, its clock, how many Writes of the first two servers its server held, and
 /// the number.
@@ -58,11 +57,8 @@ fn words_bytes(alloc: Global, text: &str) -> Option<Vec<u8>> {
 }
 
 /// The bytes of a stream.
-pub fn stream(alloc: Global, text: &str) -> Result<Vec<u8>, Fail> {
-    match words_bytes(alloc, text) {
-        Some(bytes) => Ok(bytes),
-        None => Err(Fail::new("no stream")),
-    }
+pub fn stream(rt: &impl Abort, alloc: Global, text: &str) -> Vec<u8> {
+    words_bytes(alloc, text).expect(rt, "no stream")
 }
 
 /// Whether the text says these bytes.

@@ -4,10 +4,12 @@ ghost use Rattle.bayou_node.specs.Books.{IsBlankOf};
 ghost use Rattle.bayou_server.specs.Server.{own_count};
 
 use crate::dice::Dice;
-use crate::fixtures::{Memory, Served, are_same, boxed, key, plus, put, served, vector};
+use crate::fixtures::{
+    Memory, Served, Site, are_same, key, new_site, plus, put, resting, served, vector,
+};
 use bayou_base::{ServerId, Stamp, Vector, Wid};
 use bayou_lang::{Program, Write};
-use bayou_node::{Desk, Desks, Node};
+use bayou_node::{Desk, Desks};
 use std::alloc::Global;
 use std::marker::Brand;
 use std::process::Abort;
@@ -73,10 +75,10 @@ fn any_call(rt: &impl Abort, dice: &mut Dice) -> Call {
     }
 }
 
-/// A node with its one desk, and the server beside it.
+/// A node, its one desk, and the server beside it.
 #[derive(Drop)]
 struct Pair<L: Desks> {
-    node: Box<Node<Memory, L>>,
+    site: Box<Site<Memory, L>>,
     desk: Desk<L>,
     server: Box<Served>,
     /// How many programs were accepted.
@@ -85,7 +87,7 @@ struct Pair<L: Desks> {
 
 fn reads_alike<L: Desks, R: Wait + Abort>(rt: &R, pair: &Pair<L>, need: &Vector) -> bool {
     let a = key(rt, "a");
-    pair.server.as_ref().read(need, &a) == pair.node.as_ref().read(rt, need, &a)
+    pair.server.as_ref().read(need, &a) == pair.site.as_ref().node.read(rt, need, &a)
 }
 
 fn writes_alike<L: Desks, R: Wait + Abort>(
@@ -95,17 +97,16 @@ fn writes_alike<L: Desks, R: Wait + Abort>(
     need: &Vector,
     program: &Program,
 ) -> bool {
-    let (Ok(one), Ok(other)) = (program.rest(alloc), program.rest(alloc)) else {
-        return false;
-    };
+    let (one, other) = (resting(rt, alloc, program), resting(rt, alloc, program));
     let answer = pair.server.as_mut().write(alloc, need, one);
     if answer.is_ok() {
         pair.accepted = pair.accepted.saturating_add(1);
     }
     answer
         == pair
-            .node
+            .site
             .as_ref()
+            .node
             .write(rt, alloc, &mut pair.desk, need, other)
 }
 
@@ -115,10 +116,9 @@ fn takes_alike<L: Desks, R: Wait + Abort>(
     pair: &mut Pair<L>,
     write: &Write,
 ) -> bool {
-    let (Ok(one), Ok(other)) = (write.rest(alloc), write.rest(alloc)) else {
-        return false;
-    };
-    pair.server.as_mut().take(alloc, one) == pair.node.as_ref().take(rt, alloc, other)
+    let one = write.rest(alloc).expect(rt, "no memory for a Write");
+    let other = write.rest(alloc).expect(rt, "no memory for a Write");
+    pair.server.as_mut().take(alloc, one) == pair.site.as_ref().node.take(rt, alloc, other)
 }
 
 fn lacks_alike<L: Desks, R: Wait + Abort>(
@@ -127,31 +127,28 @@ fn lacks_alike<L: Desks, R: Wait + Abort>(
     pair: &Pair<L>,
     (counts, most): (&Vector, usize),
 ) -> bool {
-    let lacking = pair.server.as_ref().lacking(alloc, counts, most);
-    match (lacking, pair.node.as_ref().lacking(rt, alloc, counts, most)) {
-        (Ok(one), Ok(other)) => are_same(&one, &other),
-        _ => false,
-    }
+    let one = pair.server.as_ref().lacking(alloc, counts, most);
+    let other = pair.site.as_ref().node.lacking(rt, alloc, counts, most);
+    are_same(
+        &one.expect(rt, "no memory for Writes"),
+        &other.expect(rt, "no memory for Writes"),
+    )
 }
 
 fn lists_alike<L: Desks, R: Wait + Abort>(rt: &R, alloc: Global, pair: &Pair<L>) -> bool {
-    match (
-        pair.server.as_ref().listing(alloc),
-        pair.node.as_ref().listing(rt, alloc),
-    ) {
-        (Ok(one), Ok(other)) => one.as_slice() == other.as_slice(),
-        _ => false,
-    }
+    let one = pair.server.as_ref().listing(alloc);
+    let other = pair.site.as_ref().node.listing(rt, alloc);
+    one.expect(rt, "no memory for a list").as_slice()
+        == other.expect(rt, "no memory for a list").as_slice()
 }
 
 fn dumps_alike<L: Desks, R: Wait + Abort>(rt: &R, alloc: Global, pair: &Pair<L>) -> bool {
-    match (
-        pair.server.as_ref().dump(alloc),
-        pair.node.as_ref().dump(rt, alloc),
-    ) {
-        (Ok(one), Ok(other)) => are_same(&one, &other),
-        _ => false,
-    }
+    let one = pair.server.as_ref().dump(alloc);
+    let other = pair.site.as_ref().node.dump(rt, alloc);
+    are_same(
+        &one.expect(rt, "no memory for Writes"),
+        &other.expect(rt, "no memory for Writes"),
+    )
 }
 
 /// Whether both answer the call in the same way.
@@ -165,8 +162,9 @@ fn answers_alike<L: Desks, R: Wait + Abort>(
         Call::Read(need) => reads_alike(rt, pair, need),
         Call::Write(need, program) => writes_alike(rt, alloc, pair, need, program),
         Call::Take(write) => takes_alike(rt, alloc, pair, write),
-        Call::Reopen => pair.server.as_mut().reopen(alloc) == pair.node.as_ref().reopen(rt, alloc),
-        Call::Offer => pair.server.as_ref().vector() == pair.node.as_ref().offer(rt),
+        Call::Reopen => pair.server.as_mut().reopen(alloc)
+            == pair.site.as_ref().node.reopen(rt, alloc),
+        Call::Offer => pair.server.as_ref().vector() == pair.site.as_ref().node.offer(rt),
         Call::Lacking(counts, most) => lacks_alike(rt, alloc, pair, (counts, *most)),
         Call::Listing => lists_alike(rt, alloc, pair),
         Call::Dump => dumps_alike(rt, alloc, pair),
@@ -174,38 +172,40 @@ fn answers_alike<L: Desks, R: Wait + Abort>(
 }
 
 /// Whether the node, settled, tells as many accepted programs as the server did, and what the server holds.
-fn settles_alike<L: Desks>(alloc: Global, pair: Pair<L>) -> bool {
+fn settles_alike<L: Desks>(pair: Pair<L>) -> bool {
     let Pair {
-        node,
+        site,
         desk,
         server,
         accepted,
     } = pair;
-    let mut desks = Vec::new(alloc);
-    if desks.push(desk).is_err() {
-        return false;
-    }
-    match Box::into_inner(node).settle(desks) {
-        Ok(settled) => settled.accepted == accepted && settled.vector == server.as_ref().vector(),
+    let vector = server.as_ref().vector();
+    let Site { node, mut desks } = Box::into_inner(site);
+    let is_back = desks.push(desk).is_ok();
+    match node.settle(desks) {
+        Ok(settled) => is_back && settled.accepted == accepted && settled.vector == vector,
         Err(_) => false,
     }
 }
 
 /// The one server behind a lock, and the other beside it.
-fn pair_of<L: Desks>(alloc: Global, blank: Blank, server: Served, beside: Served) -> Option<Pair<L>>
+fn pair_of<L: Desks>(
+    rt: &impl Abort,
+    alloc: Global,
+    blank: Blank,
+    server: Box<Served>,
+    beside: Box<Served>,
+) -> Pair<L>
     requires blank { IsBlankOf blank L.name L.parts 1 }
-    requires whose { (server.core.id ≡ L.server) × (own_count server.core ≡ L.stored) }
+    requires whose { (server.value.core.id ≡ L.server) × (own_count server.value.core ≡ L.stored) }
 {
-    let server_beside = boxed(alloc, beside)?;
-    let Ok((node, mut desks)) = Node::<_, L>::new(alloc, blank, server, 1) else {
-        return None;
-    };
-    Some(Pair {
-        node: boxed(alloc, node)?,
-        desk: desks.pop()?,
-        server: server_beside,
+    let mut site = new_site::<_, L>(rt, alloc, blank, server, 1);
+    Pair {
+        desk: site.as_mut().desks.pop().expect(rt, "no desk"),
+        site,
+        server: beside,
         accepted: 0,
-    })
+    }
 }
 
 /// Whether both answer alike over the list that begins with this number, and have the same in the end.
@@ -229,34 +229,33 @@ fn go_alike<L: Desks, R: Wait + Abort>(
     rt: &R,
     alloc: Global,
     blank: Blank,
-    server: Served,
-    beside: Served,
+    server: Box<Served>,
+    beside: Box<Served>,
     number: u32,
 ) -> bool
     requires blank { IsBlankOf blank L.name L.parts 1 }
-    requires whose { (server.core.id ≡ L.server) × (own_count server.core ≡ L.stored) }
+    requires whose { (server.value.core.id ≡ L.server) × (own_count server.value.core ≡ L.stored) }
 {
-    let Some(mut pair) = pair_of::<L>(alloc, blank, server, beside) else {
-        return false;
-    };
+    let mut pair = pair_of::<L>(rt, alloc, blank, server, beside);
     let are_alike = all_alike(rt, alloc, &mut pair, number);
-    are_alike && settles_alike(alloc, pair)
+    settles_alike(pair) && are_alike
 }
 
 /// A server whose device fails at a call that the number picks.
-fn fused(rt: &impl Abort, alloc: Global, number: u32) -> Option<Served> {
-    let mut server = served(rt, alloc, 0).ok()?;
+fn fused(rt: &impl Abort, alloc: Global, number: u32) -> Box<Served> {
+    let Ok(mut server) = served(rt, alloc, 0) else {
+        rt.abort();
+    };
     server
+        .as_mut()
         .device()
         .fuse(number % 30 + 1, (number % 90) as usize);
-    Some(server)
+    server
 }
 
 /// The same of a new node and a new server.
 fn goes<R: Wait + Abort>(rt: &R, alloc: Global, number: u32) -> bool {
-    let (Some(server), Some(beside)) = (fused(rt, alloc, number), fused(rt, alloc, number)) else {
-        return false;
-    };
+    let (server, beside) = (fused(rt, alloc, number), fused(rt, alloc, number));
     go_alike::<Brand, R>(rt, alloc, Blank::new(1), server, beside, number)
 }
 

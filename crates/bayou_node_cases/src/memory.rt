@@ -3,7 +3,7 @@ ghost use Rattle.std.specs.Prelude.{◌≡◌};
 ghost use Rattle.bayou_node.specs.Books.{IsBlankOf};
 ghost use Rattle.bayou_server.specs.Server.{own_count};
 
-use crate::fixtures::{Memory, Served, boxed, put, served, vector};
+use crate::fixtures::{Memory, Served, Site, boxed, put, served, settled, vector};
 use bayou_base::{ServerId, Stamp, Vector, Wid};
 use bayou_lang::Write;
 use bayou_node::{Desk, Desks, Node, Settled};
@@ -121,11 +121,10 @@ fn takes_at_last<L: Desks, R: Wait + Abort>(rt: &R, alloc: Global, node: &Node<M
 
 /// How many Writes the node lists, dumps, and sends to a server that holds nothing.
 fn told<L: Desks, R: Wait>(rt: &R, alloc: Global, node: &Node<Memory, L>) -> Option<[usize; 3]> {
-    Some([
-        node.listing(rt, alloc).ok()?.len(),
-        node.dump(rt, alloc).ok()?.len(),
-        node.lacking(rt, alloc, &Vector::zero(), 100).ok()?.len(),
-    ])
+    let listed = node.listing(rt, alloc).ok()?.len();
+    let dumped = node.dump(rt, alloc).ok()?.len();
+    let sent = node.lacking(rt, alloc, &Vector::zero(), 100).ok()?.len();
+    Some([listed, dumped, sent])
 }
 
 /// What becomes of three programs, one after another, and then whether the second server's Write is taken, and all are told.
@@ -158,17 +157,30 @@ fn is_as_made(rt: &impl Abort, settled: Settled, made: Made) -> bool {
         }
 }
 
-/// Whether the node, whose desks these are, comes to what was made.
-fn settles<L: Desks>(
-    rt: &impl Abort,
-    node: Node<Memory, L>,
-    desks: Vec<Desk<L>>,
-    made: Made,
+/// What becomes of that at a node whose one desk this is; it is put back.
+fn goes_at<L: Desks, R: Wait + Abort>(
+    rt: &R,
+    alloc: Global,
+    site: &mut Site<Memory, L>,
+) -> Option<Made> {
+    let mut desk = site.desks.pop()?;
+    let made = goes(rt, alloc, &site.node, &mut desk);
+    // Its place in the list is there.
+    site.desks.push(desk).ok()?;
+    made
+}
+
+/// Whether the node goes so, and comes to what was made.
+fn comes_to_all<L: Desks, R: Wait + Abort>(
+    rt: &R,
+    alloc: Global,
+    mut site: Box<Site<Memory, L>>,
 ) -> bool {
-    let Ok(settled) = node.settle(desks) else {
-        return false;
-    };
-    is_as_made(rt, settled, made)
+    let made = goes_at(rt, alloc, site.as_mut());
+    match (settled(site), made) {
+        (Some(settled), Some(made)) => is_as_made(rt, settled, made),
+        _ => false,
+    }
 }
 
 /// Whether a new node goes so, and comes to what was made; or the server, where there was no memory for its desk.
@@ -181,19 +193,13 @@ fn goes_of<L: Desks, R: Wait + Abort>(
     requires blank { IsBlankOf blank L.name L.parts 1 }
     requires whose { (server.core.id ≡ L.server) × (own_count server.core ≡ L.stored) }
 {
-    let (node, mut desks) = match Node::<_, L>::new(alloc, blank, server, 1) {
-        Ok(made) => made,
-        Err(left) => return Err(left.server),
-    };
-    let (Some(node), Some(mut desk)) = (boxed(alloc, node), desks.pop()) else {
-        return Ok(false);
-    };
-    let Some(made) = goes(rt, alloc, node.as_ref(), &mut desk) else {
-        return Ok(false);
-    };
-    // Its place in the list is there.
-    let is_back = desks.push(desk).is_ok();
-    Ok(is_back && settles(rt, Box::into_inner(node), desks, made))
+    match Node::<_, L>::new(alloc, blank, server, 1) {
+        Ok((node, desks)) => match boxed(alloc, Site { node, desks }) {
+            Some(site) => Ok(comes_to_all(rt, alloc, site)),
+            None => Ok(false),
+        },
+        Err(left) => Err(left.server),
+    }
 }
 
 /// Once more, with the server that came back.
@@ -213,7 +219,8 @@ fn one_want_of_memory_costs_a_node_nothing(rt: HostRuntime) -> Result<(), Fail> 
         Ok(server) => server,
         Err(_) => served(&rt, alloc, 0)?,
     };
-    server.device().fuse(4, 0);
+    server.as_mut().device().fuse(4, 0);
+    let server = Box::into_inner(server);
     let is_so = match goes_of::<Brand, HostRuntime>(&rt, alloc, Blank::new(1), server) {
         Ok(is_so) => is_so,
         Err(server) => goes_again(&rt, alloc, server),

@@ -57,17 +57,16 @@ fn between<'a>(alloc: Global, sent: &'a [u8]) -> Channel<&'a [u8], Vec<u8>> {
     Channel::new(sent, Vec::new(alloc))
 }
 
-fn serves<L: Desks, R: Wait + Abort>(rt: &R, alloc: Global, node: &Kept<L>) -> Result<bool, Fail> {
-    let offer = stream(alloc, "0021 05 <none>")?;
+fn serves<L: Desks, R: Wait + Abort>(rt: &R, alloc: Global, node: &Kept<L>) -> bool {
+    let offer = stream(rt, alloc, "0021 05 <none>");
     let mut channel = between(alloc, &offer);
     let is_one = serve_offer(rt, alloc, node, &mut channel) == Ok(1);
-    let is_so = ends(
+    ends(
         alloc,
         &channel.into_parts().1,
         "<item-1> 0005 16 00000001",
         is_one,
-    );
-    Ok(is_so)
+    )
 }
 
 fn answers<L: Desks, R: Wait + Abort>(rt: &R, alloc: Global, node: &Kept<L>) -> bool {
@@ -76,16 +75,12 @@ fn answers<L: Desks, R: Wait + Abort>(rt: &R, alloc: Global, node: &Kept<L>) -> 
     ends(alloc, &channel.into_parts().1, "0005 16 00000000", is_none)
 }
 
-fn takes_again<L: Desks, R: Wait + Abort>(
-    rt: &R,
-    alloc: Global,
-    node: &Kept<L>,
-) -> Result<bool, Fail> {
-    let answer = stream(alloc, "<item-1> 0005 16 00000001")?;
+fn takes_again<L: Desks, R: Wait + Abort>(rt: &R, alloc: Global, node: &Kept<L>) -> bool {
+    let answer = stream(rt, alloc, "<item-1> 0005 16 00000001");
     let mut channel = between(alloc, &answer);
     let had = pull_from(rt, alloc, node, &Vector::zero(), &mut channel);
     let is_had = had == Ok(Pulled { taken: 0, had: 1 });
-    Ok(ends(alloc, &channel.into_parts().1, "0021 05 <none>", is_had))
+    ends(alloc, &channel.into_parts().1, "0021 05 <none>", is_had)
 }
 
 fn pulls<L: Desks, R: Wait + Abort>(rt: &R, alloc: Global, node: &Kept<L>) -> bool {
@@ -107,16 +102,16 @@ fn goes<L: Desks, R: Wait + Abort>(
     blank: Blank,
     server: Served,
     call: Call,
-) -> Result<bool, Fail>
+) -> bool
     requires blank { IsBlankOf blank L.name L.parts 1 }
     requires whose { (server.core.id ≡ L.server) × (own_count server.core ≡ L.stored) }
 {
     let node = kept::<L>(rt, alloc, blank, server);
     match call {
         Call::Serve => serves(rt, alloc, &node),
-        Call::Answer => Ok(answers(rt, alloc, &node)),
+        Call::Answer => answers(rt, alloc, &node),
         Call::PullFromZero => takes_again(rt, alloc, &node),
-        Call::Pull => Ok(pulls(rt, alloc, &node)),
+        Call::Pull => pulls(rt, alloc, &node),
     }
 }
 
@@ -124,8 +119,8 @@ fn goes<L: Desks, R: Wait + Abort>(
 fn a_node_sends_and_takes(rt: HostRuntime) -> Result<(), Fail> {
     let alloc = rt.alloc();
     for call in [Call::Serve, Call::Answer, Call::PullFromZero, Call::Pull] {
-        let server = Box::into_inner(full(&rt, alloc, 2, [1, 0])?);
-        let is_so = goes::<Brand, HostRuntime>(&rt, alloc, Blank::new(1), server, call)?;
+        let server = Box::into_inner(full(&rt, alloc, 2, [1, 0]));
+        let is_so = goes::<Brand, HostRuntime>(&rt, alloc, Blank::new(1), server, call);
         assert!(rt; is_so);
     }
     Ok(())
@@ -184,7 +179,7 @@ fn is_free_between_items<L: Desks, R: Wait + Abort>(
 #[test]
 fn a_node_is_free_between_two_items_that_come(rt: HostRuntime) -> Result<(), Fail> {
     let alloc = rt.alloc();
-    let server = Box::into_inner(full(&rt, alloc, 2, [0, 0])?);
+    let server = Box::into_inner(full(&rt, alloc, 2, [0, 0]));
     assert!(rt; is_free_between_items::<Brand, HostRuntime>(&rt, alloc, Blank::new(1), server));
     Ok(())
 }
@@ -236,7 +231,7 @@ fn batches<L: Desks, R: Wait + Abort>(rt: &R, alloc: Global, blank: Blank, serve
 #[test]
 fn a_node_is_free_between_two_batches(rt: HostRuntime) -> Result<(), Fail> {
     let alloc = rt.alloc();
-    let server = Box::into_inner(full(&rt, alloc, 2, [40, 0])?);
+    let server = Box::into_inner(full(&rt, alloc, 2, [40, 0]));
     let number = batches::<Brand, HostRuntime>(&rt, alloc, Blank::new(1), server);
     assert!(rt; number == 4, "{number}");
     Ok(())

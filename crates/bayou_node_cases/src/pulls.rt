@@ -48,17 +48,12 @@ fn takes_all(rt: &impl Abort, alloc: Global, server: &mut Served, origin: u8, co
 }
 
 /// A server that took so many Writes of the second server, and then of the first.
-pub fn full(
-    rt: &impl Abort,
-    alloc: Global,
-    index: u8,
-    [first, second]: [u8; 2],
-) -> Result<Box<Served>, StartFault> {
-    let mut server = begun(rt, alloc, index)?;
+pub fn full(rt: &impl Abort, alloc: Global, index: u8, [first, second]: [u8; 2]) -> Box<Served> {
+    let mut server = begun(rt, alloc, index).expect(rt, "no server");
     let are_taken = takes_all(rt, alloc, server.as_mut(), 1, second)
         && takes_all(rt, alloc, server.as_mut(), 0, first);
     assert!(rt; are_taken);
-    Ok(server)
+    server
 }
 
 /// The server's answer to an Offer of these counts, and the number of Items that it tells. There is room for it, so any want of
@@ -103,9 +98,9 @@ fn answers(
 #[test]
 fn an_offer_is_answered_byte_for_byte(rt: HostRuntime) -> Result<(), Fail> {
     let alloc = rt.alloc();
-    let mut server = full(&rt, alloc, 2, [3, 0])?;
+    let mut server = full(&rt, alloc, 2, [3, 0]);
     for (counted, items, sent) in ANSWERS {
-        let bytes = stream(alloc, sent)?;
+        let bytes = stream(&rt, alloc, sent);
         let counts = vector(&rt, counted, 0);
         let is_so = answers(alloc, server.as_mut(), &counts, (&bytes, items));
         assert!(rt; is_so, "{counted}");
@@ -125,8 +120,8 @@ fn writes(alloc: Global, server: &mut Served, offer: &[u8]) -> bool {
 fn a_pull_writes_its_offer(rt: HostRuntime) -> Result<(), Fail> {
     let alloc = rt.alloc();
     for (counted, text) in [(0, "0021 05 <none>"), (1, "0021 05 00000001 <zeros>")] {
-        let offer = stream(alloc, text)?;
-        let mut server = full(&rt, alloc, 3, [counted, 0])?;
+        let offer = stream(&rt, alloc, text);
+        let mut server = full(&rt, alloc, 3, [counted, 0]);
         assert!(rt; writes(alloc, server.as_mut(), &offer), "{text}");
     }
     Ok(())
@@ -181,9 +176,7 @@ fn is_told(alloc: Global, held: u32, answer: Result<Pulled, PullFault>, expected
 /// Whether the second server, which is sent this in pieces of at most so many bytes, then holds so many Writes of the first one and
 /// answers so.
 fn is_taken_so(rt: &impl Abort, alloc: Global, sent: &[u8], most: usize, expected: &str) -> bool {
-    let Ok(mut server) = begun(rt, alloc, 1) else {
-        return false;
-    };
+    let mut server = full(rt, alloc, 1, [0, 0]);
     let answer = pulled_in_pieces(alloc, server.as_mut(), sent, most);
     let counts = server.vector();
     let [held, ..] = counts.counts();
@@ -204,7 +197,7 @@ fn a_stream_is_taken_up_to_its_end_or_fault(rt: HostRuntime) -> Result<(), Fail>
     let alloc = rt.alloc();
     for row in STREAMS.lines() {
         let (text, expected) = row.split_once(" => ").unwrap_or((row, row));
-        let sent = stream(alloc, text)?;
+        let sent = stream(&rt, alloc, text);
         let is_so = is_taken_in_any_pieces(&rt, alloc, &sent, expected);
         assert!(rt; is_so, "{row}");
     }
@@ -251,8 +244,8 @@ fn are_sent(
 fn forty_writes_of_two_servers_go_in_stamp_order(rt: HostRuntime) -> Result<(), Fail> {
     let alloc = rt.alloc();
     let whole = both(alloc)?;
-    let mut server = full(&rt, alloc, 2, [EACH, EACH])?;
-    let mut puller = begun(&rt, alloc, 3)?;
+    let mut server = full(&rt, alloc, 2, [EACH, EACH]);
+    let mut puller = full(&rt, alloc, 3, [0, 0]);
     let are_sent = are_sent(&rt, alloc, server.as_mut(), puller.as_mut(), &whole);
     assert!(rt; are_sent);
     Ok(())
@@ -277,9 +270,7 @@ fn takes_the_rest(alloc: Global, server: &mut Served, puller: &mut Served, count
 
 /// Whether a server that is sent this front of two Items and the End takes what came whole, and then what it lacks.
 fn takes_front(rt: &impl Abort, alloc: Global, server: &mut Served, front: &[u8]) -> bool {
-    let Ok(mut puller) = begun(rt, alloc, 3) else {
-        return false;
-    };
+    let mut puller = full(rt, alloc, 3, [0, 0]);
     let is_cut = pulled(alloc, puller.as_mut(), front) == Err(PullFault::Stream(Fault::Cut));
     let held = whole_in(front.len());
     let is_held = puller.vector() == vector(rt, held, 0);
@@ -290,8 +281,8 @@ fn takes_front(rt: &impl Abort, alloc: Global, server: &mut Served, front: &[u8]
 #[test]
 fn what_is_cut_is_taken_up_to_there(rt: HostRuntime) -> Result<(), Fail> {
     let alloc = rt.alloc();
-    let whole = stream(alloc, "<item-1> <item-2> 0005 16 00000002")?;
-    let mut server = full(&rt, alloc, 2, [2, 0])?;
+    let whole = stream(&rt, alloc, "<item-1> <item-2> 0005 16 00000002");
+    let mut server = full(&rt, alloc, 2, [2, 0]);
     for cut in 0..whole.len() {
         let is_so = takes_front(&rt, alloc, server.as_mut(), &whole[..cut]);
         assert!(rt; is_so && whole.len() == 127, "{cut}");
@@ -301,9 +292,7 @@ fn what_is_cut_is_taken_up_to_there(rt: HostRuntime) -> Result<(), Fail> {
 
 /// Whether a pull, whose reader gives an Item at a call and fails at this one, ends there, and what came before is taken.
 fn ends_at_read(rt: &impl Abort, alloc: Global, sent: &[u8], fails_at: u32) -> bool {
-    let Ok(mut puller) = begun(rt, alloc, 3) else {
-        return false;
-    };
+    let mut puller = full(rt, alloc, 3, [0, 0]);
     let reader = FakeReader {
         bytes: sent,
         most: 60,
@@ -327,7 +316,7 @@ fn ends_at_read(rt: &impl Abort, alloc: Global, sent: &[u8], fails_at: u32) -> b
 /// The last call doesn't come to it. Each Item is taken before the next one is read.
 #[test]
 fn each_read_of_a_pull_may_fail(rt: HostRuntime) -> Result<(), Fail> {
-    let sent = stream(rt.alloc(), THREE)?;
+    let sent = stream(&rt, rt.alloc(), THREE);
     for fails_at in 1..6_u32 {
         let is_so = ends_at_read(&rt, rt.alloc(), &sent, fails_at);
         assert!(rt; is_so, "call {fails_at}");
@@ -352,9 +341,7 @@ pub const fn tens_before(fails_at: u32) -> usize {
 
 /// Whether a pull, whose writer takes ten bytes at a call and fails at this one, ends there with nothing read or taken.
 fn ends_at_write(rt: &impl Abort, alloc: Global, sent: &[u8], offer: &[u8], fails_at: u32) -> bool {
-    let Ok(mut puller) = begun(rt, alloc, 3) else {
-        return false;
-    };
+    let mut puller = full(rt, alloc, 3, [0, 0]);
     let mut channel = Channel::new(sent, failing(alloc, fails_at));
     let answer = pull_on(alloc, puller.as_mut(), &mut channel);
     let (reader, writer) = channel.into_parts();
@@ -376,8 +363,8 @@ fn ends_at_write(rt: &impl Abort, alloc: Global, sent: &[u8], offer: &[u8], fail
 #[test]
 fn each_write_of_a_pull_may_fail(rt: HostRuntime) -> Result<(), Fail> {
     let alloc = rt.alloc();
-    let sent = stream(alloc, THREE)?;
-    let offer = stream(alloc, "0021 05 <none>")?;
+    let sent = stream(&rt, alloc, THREE);
+    let offer = stream(&rt, alloc, "0021 05 <none>");
     for fails_at in 1..6_u32 {
         let is_so = ends_at_write(&rt, alloc, &sent, &offer, fails_at);
         assert!(rt; is_so, "call {fails_at}");
@@ -409,8 +396,8 @@ fn answers_up_to(
 #[test]
 fn each_write_of_an_answer_may_fail(rt: HostRuntime) -> Result<(), Fail> {
     let alloc = rt.alloc();
-    let whole = stream(alloc, THREE)?;
-    let mut server = full(&rt, alloc, 2, [3, 0])?;
+    let whole = stream(&rt, alloc, THREE);
+    let mut server = full(&rt, alloc, 2, [3, 0]);
     for fails_at in 1..21_u32 {
         let is_so = answers_up_to(&rt, alloc, server.as_mut(), &whole, fails_at);
         assert!(rt; is_so, "call {fails_at}");
@@ -422,7 +409,7 @@ fn each_write_of_an_answer_may_fail(rt: HostRuntime) -> Result<(), Fail> {
 #[test]
 fn a_full_writer_fails(rt: HostRuntime) -> Result<(), Fail> {
     let alloc = rt.alloc();
-    let mut server = full(&rt, alloc, 2, [3, 0])?;
+    let mut server = full(&rt, alloc, 2, [3, 0]);
     let mut nothing: [u8; 0] = [];
     let mut channel = Channel::new(io::empty(), nothing.as_mut_slice());
     let answer = answer_offer_on(alloc, server.as_mut(), &Vector::zero(), &mut channel);
@@ -436,8 +423,8 @@ fn a_full_writer_fails(rt: HostRuntime) -> Result<(), Fail> {
 #[test]
 fn a_stream_without_an_end_is_given_up(rt: HostRuntime) -> Result<(), Fail> {
     let alloc = rt.alloc();
-    let item = stream(alloc, "<item-1>")?;
-    let mut puller = full(&rt, alloc, 3, [1, 0])?;
+    let item = stream(&rt, alloc, "<item-1>");
+    let mut puller = full(&rt, alloc, 3, [1, 0]);
     let reader = EndlessReader {
         bytes: &item,
         pace: 1,
@@ -470,7 +457,7 @@ fn is_cut_to(whole: &[u8], items: u32, left: usize) -> bool {
 
 #[test]
 fn an_answer_is_cut_after_so_many_items(rt: HostRuntime) -> Result<(), Fail> {
-    let whole = stream(rt.alloc(), THREE)?;
+    let whole = stream(&rt, rt.alloc(), THREE);
     for (items, left) in CUTS {
         assert!(rt; is_cut_to(&whole, items, left), "{items}");
     }

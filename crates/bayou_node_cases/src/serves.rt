@@ -65,10 +65,10 @@ fn serves_in_any_pieces(alloc: Global, server: &mut Served, sent: &[u8], expecte
 #[test]
 fn an_offer_is_read_and_answered(rt: HostRuntime) -> Result<(), Fail> {
     let alloc = rt.alloc();
-    let mut server = full(&rt, alloc, 2, [3, 0])?;
+    let mut server = full(&rt, alloc, 2, [3, 0]);
     for row in STREAMS.lines() {
         let (text, expected) = row.split_once(" => ").unwrap_or((row, row));
-        let sent = stream(alloc, text)?;
+        let sent = stream(&rt, alloc, text);
         let is_so = serves_in_any_pieces(alloc, server.as_mut(), &sent, expected)
             && server.as_ref().vector() == vector(&rt, 3, 0);
         assert!(rt; is_so, "{row}");
@@ -98,8 +98,8 @@ fn answers_read(alloc: Global, server: &mut Served, sent: &[u8], fails_at: u32) 
 #[test]
 fn each_read_of_an_offer_may_fail(rt: HostRuntime) -> Result<(), Fail> {
     let alloc = rt.alloc();
-    let sent = stream(alloc, "0021 05 <none> <item-1>")?;
-    let mut server = full(&rt, alloc, 2, [3, 0])?;
+    let sent = stream(&rt, alloc, "0021 05 <none> <item-1>");
+    let mut server = full(&rt, alloc, 2, [3, 0]);
     for fails_at in 1..9_u32 {
         let is_so = answers_read(alloc, server.as_mut(), &sent, fails_at);
         assert!(rt; is_so, "call {fails_at}");
@@ -123,8 +123,8 @@ fn answers_up_to(alloc: Global, server: &mut Served, offer: &[u8], fails_at: u32
 #[test]
 fn each_write_behind_an_offer_may_fail(rt: HostRuntime) -> Result<(), Fail> {
     let alloc = rt.alloc();
-    let offer = stream(alloc, "0021 05 <none>")?;
-    let mut server = full(&rt, alloc, 2, [3, 0])?;
+    let offer = stream(&rt, alloc, "0021 05 <none>");
+    let mut server = full(&rt, alloc, 2, [3, 0]);
     for fails_at in 1..21_u32 {
         let is_so = answers_up_to(alloc, server.as_mut(), &offer, fails_at);
         assert!(rt; is_so, "call {fails_at}");
@@ -136,7 +136,7 @@ fn each_write_behind_an_offer_may_fail(rt: HostRuntime) -> Result<(), Fail> {
 #[test]
 fn an_offer_that_never_comes_is_given_up(rt: HostRuntime) -> Result<(), Fail> {
     let alloc = rt.alloc();
-    let mut server = full(&rt, alloc, 2, [3, 0])?;
+    let mut server = full(&rt, alloc, 2, [3, 0]);
     let reader = EndlessReader {
         bytes: b"",
         pace: u32::MAX,

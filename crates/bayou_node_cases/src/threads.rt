@@ -4,12 +4,13 @@ ghost use Rattle.bayou_node.specs.Books.{IsBlankOf};
 ghost use Rattle.bayou_server.specs.Server.{own_count};
 
 use crate::dice::Dice;
+use crate::fixtures::{Memory, Site, boxed, new_site, settled};
 use crate::hands::{Hand, Three, reopens, works};
-use crate::meetings::{Memory, meets};
+use crate::meetings::meets;
 use bayou_base::ServerId;
 use bayou_device::{MemoryDevice, OpenGate};
-use bayou_node::{Desk, Desks, Node, Settled};
-use bayou_server::{Server, StartFault};
+use bayou_node::{Desk, Desks, Settled};
+use bayou_server::Server;
 use std::alloc::{AllocError, Global};
 use std::marker::Brand;
 use std::process::Abort;
@@ -26,20 +27,14 @@ const THREADS: u32 = 8;
 type Row<L> = Vec<Desk<L>>;
 
 /// One server of three. Its device fails at this call.
-fn begun(
-    rt: &impl Abort,
-    alloc: Global,
-    index: u8,
-    fails_at: u32,
-) -> Result<Server<Memory>, StartFault> {
+fn begun(rt: &impl Abort, alloc: Global, index: u8, fails_at: u32) -> Box<Server<Memory>> {
     let id = ServerId::new(index % 3).expect(rt, "no server");
     let device = MemoryDevice::new(alloc, OpenGate);
-    let (mut server, _) = match Server::start(alloc, id, 3, 60_000, device) {
-        Ok(started) => started,
-        Err(refused) => return Err(refused.fault),
+    let Ok((mut server, _)) = Server::start(alloc, id, 3, 60_000, device) else {
+        rt.abort();
     };
     server.device().fuse(fails_at.max(1), 40);
-    Ok(server)
+    boxed(alloc, server).expect(rt, "no memory for a server")
 }
 
 /// A hand with the next desk of each row, where there is one.
@@ -63,13 +58,13 @@ fn next_hand<L: Desks, M: Desks, N: Desks>(
 /// A hand for each thread.
 fn hands<L: Desks, M: Desks, N: Desks>(
     alloc: Global,
-    rows: (Row<L>, Row<M>, Row<N>),
+    firsts: &mut Row<L>,
+    seconds: &mut Row<M>,
+    thirds: &mut Row<N>,
 ) -> Result<Vec<Hand<L, M, N>>, AllocError> {
-    let (mut firsts, mut seconds, mut thirds) = rows;
     let mut hands = Vec::with_capacity(alloc, THREADS as usize)?;
     for state in 0..THREADS {
-        let hand = next_hand(&mut firsts, &mut seconds, &mut thirds, state);
-        if let Some(hand) = hand {
+        if let Some(hand) = next_hand(firsts, seconds, thirds, state) {
             hands.push(hand)?;
         }
     }
@@ -94,12 +89,13 @@ impl Sums {
     }
 }
 
-/// The desks again, and what the threads say.
+/// The desks of the hands are put back, each in its row. What the threads say.
 fn laid_down<L: Desks, M: Desks, N: Desks>(
-    alloc: Global,
     hands: Vec<Hand<L, M, N>>,
-) -> Result<((Row<L>, Row<M>, Row<N>), Sums), AllocError> {
-    let mut rows = (Vec::new(alloc), Vec::new(alloc), Vec::new(alloc));
+    firsts: &mut Row<L>,
+    seconds: &mut Row<M>,
+    thirds: &mut Row<N>,
+) -> Sums {
     let mut sums = Sums {
         accepted: [0; 3],
         done: 0,
@@ -107,15 +103,15 @@ fn laid_down<L: Desks, M: Desks, N: Desks>(
     };
     for hand in hands {
         sums.add(hand.accepted, hand.done, hand.is_so);
-        rows.0.push(hand.first)?;
-        rows.1.push(hand.second)?;
-        rows.2.push(hand.third)?;
+        sums.is_so &= firsts.push(hand.first).is_ok();
+        sums.is_so &= seconds.push(hand.second).is_ok();
+        sums.is_so &= thirds.push(hand.third).is_ok();
     }
-    Ok((rows, sums))
+    sums
 }
 
 /// Whether all three are up, and hold the same, once each has met the others.
-fn come_together<L: Desks, M: Desks, N: Desks, R: Wait>(
+fn come_together<L: Desks, M: Desks, N: Desks, R: Wait + Abort>(
     rt: &R,
     alloc: Global,
     three: &Three<'_, L, M, N>,
@@ -131,18 +127,17 @@ fn come_together<L: Desks, M: Desks, N: Desks, R: Wait>(
 }
 
 /// Whether the three list the same Writes, with the same outcomes.
-fn hold_the_same<L: Desks, M: Desks, N: Desks, R: Wait>(
+fn hold_the_same<L: Desks, M: Desks, N: Desks, R: Wait + Abort>(
     rt: &R,
     alloc: Global,
     three: &Three<'_, L, M, N>,
 ) -> bool {
-    let (Ok(first), Ok(second), Ok(third)) = (
-        three.first.listing(rt, alloc),
-        three.second.listing(rt, alloc),
-        three.third.listing(rt, alloc),
-    ) else {
-        return false;
-    };
+    let first = three.first.listing(rt, alloc);
+    let first = first.expect(rt, "no memory for a list");
+    let second = three.second.listing(rt, alloc);
+    let second = second.expect(rt, "no memory for a list");
+    let third = three.third.listing(rt, alloc);
+    let third = third.expect(rt, "no memory for a list");
     first.as_slice() == second.as_slice() && second.as_slice() == third.as_slice()
 }
 
@@ -158,20 +153,9 @@ fn count_at(rt: &impl Abort, settled: &Settled, index: u8) -> u32 {
         .get(ServerId::new(index % 3).expect(rt, "no server"))
 }
 
-/// Whether the three are settled, each with what the threads counted.
-fn settle<L: Desks, M: Desks, N: Desks>(
-    rt: &impl Abort,
-    nodes: (Node<Memory, L>, Node<Memory, M>, Node<Memory, N>),
-    rows: (Row<L>, Row<M>, Row<N>),
-    accepted: [u32; 3],
-) -> bool {
-    let Ok(first) = nodes.0.settle(rows.0) else {
-        return false;
-    };
-    let Ok(second) = nodes.1.settle(rows.1) else {
-        return false;
-    };
-    let Ok(third) = nodes.2.settle(rows.2) else {
+/// Whether the three hold the same, each with what the threads counted.
+fn are_exact(rt: &impl Abort, settled: [Option<Settled>; 3], accepted: [u32; 3]) -> bool {
+    let [Some(first), Some(second), Some(third)] = settled else {
         return false;
     };
     first.vector == second.vector
@@ -181,51 +165,70 @@ fn settle<L: Desks, M: Desks, N: Desks>(
         && adds_up(&third, accepted[2], count_at(rt, &third, 2))
 }
 
+/// What eight threads at three nodes say, and whether the nodes come together then.
+fn work<L, M, N, R>(
+    rt: &R,
+    alloc: Global,
+    first: &mut Site<Memory, L>,
+    second: &mut Site<Memory, M>,
+    third: &mut Site<Memory, N>,
+) -> Result<Sums, AllocError>
+where
+    L: Desks + Send + Sync,
+    M: Desks + Send + Sync,
+    N: Desks + Send + Sync,
+    R: Threads + Wait + Abort + Sync,
+{
+    let hands = hands(alloc, &mut first.desks, &mut second.desks, &mut third.desks)?;
+    let three = &Three {
+        first: &first.node,
+        second: &second.node,
+        third: &third.node,
+    };
+    let done = thread::map_vec(rt, hands, &|hand| works(rt, alloc, three, hand))?;
+    let are_one = come_together(rt, alloc, three);
+    let mut sums = laid_down(done, &mut first.desks, &mut second.desks, &mut third.desks);
+    sums.is_so &= are_one;
+    Ok(sums)
+}
+
 /// What eight threads at three new nodes come to.
 fn work_together<L, M, N, R>(
     rt: &R,
     alloc: Global,
     blanks: (Blank, Blank, Blank),
-    servers: (Server<Memory>, Server<Memory>, Server<Memory>),
+    servers: (
+        Box<Server<Memory>>,
+        Box<Server<Memory>>,
+        Box<Server<Memory>>,
+    ),
 ) -> Result<bool, AllocError>
 where
     L: Desks + Send + Sync,
     M: Desks + Send + Sync,
     N: Desks + Send + Sync,
     R: Threads + Wait + Abort + Sync,
-    requires first { IsBlankOf blanks.0 L.name L.parts THREADS × (servers.0.core.id ≡ L.server) × (own_count servers.0.core ≡ L.stored) }
-    requires second { IsBlankOf blanks.1 M.name M.parts THREADS × (servers.1.core.id ≡ M.server) × (own_count servers.1.core ≡ M.stored) }
-    requires third { IsBlankOf blanks.2 N.name N.parts THREADS × (servers.2.core.id ≡ N.server) × (own_count servers.2.core ≡ N.stored) }
+    requires first { IsBlankOf blanks.0 L.name L.parts THREADS × (servers.0.value.core.id ≡ L.server) × (own_count servers.0.value.core ≡ L.stored) }
+    requires second { IsBlankOf blanks.1 M.name M.parts THREADS × (servers.1.value.core.id ≡ M.server) × (own_count servers.1.value.core ≡ M.stored) }
+    requires third { IsBlankOf blanks.2 N.name N.parts THREADS × (servers.2.value.core.id ≡ N.server) × (own_count servers.2.value.core ≡ N.stored) }
 {
-    let Ok((first, firsts)) = Node::<_, L>::new(alloc, blanks.0, servers.0, THREADS) else {
-        return Ok(false);
-    };
-    let Ok((second, seconds)) = Node::<_, M>::new(alloc, blanks.1, servers.1, THREADS) else {
-        return Ok(false);
-    };
-    let Ok((third, thirds)) = Node::<_, N>::new(alloc, blanks.2, servers.2, THREADS) else {
-        return Ok(false);
-    };
-    let three = &Three {
-        first: &first,
-        second: &second,
-        third: &third,
-    };
-    let hands = hands(alloc, (firsts, seconds, thirds))?;
-    let done = thread::map_vec(rt, hands, &|hand| works(rt, alloc, three, hand))?;
-    let (rows, sums) = laid_down(alloc, done)?;
-    let are_one = come_together(rt, alloc, three);
-    let add_up = settle(rt, (first, second, third), rows, sums.accepted);
-    Ok(sums.done == 10_000 && sums.is_so && are_one && add_up)
+    let mut first = new_site::<_, L>(rt, alloc, blanks.0, servers.0, THREADS);
+    let mut second = new_site::<_, M>(rt, alloc, blanks.1, servers.1, THREADS);
+    let mut third = new_site::<_, N>(rt, alloc, blanks.2, servers.2, THREADS);
+    let said = work(rt, alloc, first.as_mut(), second.as_mut(), third.as_mut());
+    let settled = [settled(first), settled(second), settled(third)];
+    let sums = said?;
+    let add_up = are_exact(rt, settled, sums.accepted);
+    Ok(sums.done == 10_000 && sums.is_so && add_up)
 }
 
 #[test]
 fn eight_threads_at_three_nodes_keep_exact_books(rt: HostRuntime) -> Result<(), Fail> {
     let alloc = rt.alloc();
     let servers = (
-        begun(&rt, alloc, 0, 100)?,
-        begun(&rt, alloc, 1, 201)?,
-        begun(&rt, alloc, 2, 302)?,
+        begun(&rt, alloc, 0, 100),
+        begun(&rt, alloc, 1, 201),
+        begun(&rt, alloc, 2, 302),
     );
     let blanks = (
         Blank::new(u64::from(THREADS)),

@@ -6,4 +6,4 @@ abbrev pub ghosts-two_programs-L-Ledger : goal.ghosts-two_programs-L-Ledger
 ghosts-two_programs-L-Ledger g a = record { name = a.blank.name; parts = a.blank.parts }
 
 abbrev pub ghosts-two_programs-L-Desks : goal.ghosts-two_programs-L-Desks
-ghosts-two_programs-L-Desks g a = record { server = a.server.core.id; stored = own_count a.server.core }
+ghosts-two_programs-L-Desks g a = record { server = a.server.value.core.id; stored = own_count a.server.value.core }

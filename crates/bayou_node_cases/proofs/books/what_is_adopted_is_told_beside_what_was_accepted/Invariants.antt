@@ -6,4 +6,4 @@ abbrev pub ghosts-one_of_each-L-Ledger : goal.ghosts-one_of_each-L-Ledger
 ghosts-one_of_each-L-Ledger g a = record { name = a.blank.name; parts = a.blank.parts }
 
 abbrev pub ghosts-one_of_each-L-Desks : goal.ghosts-one_of_each-L-Desks
-ghosts-one_of_each-L-Desks g a = record { server = a.server.core.id; stored = own_count a.server.core }
+ghosts-one_of_each-L-Desks g a = record { server = a.server.value.core.id; stored = own_count a.server.value.core }

@@ -6,10 +6,10 @@ abbrev pub ghosts-serves_both-L-Ledger : goal.ghosts-serves_both-L-Ledger
 ghosts-serves_both-L-Ledger g a = record { name = a.first.name; parts = a.first.parts }
 
 abbrev pub ghosts-serves_both-L-Desks : goal.ghosts-serves_both-L-Desks
-ghosts-serves_both-L-Desks g a = record { server = a.slow.core.id; stored = own_count a.slow.core }
+ghosts-serves_both-L-Desks g a = record { server = a.slow.value.core.id; stored = own_count a.slow.value.core }
 
 abbrev pub ghosts-serves_both-M-Ledger : goal.ghosts-serves_both-M-Ledger
 ghosts-serves_both-M-Ledger g a = record { name = a.second.name; parts = a.second.parts }
 
 abbrev pub ghosts-serves_both-M-Desks : goal.ghosts-serves_both-M-Desks
-ghosts-serves_both-M-Desks g a = record { server = a.quick.core.id; stored = own_count a.quick.core }
+ghosts-serves_both-M-Desks g a = record { server = a.quick.value.core.id; stored = own_count a.quick.value.core }

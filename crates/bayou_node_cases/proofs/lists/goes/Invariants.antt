@@ -6,4 +6,4 @@ abbrev pub ghosts-go_alike-L-Ledger : goal.ghosts-go_alike-L-Ledger
 ghosts-go_alike-L-Ledger g a = record { name = a.blank.name; parts = a.blank.parts }
 
 abbrev pub ghosts-go_alike-L-Desks : goal.ghosts-go_alike-L-Desks
-ghosts-go_alike-L-Desks g a = record { server = a.server.core.id; stored = own_count a.server.core }
+ghosts-go_alike-L-Desks g a = record { server = a.server.value.core.id; stored = own_count a.server.value.core }
