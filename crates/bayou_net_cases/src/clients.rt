@@ -2,19 +2,18 @@
 ghost use Rattle.std.specs.Prelude.{◌≡◌};
 ghost use Rattle.bayou_audit.specs.Blanks.{AreBlanksOf, named};
 
-use crate::streams::{Counting, Slow};
-use crate::words::{bytes_of, is_said};
+use crate::fixtures::{blanks, key, put, server_id};
+use crate::streams::{Counting, Slow, counting_writer, slow_reader};
+use crate::words::{bytes, parts};
 use bayou_audit::{AuditBook, Blanks, Four, Ledgers, Share, Totals};
-use bayou_base::{Asks, Key, SERVERS, Seen, ServerId, SessionId, Value, Vector};
+use bayou_base::{Asks, SERVERS, Seen, SessionId, Vector};
 use bayou_client::{Client, ClientFault, Link, LinkFault};
-use bayou_lang::{Op, Program, Term};
 use bayou_session::Session;
 use std::alloc::Global;
 use std::marker::Brand;
 use std::process::Abort;
 use std::sync::Wait;
-use std::sync::ledger::{Blank, Ledger};
-use std::test::Fail;
+use std::sync::ledger::Ledger;
 
 /// What a session that needs the first server's first Write sends and is replied, as it reads `a` or puts 1 there at the first server, how
 /// that ends, and what the book then counts: reads, Writes and refusals.
@@ -52,20 +51,6 @@ const READ: &str = "0023 01 <one> 0161";
 
 const WRITE: &str = "0031 02 <one> <put-1>";
 
-pub fn blanks() -> Blanks
-    ensures slips { result.slips.parts ≡ 1 }
-    ensures reads { result.reads.parts ≡ 1 }
-    ensures writes { result.writes.parts ≡ 1 }
-    ensures refusals { result.refusals.parts ≡ 1 }
-{
-    Blanks {
-        slips: Blank::new(1),
-        reads: Blank::new(1),
-        writes: Blank::new(1),
-        refusals: Blank::new(1),
-    }
-}
-
 /// A session that asks for everything and has read from the first server's first Write.
 pub fn reader_before(rt: &impl Abort, id: SessionId) -> Session
     ensures { result.id ≡ id }
@@ -86,10 +71,11 @@ pub fn reader_before(rt: &impl Abort, id: SessionId) -> Session
     session
 }
 
-pub fn put(rt: &impl Abort) -> Program {
-    let key = Key::new("a").expect(rt, "no key");
-    let op = Op::Put(key, Term::Lit(Value::Num(1)));
-    Program::new(&[], &[op], &[]).expect(rt, "no program")
+/// Such a session with the last of these shares.
+pub fn reader<K: Ledgers>(rt: &impl Abort, shares: Vec<Share<K>>) -> Client<K> {
+    let mut shares = shares;
+    let share = shares.pop().expect(rt, "no share");
+    Client::new(reader_before(rt, share.session()), share)
 }
 
 fn word_of(fault: ClientFault) -> &'static str {
@@ -103,7 +89,7 @@ fn word_of(fault: ClientFault) -> &'static str {
 }
 
 /// What a session was told as it tried an operation, and what then stood in the book.
-#[derive(Drop)]
+#[derive(Clone, Copy)]
 struct Told {
     word: &'static str,
     totals: Totals,
@@ -118,15 +104,13 @@ fn read_word<K: Ledgers, R: Wait + Abort>(
     client: &mut Client<K>,
     link: &mut Link<Slow<'_>, &mut Counting>,
 ) -> &'static str {
-    let server = ServerId::new(0).expect(rt, "no server");
-    let key = Key::new("a").expect(rt, "no key");
     if client.left() == 0 {
         return "no place";
     }
-    let Err(fault) = client.read(rt, alloc, book, link, server, &key) else {
-        return "served";
-    };
-    word_of(fault)
+    match client.read(rt, alloc, book, link, server_id(rt), &key(rt)) {
+        Ok(_) => "served",
+        Err(fault) => word_of(fault),
+    }
 }
 
 /// The word for how it ends where the session puts 1 at `a` there.
@@ -137,15 +121,13 @@ fn write_word<K: Ledgers, R: Wait + Abort>(
     client: &mut Client<K>,
     link: &mut Link<Slow<'_>, &mut Counting>,
 ) -> &'static str {
-    let server = ServerId::new(0).expect(rt, "no server");
-    let program = put(rt);
     if client.left() == 0 {
         return "no place";
     }
-    let Err(fault) = client.write(rt, alloc, book, link, server, program) else {
-        return "served";
-    };
-    word_of(fault)
+    match client.write(rt, alloc, book, link, server_id(rt), put(rt, 1)) {
+        Ok(_) => "served",
+        Err(fault) => word_of(fault),
+    }
 }
 
 /// The session reads `a`, or puts 1 there, at the first server.
@@ -169,12 +151,11 @@ fn operates<K: Ledgers, R: Wait + Abort>(
     }
 }
 
-/// Two operations of a session over one link, the second of which has no reply any more, and what was sent for both.
-#[derive(Drop)]
+/// Two operations of a session over one link, the second of which has no reply any more.
+#[derive(Clone, Copy)]
 struct Tried {
     first: Told,
     second: Told,
-    sent: Vec<u8>,
     /// Whether the session needs what it needed before.
     is_as_before: bool,
     /// Whether the entries of the book are of this session, at its first place.
@@ -187,9 +168,9 @@ fn tries<S, T, U, V, R>(
     blanks: Blanks,
     is_read: bool,
     reader: Slow<'_>,
-    write_fails_at: u32,
+    writer: &mut Counting,
     places: usize,
-) -> Option<Tried>
+) -> Tried
 where
     S: Ledger + Send + Sync,
     T: Ledger + Send + Sync,
@@ -198,37 +179,31 @@ where
     R: Wait + Abort,
     requires blanks { AreBlanksOf blanks (named S.name S.parts) (named T.name T.parts) (named U.name U.parts) (named V.name V.parts) 1 }
 {
-    let Ok((book, mut shares)) = AuditBook::<Four<S, T, U, V>>::new(alloc, blanks, 1, places) else {
-        return None;
-    };
-    let share = shares.pop()?;
-    Some(tried_with(rt, alloc, &book, share, is_read, reader, write_fails_at))
+    let (book, shares) = AuditBook::<Four<S, T, U, V>>::new(alloc, blanks, 1, places).expect(
+        rt, "no book",
+    );
+    tried_with(rt, alloc, &book, shares, is_read, reader, writer)
 }
 
-/// The same of a session with this share.
+/// The same of a session with the last of these shares.
 fn tried_with<K: Ledgers, R: Wait + Abort>(
     rt: &R,
     alloc: Global,
     book: &AuditBook<K>,
-    share: Share<K>,
+    shares: Vec<Share<K>>,
     is_read: bool,
-    reader: Slow<'_>,
-    write_fails_at: u32,
+    over: Slow<'_>,
+    writer: &mut Counting,
 ) -> Tried {
-    let session = reader_before(rt, share.session());
-    let mut client = Client::new(session, share);
-    let mut writer = Counting {
-        bytes: Vec::new(alloc),
-        fails_at: write_fails_at,
-        calls: 0,
-    };
-    let (first, second) = both_told(rt, alloc, book, &mut client, reader, &mut writer, is_read);
+    let mut client = reader(rt, shares);
+    let (first, second) = both_told(rt, alloc, book, &mut client, over, writer, is_read);
+    let (now, _) = client.parts();
+    let before = reader_before(rt, now.id());
     Tried {
         first,
         second,
-        sent: writer.bytes,
-        is_as_before: needs_the_same(&session, &client.parts().0),
-        is_first: are_first(rt, alloc, book, session.asks()),
+        is_as_before: needs_the_same(&before, &now),
+        is_first: are_first(rt, alloc, book, before.asks()),
     }
 }
 
@@ -259,9 +234,7 @@ fn are_first<K: Ledgers, R: Wait + Abort>(
     book: &AuditBook<K>,
     asks: Asks,
 ) -> bool {
-    let Ok(entries) = book.entries(rt, alloc) else {
-        return false;
-    };
+    let entries = book.entries(rt, alloc).expect(rt, "no memory");
     entries.iter().all(|entry| {
         entry.place == 1
             && entry.session.index == 0
@@ -270,28 +243,33 @@ fn are_first<K: Ledgers, R: Wait + Abort>(
     })
 }
 
-/// Whether this was told, and nothing is told over the link any more if no answer came.
-fn is_tried(alloc: Global, tried: &Tried, is_read: bool, expected: &str) -> bool {
+/// Whether this was told and that was sent, and nothing is told over the link any more if no answer came.
+fn is_tried(
+    rt: &impl Abort,
+    alloc: Global,
+    tried: &Tried,
+    sent: &[u8],
+    is_read: bool,
+    expected: &str,
+) -> bool {
     let is_served = expected.starts_with("served");
     let is_answered = is_served || expected.starts_with("Refused");
-    is_worded(alloc, &tried.first, expected)
+    is_worded(rt, alloc, &tried.first, expected)
         && tried.first.is_closed != is_answered
         && is_over(&tried.second, &tried.first.totals)
-        && is_sent(alloc, &tried.sent, is_read, is_answered)
+        && is_sent(rt, alloc, sent, is_read, is_answered)
         && (tried.is_as_before || is_served)
         && tried.is_first
 }
 
 /// Whether this is what was told, and what stands in the book.
-fn is_worded(alloc: Global, told: &Told, expected: &str) -> bool {
+fn is_worded(rt: &impl Abort, alloc: Global, told: &Told, expected: &str) -> bool {
     let totals = &told.totals;
-    let Ok(said) = format!(in alloc;
+    let said = format!(in alloc;
         "{} {} {} {}",
         told.word, totals.reads, totals.writes, totals.refusals
-    ) else {
-        return false;
-    };
-    said.as_str() == expected
+    );
+    said.expect(rt, "no memory").as_str() == expected
 }
 
 /// Whether nothing came any more, and the book is as it was, with no slip out.
@@ -300,11 +278,8 @@ fn is_over(told: &Told, totals: &Totals) -> bool {
 }
 
 /// Whether the request was sent, and sent twice where it was answered.
-fn is_sent(alloc: Global, sent: &[u8], is_read: bool, is_answered: bool) -> bool {
-    let request = if is_read { READ } else { WRITE };
-    let Some(request) = bytes_of(alloc, request) else {
-        return false;
-    };
+fn is_sent(rt: &impl Abort, alloc: Global, sent: &[u8], is_read: bool, is_answered: bool) -> bool {
+    let request = bytes(rt, alloc, if is_read { READ } else { WRITE });
     let times = if is_answered { 2 } else { 1 };
     sent.len() == times * request.len() && sent.starts_with(request.as_slice())
 }
@@ -315,31 +290,20 @@ fn tried_anew<R: Wait + Abort>(
     alloc: Global,
     is_read: bool,
     reader: Slow<'_>,
-    write_fails_at: u32,
+    writer: &mut Counting,
     places: usize,
-) -> Option<Tried> {
-    tries::<Brand, Brand, Brand, Brand, R>(
-        rt,
-        alloc,
-        blanks(),
-        is_read,
-        reader,
-        write_fails_at,
-        places,
-    )
+) -> Tried {
+    tries::<Brand, Brand, Brand, Brand, R>(rt, alloc, blanks(1), is_read, reader, writer, places)
 }
 
 fn row_holds<R: Wait + Abort>(rt: &R, alloc: Global, row: &str, most: usize) -> bool {
-    let Some((said, expected)) = row.split_once(" => ") else {
-        return false;
-    };
-    let Some((request, reply)) = said.split_once(' ') else {
-        return false;
-    };
-    let Some(reply) = bytes_of(alloc, reply) else {
-        return false;
-    };
-    is_told(rt, alloc, request == "read", &reply, most, expected)
+    match parts(row) {
+        Some((request, reply, expected)) => {
+            let reply = bytes(rt, alloc, reply);
+            is_told(rt, alloc, request == "read", &reply, most, expected)
+        }
+        None => false,
+    }
 }
 
 /// Whether a session that is replied this, in pieces of at most so many bytes, is told what is expected.
@@ -351,16 +315,16 @@ fn is_told<R: Wait + Abort>(
     most: usize,
     expected: &str,
 ) -> bool {
-    let reader = Slow {
-        bytes: reply,
-        most,
-        fails_at: 0,
-        calls: 0,
-    };
-    let Some(tried) = tried_anew(rt, alloc, is_read, reader, 0, 2) else {
-        return false;
-    };
-    is_tried(alloc, &tried, is_read, expected)
+    let mut writer = counting_writer(alloc, 0);
+    let tried = tried_anew(
+        rt,
+        alloc,
+        is_read,
+        slow_reader(reply, most, 0),
+        &mut writer,
+        2,
+    );
+    is_tried(rt, alloc, &tried, &writer.bytes, is_read, expected)
 }
 
 /// Whether nothing is told and nothing entered where the call of the reader of this number fails, or the one of the writer, over a link
@@ -371,19 +335,11 @@ fn is_lost<R: Wait + Abort>(
     read_fails_at: u32,
     write_fails_at: u32,
 ) -> bool {
-    let Some(reply) = bytes_of(alloc, "0022 11 00 <one>") else {
-        return false;
-    };
-    let reader = Slow {
-        bytes: &reply,
-        most: 1,
-        fails_at: read_fails_at,
-        calls: 0,
-    };
-    let Some(tried) = tried_anew(rt, alloc, true, reader, write_fails_at, 2) else {
-        return false;
-    };
-    tells_nothing(&tried) && (write_fails_at == 0) != tried.sent.is_empty()
+    let reply = bytes(rt, alloc, "0022 11 00 <one>");
+    let mut writer = counting_writer(alloc, write_fails_at);
+    let reader = slow_reader(&reply, 1, read_fails_at);
+    let tried = tried_anew(rt, alloc, true, reader, &mut writer, 2);
+    tells_nothing(&tried) && (write_fails_at == 0) != writer.bytes.is_empty()
 }
 
 fn tells_nothing(tried: &Tried) -> bool {
@@ -396,19 +352,10 @@ fn tells_nothing(tried: &Tried) -> bool {
 
 /// Whether an operation that the book has no place for isn't sent.
 fn is_full<R: Wait + Abort>(rt: &R, alloc: Global) -> bool {
-    let Some(reply) = bytes_of(alloc, "0022 11 00 <one> 0022 11 00 <one>") else {
-        return false;
-    };
-    let reader = Slow {
-        bytes: &reply,
-        most: 1,
-        fails_at: 0,
-        calls: 0,
-    };
-    let Some(tried) = tried_anew(rt, alloc, true, reader, 0, 1) else {
-        return false;
-    };
-    tells_one(&tried) && is_sent(alloc, &tried.sent, true, false)
+    let reply = bytes(rt, alloc, "0022 11 00 <one> 0022 11 00 <one>");
+    let mut writer = counting_writer(alloc, 0);
+    let tried = tried_anew(rt, alloc, true, slow_reader(&reply, 1, 0), &mut writer, 1);
+    tells_one(&tried) && is_sent(rt, alloc, &writer.bytes, true, false)
 }
 
 fn tells_one(tried: &Tried) -> bool {
@@ -425,31 +372,27 @@ fn holds_in_pieces<R: Wait + Abort>(rt: &R, alloc: Global, row: &str) -> bool {
 }
 
 #[test]
-fn a_session_is_told_what_answers_it(rt: HostRuntime) -> Result<(), Fail> {
+fn a_session_is_told_what_answers_it(rt: HostRuntime) {
     for row in REPLIES.lines() {
         assert!(rt; holds_in_pieces(&rt, rt.alloc(), row), "{row}");
     }
-    Ok(())
 }
 
 #[test]
-fn a_session_is_told_of_nothing_behind_a_reply(rt: HostRuntime) -> Result<(), Fail> {
+fn a_session_is_told_of_nothing_behind_a_reply(rt: HostRuntime) {
     for row in MORE.lines() {
         assert!(rt; row_holds(&rt, rt.alloc(), row, 4096), "{row}");
     }
-    Ok(())
 }
 
 #[test]
-fn each_read_of_a_link_may_fail(rt: HostRuntime) -> Result<(), Fail> {
+fn each_read_of_a_link_may_fail(rt: HostRuntime) {
     for at in 1..=36 {
         assert!(rt; is_lost(&rt, rt.alloc(), at, 0), "{at}");
     }
-    Ok(())
 }
 
 #[test]
-fn a_write_to_a_link_may_fail_and_a_book_be_full(rt: HostRuntime) -> Result<(), Fail> {
+fn a_write_to_a_link_may_fail_and_a_book_be_full(rt: HostRuntime) {
     assert!(rt; is_lost(&rt, rt.alloc(), 0, 1) && is_full(&rt, rt.alloc()));
-    Ok(())
 }

@@ -1,21 +1,23 @@
 //! Journals in files.
-use bayou_base::{Key, ServerId, Value, Vector};
+use crate::fixtures::{key, put, server_id};
+use bayou_base::{Value, Vector};
 use bayou_device::{Device, FileDevice};
-use bayou_lang::{Op, Program, Term};
 use bayou_server::Server;
 use std::alloc::Global;
 use std::fs;
 use std::fs::{File, Files};
 use std::process::Abort;
-use std::test::Fail;
+
+/// The file's device.
+fn opened<R: Files<File = File> + Abort>(rt: &R, path: &str) -> FileDevice<File> {
+    FileDevice::open(rt, path).ok().expect(rt, "no file")
+}
 
 /// Whether a file that isn't there is made, and what is added, synced and cut there is read again, and by no other device before this one is
 /// gone.
-fn keeps<R: Files<File = File>>(files: &R, alloc: Global, path: &str) -> bool {
-    let Ok(mut device) = FileDevice::open(files, path) else {
-        return false;
-    };
-    is_kept(alloc, &mut device) && FileDevice::open(files, path).is_err()
+fn keeps<R: Files<File = File> + Abort>(rt: &R, alloc: Global, path: &str) -> bool {
+    let mut device = opened(rt, path);
+    is_kept(alloc, &mut device) && FileDevice::open(rt, path).is_err()
 }
 
 fn is_kept(alloc: Global, device: &mut FileDevice<File>) -> bool {
@@ -27,11 +29,8 @@ fn is_kept(alloc: Global, device: &mut FileDevice<File>) -> bool {
 }
 
 /// Whether another device reads it.
-fn has_kept<R: Files<File = File>>(files: &R, alloc: Global, path: &str) -> bool {
-    let Ok(mut again) = FileDevice::open(files, path) else {
-        return false;
-    };
-    reads(alloc, &mut again, b"abcdg")
+fn has_kept<R: Files<File = File> + Abort>(rt: &R, alloc: Global, path: &str) -> bool {
+    reads(alloc, &mut opened(rt, path), b"abcdg")
 }
 
 fn reads(alloc: Global, device: &mut FileDevice<File>, bytes: &[u8]) -> bool {
@@ -44,13 +43,12 @@ fn reads(alloc: Global, device: &mut FileDevice<File>, bytes: &[u8]) -> bool {
 const BYTES: &str = "muldrekk-bytes.journal";
 
 #[test]
-fn a_file_keeps_what_a_device_is_given(rt: HostRuntime) -> Result<(), Fail> {
+fn a_file_keeps_what_a_device_is_given(rt: HostRuntime) {
     let _ = fs::remove_file(&rt, BYTES);
     let is_so = keeps(&rt, rt.alloc(), BYTES) && has_kept(&rt, rt.alloc(), BYTES);
     let is_refused = FileDevice::open(&rt, "no-such-folder/a.journal").is_err();
     let is_gone = fs::remove_file(&rt, BYTES).is_ok();
     assert!(rt; is_so && is_refused && is_gone);
-    Ok(())
 }
 
 /// The first of two servers, over the file.
@@ -58,55 +56,22 @@ fn started<R: Files<File = File> + Abort>(
     rt: &R,
     alloc: Global,
     path: &str,
-) -> Option<Box<Server<FileDevice<File>>>> {
-    let device = FileDevice::open(rt, path).ok()?;
-    let id = ServerId::new(0).expect(rt, "no server");
-    match Server::start(alloc, id, 2, 100, device) {
-        Ok((server, _)) => Box::new(alloc, server).ok(),
-        Err(_) => None,
-    }
+) -> Box<Server<FileDevice<File>>> {
+    let (server, _) = Server::start(alloc, server_id(rt), 2, 100, opened(rt, path))
+        .ok()
+        .expect(rt, "no start");
+    Box::new(alloc, server).expect(rt, "no memory")
 }
 
-/// Whether a server puts the number at `a`.
-fn puts<R: Files<File = File> + Abort>(rt: &R, alloc: Global, path: &str, number: i64) -> bool {
-    let Some(mut server) = started(rt, alloc, path) else {
-        return false;
-    };
-    writes(rt, alloc, &mut server, number)
-}
-
-fn writes<D: Device>(rt: &impl Abort, alloc: Global, server: &mut Server<D>, number: i64) -> bool {
-    match made(rt, number).rest(alloc) {
-        Ok(program) => server.write(alloc, &Vector::zero(), program).is_ok(),
-        Err(_) => false,
-    }
-}
-
-/// The program that puts the number at `a`.
-fn made(rt: &impl Abort, number: i64) -> Program {
-    let a = Key::new("a").expect(rt, "no key");
-    let op = Op::Put(a, Term::Lit(Value::Num(number)));
-    Program::new(&[], &[op], &[]).expect(rt, "no program")
-}
-
-/// Whether a server that is started there has the number at `a`, and so many Writes.
-fn has<R: Files<File = File> + Abort>(
-    rt: &R,
-    alloc: Global,
-    path: &str,
-    number: i64,
-    held: usize,
-) -> bool {
-    let Some(server) = started(rt, alloc, path) else {
-        return false;
-    };
-    holds(rt, &server, number, held)
+/// Whether the server puts the number at `a`.
+fn puts<D: Device>(rt: &impl Abort, alloc: Global, server: &mut Server<D>, number: i64) -> bool {
+    let program = put(rt, number).rest(alloc).expect(rt, "no memory");
+    server.write(alloc, &Vector::zero(), program).is_ok()
 }
 
 /// Whether it has the number at `a`, and so many Writes.
-fn holds<D: Device>(rt: &impl Abort, server: &Server<D>, number: i64, held: usize) -> bool {
-    let a = Key::new("a").expect(rt, "no key");
-    let Ok(seen) = server.read(&Vector::zero(), &a) else {
+fn has<D: Device>(rt: &impl Abort, server: &Server<D>, number: i64, held: usize) -> bool {
+    let Ok(seen) = server.read(&Vector::zero(), &key(rt)) else {
         return false;
     };
     seen.value == Some(Value::Num(number)) && server.receipts().len() == held
@@ -114,13 +79,17 @@ fn holds<D: Device>(rt: &impl Abort, server: &Server<D>, number: i64, held: usiz
 
 const SERVER: &str = "muldrekk-server.journal";
 
+/// Whether two servers, one after the other, each put a number, and a third has the last one and both Writes.
+fn finds<R: Files<File = File> + Abort>(rt: &R, alloc: Global, path: &str) -> bool {
+    puts(rt, alloc, &mut started(rt, alloc, path), 1)
+        && puts(rt, alloc, &mut started(rt, alloc, path), 2)
+        && has(rt, &started(rt, alloc, path), 2, 2)
+}
+
 #[test]
-fn a_server_finds_its_writes_in_its_file(rt: HostRuntime) -> Result<(), Fail> {
-    let alloc = rt.alloc();
+fn a_server_finds_its_writes_in_its_file(rt: HostRuntime) {
     let _ = fs::remove_file(&rt, SERVER);
-    let are_put = puts(&rt, alloc, SERVER, 1) && puts(&rt, alloc, SERVER, 2);
-    let is_so = are_put && has(&rt, alloc, SERVER, 2, 2);
+    let is_so = finds(&rt, rt.alloc(), SERVER);
     let is_gone = fs::remove_file(&rt, SERVER).is_ok();
     assert!(rt; is_so && is_gone);
-    Ok(())
 }

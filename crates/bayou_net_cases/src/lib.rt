@@ -9,6 +9,8 @@ mod desks;
 #[cfg(test)]
 mod files;
 #[cfg(test)]
+mod fixtures;
+#[cfg(test)]
 mod gates;
 #[cfg(test)]
 mod links;

@@ -1,11 +1,11 @@
 //! A link over which a journal is to be opened again, and all Writes held are asked for: what is told of each reply, byte for byte, whatever
 //! pieces it comes in.
-use crate::streams::{Counting, Slow};
-use crate::words::{bytes_of, is_said};
+use crate::streams::{Counting, Slow, counting_writer, slow_reader};
+use crate::words::{bytes, is_said, parts};
 use bayou_base::Wid;
 use bayou_client::{Link, LinkFault};
 use std::alloc::Global;
-use std::test::Fail;
+use std::process::Abort;
 
 /// What is replied, and what is told of it: a Write that was adopted, how many Writes came, or why there is no answer.
 const ROWS: &str = "reopen 0002 14 00 => none
@@ -75,96 +75,71 @@ fn dump_word(alloc: Global, link: &mut Link<Slow<'_>, &mut Counting>) -> &'stati
     }
 }
 
-/// What was told, what was sent, and whether the link is closed then.
-#[derive(Drop)]
-struct Told {
-    word: &'static str,
-    sent: Vec<u8>,
-    is_closed: bool,
-}
-
-fn asked(alloc: Global, is_dump: bool, reader: Slow<'_>, write_fails_at: u32) -> Told {
-    let mut writer = Counting {
-        bytes: Vec::new(alloc),
-        fails_at: write_fails_at,
-        calls: 0,
-    };
-    let mut link = Link::new(reader, &mut writer);
+/// What was told over a link of this reader and this writer, and whether it is closed then.
+fn asked(
+    alloc: Global,
+    is_dump: bool,
+    reader: Slow<'_>,
+    writer: &mut Counting,
+) -> (&'static str, bool) {
+    let mut link = Link::new(reader, writer);
     let word = if is_dump {
         dump_word(alloc, &mut link)
     } else {
         reopen_word(alloc, &mut link)
     };
-    let is_closed = link.is_closed();
-    drop(link);
-    Told {
-        word,
-        sent: writer.bytes,
-        is_closed,
-    }
+    (word, link.is_closed())
 }
 
-fn row_holds(alloc: Global, row: &str, most: usize) -> bool {
-    let Some((said, expected)) = row.split_once(" => ") else {
-        return false;
-    };
-    let Some((request, reply)) = said.split_once(' ') else {
-        return false;
-    };
-    let Some(reply) = bytes_of(alloc, reply) else {
-        return false;
-    };
-    let reader = Slow {
-        bytes: &reply,
-        most,
-        fails_at: 0,
-        calls: 0,
-    };
-    let is_dump = request == "dump";
-    is_told(alloc, &asked(alloc, is_dump, reader, 0), is_dump, expected)
-}
-
-/// Whether this is what was told, the request was sent, and the link is closed if no answer came.
-fn is_told(alloc: Global, told: &Told, is_dump: bool, expected: &str) -> bool {
+/// Whether this is what is told where this is replied, in pieces of at most so many bytes; then the request was sent, and the link is closed
+/// if no answer came.
+fn is_told(alloc: Global, is_dump: bool, reply: &[u8], most: usize, expected: &str) -> bool {
+    let mut writer = counting_writer(alloc, 0);
+    let (word, is_closed) = asked(alloc, is_dump, slow_reader(reply, most, 0), &mut writer);
     let is_lost = expected == "Lost" || expected == "BadFrame";
     let request = if is_dump { "0001 04" } else { "0001 03" };
-    told.word == expected && told.is_closed == is_lost && is_said(alloc, request, &told.sent)
+    word == expected && is_closed == is_lost && is_said(alloc, request, &writer.bytes)
+}
+
+fn row_holds(rt: &impl Abort, alloc: Global, row: &str, most: usize) -> bool {
+    match parts(row) {
+        Some((request, reply, expected)) => {
+            let reply = bytes(rt, alloc, reply);
+            is_told(alloc, request == "dump", &reply, most, expected)
+        }
+        None => false,
+    }
 }
 
 /// Whether a row holds, whatever pieces its reply comes in.
-fn holds_in_pieces(alloc: Global, row: &str) -> bool {
-    row_holds(alloc, row, 1) && row_holds(alloc, row, 36) && row_holds(alloc, row, 4096)
+fn holds_in_pieces(rt: &impl Abort, alloc: Global, row: &str) -> bool {
+    row_holds(rt, alloc, row, 1) && row_holds(rt, alloc, row, 36) && row_holds(rt, alloc, row, 4096)
 }
 
 #[test]
-fn a_link_tells_what_answers_it(rt: HostRuntime) -> Result<(), Fail> {
+fn a_link_tells_what_answers_it(rt: HostRuntime) {
     for row in ROWS.lines() {
-        assert!(rt; holds_in_pieces(rt.alloc(), row), "{row}");
+        assert!(rt; holds_in_pieces(&rt, rt.alloc(), row), "{row}");
     }
-    Ok(())
 }
 
 /// Whether a dump is lost, and its link closed, where the call of the reader of this number fails, or the one of the writer.
-fn is_lost(alloc: Global, read_fails_at: u32, write_fails_at: u32) -> bool {
-    let Some(reply) = bytes_of(alloc, DUMPED) else {
-        return false;
-    };
-    let reader = Slow {
-        bytes: &reply,
-        most: 1,
-        fails_at: read_fails_at,
-        calls: 0,
-    };
-    let told = asked(alloc, true, reader, write_fails_at);
-    told.word == "Lost" && told.is_closed && (write_fails_at == 0) != told.sent.is_empty()
+fn is_lost(rt: &impl Abort, alloc: Global, read_fails_at: u32, write_fails_at: u32) -> bool {
+    let reply = bytes(rt, alloc, DUMPED);
+    let mut writer = counting_writer(alloc, write_fails_at);
+    let (word, is_closed) = asked(
+        alloc,
+        true,
+        slow_reader(&reply, 1, read_fails_at),
+        &mut writer,
+    );
+    word == "Lost" && is_closed && (write_fails_at == 0) != writer.bytes.is_empty()
 }
 
 #[test]
-fn each_call_of_a_dump_may_fail(rt: HostRuntime) -> Result<(), Fail> {
-    let alloc = rt.alloc();
+fn each_call_of_a_dump_may_fail(rt: HostRuntime) {
     for at in 1..=67 {
-        assert!(rt; is_lost(alloc, at, 0), "{at}");
+        assert!(rt; is_lost(&rt, rt.alloc(), at, 0), "{at}");
     }
-    assert!(rt; is_lost(alloc, 0, 1));
-    Ok(())
+    assert!(rt; is_lost(&rt, rt.alloc(), 0, 1));
 }

@@ -2,10 +2,10 @@
 ghost use Rattle.std.specs.Prelude.{◌≡◌};
 ghost use Rattle.bayou_audit.specs.Blanks.{AreBlanksOf, named};
 
-use crate::clients::{blanks, put, reader_before};
+use crate::clients::reader;
+use crate::fixtures::{blanks, key, put, server_id};
 use crate::words::bytes_of;
 use bayou_audit::{AuditBook, Blanks, Four, Ledgers, Share, Totals};
-use bayou_base::{Key, ServerId};
 use bayou_client::{Client, ClientFault, Link, LinkFault};
 use bayou_session::Session;
 use std::alloc::Global;
@@ -15,7 +15,6 @@ use std::marker::Brand;
 use std::process::Abort;
 use std::sync::Wait;
 use std::sync::ledger::Ledger;
-use std::test::Fail;
 
 /// A writer that takes all, keeps nothing, and takes no memory.
 #[derive(Drop)]
@@ -59,27 +58,47 @@ fn made_replies(alloc: Global) -> Option<Replies> {
     })
 }
 
-/// Whether the read of `a` is served, and one read more is in the book; or nothing where memory was refused, and then the book is as it was.
-fn reads<K: Ledgers, R: Wait + Abort>(
+/// Why the session's read of `a`, or its Write of 1 there, isn't served.
+fn fault_of<K: Ledgers, R: Wait + Abort>(
     rt: &R,
     alloc: Global,
     book: &AuditBook<K>,
     client: &mut Client<K>,
     link: &mut Over<'_>,
-) -> Option<bool> {
-    let server = ServerId::new(0).expect(rt, "no server");
-    let key = Key::new("a").expect(rt, "no key");
-    let before = book.totals(rt);
+    is_read: bool,
+) -> Option<ClientFault> {
     if client.left() == 0 {
-        return Some(false);
+        return Some(ClientFault::AuditFull);
     }
-    let fault = client.read(rt, alloc, book, link, server, &key).err();
+    if is_read {
+        client
+            .read(rt, alloc, book, link, server_id(rt), &key(rt))
+            .err()
+    } else {
+        client
+            .write(rt, alloc, book, link, server_id(rt), put(rt, 1))
+            .err()
+    }
+}
+
+/// Whether that is served, and one read or Write more is in the book; or nothing where memory was refused, and then the book is as it was.
+fn asks<K: Ledgers, R: Wait + Abort>(
+    rt: &R,
+    alloc: Global,
+    book: &AuditBook<K>,
+    client: &mut Client<K>,
+    link: &mut Over<'_>,
+    is_read: bool,
+) -> Option<bool> {
+    let before = book.totals(rt);
+    let fault = fault_of(rt, alloc, book, client, link, is_read);
     let now = book.totals(rt);
-    comes_to(
-        fault,
-        now == before,
-        now.reads == before.reads.saturating_add(1),
-    )
+    let is_counted = if is_read {
+        now.reads == before.reads.saturating_add(1)
+    } else {
+        now.writes == before.writes.saturating_add(1)
+    };
+    comes_to(fault, now == before, is_counted)
 }
 
 /// What an operation comes to: whether it was counted; or nothing where memory was refused, and the book is as it was before.
@@ -91,58 +110,20 @@ fn comes_to(fault: Option<ClientFault>, is_as_before: bool, is_counted: bool) ->
     }
 }
 
-/// The same of a Write of 1 to `a`.
-fn writes<K: Ledgers, R: Wait + Abort>(
-    rt: &R,
-    alloc: Global,
-    book: &AuditBook<K>,
-    client: &mut Client<K>,
-    link: &mut Over<'_>,
-) -> Option<bool> {
-    let server = ServerId::new(0).expect(rt, "no server");
-    let program = put(rt);
-    let before = book.totals(rt);
-    if client.left() == 0 {
-        return Some(false);
-    }
-    let fault = client.write(rt, alloc, book, link, server, program).err();
-    let now = book.totals(rt);
-    comes_to(
-        fault,
-        now == before,
-        now.writes == before.writes.saturating_add(1),
-    )
-}
-
-/// Whether the read is served: where memory was refused, over the same link where that is still open, which had sent nothing then, else over
-/// another.
-fn reads_at_last<K: Ledgers, R: Wait + Abort>(
+/// Whether the read or the Write is served: where memory was refused, over the same link where that is still open, which had sent nothing then,
+/// else over another.
+fn asks_at_last<K: Ledgers, R: Wait + Abort>(
     rt: &R,
     alloc: Global,
     book: &AuditBook<K>,
     client: &mut Client<K>,
     reply: &[u8],
+    is_read: bool,
 ) -> bool {
     let mut link = over(reply);
-    let answer = match reads(rt, alloc, book, client, &mut link) {
-        None if link.is_closed() => reads(rt, alloc, book, client, &mut over(reply)),
-        None => reads(rt, alloc, book, client, &mut link),
-        answer => answer,
-    };
-    answer == Some(true)
-}
-
-fn writes_at_last<K: Ledgers, R: Wait + Abort>(
-    rt: &R,
-    alloc: Global,
-    book: &AuditBook<K>,
-    client: &mut Client<K>,
-    reply: &[u8],
-) -> bool {
-    let mut link = over(reply);
-    let answer = match writes(rt, alloc, book, client, &mut link) {
-        None if link.is_closed() => writes(rt, alloc, book, client, &mut over(reply)),
-        None => writes(rt, alloc, book, client, &mut link),
+    let answer = match asks(rt, alloc, book, client, &mut link, is_read) {
+        None if link.is_closed() => { asks(rt, alloc, book, client, &mut over(reply), is_read) }
+        None => asks(rt, alloc, book, client, &mut link, is_read),
         answer => answer,
     };
     answer == Some(true)
@@ -186,18 +167,17 @@ fn dumps_at_last(alloc: Global, reply: &[u8]) -> bool {
     answer == Some(true)
 }
 
-/// Whether a session with this share is served in all that it asks for, and then needs what it was told.
+/// Whether a session with the last of these shares is served in all that it asks for, and then needs what it was told.
 fn goes<K: Ledgers, R: Wait + Abort>(
     rt: &R,
     alloc: Global,
     book: &AuditBook<K>,
-    share: Share<K>,
+    shares: Vec<Share<K>>,
     replies: &Replies,
 ) -> bool {
-    let session = reader_before(rt, share.session());
-    let mut client = Client::new(session, share);
+    let mut client = reader(rt, shares);
     let is_served = is_served(rt, alloc, book, &mut client, replies);
-    let now = client.parts().0;
+    let (now, _) = client.parts();
     is_served && needs_two(&now) && counts_one(&book.totals(rt))
 }
 
@@ -209,8 +189,8 @@ fn is_served<K: Ledgers, R: Wait + Abort>(
     client: &mut Client<K>,
     replies: &Replies,
 ) -> bool {
-    let is_read = reads_at_last(rt, alloc, book, client, &replies.seen);
-    let is_written = writes_at_last(rt, alloc, book, client, &replies.accepted);
+    let is_read = asks_at_last(rt, alloc, book, client, &replies.seen, true);
+    let is_written = asks_at_last(rt, alloc, book, client, &replies.accepted, false);
     let is_reopened = reopens_at_last(alloc, &replies.reopened);
     let is_dumped = dumps_at_last(alloc, &replies.dumped);
     is_read && is_written && is_reopened && is_dumped
@@ -236,21 +216,20 @@ where
     R: Wait + Abort,
     requires blanks { AreBlanksOf blanks (named S.name S.parts) (named T.name T.parts) (named U.name U.parts) (named V.name V.parts) 1 }
 {
-    let Ok((book, mut shares)) = AuditBook::<Four<S, T, U, V>>::new(alloc, blanks, 1, 4) else {
-        return None;
-    };
-    let share = shares.pop()?;
-    Some(goes(rt, alloc, &book, share, replies))
+    match AuditBook::<Four<S, T, U, V>>::new(alloc, blanks, 1, 4) {
+        Ok((book, shares)) => Some(goes(rt, alloc, &book, shares, replies)),
+        Err(_) => None,
+    }
 }
 
 /// At a new book, with new blanks.
 fn goes_anew<R: Wait + Abort>(rt: &R, alloc: Global, replies: &Replies) -> Option<bool> {
-    goes_of::<Brand, Brand, Brand, Brand, R>(rt, alloc, blanks(), replies)
+    goes_of::<Brand, Brand, Brand, Brand, R>(rt, alloc, blanks(1), replies)
 }
 
 /// For runs in which any one allocation is refused: a session loses nothing by it, and is served what it asks for once more.
 #[test]
-fn one_want_of_memory_costs_a_session_nothing(rt: HostRuntime) -> Result<(), Fail> {
+fn one_want_of_memory_costs_a_session_nothing(rt: HostRuntime) {
     let alloc = rt.alloc();
     let told = match made_replies(alloc) {
         Some(told) => told,
@@ -261,5 +240,4 @@ fn one_want_of_memory_costs_a_session_nothing(rt: HostRuntime) -> Result<(), Fai
         None => goes_anew(&rt, alloc, &told) == Some(true),
     };
     assert!(rt; is_so);
-    Ok(())
 }

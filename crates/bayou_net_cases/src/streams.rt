@@ -1,7 +1,6 @@
 //! A server that is asked over a stream: what it answers, byte for byte, whatever pieces the requests come in.
-use crate::words::{bytes_of, is_said};
-use bayou_base::ServerId;
-use bayou_device::{MemoryDevice, OpenGate};
+use crate::fixtures::{Memory, begun};
+use crate::words::{bytes, is_said};
 use bayou_net::{NoGate, serve_on};
 use bayou_peer::Fault;
 use bayou_server::Server;
@@ -10,9 +9,6 @@ use std::alloc::Global;
 use std::io;
 use std::io::{ErrorKind, Read, Write};
 use std::process::Abort;
-use std::test::Fail;
-
-type Served = Server<MemoryDevice<OpenGate>>;
 
 /// What a new server, which may hold two Writes, is sent, how serving ends, and what it writes. Nothing behind a fault is looked at.
 const STREAMS: &str = " => Ok(0)
@@ -42,12 +38,22 @@ const STREAMS: &str = " => Ok(0)
 0001 03 0002 14 00 0001 03 => Err(BadFrame) 0002 13 05";
 
 /// A reader that gives at most so many bytes at a call, and fails at the call of this number.
-#[derive(Drop)]
+#[derive(Clone, Copy)]
 pub struct Slow<'a> {
-    pub bytes: &'a [u8],
-    pub most: usize,
-    pub fails_at: u32,
-    pub calls: u32,
+    bytes: &'a [u8],
+    most: usize,
+    fails_at: u32,
+    calls: u32,
+}
+
+/// Such a reader of these bytes.
+pub fn slow_reader(bytes: &[u8], most: usize, fails_at: u32) -> Slow<'_> {
+    Slow {
+        bytes,
+        most,
+        fails_at,
+        calls: 0,
+    }
 }
 
 impl Read for Slow<'_> {
@@ -68,8 +74,17 @@ impl Read for Slow<'_> {
 #[derive(Drop)]
 pub struct Counting {
     pub bytes: Vec<u8>,
-    pub fails_at: u32,
-    pub calls: u32,
+    fails_at: u32,
+    calls: u32,
+}
+
+/// Such a writer, to which nothing was written.
+pub fn counting_writer(alloc: Global, fails_at: u32) -> Counting {
+    Counting {
+        bytes: Vec::new(alloc),
+        fails_at,
+        calls: 0,
+    }
 }
 
 impl Write for Counting {
@@ -87,65 +102,48 @@ impl Write for Counting {
     }
 }
 
-/// The first of two servers, which holds nothing.
-fn begun(rt: &impl Abort, alloc: Global) -> Option<Box<Served>> {
-    let id = ServerId::new(0).expect(rt, "no server");
-    let device = MemoryDevice::new(alloc, OpenGate);
-    match Server::start(alloc, id, 2, 2, device) {
-        Ok((server, _)) => Box::new(alloc, server).ok(),
-        Err(_) => None,
-    }
+/// The first of two servers, which may hold two Writes and holds nothing, in a box of its own: a function that owns a box is proved in a third of
+/// the time that one takes which owns the server.
+fn boxed(rt: &impl Abort, alloc: Global) -> Box<Server<Memory>> {
+    Box::new(alloc, begun(rt, alloc, 2)).expect(rt, "no memory")
 }
 
 /// Whether that is what is printed of the answer, and then the bytes that were written.
-fn is_told(alloc: Global, answer: Result<u32, Fault>, written: &[u8], expected: &str) -> bool {
-    let Ok(told) = format!(in alloc; "{answer:?}") else {
-        return false;
-    };
-    let Some(rest) = expected.strip_prefix(told.as_str()) else {
-        return false;
-    };
-    is_said(alloc, rest, written)
+fn is_told(
+    rt: &impl Abort,
+    alloc: Global,
+    answer: Result<u32, Fault>,
+    written: &[u8],
+    expected: &str,
+) -> bool {
+    let told = format!(in alloc; "{answer:?}").expect(rt, "no memory");
+    match expected.strip_prefix(told.as_str()) {
+        Some(rest) => is_said(alloc, rest, written),
+        None => false,
+    }
 }
 
 /// Whether a new server, which is sent this in pieces of at most so many bytes, ends so.
 fn serves(rt: &impl Abort, alloc: Global, sent: &[u8], most: usize, expected: &str) -> bool {
-    let Some(mut server) = begun(rt, alloc) else {
-        return false;
-    };
-    tells(alloc, &mut server, sent, most, expected)
-}
-
-/// Whether this server, which is sent this in pieces of at most so many bytes, ends so.
-fn tells(alloc: Global, server: &mut Served, sent: &[u8], most: usize, expected: &str) -> bool {
-    let reader = Slow {
-        bytes: sent,
-        most,
-        fails_at: 0,
-        calls: 0,
-    };
-    let mut channel = Channel::new(reader, Vec::new(alloc));
-    let answer = serve_on(alloc, server, &NoGate, &mut channel);
-    is_told(alloc, answer, &channel.into_parts().1, expected)
+    let mut channel = Channel::new(slow_reader(sent, most, 0), Vec::new(alloc));
+    let answer = serve_on(alloc, boxed(rt, alloc).as_mut(), &NoGate, &mut channel);
+    is_told(rt, alloc, answer, &channel.into_parts().1, expected)
 }
 
 /// Whether a row holds, whatever pieces its stream comes in.
 fn holds(rt: &impl Abort, alloc: Global, row: &str) -> bool {
     let (text, expected) = row.split_once(" => ").unwrap_or((row, row));
-    let Some(sent) = bytes_of(alloc, text) else {
-        return false;
-    };
+    let sent = bytes(rt, alloc, text);
     serves(rt, alloc, &sent, 1, expected)
         && serves(rt, alloc, &sent, 36, expected)
         && serves(rt, alloc, &sent, 4096, expected)
 }
 
 #[test]
-fn requests_are_answered_byte_for_byte(rt: HostRuntime) -> Result<(), Fail> {
+fn requests_are_answered_byte_for_byte(rt: HostRuntime) {
     for row in STREAMS.lines() {
         assert!(rt; holds(&rt, rt.alloc(), row), "{row}");
     }
-    Ok(())
 }
 
 /// A Write and a read of it, in 90 bytes.
@@ -163,35 +161,19 @@ fn ends_as(answer: Result<u32, Fault>, written: usize, fails_at: u32) -> bool {
     answer == expected && written == count
 }
 
-/// Whether serving these bytes ends so.
-fn reads_to_an_end(alloc: Global, server: &mut Served, bytes: &[u8], fails_at: u32) -> bool {
-    let reader = Slow {
-        bytes,
-        most: 30,
-        fails_at,
-        calls: 0,
-    };
-    let mut channel = Channel::new(reader, Vec::new(alloc));
-    let answer = serve_on(alloc, server, &NoGate, &mut channel);
+/// Whether serving two requests ends so.
+fn ends_reading(rt: &impl Abort, alloc: Global, fails_at: u32) -> bool {
+    let sent = bytes(rt, alloc, TWO);
+    let mut channel = Channel::new(slow_reader(&sent, 30, fails_at), Vec::new(alloc));
+    let answer = serve_on(alloc, boxed(rt, alloc).as_mut(), &NoGate, &mut channel);
     ends_as(answer, channel.into_parts().1.len(), fails_at)
 }
 
-fn ends_reading(rt: &impl Abort, alloc: Global, fails_at: u32) -> bool {
-    let Some(sent) = bytes_of(alloc, TWO) else {
-        return false;
-    };
-    let Some(mut server) = begun(rt, alloc) else {
-        return false;
-    };
-    reads_to_an_end(alloc, &mut server, &sent, fails_at)
-}
-
 #[test]
-fn each_read_of_requests_may_fail(rt: HostRuntime) -> Result<(), Fail> {
+fn each_read_of_requests_may_fail(rt: HostRuntime) {
     for fails_at in 1..6_u32 {
         assert!(rt; ends_reading(&rt, rt.alloc(), fails_at), "call {fails_at}");
     }
-    Ok(())
 }
 
 /// The same of its writer: one call writes a reply.
@@ -205,31 +187,25 @@ fn replies_end_as(answer: Result<u32, Fault>, writer: &Counting, fails_at: u32) 
 }
 
 /// Whether serving these bytes ends so, and a request whose reply wasn't written was done.
-fn writes_to_an_end(alloc: Global, server: &mut Served, bytes: &[u8], fails_at: u32) -> bool {
-    let writer = Counting {
-        bytes: Vec::new(alloc),
-        fails_at,
-        calls: 0,
-    };
-    let mut channel = Channel::new(bytes, writer);
+fn writes_to_an_end(
+    alloc: Global,
+    server: &mut Server<Memory>,
+    sent: &[u8],
+    fails_at: u32,
+) -> bool {
+    let mut channel = Channel::new(sent, counting_writer(alloc, fails_at));
     let answer = serve_on(alloc, server, &NoGate, &mut channel);
     replies_end_as(answer, &channel.into_parts().1, fails_at) && server.receipts().len() == 1
 }
 
 fn ends_writing(rt: &impl Abort, alloc: Global, fails_at: u32) -> bool {
-    let Some(sent) = bytes_of(alloc, TWO) else {
-        return false;
-    };
-    let Some(mut server) = begun(rt, alloc) else {
-        return false;
-    };
-    writes_to_an_end(alloc, &mut server, &sent, fails_at)
+    let sent = bytes(rt, alloc, TWO);
+    writes_to_an_end(alloc, &mut boxed(rt, alloc), &sent, fails_at)
 }
 
 #[test]
-fn each_write_of_replies_may_fail(rt: HostRuntime) -> Result<(), Fail> {
+fn each_write_of_replies_may_fail(rt: HostRuntime) {
     for fails_at in 1..4_u32 {
         assert!(rt; ends_writing(&rt, rt.alloc(), fails_at), "call {fails_at}");
     }
-    Ok(())
 }

@@ -1,5 +1,6 @@
 //! Streams of requests and replies, said in words.
 use std::alloc::Global;
+use std::process::Abort;
 
 /// Vectors that count nothing, the first server's first Write, and its first two; and the program that puts 1 at `a`.
 static WORDS: [(&str, &str); 4] = [
@@ -34,6 +35,18 @@ pub fn bytes_of(alloc: Global, text: &str) -> Option<Vec<u8>> {
         bytes.extend_from_slice(&behind).ok()?;
     }
     Some(bytes)
+}
+
+/// The same, where there is memory for it.
+pub fn bytes(rt: &impl Abort, alloc: Global, text: &str) -> Vec<u8> {
+    bytes_of(alloc, text).expect(rt, "no bytes")
+}
+
+/// What a row asks, what is replied to that, and what is told then.
+pub fn parts(row: &str) -> Option<(&str, &str, &str)> {
+    let (said, expected) = row.split_once(" => ")?;
+    let (request, reply) = said.split_once(' ')?;
+    Some((request, reply, expected))
 }
 
 /// Whether the text says these bytes.
