@@ -1,131 +1,103 @@
 //! Frames and Writes, byte for byte. Behind `=>` stands the value as it prints itself, or the fault, which a `!` begins.
 use crate::notation::{AS_PRINTED, bytes_of, expanded, parts, repeated};
-use bayou_lang::{RestingWrite, Write};
+use bayou_lang::Write;
 use bayou_wire::{
     Fault, Frame, decode_frame, decode_write, encode_frame, encode_item, encode_resting_write,
     encode_write, frame_len,
 };
-use std::alloc::{AllocError, Global};
+use std::alloc::Global;
 use std::process::Abort;
-use std::test::Fail;
 
-/// The frame as it prints itself, and its bytes.
-fn told_frame(alloc: Global, frame: &Frame) -> Result<(String, Vec<u8>), AllocError> {
-    Ok((format!(in alloc; "{frame:?}")?, encode_frame(alloc, frame)?))
+/// The fault as it prints itself behind `!`.
+fn told_fault(rt: &impl Abort, alloc: Global, fault: Fault) -> String {
+    format!(in alloc; "!{fault:?}").expect(rt, "no memory")
 }
 
-/// The fault, and no bytes.
-fn told_fault(alloc: Global, fault: Fault) -> Result<(String, Vec<u8>), AllocError> {
-    Ok((format!(in alloc; "!{fault:?}")?, Vec::new(alloc)))
+/// The frame as it prints itself, and its bytes.
+fn told_frame(rt: &impl Abort, alloc: Global, frame: &Frame) -> (String, Vec<u8>) {
+    let told = format!(in alloc; "{frame:?}").expect(rt, "no memory");
+    (told, encode_frame(alloc, frame).expect(rt, "no memory"))
 }
 
 /// The frame that the bytes are read as, and its bytes again; or their fault, and none.
-fn frame_of(alloc: Global, bytes: &[u8]) -> Result<(String, Vec<u8>), AllocError> {
+fn frame_of(rt: &impl Abort, alloc: Global, bytes: &[u8]) -> (String, Vec<u8>) {
     match decode_frame(bytes) {
-        Ok(frame) => told_frame(alloc, &frame),
-        Err(fault) => told_fault(alloc, fault),
+        Ok(frame) => told_frame(rt, alloc, &frame),
+        Err(fault) => (told_fault(rt, alloc, fault), Vec::new(alloc)),
     }
-}
-
-/// Whether the Write at rest has these bytes too, and those of its Item.
-fn is_same(alloc: Global, resting: &RestingWrite, bytes: &[u8], item: &[u8]) -> bool {
-    let is_write = match encode_resting_write(alloc, resting) {
-        Ok(again) => again.as_slice() == bytes,
-        Err(_) => false,
-    };
-    let is_item = match encode_item(alloc, resting) {
-        Ok(again) => again.as_slice() == item,
-        Err(_) => false,
-    };
-    is_write && is_item
 }
 
 /// The Write as it prints itself, and its bytes.
-fn told_write(alloc: Global, write: &Write) -> Result<(String, Vec<u8>), AllocError> {
-    Ok((format!(in alloc; "{write:?}")?, encode_write(alloc, write)?))
+fn told_write(rt: &impl Abort, alloc: Global, write: &Write) -> (String, Vec<u8>) {
+    let told = format!(in alloc; "{write:?}").expect(rt, "no memory");
+    (told, encode_write(alloc, write).expect(rt, "no memory"))
 }
 
 /// As frame_of, of a Write.
-fn write_of(alloc: Global, bytes: &[u8]) -> Result<(String, Vec<u8>), AllocError> {
+fn write_of(rt: &impl Abort, alloc: Global, bytes: &[u8]) -> (String, Vec<u8>) {
     match decode_write(bytes) {
-        Ok(write) => told_write(alloc, &write),
-        Err(fault) => told_fault(alloc, fault),
+        Ok(write) => told_write(rt, alloc, &write),
+        Err(fault) => (told_fault(rt, alloc, fault), Vec::new(alloc)),
     }
 }
 
-/// The Write at rest that the bytes are, if they are one.
-fn at_rest(alloc: Global, bytes: &[u8]) -> Option<RestingWrite> {
-    match decode_write(bytes) {
-        Ok(write) => write.rest(alloc).ok(),
-        Err(_) => None,
-    }
+/// The bytes of the Write at rest, and those of its Item.
+fn bytes_at_rest(rt: &impl Abort, alloc: Global, write: &Write) -> (Vec<u8>, Vec<u8>) {
+    let resting = write.rest(alloc).expect(rt, "no memory");
+    let bytes = encode_resting_write(alloc, &resting).expect(rt, "no memory");
+    (bytes, encode_item(alloc, &resting).expect(rt, "no memory"))
 }
 
-/// The bytes of the Item of the Write that the bytes are, if they are one.
-fn item_of(alloc: Global, bytes: &[u8]) -> Option<Vec<u8>> {
-    match decode_write(bytes) {
-        Ok(write) => encode_frame(alloc, &Frame::Item(write)).ok(),
-        Err(_) => None,
-    }
+/// Whether the Write has these bytes at rest too, also behind the front of its Item.
+fn is_same(rt: &impl Abort, alloc: Global, write: Write, bytes: &[u8]) -> bool {
+    let (again, item) = bytes_at_rest(rt, alloc, &write);
+    let framed = encode_frame(alloc, &Frame::Item(write)).expect(rt, "no memory");
+    again.as_slice() == bytes && item.as_slice() == framed.as_slice()
 }
 
-/// Whether the Write that the bytes are has them at rest too, also behind the front of its Item.
-fn rests(alloc: Global, bytes: &[u8]) -> bool {
-    match (at_rest(alloc, bytes), item_of(alloc, bytes)) {
-        (Some(resting), Some(item)) => is_same(alloc, &resting, bytes, &item),
-        _ => false,
+/// Whether the bytes are a Write that has them at rest too.
+fn rests(rt: &impl Abort, alloc: Global, bytes: &[u8]) -> bool {
+    match decode_write(bytes) {
+        Ok(write) => is_same(rt, alloc, write, bytes),
+        Err(_) => false,
     }
 }
 
 /// Whether the bytes have the fault that is named behind `!`.
-fn has_fault(alloc: Global, bytes: &[u8], fault: &str) -> bool {
-    match frame_of(alloc, bytes) {
-        Ok((told, _)) => told.as_str() == fault,
-        Err(_) => false,
-    }
+fn has_fault(rt: &impl Abort, alloc: Global, bytes: &[u8], fault: &str) -> bool {
+    let (told, _) = frame_of(rt, alloc, bytes);
+    told.as_str() == fault
 }
 
 /// Whether that is the text, with what its marks stand for.
-fn is_printed(alloc: Global, found: &str, text: &str) -> bool {
-    match expanded(alloc, text, &AS_PRINTED) {
-        Ok(printed) => printed.as_str() == found,
-        Err(_) => false,
-    }
-}
-
-/// A frame's length, and what it counts.
-fn counted(alloc: Global, length: u16, content: &[u8]) -> Result<Vec<u8>, AllocError> {
-    let mut bytes = Vec::new(alloc);
-    bytes.extend_from_slice(&length.to_be_bytes())?;
-    bytes.extend_from_slice(content)?;
-    Ok(bytes)
+fn is_printed(rt: &impl Abort, alloc: Global, found: &str, text: &str) -> bool {
+    expanded(rt, alloc, text, &AS_PRINTED).as_str() == found
 }
 
 /// Whether this length and what it counts have that fault.
-fn is_miscounted(alloc: Global, length: u16, content: &[u8], fault: &str) -> bool {
-    match counted(alloc, length, content) {
-        Ok(bytes) => has_fault(alloc, &bytes, fault),
-        Err(_) => false,
-    }
+fn is_miscounted(rt: &impl Abort, alloc: Global, length: u16, content: &[u8], fault: &str) -> bool {
+    let bytes = repeated(rt, alloc, &[(&length.to_be_bytes(), 1), (content, 1)]);
+    has_fault(rt, alloc, &bytes, fault)
 }
 
 /// Whether a byte more is too many, whether the length counts it so or not.
-fn is_too_long_with_more(alloc: Global, bytes: &[u8]) -> bool {
-    let Ok(mut more) = bytes.to_vec(alloc) else {
-        return false;
-    };
-    if more.push(0).is_err() {
-        return false;
-    }
-    let [high, low, content @ ..] = more.as_slice() else {
+fn is_too_long_with_more(rt: &impl Abort, alloc: Global, bytes: &[u8]) -> bool {
+    let more = repeated(rt, alloc, &[(bytes, 1), (b"\0", 1)]);
+    is_too_long(rt, alloc, &more)
+}
+
+/// Whether these bytes have one too many, whether the length counts it so or not.
+fn is_too_long(rt: &impl Abort, alloc: Global, more: &[u8]) -> bool {
+    let [high, low, content @ ..] = more else {
         return false;
     };
     let length = u16::from_be_bytes([*high, *low]).saturating_add(1);
-    has_fault(alloc, &more, "!Trailing") && is_miscounted(alloc, length, content, "!Trailing")
+    has_fault(rt, alloc, more, "!Trailing")
+        && is_miscounted(rt, alloc, length, content, "!Trailing")
 }
 
 /// Whether a byte less is too few, whether the length counts it so or not.
-fn is_too_short_with_less(alloc: Global, bytes: &[u8]) -> bool {
+fn is_too_short_with_less(rt: &impl Abort, alloc: Global, bytes: &[u8]) -> bool {
     let [less @ .., _] = bytes else {
         return false;
     };
@@ -133,7 +105,7 @@ fn is_too_short_with_less(alloc: Global, bytes: &[u8]) -> bool {
         return false;
     };
     let length = u16::from_be_bytes([*high, *low]).saturating_sub(1);
-    has_fault(alloc, less, "!BadBody") && is_miscounted(alloc, length, content, "!BadBody")
+    has_fault(rt, alloc, less, "!BadBody") && is_miscounted(rt, alloc, length, content, "!BadBody")
 }
 
 /// Frames of each kind. The program of the last has each form of condition, term and op.
@@ -160,22 +132,22 @@ const FRAMES: &str = r#"0026 01 <none> 04726f6f6d => Read(<none>, "room")
 0005 16 00000001 => End(1)
 0064 02 <none> 03 010161010000000000000001 020162 030163fffffffffffffffe 04 01016401020178 010165020166 010167030168 0000000000000003 020169 01 01 02016a 01 02016b => Write(<none>, Program { check: [Equals("a", Num(1)), Absent("b"), AtLeast("c", -2)], update: [Put("d", Lit(Text("x"))), Put("e", Copy("f")), Put("g", Plus("h", 3)), Del("i")], merge: [Alt { when: [Absent("j")], ops: [Del("k")] }] })"#;
 
-/// Whether the bytes are read as a frame that prints itself so, and no byte less or more is one.
-fn is_frame(alloc: Global, bytes: &[u8], printed: &str) -> bool {
-    let is_read = match frame_of(alloc, bytes) {
-        Ok((found, again)) => is_printed(alloc, &found, printed) && again.as_slice() == bytes,
-        Err(_) => false,
-    };
-    is_read && is_too_long_with_more(alloc, bytes) && is_too_short_with_less(alloc, bytes)
+/// Whether the bytes are read as a frame that prints itself so.
+fn is_read(rt: &impl Abort, alloc: Global, bytes: &[u8], printed: &str) -> bool {
+    let (found, again) = frame_of(rt, alloc, bytes);
+    is_printed(rt, alloc, &found, printed) && again.as_slice() == bytes
+}
+
+/// The same, and no byte less or more is one.
+fn is_frame(rt: &impl Abort, alloc: Global, bytes: &[u8], printed: &str) -> bool {
+    is_read(rt, alloc, bytes, printed)
+        && is_too_long_with_more(rt, alloc, bytes)
+        && is_too_short_with_less(rt, alloc, bytes)
 }
 
 #[test]
-fn frames_byte_for_byte(rt: HostRuntime) -> Result<(), Fail> {
-    for row in FRAMES.lines() {
-        let is_so = is_row(rt.alloc(), &Table::Frames, row)?;
-        assert!(rt; is_so, "{row}");
-    }
-    Ok(())
+fn frames_byte_for_byte(rt: HostRuntime) {
+    all_are_so(&rt, rt.alloc(), &Table::Frames, FRAMES);
 }
 
 /// Bytes, and how many the frame in front of them has by its length, whatever it is.
@@ -188,20 +160,14 @@ const LENGTHS: &str = " => None
 ffff => Some(65537)";
 
 /// Whether that is the length of the frame in front.
-fn has_length(alloc: Global, bytes: &[u8], expected: &str) -> bool {
-    match format!(in alloc; "{:?}", frame_len(bytes)) {
-        Ok(found) => found.as_str() == expected,
-        Err(_) => false,
-    }
+fn has_length(rt: &impl Abort, alloc: Global, bytes: &[u8], expected: &str) -> bool {
+    let found = format!(in alloc; "{:?}", frame_len(bytes)).expect(rt, "no memory");
+    found.as_str() == expected
 }
 
 #[test]
-fn lengths_of_frames(rt: HostRuntime) -> Result<(), Fail> {
-    for row in LENGTHS.lines() {
-        let is_so = is_row(rt.alloc(), &Table::Lengths, row)?;
-        assert!(rt; is_so, "{row}");
-    }
-    Ok(())
+fn lengths_of_frames(rt: HostRuntime) {
+    all_are_so(&rt, rt.alloc(), &Table::Lengths, LENGTHS);
 }
 
 /// Faults in a frame's place.
@@ -231,28 +197,24 @@ ffff => !TooLong
 00051600000001ff => !Trailing";
 
 #[test]
-fn faults_in_a_frames_place(rt: HostRuntime) -> Result<(), Fail> {
-    for row in FAULTS.lines() {
-        let is_so = is_row(rt.alloc(), &Table::Faults, row)?;
-        assert!(rt; is_so, "{row}");
-    }
-    Ok(())
+fn faults_in_a_frames_place(rt: HostRuntime) {
+    all_are_so(&rt, rt.alloc(), &Table::Faults, FAULTS);
 }
 
 /// Whether a frame of the greatest length with so many bytes behind its kind has that fault.
-fn ends_with(alloc: Global, count: usize, fault: &str) -> Result<bool, AllocError> {
-    let bytes = repeated(alloc, &[(b"\x20\x00\x03", 1), (b"\x00", count)])?;
-    Ok(has_fault(alloc, &bytes, fault))
+fn ends_with(rt: &impl Abort, alloc: Global, count: usize, fault: &str) -> bool {
+    let bytes = repeated(rt, alloc, &[(b"\x20\x00\x03", 1), (b"\x00", count)]);
+    has_fault(rt, alloc, &bytes, fault)
 }
 
-/// A frame of the greatest length that ends a byte too soon, and one that is whole.
+/// How many bytes stand behind the kind of a frame of the greatest length, which ends a byte too soon or is whole, and its fault.
+static GREATEST: [(usize, &str); 2] = [(8190, "!BadBody"), (8191, "!Trailing")];
+
 #[test]
-fn frames_of_the_greatest_length(rt: HostRuntime) -> Result<(), Fail> {
-    for (count, fault) in [(8190, "!BadBody"), (8191, "!Trailing")] {
-        let is_so = ends_with(rt.alloc(), count, fault)?;
-        assert!(rt; is_so, "{count}");
+fn frames_of_the_greatest_length(rt: HostRuntime) {
+    for (count, fault) in GREATEST.iter() {
+        assert!(rt; ends_with(&rt, rt.alloc(), *count, fault), "{count}");
     }
-    Ok(())
 }
 
 /// A Write of 60 bytes, and what is none.
@@ -263,24 +225,18 @@ const WRITES: &str =
 <0:1> <stamp> <none> <put> 00 => !Trailing";
 
 /// Whether the bytes are read as a Write that prints itself so, and are its spelling, or have the fault that is named.
-fn is_write(alloc: Global, bytes: &[u8], printed: &str) -> bool {
-    let Ok((found, again)) = write_of(alloc, bytes) else {
-        return false;
-    };
+fn is_write(rt: &impl Abort, alloc: Global, bytes: &[u8], printed: &str) -> bool {
+    let (found, again) = write_of(rt, alloc, bytes);
     let is_spelled = match printed.starts_with('!') {
         true => again.is_empty(),
-        false => again.as_slice() == bytes && rests(alloc, bytes),
+        false => again.as_slice() == bytes && rests(rt, alloc, bytes),
     };
-    is_spelled && is_printed(alloc, &found, printed)
+    is_spelled && is_printed(rt, alloc, &found, printed)
 }
 
 #[test]
-fn writes_have_one_spelling(rt: HostRuntime) -> Result<(), Fail> {
-    for row in WRITES.lines() {
-        let is_so = is_row(rt.alloc(), &Table::Writes, row)?;
-        assert!(rt; is_so, "{row}");
-    }
-    Ok(())
+fn writes_have_one_spelling(rt: HostRuntime) {
+    all_are_so(&rt, rt.alloc(), &Table::Writes, WRITES);
 }
 
 /// A condition that is as long as one may be.
@@ -330,31 +286,37 @@ enum Table {
 }
 
 /// Whether the bytes of the row are what it says.
-fn is_row(alloc: Global, table: &Table, row: &str) -> Result<bool, Fail> {
+fn is_row(rt: &impl Abort, alloc: Global, table: &Table, row: &str) -> bool {
     let (text, expected) = parts(row);
-    let bytes = bytes_of(alloc, text)?;
-    Ok(match table {
-        Table::Frames => is_frame(alloc, &bytes, expected),
-        Table::Lengths => has_length(alloc, &bytes, expected),
-        Table::Faults => has_fault(alloc, &bytes, expected),
-        Table::Writes => is_write(alloc, &bytes, expected),
-    })
+    let bytes = bytes_of(rt, alloc, text);
+    match table {
+        Table::Frames => is_frame(rt, alloc, &bytes, expected),
+        Table::Lengths => has_length(rt, alloc, &bytes, expected),
+        Table::Faults => has_fault(rt, alloc, &bytes, expected),
+        Table::Writes => is_write(rt, alloc, &bytes, expected),
+    }
+}
+
+/// The bytes of each row are what it says.
+fn all_are_so(rt: &impl Abort, alloc: Global, table: &Table, rows: &str) {
+    for row in rows.lines() {
+        assert!(rt; is_row(rt, alloc, table, row), "{row}");
+    }
 }
 
 /// Whether the bytes are those of a Write.
-fn is_spelling(alloc: Global, bytes: &[u8]) -> bool {
-    let Ok(write) = decode_write(bytes) else {
-        return false;
-    };
-    match encode_write(alloc, &write) {
-        Ok(again) => again.as_slice() == bytes,
+fn is_spelling(rt: &impl Abort, alloc: Global, bytes: &[u8]) -> bool {
+    match decode_write(bytes) {
+        Ok(write) => encode_write(alloc, &write)
+            .expect(rt, "no memory")
+            .as_slice()
+            == bytes,
         Err(_) => false,
     }
 }
 
 #[test]
-fn the_longest_write(rt: HostRuntime) -> Result<(), Fail> {
-    let bytes = repeated(rt.alloc(), &LONGEST)?;
-    assert!(rt; bytes.len() == 5812 && is_spelling(rt.alloc(), &bytes));
-    Ok(())
+fn the_longest_write(rt: HostRuntime) {
+    let bytes = repeated(&rt, rt.alloc(), &LONGEST);
+    assert!(rt; bytes.len() == 5812 && is_spelling(&rt, rt.alloc(), &bytes));
 }

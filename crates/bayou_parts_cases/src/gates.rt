@@ -20,13 +20,24 @@ impl Gate for TellingGate<'_> {
     }
 }
 
+/// Whether an append of the piece succeeds or not, as said, and this is what the gate tells then.
+fn adds(
+    device: &mut MemoryDevice<TellingGate>,
+    told: &Cell<(u32, usize)>,
+    piece: &[u8],
+    is_ok: bool,
+    passed: (u32, usize),
+) -> bool {
+    device.append(piece).is_ok() == is_ok && told.get() == passed
+}
+
 /// Whether each append passes the gate before it adds anything, also one that fails, and no other call does.
 fn passes(device: &mut MemoryDevice<TellingGate>, told: &Cell<(u32, usize)>) -> bool {
-    let is_added = device.append(b"ab").is_ok() && told.get() == (1, 0);
+    let is_added = adds(device, told, b"ab", true, (1, 0));
     let is_synced = device.sync().is_ok();
     device.fuse(1, 1);
-    let is_refused = device.append(b"cd").is_err() && told.get() == (2, 2);
-    let is_last = device.append(b"ef").is_ok() && told.get() == (3, 3);
+    let is_refused = adds(device, told, b"cd", false, (2, 2));
+    let is_last = adds(device, told, b"ef", true, (3, 3));
     let is_held = device.bytes() == b"abcef".as_slice();
     is_added && is_synced && is_refused && is_last && is_held
 }

@@ -4,9 +4,8 @@ use crate::notation::{bytes_of, repeated};
 use bayou_base::{MAX_BODY_BYTES, ServerId};
 use bayou_device::{MemoryDevice, OpenGate};
 use bayou_journal::{AppendFault, Journal, OpenFault, Opened};
-use std::alloc::{AllocError, Global};
+use std::alloc::Global;
 use std::process::Abort;
-use std::test::Fail;
 
 type Memory = MemoryDevice<OpenGate>;
 
@@ -73,65 +72,69 @@ fn with_bodies(alloc: Global, server: ServerId, bodies: &[&[u8]]) -> Option<Memo
     Some(journal.close())
 }
 
-/// Whether a new journal with these bodies has those bytes.
-fn has_bytes(alloc: Global, server: ServerId, bodies: &[&[u8]], bytes: &[u8]) -> bool {
+/// Whether a new journal with these bodies has the bytes that the text says.
+fn has_bytes(
+    rt: &impl Abort,
+    alloc: Global,
+    server: ServerId,
+    bodies: &[&[u8]],
+    text: &str,
+) -> bool {
     match with_bodies(alloc, server, bodies) {
-        Some(device) => device.bytes() == bytes,
+        Some(device) => device.bytes() == bytes_of(rt, alloc, text).as_slice(),
         None => false,
     }
 }
 
 #[test]
-fn bodies_are_found_again(rt: HostRuntime) -> Result<(), Fail> {
-    let page = bytes_of(rt.alloc(), EXAMPLE)?;
+fn bodies_are_found_again(rt: HostRuntime) {
     let is_page = has_bytes(
+        &rt,
         rt.alloc(),
         server_id(&rt, 2),
         &[b"\x00", b"\x01\x02"],
-        &page,
+        EXAMPLE,
     );
-    let three = bytes_of(rt.alloc(), THREE)?;
     let are_three = has_bytes(
+        &rt,
         rt.alloc(),
         server_id(&rt, 0),
         &[&WRITE, &WRITE, &WRITE],
-        &three,
+        THREE,
     );
     assert!(rt; is_page && are_three);
-    Ok(())
 }
 
 #[test]
-fn the_longest_body_is_found_again(rt: HostRuntime) -> Result<(), Fail> {
-    let longest = repeated(rt.alloc(), &[(b"\x07", 8192)])?;
+fn the_longest_body_is_found_again(rt: HostRuntime) {
+    let longest = repeated(&rt, rt.alloc(), &[(b"\x07", 8192)]);
     let is_found = match with_bodies(rt.alloc(), server_id(&rt, 7), &[b"\x09", &longest]) {
         Some(device) => device.bytes().len() == 8271,
         None => false,
     };
     assert!(rt; is_found);
-    Ok(())
 }
 
 /// What an opening finds, and the device then.
-fn opening(alloc: Global, server: ServerId, device: Memory) -> Result<(Found, Memory), AllocError> {
+fn opening(alloc: Global, server: ServerId, device: Memory) -> (Found, Memory) {
     match Journal::open(alloc, server, device) {
-        Ok((journal, found)) => Ok((Ok((found.len(), found.dropped())), journal.close())),
-        Err(refused) => match refused.fault {
-            OpenFault::OutOfMemory => Err(AllocError),
-            fault => Ok((Err(fault), refused.device)),
-        },
+        Ok((journal, found)) => (Ok((found.len(), found.dropped())), journal.close()),
+        Err(refused) => (Err(refused.fault), refused.device),
     }
 }
 
 /// Whether an opening finds this in the bytes, and leaves those.
-fn is_found(alloc: Global, server: ServerId, bytes: &[u8], found: Found, left: &[u8]) -> bool {
-    let Ok(copy) = bytes.to_vec(alloc) else {
-        return false;
-    };
-    match opening(alloc, server, device_of(copy)) {
-        Ok((answer, device)) => answer == found && device.bytes() == left,
-        Err(_) => false,
-    }
+fn is_found(
+    rt: &impl Abort,
+    alloc: Global,
+    server: ServerId,
+    bytes: &[u8],
+    found: Found,
+    left: &[u8],
+) -> bool {
+    let copy = bytes.to_vec(alloc).expect(rt, "no memory");
+    let (answer, device) = opening(alloc, server, device_of(copy));
+    answer == found && device.bytes() == left
 }
 
 /// What an opening finds in so many bytes at the front of the journal with three entries, and how many it leaves.
@@ -143,10 +146,11 @@ fn in_front(len: usize) -> (Found, usize) {
 }
 
 /// Whether an opening finds and leaves that in so many of the bytes.
-fn is_journal(alloc: Global, server: ServerId, bytes: &[u8], len: usize) -> bool {
+fn is_journal(rt: &impl Abort, alloc: Global, server: ServerId, bytes: &[u8], len: usize) -> bool {
     let (found, left) = in_front(len);
     let front = bytes.get(..len).unwrap_or(bytes);
     is_found(
+        rt,
         alloc,
         server,
         front,
@@ -156,14 +160,13 @@ fn is_journal(alloc: Global, server: ServerId, bytes: &[u8], len: usize) -> bool
 }
 
 #[test]
-fn each_front_is_a_journal(rt: HostRuntime) -> Result<(), Fail> {
+fn each_front_is_a_journal(rt: HostRuntime) {
     let server = server_id(&rt, 0);
-    let bytes = bytes_of(rt.alloc(), THREE)?;
+    let bytes = bytes_of(&rt, rt.alloc(), THREE);
     for len in 0..293 {
-        let is_so = bytes.len() == 292 && is_journal(rt.alloc(), server, &bytes, len);
+        let is_so = bytes.len() == 292 && is_journal(&rt, rt.alloc(), server, &bytes, len);
         assert!(rt; is_so, "{len} bytes");
     }
-    Ok(())
 }
 
 /// What an opening finds where the byte at this place was changed, and how many bytes it leaves.
@@ -186,9 +189,10 @@ fn change(bytes: &mut [u8], at: usize) {
 }
 
 /// Whether an opening finds and leaves that in the bytes, of which the one at this place was changed.
-fn is_ended(alloc: Global, server: ServerId, bytes: &[u8], at: usize) -> bool {
+fn is_ended(rt: &impl Abort, alloc: Global, server: ServerId, bytes: &[u8], at: usize) -> bool {
     let (found, left) = changed_at(at);
     is_found(
+        rt,
         alloc,
         server,
         bytes,
@@ -198,30 +202,35 @@ fn is_ended(alloc: Global, server: ServerId, bytes: &[u8], at: usize) -> bool {
 }
 
 #[test]
-fn a_changed_byte_ends_the_chain_before_it(rt: HostRuntime) -> Result<(), Fail> {
+fn a_changed_byte_ends_the_chain_before_it(rt: HostRuntime) {
     let server = server_id(&rt, 0);
-    let mut bytes = bytes_of(rt.alloc(), THREE)?;
+    let mut bytes = bytes_of(&rt, rt.alloc(), THREE);
     for at in 0..292 {
         change(&mut bytes, at);
-        let is_so = is_ended(rt.alloc(), server, &bytes, at);
+        let is_so = is_ended(&rt, rt.alloc(), server, &bytes, at);
         assert!(rt; is_so, "byte {at}");
         change(&mut bytes, at);
     }
-    Ok(())
+}
+
+/// A server, bytes, and why they are no journal of its own.
+static FOREIGN: [(u8, &str, OpenFault); 2] = [
+    (0, "68656c6c6f", OpenFault::NotAJournal),
+    (1, THREE, OpenFault::OtherServer),
+];
+
+/// Whether the bytes that the text says have this fault, and are left so.
+fn is_foreign(rt: &impl Abort, alloc: Global, index: u8, text: &str, fault: OpenFault) -> bool {
+    let bytes = bytes_of(rt, alloc, text);
+    is_found(rt, alloc, server_id(rt, index), &bytes, Err(fault), &bytes)
 }
 
 #[test]
-fn foreign_bytes_are_refused(rt: HostRuntime) -> Result<(), Fail> {
-    let alloc = rt.alloc();
-    for (index, text, fault) in [
-        (0, "68656c6c6f", OpenFault::NotAJournal),
-        (1, THREE, OpenFault::OtherServer),
-    ] {
-        let bytes = bytes_of(alloc, text)?;
-        let is_so = is_found(alloc, server_id(&rt, index), &bytes, Err(fault), &bytes);
+fn foreign_bytes_are_refused(rt: HostRuntime) {
+    for (index, text, fault) in FOREIGN.iter() {
+        let is_so = is_foreign(&rt, rt.alloc(), *index, text, *fault);
         assert!(rt; is_so, "{fault:?}");
     }
-    Ok(())
 }
 
 /// How many bytes of the journal with three entries there are, the device call of an opening that fails, and how many bytes
@@ -248,21 +257,20 @@ static FAILING: [(usize, u32, Option<usize>); 12] = [
 /// Whether an opening finds what so many bytes at the front are, and leaves it.
 fn finds_front(alloc: Global, server: ServerId, bytes: &[u8], left: usize, device: Memory) -> bool {
     let (wanted, whole) = in_front(left);
-    match opening(alloc, server, device) {
-        Ok((found, device)) => found == wanted && bytes.get(..whole) == Some(device.bytes()),
-        Err(_) => false,
-    }
+    let (found, device) = opening(alloc, server, device);
+    found == wanted && bytes.get(..whole) == Some(device.bytes())
 }
 
 /// The device of these bytes, which fails at this call with so much of a piece added.
-fn failing_device(alloc: Global, bytes: &[u8], call: u32, kept: usize) -> Option<Memory> {
-    let mut device = device_of(bytes.to_vec(alloc).ok()?);
+fn failing_device(rt: &impl Abort, alloc: Global, bytes: &[u8], call: u32, kept: usize) -> Memory {
+    let mut device = device_of(bytes.to_vec(alloc).expect(rt, "no memory"));
     device.fuse(call.max(1), kept);
-    Some(device)
+    device
 }
 
 /// Whether the opening fails so, and the next one finds what is left.
 fn fails(
+    rt: &impl Abort,
     alloc: Global,
     server: ServerId,
     bytes: &[u8],
@@ -271,19 +279,16 @@ fn fails(
 ) -> bool {
     let left = left.unwrap_or(kept.min(10));
     let front = bytes.get(..len).unwrap_or(bytes);
-    let Some(device) = failing_device(alloc, front, call, kept) else {
-        return false;
-    };
-    let Ok((refused, device)) = opening(alloc, server, device) else {
-        return false;
-    };
+    let device = failing_device(rt, alloc, front, call, kept);
+    let (refused, device) = opening(alloc, server, device);
     let is_left = bytes.get(..left) == Some(device.bytes());
     let is_refused = refused == Err(OpenFault::Device);
-    is_left && is_refused && finds_front(alloc, server, bytes, left, device)
+    finds_front(alloc, server, bytes, left, device) && is_left && is_refused
 }
 
 /// Whatever is kept of a header.
 fn fails_however_much_is_kept(
+    rt: &impl Abort,
     alloc: Global,
     server: ServerId,
     bytes: &[u8],
@@ -291,20 +296,19 @@ fn fails_however_much_is_kept(
 ) -> bool {
     let mut is_so = true;
     for kept in 0..12 {
-        is_so &= fails(alloc, server, bytes, row, kept);
+        is_so &= fails(rt, alloc, server, bytes, row, kept);
     }
     is_so
 }
 
 #[test]
-fn each_device_call_of_an_opening_may_fail(rt: HostRuntime) -> Result<(), Fail> {
+fn each_device_call_of_an_opening_may_fail(rt: HostRuntime) {
     let server = server_id(&rt, 0);
-    let bytes = bytes_of(rt.alloc(), THREE)?;
+    let bytes = bytes_of(&rt, rt.alloc(), THREE);
     for row in FAILING.iter() {
-        let is_so = fails_however_much_is_kept(rt.alloc(), server, &bytes, *row);
+        let is_so = fails_however_much_is_kept(&rt, rt.alloc(), server, &bytes, *row);
         assert!(rt; is_so, "{row:?}");
     }
-    Ok(())
 }
 
 /// What is done to a journal, and what it answers.
@@ -351,7 +355,7 @@ fn goes(alloc: Global, journal: &mut Journal<Memory>, step: Step) -> bool {
 
 /// The journal of server 0 over these bytes, whose device fails at this call.
 fn opened(rt: &impl Abort, alloc: Global, front: &[u8], fuse: u32) -> Option<Journal<Memory>> {
-    let device = failing_device(alloc, front, fuse, 0)?;
+    let device = failing_device(rt, alloc, front, fuse, 0);
     match Journal::open(alloc, server_id(rt, 0), device) {
         Ok((journal, _)) => Some(journal),
         Err(_) => None,
@@ -366,18 +370,9 @@ fn go_in_turn(rt: &impl Abort, alloc: Global, journal: &mut Journal<Memory>, ste
 }
 
 /// The same over the journal of the first bytes of that with three entries.
-fn all_go(
-    rt: &impl Abort,
-    alloc: Global,
-    front: &[u8],
-    fuse: u32,
-    steps: &[Step],
-) -> Result<(), AllocError> {
-    let Some(mut journal) = opened(rt, alloc, front, fuse) else {
-        return Err(AllocError);
-    };
+fn all_go(rt: &impl Abort, alloc: Global, front: &[u8], fuse: u32, steps: &[Step]) {
+    let mut journal = opened(rt, alloc, front, fuse).expect(rt, "no journal");
     go_in_turn(rt, alloc, &mut journal, steps);
-    Ok(())
 }
 
 /// A fuse that no opening of these tests reaches.
@@ -419,23 +414,21 @@ static REOPENINGS: [Step; 27] = [
 ];
 
 #[test]
-fn each_device_call_of_a_reopening_may_fail(rt: HostRuntime) -> Result<(), Fail> {
-    let bytes = bytes_of(rt.alloc(), THREE)?;
-    all_go(&rt, rt.alloc(), &bytes, NEVER, &REOPENINGS)?;
-    Ok(())
+fn each_device_call_of_a_reopening_may_fail(rt: HostRuntime) {
+    let bytes = bytes_of(&rt, rt.alloc(), THREE);
+    all_go(&rt, rt.alloc(), &bytes, NEVER, &REOPENINGS);
 }
 
 /// How many bytes at the front of that journal there are, and the first device call that no opening of them makes.
 static OPENINGS: [(usize, u32); 4] = [(292, 3), (291, 4), (0, 4), (5, 5)];
 
 #[test]
-fn a_later_fuse_waits_for_the_append(rt: HostRuntime) -> Result<(), Fail> {
-    let bytes = bytes_of(rt.alloc(), THREE)?;
+fn a_later_fuse_waits_for_the_append(rt: HostRuntime) {
+    let bytes = bytes_of(&rt, rt.alloc(), THREE);
     for (len, call) in OPENINGS.iter() {
         let front = bytes.get(..*len).unwrap_or(&bytes);
-        all_go(&rt, rt.alloc(), front, *call, &[FAULT, DOWN])?;
+        all_go(&rt, rt.alloc(), front, *call, &[FAULT, DOWN]);
     }
-    Ok(())
 }
 
 /// An append that fails with so many bytes of its entry added, or at its sync; and a reopening.
@@ -455,10 +448,9 @@ fn failing_append(kept: usize) -> [Step; 5] {
 }
 
 #[test]
-fn each_device_call_of_an_append_may_fail(rt: HostRuntime) -> Result<(), Fail> {
-    let bytes = bytes_of(rt.alloc(), THREE)?;
+fn each_device_call_of_an_append_may_fail(rt: HostRuntime) {
+    let bytes = bytes_of(&rt, rt.alloc(), THREE);
     for kept in 0..96 {
-        all_go(&rt, rt.alloc(), &bytes, NEVER, &failing_append(kept))?;
+        all_go(&rt, rt.alloc(), &bytes, NEVER, &failing_append(kept));
     }
-    Ok(())
 }

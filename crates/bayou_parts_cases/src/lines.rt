@@ -6,7 +6,6 @@ use bayou_text_writer::write_line;
 use std::alloc::{AllocError, Global};
 use std::fmt::Write;
 use std::process::Abort;
-use std::test::Fail;
 
 /// What reading answers, again where memory ran out: the second answer is the ample one in runs where one allocation is
 /// refused.
@@ -313,12 +312,11 @@ static LONG: [(&[(&[u8], usize)], &str); 6] = [
 ];
 
 #[test]
-fn depths_and_lengths(rt: HostRuntime) -> Result<(), Fail> {
+fn depths_and_lengths(rt: HostRuntime) {
     for (pieces, expected) in LONG.iter() {
-        let bytes = repeated(rt.alloc(), pieces)?;
+        let bytes = repeated(&rt, rt.alloc(), pieces);
         assert!(rt; agrees(rt.alloc(), &bytes, expected), "{expected}");
     }
-    Ok(())
 }
 
 /// Lines of every command and form, and faults of every kind.

@@ -9,7 +9,6 @@ use bayou_log::{Db, Misfit, WriteLog};
 use bayou_wire::decode_write;
 use std::alloc::{AllocError, Global};
 use std::process::Abort;
-use std::test::Fail;
 
 /// The first Write of one of five servers, which held none. In stamp order `a` becomes 1, then 5, then 10, 100 and 1000 more.
 fn first(rt: &impl Abort, server: u8) -> Write {
@@ -222,7 +221,7 @@ fn a_full_log_takes_no_write(rt: HostRuntime) {
 type Offer = (u8, u32, u32, [u32; 2], Result<(), Misfit>);
 
 /// What is offered to a log of two servers that holds the first Write of the first.
-const OFFERS: [Offer; 8] = [
+static OFFERS: [Offer; 8] = [
     (0, 2, 2, [1, 0], Ok(())),
     (1, 1, 1, [0, 0], Ok(())),
     (1, 1, 2, [1, 0], Ok(())),
@@ -234,14 +233,14 @@ const OFFERS: [Offer; 8] = [
 ];
 
 /// Whether the log says that of the Write.
-fn is_told(rt: &impl Abort, log: &WriteLog, (origin, seq, clock, deps, answer): Offer) -> bool {
-    log.fits(&write(rt, origin, seq, clock, deps, put(rt, 1))) == answer
+fn is_told(rt: &impl Abort, log: &WriteLog, (origin, seq, clock, deps, answer): &Offer) -> bool {
+    log.fits(&write(rt, *origin, *seq, *clock, *deps, put(rt, 1))) == *answer
 }
 
 /// The log takes the first Write, and tells of each that is offered then.
 fn tells_all(rt: &impl Abort, alloc: Global, log: &mut WriteLog) {
     let is_added = answers(rt, alloc, log, 0, Ok(true));
-    for offer in OFFERS {
+    for offer in OFFERS.iter() {
         assert!(rt; is_added && is_told(rt, log, offer), "{offer:?}");
     }
 }
@@ -254,6 +253,11 @@ fn a_log_tells_which_writes_fit(rt: HostRuntime) {
 
 /// A Write of a program that puts 1 at `a` where nothing is there, and else takes it away.
 const TURNS: &str = "<0:1> <stamp> <none> 01 020161 01 01016101010000000000000001 01 00 01 020161";
+
+fn turns(rt: &impl Abort, alloc: Global) -> RestingProgram {
+    let write = decode_write(&bytes_of(rt, alloc, TURNS)).expect(rt, "no Write");
+    write.program.rest(alloc).expect(rt, "no memory")
+}
 
 /// Whether the program, which is applied twice, puts and takes away.
 fn puts_and_takes(alloc: Global, program: &RestingProgram, a: &Key) -> bool {
@@ -270,15 +274,13 @@ fn puts_and_takes(alloc: Global, program: &RestingProgram, a: &Key) -> bool {
 }
 
 #[test]
-fn a_database_keeps_its_room(rt: HostRuntime) -> Result<(), Fail> {
-    let Write { program, .. } = decode_write(&bytes_of(rt.alloc(), TURNS)?)?;
-    let program = program.rest(rt.alloc())?;
+fn a_database_keeps_its_room(rt: HostRuntime) {
+    let program = turns(&rt, rt.alloc());
     assert!(rt; puts_and_takes(rt.alloc(), &program, &key(&rt, "a")));
-    Ok(())
 }
 
 /// Writes of three servers in an order of receipt: the origin, the seq, the clock and what the server held.
-const RECEIVED: [(u8, u32, u32, [u32; 2]); 6] = [
+static RECEIVED: [(u8, u32, u32, [u32; 2]); 6] = [
     (0, 1, 1, [0, 0]),
     (0, 2, 2, [1, 0]),
     (1, 1, 1, [0, 0]),
@@ -310,8 +312,8 @@ fn are_named(writes: &[RestingWrite], names: &[(u8, u32)]) -> bool {
 /// Adds the Writes. Whether each is added.
 fn receives_all(rt: &impl Abort, alloc: Global, log: &mut WriteLog) -> bool {
     let mut are_added = true;
-    for (origin, seq, clock, deps) in RECEIVED {
-        let received = write(rt, origin, seq, clock, deps, put(rt, 1));
+    for (origin, seq, clock, deps) in RECEIVED.iter() {
+        let received = write(rt, *origin, *seq, *clock, *deps, put(rt, 1));
         are_added &= add(alloc, log, &received) == Ok(true);
     }
     are_added

@@ -5,7 +5,6 @@ use bayou_text::Command;
 use std::alloc::Global;
 use std::fmt;
 use std::fmt::Write;
-use std::test::Fail;
 
 /// The script that the text is to `bayou run`.
 fn read_here(alloc: Global, text: &str) -> Result<Script, Refusal> {
@@ -107,14 +106,13 @@ static SCRIPTS: [(&str, &str, &str); 17] = [
 ];
 
 #[test]
-fn scripts_over_a_network(rt: HostRuntime) -> Result<(), Fail> {
+fn scripts_over_a_network(rt: HostRuntime) {
     let alloc = rt.alloc();
     for (text, here, there) in SCRIPTS.iter() {
         let is_so = is_told(read_here(alloc, text), here)
             && is_told(read_there(alloc, text), there);
         assert!(rt; is_so, "{text}");
     }
-    Ok(())
 }
 
 /// Writes down the part that the command is.
@@ -174,9 +172,8 @@ static PHASES: [(&str, &str); 6] = [
 ];
 
 #[test]
-fn phases_of_scripts(rt: HostRuntime) -> Result<(), Fail> {
+fn phases_of_scripts(rt: HostRuntime) {
     for (text, expected) in PHASES.iter() {
         assert!(rt; has_phases(rt.alloc(), text, expected), "{text}");
     }
-    Ok(())
 }

@@ -1,7 +1,7 @@
 //! How tables say bytes and values: in hexadecimal, with marks in angle brackets for longer parts, and rows whose halves stand on
 //! both sides of `=>`.
-use std::alloc::{AllocError, Global};
-use std::test::Fail;
+use std::alloc::Global;
+use std::process::Abort;
 
 /// What the marks stand for among bytes: the vector that counts no Write, the one that counts the Write 0:1 alone, the name of that
 /// Write, its clock, and a program that puts 1 at `room`. What is between digits goes.
@@ -37,18 +37,18 @@ pub static AS_PRINTED: [(&str, &str); 5] = [
 ];
 
 /// The text with what its marks stand for.
-pub fn expanded(alloc: Global, text: &str, marks: &[(&str, &str)]) -> Result<String, AllocError> {
-    let mut whole = text.to_string(alloc)?;
+pub fn expanded(rt: &impl Abort, alloc: Global, text: &str, marks: &[(&str, &str)]) -> String {
+    let mut whole = text.to_string(alloc).expect(rt, "no memory");
     for (mark, meaning) in marks {
-        whole = whole.replace(alloc, *mark, meaning)?;
+        whole = whole.replace(alloc, *mark, meaning).expect(rt, "no memory");
     }
-    Ok(whole)
+    whole
 }
 
 /// The bytes that the text says.
-pub fn bytes_of(alloc: Global, text: &str) -> Result<Vec<u8>, Fail> {
-    let digits = expanded(alloc, text, &AS_BYTES)?;
-    Ok(hex::decode(alloc, digits.as_str())?)
+pub fn bytes_of(rt: &impl Abort, alloc: Global, text: &str) -> Vec<u8> {
+    let digits = expanded(rt, alloc, text, &AS_BYTES);
+    hex::decode(alloc, digits.as_str()).expect(rt, "no bytes")
 }
 
 /// The text of a row, and what it is read as: where the row says nothing of that, the same.
@@ -60,12 +60,12 @@ pub fn parts(row: &str) -> (&str, &str) {
 }
 
 /// The pieces, each so many times, one behind the other.
-pub fn repeated(alloc: Global, pieces: &[(&[u8], usize)]) -> Result<Vec<u8>, AllocError> {
+pub fn repeated(rt: &impl Abort, alloc: Global, pieces: &[(&[u8], usize)]) -> Vec<u8> {
     let mut bytes = Vec::new(alloc);
     for (piece, count) in pieces {
         for _ in 0..*count {
-            bytes.extend_from_slice(piece)?;
+            bytes.extend_from_slice(piece).expect(rt, "no memory");
         }
     }
-    Ok(bytes)
+    bytes
 }

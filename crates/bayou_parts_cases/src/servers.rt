@@ -7,7 +7,6 @@ use bayou_lang::RestingWrite;
 use bayou_server::{JournalFault, ReopenFault, Server, StartFault, WriteFault};
 use std::alloc::Global;
 use std::process::Abort;
-use std::test::Fail;
 
 type Memory = MemoryDevice<OpenGate>;
 
@@ -15,13 +14,10 @@ type Served = Server<Memory>;
 
 /// The server in a box of its own, also where one allocation is refused: a function that owns a box is proved in a third of the time that one
 /// takes which owns the server.
-fn boxed(alloc: Global, server: Served) -> Result<Box<Served>, StartFault> {
+fn boxed(rt: &impl Abort, alloc: Global, server: Served) -> Box<Served> {
     match Box::new(alloc, server) {
-        Ok(server) => Ok(server),
-        Err(refused) => match Box::new(alloc, refused.value) {
-            Ok(server) => Ok(server),
-            Err(_) => Err(StartFault::OutOfMemory),
-        },
+        Ok(server) => server,
+        Err(refused) => Box::new(alloc, refused.value).expect(rt, "no memory"),
     }
 }
 
@@ -34,7 +30,7 @@ pub fn start(
 ) -> Result<Box<Served>, StartFault> {
     let id = ServerId::new(0).expect(rt, "no server");
     match Server::start(alloc, id, 2, limit.min(MAX_WRITES), device) {
-        Ok((server, _)) => boxed(alloc, server),
+        Ok((server, _)) => Ok(boxed(rt, alloc, server)),
         Err(refused) => Err(refused.fault),
     }
 }
@@ -83,19 +79,11 @@ fn device_of(server: Box<Served>) -> Memory {
 }
 
 /// The device of a server that has put 1, 2 and so on.
-fn with_writes(rt: &impl Abort, alloc: Global, count: u8) -> Result<Memory, StartFault> {
-    let mut server = start(rt, alloc, 100, MemoryDevice::new(alloc, OpenGate))?;
+fn with_writes(rt: &impl Abort, alloc: Global, count: u8) -> Memory {
+    let device = MemoryDevice::new(alloc, OpenGate);
+    let mut server = start(rt, alloc, 100, device).expect(rt, "no server");
     put_all(rt, alloc, &mut server, count);
-    Ok(device_of(server))
-}
-
-/// Replaces the server's device by that of one that has put 1, 2 and so on.
-fn replaces(rt: &impl Abort, alloc: Global, server: &mut Served, count: u8) -> bool {
-    let Ok(device) = with_writes(rt, alloc, count) else {
-        return false;
-    };
-    *server.device() = device;
-    true
+    device_of(server)
 }
 
 /// Whether the value is the number, or there is neither.
@@ -141,7 +129,10 @@ fn goes(rt: &impl Abort, alloc: Global, server: &mut Served, step: Step) -> bool
             server.device().lose(count);
             true
         }
-        Replace(count) => replaces(rt, alloc, server, count),
+        Replace(count) => {
+            *server.device() = with_writes(rt, alloc, count);
+            true
+        }
         Put(number, answer) => puts(rt, alloc, server, number) == answer,
         Reopen(answer) => reopens(alloc, server, answer),
         Has(value, held) => has(rt, server, value, held),
@@ -156,16 +147,15 @@ fn go_in_turn(rt: &impl Abort, alloc: Global, server: &mut Served, steps: &[Step
 }
 
 /// The same at a server that may hold so many Writes. It gives the device back.
-fn all_go(
-    rt: &impl Abort,
-    alloc: Global,
-    limit: u32,
-    device: Memory,
-    steps: &[Step],
-) -> Result<Memory, StartFault> {
-    let mut server = start(rt, alloc, limit, device)?;
+fn all_go(rt: &impl Abort, alloc: Global, limit: u32, device: Memory, steps: &[Step]) -> Memory {
+    let mut server = start(rt, alloc, limit, device).expect(rt, "no server");
     go_in_turn(rt, alloc, &mut server, steps);
-    Ok(device_of(server))
+    device_of(server)
+}
+
+/// The same at a new server.
+fn all_go_anew(rt: &impl Abort, alloc: Global, steps: &[Step]) {
+    all_go(rt, alloc, 100, MemoryDevice::new(alloc, OpenGate), steps);
 }
 
 /// The append fails, and the Write is forgotten.
@@ -207,62 +197,53 @@ const REPLACED: [Step; 9] = [
 ];
 
 #[test]
-fn a_write_in_doubt_is_forgotten_or_adopted(rt: HostRuntime) -> Result<(), Fail> {
-    let alloc = rt.alloc();
-    let runs: [&[Step]; 3] = [&FORGOTTEN, &ADOPTED, &REPLACED];
-    for steps in runs {
-        all_go(&rt, alloc, 100, MemoryDevice::new(alloc, OpenGate), steps)?;
-    }
-    Ok(())
+fn a_write_in_doubt_is_forgotten_or_adopted(rt: HostRuntime) {
+    all_go_anew(&rt, rt.alloc(), &FORGOTTEN);
+    all_go_anew(&rt, rt.alloc(), &ADOPTED);
+    all_go_anew(&rt, rt.alloc(), &REPLACED);
 }
 
 /// The device call of a Write that fails, how much of its entry of 91 bytes is added, the seq of the Write that a reopening adopts,
-/// if any, and what the server has then.
-type Failing = (u32, usize, Option<u32>, Step);
+/// if any, and how many Writes the server has then: the last of them put as much at `a`.
+type Failing = (u32, usize, Option<u32>, u32);
 
-const FAILING: [Failing; 10] = [
-    (1, 0, None, Has(Some(1), 1)),
-    (1, 1, None, Has(Some(1), 1)),
-    (1, 50, None, Has(Some(1), 1)),
-    (1, 91, Some(2), Has(Some(2), 2)),
-    (1, 200, Some(2), Has(Some(2), 2)),
-    (2, 0, Some(2), Has(Some(2), 2)),
-    (2, 1, Some(2), Has(Some(2), 2)),
-    (2, 50, Some(2), Has(Some(2), 2)),
-    (2, 91, Some(2), Has(Some(2), 2)),
-    (2, 200, Some(2), Has(Some(2), 2)),
+static FAILING: [Failing; 10] = [
+    (1, 0, None, 1),
+    (1, 1, None, 1),
+    (1, 50, None, 1),
+    (1, 91, Some(2), 2),
+    (1, 200, Some(2), 2),
+    (2, 0, Some(2), 2),
+    (2, 1, Some(2), 2),
+    (2, 50, Some(2), 2),
+    (2, 91, Some(2), 2),
+    (2, 200, Some(2), 2),
 ];
 
 /// The steps go so where the device fails at a Write, and the last again after a start.
-fn fails_and_goes_on(
-    rt: &impl Abort,
-    alloc: Global,
-    (call, kept, adopted, left): Failing,
-) -> Result<(), StartFault> {
+fn fails_and_goes_on(rt: &impl Abort, alloc: Global, (call, kept, adopted, held): Failing) {
     let steps = [
         Fuse(call, kept),
         Put(2, Err(WriteFault::Journal)),
         Put(3, Err(WriteFault::Down)),
         Has(Some(1), 1),
         Reopen(Ok(adopted)),
-        left,
+        Has(Some(i64::from(held)), held),
     ];
-    let device = all_go(rt, alloc, 100, with_writes(rt, alloc, 1)?, &steps)?;
-    all_go(rt, alloc, 100, device, &[left])?;
-    Ok(())
+    let device = all_go(rt, alloc, 100, with_writes(rt, alloc, 1), &steps);
+    all_go(rt, alloc, 100, device, &[Has(Some(i64::from(held)), held)]);
 }
 
 #[test]
-fn each_device_call_of_a_write_may_fail(rt: HostRuntime) -> Result<(), Fail> {
-    for row in FAILING {
-        fails_and_goes_on(&rt, rt.alloc(), row)?;
+fn each_device_call_of_a_write_may_fail(rt: HostRuntime) {
+    for row in FAILING.iter() {
+        fails_and_goes_on(&rt, rt.alloc(), *row);
     }
-    Ok(())
 }
 
 /// The front of an entry stands behind the chain: a reopening reads, cuts and syncs. One of these calls fails.
 #[test]
-fn each_device_call_of_a_reopening_may_fail(rt: HostRuntime) -> Result<(), Fail> {
+fn each_device_call_of_a_reopening_may_fail(rt: HostRuntime) {
     let alloc = rt.alloc();
     for call in 1..4 {
         let steps = [
@@ -274,9 +255,8 @@ fn each_device_call_of_a_reopening_may_fail(rt: HostRuntime) -> Result<(), Fail>
             Reopen(Ok(None)),
             Has(Some(1), 1),
         ];
-        all_go(&rt, alloc, 100, with_writes(&rt, alloc, 1)?, &steps)?;
+        all_go(&rt, alloc, 100, with_writes(&rt, alloc, 1), &steps);
     }
-    Ok(())
 }
 
 /// The journal of server 0 with the body 00, which is no Write.
@@ -339,24 +319,17 @@ fn refusal(rt: &impl Abort, alloc: Global, device: Memory) -> Option<StartFault>
 }
 
 /// Whether no server starts on a device of the bytes that the text says, which fails at this call, and for that fault.
-fn is_refused(
-    rt: &impl Abort,
-    alloc: Global,
-    text: &str,
-    call: u32,
-    fault: StartFault,
-) -> Result<bool, Fail> {
-    let device = failing_device(bytes_of(alloc, text)?, call);
-    Ok(refusal(rt, alloc, device) == Some(fault))
+fn is_refused(rt: &impl Abort, alloc: Global, text: &str, call: u32, fault: StartFault) -> bool {
+    let device = failing_device(bytes_of(rt, alloc, text), call);
+    refusal(rt, alloc, device) == Some(fault)
 }
 
 #[test]
-fn what_no_server_stored_is_refused(rt: HostRuntime) -> Result<(), Fail> {
+fn what_no_server_stored_is_refused(rt: HostRuntime) {
     for (text, call, fault) in REFUSED.iter() {
-        let is_so = is_refused(&rt, rt.alloc(), text, *call, *fault)?;
+        let is_so = is_refused(&rt, rt.alloc(), text, *call, *fault);
         assert!(rt; is_so, "{fault:?}");
     }
-    Ok(())
 }
 
 /// Whether a server that is behind by a Write says so, with what it holds.
@@ -405,32 +378,26 @@ fn given_back(server: Box<Served>) -> (usize, usize) {
 }
 
 /// Whether a server on the device tells so, and gives two Writes back.
-fn tells_and_stops(rt: &impl Abort, alloc: Global, device: Memory) -> Result<bool, StartFault> {
-    let server = start(rt, alloc, 2, device)?;
+fn tells_and_stops(rt: &impl Abort, alloc: Global, device: Memory) -> bool {
+    let server = start(rt, alloc, 2, device).expect(rt, "no server");
     let are_told = tells_both(rt, alloc, &server);
-    Ok(given_back(server) == (2, 192) && are_told)
+    given_back(server) == (2, 192) && are_told
 }
 
 #[test]
-fn a_server_tells_what_it_holds(rt: HostRuntime) -> Result<(), Fail> {
+fn a_server_tells_what_it_holds(rt: HostRuntime) {
     let alloc = rt.alloc();
     let steps = [Has(Some(2), 2), Put(3, Err(WriteFault::LogFull))];
-    let device = all_go(&rt, alloc, 2, with_writes(&rt, alloc, 2)?, &steps)?;
-    let is_so = tells_and_stops(&rt, alloc, device)?;
-    assert!(rt; is_so);
-    Ok(())
+    let device = all_go(&rt, alloc, 2, with_writes(&rt, alloc, 2), &steps);
+    assert!(rt; tells_and_stops(&rt, alloc, device));
 }
 
 /// Starts a server on the device, again where that was refused.
-fn start_at_last(
-    rt: &impl Abort,
-    alloc: Global,
-    device: Memory,
-) -> Result<Box<Served>, StartFault> {
+fn start_at_last(rt: &impl Abort, alloc: Global, device: Memory) -> Box<Served> {
     let id = ServerId::new(0).expect(rt, "no server");
     match Server::start(alloc, id, 2, 100, device) {
-        Ok((server, _)) => boxed(alloc, server),
-        Err(refused) => start(rt, alloc, 100, refused.device),
+        Ok((server, _)) => boxed(rt, alloc, server),
+        Err(refused) => start(rt, alloc, 100, refused.device).expect(rt, "no server"),
     }
 }
 
@@ -504,23 +471,20 @@ fn held_at_last(rt: &impl Abort, alloc: Global, server: &mut Served) -> Option<u
 }
 
 /// That of a new server, and its device.
-fn device_at_last(rt: &impl Abort, alloc: Global) -> Result<(Option<usize>, Memory), StartFault> {
-    let mut server = start_at_last(rt, alloc, MemoryDevice::new(alloc, OpenGate))?;
+fn device_at_last(rt: &impl Abort, alloc: Global) -> (Option<usize>, Memory) {
+    let mut server = start_at_last(rt, alloc, MemoryDevice::new(alloc, OpenGate));
     let held = held_at_last(rt, alloc, &mut server);
-    Ok((held, device_of(server)))
+    (held, device_of(server))
 }
 
 /// How many Writes a server on the device holds.
-fn held_again(rt: &impl Abort, alloc: Global, device: Memory) -> Result<usize, StartFault> {
-    let server = start_at_last(rt, alloc, device)?;
-    Ok(server.receipts().len())
+fn held_again(rt: &impl Abort, alloc: Global, device: Memory) -> usize {
+    start_at_last(rt, alloc, device).receipts().len()
 }
 
 /// For runs in which any one allocation is refused: what a server acknowledged it keeps, and what was refused can be done again.
 #[test]
-fn one_want_of_memory_costs_no_write(rt: HostRuntime) -> Result<(), Fail> {
-    let (held, device) = device_at_last(&rt, rt.alloc())?;
-    let again = held_again(&rt, rt.alloc(), device)?;
-    assert!(rt; held == Some(again));
-    Ok(())
+fn one_want_of_memory_costs_no_write(rt: HostRuntime) {
+    let (held, device) = device_at_last(&rt, rt.alloc());
+    assert!(rt; held == Some(held_again(&rt, rt.alloc(), device)));
 }

@@ -7,7 +7,6 @@ use bayou_server::{Server, WriteFault};
 use bayou_session::Session;
 use std::alloc::Global;
 use std::process::Abort;
-use std::test::Fail;
 
 /// One of the sixteen combinations of asks.
 fn asks_of(number: u8) -> Asks {
@@ -123,9 +122,8 @@ fn checks_all(rt: &impl Abort, alloc: Global, server: &mut Server<MemoryDevice<O
 
 /// The first of two servers, which holds Writes of its own.
 #[test]
-fn a_server_checks_what_is_asked(rt: HostRuntime) -> Result<(), Fail> {
-    let alloc = rt.alloc();
-    let mut server = start(&rt, alloc, 99, MemoryDevice::new(alloc, OpenGate))?;
-    checks_all(&rt, alloc, &mut server);
-    Ok(())
+fn a_server_checks_what_is_asked(rt: HostRuntime) {
+    let device = MemoryDevice::new(rt.alloc(), OpenGate);
+    let mut server = start(&rt, rt.alloc(), 99, device).expect(&rt, "no server");
+    checks_all(&rt, rt.alloc(), &mut server);
 }
