@@ -13,9 +13,12 @@ pub struct Given {
 }
 
 /// No bytes, with room for more than a call of these tests writes: so any want of memory in the call is the program's
-/// own.
+/// own. The room is there also where one allocation is refused.
 pub fn roomy(alloc: Global) -> Result<Vec<u8>, AllocError> {
-    Vec::with_capacity(alloc, 4096)
+    match Vec::with_capacity(alloc, 4096) {
+        Err(_) => Vec::with_capacity(alloc, 4096),
+        bytes => bytes,
+    }
 }
 
 /// Calls the program with these words over these files and this input.

@@ -388,28 +388,29 @@ impl Case {
             && given.status == 3
     }
 
-    /// Whether it ran to its end with one Write refused so, which is accepted with memory enough, and behind that none of these
-    /// words.
-    fn has_refused(&self, given: &Given, refusal: &str, no_more: &str) -> bool {
+    /// Whether it ran to its end, told this where with memory enough it tells what begins so, and behind that none of these words.
+    fn has_instead(&self, given: &Given, told: &str, instead_of: &str, no_more: &str) -> bool {
         let Ok(output) = str::from_utf8(given.output.as_slice()) else {
             return false;
         };
-        let Some((front, rest)) = output.split_once(refusal) else {
+        let Some((front, rest)) = output.split_once(told) else {
             return false;
         };
         let Some(instead) = self.output.strip_prefix(front) else {
             return false;
         };
-        instead.starts_with(" wrote ")
+        instead.starts_with(instead_of)
             && !rest.contains(no_more)
             && given.errors.is_empty()
             && given.status == 0
     }
 
-    /// Whether a Write was refused for want of memory: the server's, or the device's, after which it is down.
+    /// Whether a Write was refused for want of memory, or a pull ended for it: the server's, or the device's, after which it is down.
     fn has_lacked(&self, given: &Given) -> bool {
-        self.has_refused(given, " refused memory\n", "memory")
-            || self.has_refused(given, " refused journal\n", " wrote ")
+        self.has_instead(given, " refused memory\n", " wrote ", "memory")
+            || self.has_instead(given, " refused journal\n", " wrote ", " wrote ")
+            || self.has_instead(given, "pull fault memory\n", "pulled ", "memory")
+            || self.has_instead(given, "pull fault journal\n", "pulled ", "memory")
     }
 }
 
@@ -432,7 +433,7 @@ fn worked_scripts(rt: HostRuntime) -> Result<(), Fail> {
 }
 
 /// This is for runs in which any one allocation is refused: the case is answered as ever, or ends for want of memory, or
-/// has a Write refused for it.
+/// has a Write refused for it, or a pull that ends for it.
 fn ends_well(alloc: Global, case: &Case) -> Result<bool, AllocError> {
     let given = run(alloc, case.script.as_bytes())?;
     Ok(case.is_whole(&given) || case.has_ended(&given) || case.has_lacked(&given))

@@ -33,33 +33,23 @@ fn writes<L: Desks, R: Wait + Abort>(
     Ok(accepted.wid.seq)
 }
 
-/// Whether a reopening adopts the Write in doubt, tried again where memory was refused; or nothing where it isn't up then.
+/// Whether a reopening adopts the Write in doubt, tried again where memory was refused, or where the device's one failing call fell into it;
+/// or nothing where it isn't up then.
 fn adopts<L: Desks, R: Wait>(rt: &R, alloc: Global, node: &Node<Memory, L>) -> Option<bool> {
     let reopened = match node.reopen(rt, alloc) {
-        Err(ReopenFault::OutOfMemory) => node.reopen(rt, alloc),
+        Err(ReopenFault::OutOfMemory | ReopenFault::Journal(_)) => node.reopen(rt, alloc),
         answer => answer,
     };
     Some(reopened.ok()?.adopted.is_some())
 }
 
-/// The program once more; or, where its Write is in doubt, a reopening, and the program once more where that forgets the Write.
-fn writes_again<L: Desks, R: Wait + Abort>(
+/// What becomes of a program that is tried once, where its Write is held then; one in doubt is settled by a reopening.
+fn writes_once<L: Desks, R: Wait + Abort>(
     rt: &R,
     alloc: Global,
     node: &Node<Memory, L>,
     desk: &mut Desk<L>,
-    fault: WriteFault,
 ) -> Option<Made> {
-    let is_adopted = match fault {
-        WriteFault::Journal => adopts(rt, alloc, node)?,
-        _ => false,
-    };
-    if is_adopted {
-        return Some(Made {
-            accepted: 0,
-            adopted: 1,
-        });
-    }
     match writes(rt, alloc, node, desk) {
         Ok(_) => Some(Made {
             accepted: 1,
@@ -73,20 +63,21 @@ fn writes_again<L: Desks, R: Wait + Abort>(
     }
 }
 
-/// What becomes of a program that is tried until its Write is held.
+/// What becomes of a program that is tried until its Write is held: memory may be refused in one try, and the device's one failing call
+/// fall into the next.
 fn writes_at_last<L: Desks, R: Wait + Abort>(
     rt: &R,
     alloc: Global,
     node: &Node<Memory, L>,
     desk: &mut Desk<L>,
 ) -> Option<Made> {
-    match writes(rt, alloc, node, desk) {
-        Ok(_) => Some(Made {
-            accepted: 1,
-            adopted: 0,
-        }),
-        Err(fault) => writes_again(rt, alloc, node, desk, fault),
+    for _ in 0..2 {
+        let made = writes_once(rt, alloc, node, desk);
+        if made.is_some() {
+            return made;
+        }
     }
+    writes_once(rt, alloc, node, desk)
 }
 
 /// The second server's first Write, which held nothing.

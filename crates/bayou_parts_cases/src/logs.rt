@@ -108,14 +108,14 @@ fn has_all(rt: &impl Abort, alloc: Global, log: &mut WriteLog, order: &[u8], a: 
     is_so && log.clock() == 1 && told(log, a) == (5, 1115) && log.is_full()
 }
 
-/// A log of so many servers with room for so many Writes, in a box of its own: a function that owns a box is proved in a third of the time that
-/// one takes which owns the log.
+/// A log of so many servers with room for so many Writes, in a box of its own, also where one allocation is refused: a function that owns a box
+/// is proved in a third of the time that one takes which owns the log.
 fn empty_log(rt: &impl Abort, alloc: Global, count: u8, limit: u32) -> Box<WriteLog> {
-    Box::new(
-        alloc,
-        WriteLog::new(alloc, count.min(SERVERS as u8), limit.min(MAX_WRITES)),
-    )
-    .expect(rt, "no memory")
+    let log = WriteLog::new(alloc, count.min(SERVERS as u8), limit.min(MAX_WRITES));
+    match Box::new(alloc, log) {
+        Ok(log) => log,
+        Err(refused) => Box::new(alloc, refused.value).expect(rt, "no memory"),
+    }
 }
 
 /// Whether a new log does so.
@@ -131,6 +131,23 @@ fn every_order_of_receipt_makes_one_database(rt: HostRuntime) {
         let is_so = makes_one_database(&rt, rt.alloc(), order_of(number).as_slice(), &a);
         assert!(rt; is_so, "{number}");
     }
+}
+
+/// Whether the log, which takes the five Writes in an order with late ones, then has their listing and their database; each is asked for again
+/// where memory was refused.
+fn has_all_at_last(rt: &impl Abort, alloc: Global, log: &mut WriteLog, a: &Key) -> bool {
+    let are_taken = takes(rt, alloc, log, &[3, 1, 4, 0, 2], a);
+    let are_listed = lists_all(alloc, log, 5) || lists_all(alloc, log, 5);
+    let is_the_replay = is_plain(alloc, log, a) || is_plain(alloc, log, a);
+    are_taken && are_listed && is_the_replay && told(log, a) == (5, 1115)
+}
+
+/// For runs in which any one allocation is refused: the log is as it was, and takes the Write then.
+#[test]
+fn one_want_of_memory_costs_a_log_nothing(rt: HostRuntime) {
+    let mut log = empty_log(&rt, rt.alloc(), 5, 5);
+    let is_so = has_all_at_last(&rt, rt.alloc(), &mut log, &key(&rt, "a"));
+    assert!(rt; is_so);
 }
 
 /// How many Writes server 0 made while server 1 was away.

@@ -1,0 +1,70 @@
+/* Refuses one allocation of a program, for LD_PRELOAD: the one whose number REFUSED tells, of those that the program itself asks malloc and
+   realloc for, counted from 1 on; none where it tells none. As the program ends, the file ASKED gets the number of all that were asked for. */
+#define _GNU_SOURCE
+#include <dlfcn.h>
+#include <errno.h>
+#include <stdatomic.h>
+#include <stdio.h>
+#include <stdlib.h>
+#include <sys/auxv.h>
+#include <unistd.h>
+
+static void *(*real_malloc)(size_t);
+static void *(*real_realloc)(void *, size_t);
+static void (*real_exit)(int) __attribute__((noreturn));
+static void *program;
+static unsigned long refused;
+static atomic_ulong asked;
+
+/* Where what holds this address begins in memory. */
+static void *begin_of(const void *address) {
+    Dl_info found;
+    return dladdr(address, &found) ? found.dli_fbase : NULL;
+}
+
+static void find_calls(void) {
+    *(void **)&real_malloc = dlsym(RTLD_NEXT, "malloc");
+    *(void **)&real_realloc = dlsym(RTLD_NEXT, "realloc");
+    *(void **)&real_exit = dlsym(RTLD_NEXT, "_exit");
+}
+
+__attribute__((constructor)) static void start(void) {
+    const char *number = getenv("REFUSED");
+    find_calls();
+    refused = number ? strtoul(number, NULL, 10) : 0;
+    program = begin_of((void *)getauxval(AT_PHDR));
+}
+
+static int is_refused(const void *caller) {
+    if (!program || begin_of(caller) != program || atomic_fetch_add(&asked, 1) + 1 != refused)
+        return 0;
+    errno = ENOMEM;
+    return 1;
+}
+
+void *malloc(size_t size) {
+    if (!real_malloc)
+        find_calls();
+    return is_refused(__builtin_return_address(0)) ? NULL : real_malloc(size);
+}
+
+void *realloc(void *old, size_t size) {
+    if (!real_realloc)
+        find_calls();
+    return is_refused(__builtin_return_address(0)) ? NULL : real_realloc(old, size);
+}
+
+__attribute__((destructor)) static void tell(void) {
+    const char *name = getenv("ASKED");
+    unsigned long all = atomic_load(&asked);
+    FILE *file = name ? fopen(name, "w") : NULL;
+    if (file) {
+        fprintf(file, "%lu\n", all);
+        fclose(file);
+    }
+}
+
+void _exit(int status) {
+    tell();
+    real_exit(status);
+}
