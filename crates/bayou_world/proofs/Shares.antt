@@ -97,6 +97,19 @@ none_files old new who booking inside claimed voided takes view claims is machin
       },
     )
 
+-- the book is full, and as it was
+pub full_files : (state : State) (who : ℕ) (booking : Booking) (inside claimed : Booked) → record { places = inside.places; entries = inside.entries } ≡ booking
+    → length inside.entries + inside.totals.slips ≡ inside.places → inside.totals.slips ≡ 0 → claimed ≡ inside → (machine : Machine) → IsOf state machine → IsBookOf booking machine
+    → (next : Machine) × Files machine who replies.Skipped next × IsOf state next × IsBookOf (record { places = claimed.places; entries = claimed.entries }) next
+full_files state who booking inside claimed view full none same machine tied book =
+    let places : inside.places ≡ machine.places = ap (λ (b : Booking). b.places) view ∙ book.places in
+    let entries : inside.entries ≡ machine.filed = ap (λ (b : Booking). b.entries) view ∙ book.entries in (
+      machine,
+      Files.skipped (λ session entry later may. omega (arith, full, none, may.room, places, ap length entries)) refl refl,
+      tied,
+      record { places = ap (λ (b : Booked). b.places) same ∙ places; entries = ap (λ (b : Booked). b.entries) same ∙ entries },
+    )
+
 -- what waits is the session's own
 pub never : (old new : State) (who : ℕ) (entry : Entry) (id : SessionId) → TakesOldest old who (Some entry) new → id.index ≡ who → true ≡ not (entry.session.index == id.index)
     → (machine : Machine) → IsGood machine → IsOf old machine → ⊥

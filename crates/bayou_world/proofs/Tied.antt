@@ -30,7 +30,7 @@ use Rattle.bayou_world.specs.Inner.Good.{IsGood}
 use Rattle.bayou_world.specs.Inner.Replicas.{is_stopped}
 use Rattle.bayou_world.specs.Inner.Tie.{IsAcceptedIn, IsClientOf, IsFlightOf, IsSeatOf, IsReplicaOf, IsServerOf, IsTied, seat}
 use Rattle.bayou_world.specs.Machine.{Answered, Machine, ServerSets, SessionSets, changed, with_server, with_session, writes}
-use Rattle.bayou_world.specs.Steps.{IsEntry, IsRunning, MayBegin, MayRead, Reads, refusal, with_answer}
+use Rattle.bayou_world.specs.Steps.{CannotBegin, IsEntry, IsRunning, MayBegin, MayRead, Reads, refusal, with_answer}
 use Rattle.bayou_world.proofs.Homes.{fitting_at}
 use Rattle.bayou_world.proofs.Lists.{changed-other, changed-same, same_number}
 use Rattle.bayou_world.proofs.Vectors.{tests_agree}
@@ -188,6 +188,14 @@ module _ (servers : List Replica) (clients : List (Option Client)) (offers : Lis
       no_flight (Some flight) None is none = absurd is
       no_flight (Some flight) (Some answered) is none = let both : Some answered ≡ None = none in absurd (cc)
 
+  -- who has no seat at which it may, or asks no server that runs, doesn't begin
+  pub cannot_begin : (machine : Machine) → IsTied servers clients offers items told machine → (who place : ℕ) → who < SESSIONS
+      → ((client : Client) → seat clients who ≡ Some client → client.flight ≡ None → client.session.begun < MAX_PLACES → place < length servers → ¬ IsRunning machine place)
+      → CannotBegin machine who place
+  cannot_begin machine tied who place inside never = λ session may.
+      let begins = begins_there machine tied who place session inside may in
+      never begins.0 begins.1 begins.2 begins.3 begins.4 may.server
+
 pub idle : (f : Option Flight) (a : Option Answered) → IsFlightOf f a → f ≡ None → a ≡ None
 idle None None is none = refl
 idle None (Some answered) is none = absurd is
@@ -291,3 +299,13 @@ read_tied law servers clients offers items told machine good tied who place key 
       with_seat servers clients offers items told machine tied who new (record session { begun = session.begun + 1; flight = Some (refusal begins_at.entry) }) inside
           (began who place client new session whats.Refused None (refusal begins_at.entry) is begins_at refl refl),
     )
+
+-- what can't be
+pub no_client : (client : Client) → Some client ≡ None → ⊥
+no_client client both = cc
+
+pub same_client : (a b : Client) → Some a ≡ Some b → a ≡ b
+same_client a b both = cc
+
+pub not_true : false ≡ true → ⊥
+not_true both = cc

@@ -4,7 +4,7 @@ ghost use Rattle.bayou_audit.specs.Blanks.{AreBlanksOf, named};
 ghost use Rattle.bayou_base.specs.declared.limits.TheConstants.{MAX_WRITES, SERVERS as SERVERS_NUMBER, SESSIONS as SESSIONS_NUMBER};
 ghost use Rattle.bayou_world.specs.Faults.{AreFused};
 ghost use Rattle.bayou_world.specs.Histories.{IsHistory};
-ghost use Rattle.bayou_world.specs.Inner.Beginning.{AreFirstSeats, AreStarted, IsFirstSeat, IsFirstState, IsLeft, SoFar};
+ghost use Rattle.bayou_world.specs.Inner.Beginning.{AreFirstSeats, AreStarted, IsBooked, IsFirstSeat, IsFirstState, IsLeft, SoFar};
 ghost use Rattle.bayou_world.specs.Inner.Booking.{FollowsInBook, IsBookOf};
 ghost use Rattle.bayou_world.specs.Inner.Charges.{AreAmple, AreCharged, SpendsAt};
 ghost use Rattle.bayou_world.specs.Inner.Good.{IsGood};
@@ -225,6 +225,22 @@ fn first_state(alloc: Global, world: World) -> Result<State, AllocError>
     })
 }
 
+/// The events, with a book of their own: what they are answered, and the totals of what was entered.
+fn play_in_book<K: Ledgers>(
+    alloc: Global,
+    blanks: Blanks,
+    state: &mut State,
+    events: &[Event],
+) -> Result<(Vec<Reply>, Totals), AllocError>
+    requires blanks { AreBlanksOf blanks (named K.Slips.name K.Slips.parts) (named K.Reads.name K.Reads.parts) (named K.Writes.name K.Writes.parts) (named K.Refusals.name K.Refusals.parts) SESSIONS_NUMBER }
+    ensures booked { IfOk result (λ played. IsBooked state.old events.now played.0.items played.1 state.new) }
+    ensures charged { IfOk result (λ played. AreCharged (length state.old.servers.items) [] [] state.old.servers.items → AreCharged (length state.old.servers.items) events.now played.0.items state.new.servers.items) }
+{
+    let mut filing = Filing::<K>::new(alloc, blanks, places_for(events))?;
+    let replies = play(alloc, state, &mut filing, events)?;
+    Ok((replies, filing.totals()))
+}
+
 /// A run whose book counts in these ledgers.
 fn run_with<K: Ledgers>(
     alloc: Global,
@@ -237,9 +253,8 @@ fn run_with<K: Ledgers>(
     ensures fused { IfOk result (λ history. AreFused world.count events.now history.replies.items) }
 {
     let mut state = first_state(alloc, world)?;
-    let mut filing = Filing::<K>::new(alloc, blanks, places_for(events))?;
-    let replies = play(alloc, &mut state, &mut filing, events)?;
-    leave(alloc, state, replies, filing.totals())
+    let (replies, totals) = play_in_book::<K>(alloc, blanks, &mut state, events)?;
+    leave(alloc, state, replies, totals)
 }
 
 /// The same, with a ledger for each of the four totals.

@@ -22,7 +22,7 @@ use Rattle.bayou_world.specs.Inner.Charges.{AreAmple, IsUnused}
 use Rattle.bayou_world.specs.Inner.Replicas.{IsFresh, device_of, held_by}
 use Rattle.bayou_world.specs.Inner.Tie.{IsOf}
 use Rattle.bayou_world.specs.Machine.{Answered, Machine, writes}
-use Rattle.bayou_world.specs.Runs.{Run, asks_of}
+use Rattle.bayou_world.specs.Runs.{Run, asks_of, places_for}
 
 -- a server that was started first for each of the first so many places
 pub record AreStarted (done count limit : ℕ) (servers : List Replica) : Type 0 where
@@ -81,3 +81,11 @@ pub record SoFar (first : Machine) (events : List Event) (replies : List Reply) 
   pub count : now.count ≡ first.count
   pub tied : IsOf state now
   pub book : IsBookOf booking now
+
+-- the events had these replies and left this state, with a book of their own, which has these totals in the end
+pub record IsBooked (old : State) (events : List Event) (replies : List Reply) (totals : Totals) (new : State) : Type 0 where
+  pub empty : Booking
+  pub full : Booking
+  pub begins : empty ≡ record { places = places_for events; entries = [] }
+  pub so_far : (first : Machine) → IsGood first → IsOf old first → IsBookOf empty first → SoFar first events replies new full
+  pub counted : totals ≡ totals_of 0 (number_of is_read full.entries) (number_of is_write full.entries) (number_of is_refusal full.entries)

@@ -1,14 +1,18 @@
-use Rattle.std.proofs.Common.{◌≡◌, ◌<◌, ◌≤◌, ◌+◌, ◌++◌, max, sym, ◌∙◌, arith, length, get_or, subst}
-use Rattle.std.proofs.lemmas.List.{get_or_default}
+use Rattle.std.proofs.Common.{◌≡◌, ◌<◌, ◌≤◌, ◌+◌, ◌++◌, max, sym, ◌∙◌, arith, length, get_or, subst, ap, refl}
+use Rattle.std.proofs.lemmas.List.{get_or_default, length-map}
+use Rattle.std.proofs.lemmas.Option.{slice_get_within}
 use Rattle.bayou_world.specs.declared.replica.Replica.TheVariants.{Running}
 use Rattle.bayou_base.specs.declared.limits.TheConstants.{MAX_NUMBER}
+use Rattle.bayou_lang.specs.Writes.{count_of}
+use Rattle.bayou_world.specs.Inner.Replicas.{is_stopped}
 use Rattle.bayou_world.specs.Inner.Tie.{IsTied}
-use Rattle.bayou_world.specs.Machine.{Machine}
-use Rattle.bayou_world.specs.Steps.{Collects}
+use Rattle.bayou_world.specs.Machine.{Machine, Offered}
+use Rattle.bayou_world.specs.Steps.{CannotCollect, Collects}
 use Rattle.bayou_world.specs.declared.reply.Reply.TheVariants as replies
-use Rattle.bayou_world.proofs.Tied.{stands_at}
+use Rattle.bayou_world.proofs.Tied.{not_true, runs_at, runs_there, stands_at}
 use Rattle.bayou_world.proofs.TiedItems.{collect_beyond, collect_flown, collect_lacks}
 use Rattle.bayou_world.proofs.state.State.collect.Goals as goal
+use Rattle.bayou_world.proofs.state.State.collect.Goals.{then-at-len-via-then-at-len, then-at-len-via-else-at-len+then-offer-len}
 
 pub returns-then-first-max-clause-follows : goal.returns-then-first-max-clause-follows
 returns-then-first-max-clause-follows c machine good tied =
@@ -55,3 +59,49 @@ returns-clause-follows c machine good tied =
     (subst (λ n. (next : Machine) × Collects machine place c.args.offer (replies.Flown (length items) n) next
     × IsTied servers clients offers (items ++ lacking) c.args.self.now.served.items next) (sym number)
     (collect_flown servers clients offers items c.args.self.now.served.items machine tied place c.args.offer lacking lacks few)))
+
+pub returns-then-at-len-clause-follows : goal.returns-then-at-len-clause-follows
+returns-then-at-len-clause-follows c machine good tied =
+    let place = c.args.place.index in
+    let servers = c.args.self.now.servers.items in
+    let clients = c.args.self.now.clients.items in
+    let offers = c.args.self.now.offers.items in
+    let items = c.args.self.now.items.items in
+    let served = c.args.self.now.served.items in
+    let none : CannotCollect machine place c.args.offer = λ offered lacking may. elim c.then-at-len.branch as (λ _. ⊥) [
+      | then-at-len-via-then-at-len w ↦ omega (arith, may.server.there, tied.many, w.if-at-len.true, c.from-at.ensures, c.len.ensures)
+      | then-at-len-via-else-at-len+then-offer-len w ↦
+          omega (arith, slice_get_within machine.offers c.args.offer _ may.there, ap length tied.offers_are, length-map machine.offers (λ (offer : Offered). count_of offer.database), w.if-offer-len.true, w.len-else-at-len.ensures)
+    ] in
+    (machine, Collects.skipped none refl refl, tied)
+
+pub returns-in_default-clause-follows : goal.returns-in_default-clause-follows
+returns-in_default-clause-follows c machine good tied =
+    let place = c.args.place.index in
+    let servers = c.args.self.now.servers.items in
+    let clients = c.args.self.now.clients.items in
+    let offers = c.args.self.now.offers.items in
+    let items = c.args.self.now.items.items in
+    let served = c.args.self.now.served.items in
+    let found = c.index.result.now in
+    let stands = stands_at servers place c.from-at.result found found c.index.ensures c.from-at.ensures refl in (
+      machine,
+      Collects.skipped (λ offered lacking may. not_true (sym (runs_there servers clients offers items served machine tied place found stands may.server) ∙ ap is_stopped c.in_default.is)) refl refl,
+      tied,
+    )
+
+pub returns-in_default-lacking-clause-follows : goal.returns-in_default-lacking-clause-follows
+returns-in_default-lacking-clause-follows c machine good tied =
+    let place = c.args.place.index in
+    let servers = c.args.self.now.servers.items in
+    let clients = c.args.self.now.clients.items in
+    let offers = c.args.self.now.offers.items in
+    let items = c.args.self.now.items.items in
+    let served = c.args.self.now.served.items in
+    let server = c.in-Running.server in
+    let known : place < length servers = omega (arith, c.if-at-len.false, c.from-at.ensures, c.len.ensures) in
+    let stands : get_or servers place (Running server) ≡ Running server =
+    stands_at servers place c.from-at.result c.index.result.now (Running server) c.index.ensures c.from-at.ensures c.in-Running.is in
+    let inside : c.args.offer < length machine.offers =
+    omega (arith, c.if-offer-len.false, c.len-else-at-len.ensures, ap length tied.offers_are, length-map machine.offers (λ (offer : Offered). count_of offer.database)) in
+    (machine, Collects.no_memory (runs_at servers clients offers items served machine tied place server known stands).running inside refl refl, tied)

@@ -1,6 +1,9 @@
-use Rattle.std.proofs.Common.{◌≡◌, ◌<◌, Some, None, ap, sym, ◌∙◌, arith, length, get_or, set, refl, subst, false}
+use Rattle.std.proofs.Common.{◌≡◌, ◌<◌, Some, None, ap, sym, ◌∙◌, arith, length, get_or, set, refl, subst, false, ◌≤◌}
 use Rattle.std.proofs.lemmas.List.{set-get_or, get_or_default}
 use Rattle.bayou_world.specs.declared.replica.Replica.TheVariants.{Running}
+use Rattle.bayou_base.specs.declared.limits.TheConstants.{MAX_PLACES}
+use Rattle.bayou_world.specs.declared.client.Client.{Client}
+use Rattle.bayou_world.specs.Inner.Replicas.{is_stopped}
 use Rattle.bayou_world.specs.Inner.Tie.{IsTied, seat}
 use Rattle.bayou_world.specs.Machine.{Machine}
 use Rattle.bayou_world.specs.Steps.{Writes}
@@ -8,9 +11,10 @@ use Rattle.bayou_world.specs.declared.reply.Reply.TheVariants as replies
 use Rattle.bayou_world.specs.Faults.{tells_fault}
 use Rattle.bayou_world.specs.Inner.Charges.{AreSpent}
 use Rattle.bayou_world.proofs.Charging.{none_spent, one_spent}
-use Rattle.bayou_world.proofs.Tied.{stands_at}
+use Rattle.bayou_world.proofs.Tied.{cannot_begin, no_client, not_true, runs_there, same_client, stands_at}
 use Rattle.bayou_world.proofs.TiedWrites.{write_tied}
 use Rattle.bayou_world.proofs.state.State.write.Goals as goal
+use Rattle.bayou_world.proofs.state.State.write.Goals.{then-seat-len-via-then-seat-len, then-seat-len-via-else-seat-len+then-at-len}
 
 pub returns-clause-follows : goal.returns-clause-follows
 returns-clause-follows c machine good tied =
@@ -59,3 +63,84 @@ returns-clause-spent c =
     stands_at servers place c.from-at.result c.index_mut-2.result.now (Running old) c.index_mut-2.ensures.value c.from-at.ensures c.in-Running.is in
     subst (λ n. AreSpent place (tells_fault (replies.Wrote c.write.result)) false servers (set servers n (Running c.write.new.server))) (sym c.from-at.ensures)
     (one_spent servers place (tells_fault (replies.Wrote c.write.result)) false (Running old) (Running c.write.new.server) known stands c.write.ensures.spends)
+
+pub returns-then-seat-len-clause-follows : goal.returns-then-seat-len-clause-follows
+returns-then-seat-len-clause-follows c machine good tied =
+    let who = c.args.who.index in
+    let place = c.args.place.index in
+    let servers = c.args.self.now.servers.items in
+    let clients = c.args.self.now.clients.items in
+    let offers = c.args.self.now.offers.items in
+    let items = c.args.self.now.items.items in
+    let served = c.args.self.now.served.items in
+    let none : length servers ≤ place = elim c.then-seat-len.branch as (λ _. length servers ≤ place) [
+      | then-seat-len-via-then-seat-len w ↦ absurd (omega (arith, w.if-seat-len.true, c.len.ensures, c.from-seat.ensures, tied.seats, c.args.who.in_range))
+      | then-seat-len-via-else-seat-len+then-at-len w ↦ omega (arith, w.if-at-len.true, w.len-else-seat-len.ensures, c.from-at.ensures)
+    ] in
+    (machine, Writes.skipped (cannot_begin servers clients offers items served machine tied who place c.args.who.in_range (λ client there idle left known running. omega (arith, none, known))) refl refl, tied)
+
+pub returns-in_default-clause-follows : goal.returns-in_default-clause-follows
+returns-in_default-clause-follows c machine good tied =
+    let who = c.args.who.index in
+    let place = c.args.place.index in
+    let servers = c.args.self.now.servers.items in
+    let clients = c.args.self.now.clients.items in
+    let offers = c.args.self.now.offers.items in
+    let items = c.args.self.now.items.items in
+    let served = c.args.self.now.served.items in
+    let inside : who < length clients = omega (arith, c.if-seat-len.false, c.from-seat.ensures, c.len.ensures) in
+    let found = c.index_mut.result.now in
+    let at : seat clients who ≡ None =
+    get_or_default clients who None found inside ∙ ap (λ n. get_or clients n found) (sym c.from-seat.ensures) ∙ sym c.index_mut.ensures.value ∙ c.in_default.is in
+    let kept : set clients c.from-seat.result found ≡ clients = ap (set clients c.from-seat.result) c.index_mut.ensures.value ∙ set-get_or clients c.from-seat.result found in (
+      machine,
+      Writes.skipped (cannot_begin servers clients offers items served machine tied who place c.args.who.in_range (λ client there idle left known running. no_client client (sym there ∙ at))) refl refl,
+      subst (λ list. IsTied servers list offers items served machine) (sym kept) tied,
+    )
+
+pub returns-then-not-may_begin-clause-follows : goal.returns-then-not-may_begin-clause-follows
+returns-then-not-may_begin-clause-follows c machine good tied =
+    let who = c.args.who.index in
+    let place = c.args.place.index in
+    let servers = c.args.self.now.servers.items in
+    let clients = c.args.self.now.clients.items in
+    let offers = c.args.self.now.offers.items in
+    let items = c.args.self.now.items.items in
+    let served = c.args.self.now.served.items in
+    let inside : who < length clients = omega (arith, c.if-seat-len.false, c.from-seat.ensures, c.len.ensures) in
+    let at : seat clients who ≡ Some c.in-Some.client =
+    get_or_default clients who None c.index_mut.result.now inside ∙ ap (λ n. get_or clients n c.index_mut.result.now) (sym c.from-seat.ensures) ∙ sym c.index_mut.ensures.value ∙ c.in-Some.is in
+    let seated : set clients c.from-seat.result (Some c.in-Some.client) ≡ clients =
+    ap (set clients c.from-seat.result) (sym c.in-Some.is ∙ c.index_mut.ensures.value) ∙ set-get_or clients c.from-seat.result c.index_mut.result.now in
+    (
+      machine,
+      Writes.skipped
+          (cannot_begin servers clients offers items served machine tied who place c.args.who.in_range (λ client there idle left known running.
+            let same = same_client client c.in-Some.client (sym there ∙ at) in
+            not_true (c.if-not-may_begin.ensures.1 (subst (λ (x : Client). x.flight ≡ None) same idle, subst (λ (x : Client). x.session.begun < MAX_PLACES) same left))))
+          refl refl,
+      subst (λ list. IsTied servers list offers items served machine) (sym seated) tied,
+    )
+
+pub returns-in_default-index_mut-clause-follows : goal.returns-in_default-index_mut-clause-follows
+returns-in_default-index_mut-clause-follows c machine good tied =
+    let who = c.args.who.index in
+    let place = c.args.place.index in
+    let servers = c.args.self.now.servers.items in
+    let clients = c.args.self.now.clients.items in
+    let offers = c.args.self.now.offers.items in
+    let items = c.args.self.now.items.items in
+    let served = c.args.self.now.served.items in
+    let seated : set clients c.from-seat.result (Some c.in-Some.client) ≡ clients =
+    ap (set clients c.from-seat.result) (sym c.in-Some.is ∙ c.index_mut.ensures.value) ∙ set-get_or clients c.from-seat.result c.index_mut.result.now in
+    let found = c.index_mut-2.result.now in
+    let stands = stands_at servers place c.from-at.result found found c.index_mut-2.ensures.value c.from-at.ensures refl in
+    let kept : set servers c.from-at.result found ≡ servers = ap (set servers c.from-at.result) c.index_mut-2.ensures.value ∙ set-get_or servers c.from-at.result found in (
+      machine,
+      Writes.skipped
+          (cannot_begin servers clients offers items served machine tied who place c.args.who.in_range (λ client there idle left known running.
+            not_true (sym (runs_there servers clients offers items served machine tied place found stands running) ∙ ap is_stopped c.in_default-index_mut.is)))
+          refl refl,
+      subst (λ list. IsTied list (set clients c.from-seat.result (Some c.in-Some.client)) offers items served machine) (sym kept)
+          (subst (λ list. IsTied servers list offers items served machine) (sym seated) tied),
+    )
