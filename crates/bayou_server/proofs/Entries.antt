@@ -1,5 +1,5 @@
 -- The entries of a journal, one after another.
-use Rattle.std.proofs.Common.{◌≡◌, ℕ, ◌+◌, ◌<◌, List, [], ◌∷◌, ◌++◌, Some, All, length, take, drop, sym, ◌∙◌, ap, subst, arith, length-append}
+use Rattle.std.proofs.Common.{◌≡◌, ◌⊎◌, inl, inr, ℕ, ◌+◌, ◌<◌, List, [], ◌∷◌, ◌++◌, Some, All, length, take, drop, sym, ◌∙◌, ap, subst, arith, length-append}
 use Rattle.std.specs.List.{slice_get}
 use Rattle.std.proofs.lemmas.List.{map-append}
 use Rattle.bayou_lang.specs.declared.write.Write.{Write}
@@ -8,6 +8,7 @@ use Rattle.bayou_log.specs.Log.{Log}
 use Rattle.bayou_lang.specs.Ranges.{IsWrite}
 use Rattle.bayou_wire.specs.Spelling.{SpellsWrite, write_bytes}
 use Rattle.bayou_server.specs.declared.fault.StartFault.{StartFault}
+use Rattle.bayou_server.specs.declared.fault.StartFault.TheVariants.{OutOfMemory}
 use Rattle.bayou_server.specs.Server.{MayFollow, MayHold}
 use Rattle.bayou_server.specs.Stored.{bodies_of}
 use Rattle.bayou_server.specs.Starts.{RefusesBody, RefusesEntry}
@@ -45,3 +46,11 @@ refuses_at server count limit at bodies body log fault whole spelled holds same_
   holds = holds;
   why = subst (λ m. RefusesBody server count m log.receipts body fault) same_limit (subst (λ n. RefusesBody server n log.limit log.receipts body fault) same_count why);
 }
+
+-- or memory was refused
+pub refuses_at_or : (server count limit at : ℕ) (bodies : List (List ℕ)) (body : List ℕ) (log : Log) (fault : StartFault) → take at bodies ≡ bodies_of log.receipts
+    → All IsWrite log.receipts → MayHold server count limit log.receipts → log.count ≡ count → log.limit ≡ limit → slice_get bodies at ≡ Some body
+    → (fault ≡ OutOfMemory) ⊎ RefusesBody server log.count log.limit log.receipts body fault → (fault ≡ OutOfMemory) ⊎ RefusesEntry server count limit bodies fault
+refuses_at_or server count limit at bodies body log fault whole spelled holds same_count same_limit is (inl none) = inl none
+refuses_at_or server count limit at bodies body log fault whole spelled holds same_count same_limit is (inr why) =
+    inr (refuses_at server count limit at bodies body log fault whole spelled holds same_count same_limit is why)

@@ -5,6 +5,7 @@ use Rattle.std.proofs.lemmas.Bool.Decides.{Decides-eqb}
 use Rattle.std.proofs.lemmas.List.Elements.{All-push}
 use Rattle.bayou_base.specs.declared.answer.Accepted.{Accepted}
 use Rattle.bayou_base.specs.declared.wid.Wid.{Wid}
+use Rattle.bayou_device.specs.declared.device.Device.{Ghosts}
 use Rattle.bayou_lang.specs.declared.program.Program.{Program}
 use Rattle.bayou_lang.specs.declared.write.Write.{Write}
 use Rattle.bayou_lang.specs.Writes.{IsNextWrite, count_of, counted}
@@ -18,7 +19,8 @@ use Rattle.bayou_server.specs.declared.fault.WriteFault.{WriteFault}
 use Rattle.bayou_server.specs.declared.fault.WriteFault.TheVariants.{Down, Behind, LogFull, OutOfMemory, Journal}
 use Rattle.bayou_server.specs.Reopens.{Recovers, own_adopted}
 use Rattle.bayou_server.specs.Inner.Storing.{MayBeStored}
-use Rattle.bayou_server.specs.Server.{Core, IsSoundServer, IsUp, MayBeInDoubt, own_count}
+use Rattle.bayou_server.specs.Server.{Core, IsSoundServer, IsUp, MayBeInDoubt, ServerState, own_count}
+use Rattle.bayou_server.specs.Stored.{StoresTaken}
 use Rattle.bayou_server.specs.Takes.{Takes}
 use Rattle.bayou_server.specs.Writes.{Writes}
 
@@ -98,3 +100,18 @@ own_of_taking old given (Err taking.BadStamp) new takes = ap own_count takes.3
 own_of_taking old given (Err taking.LogFull) new takes = ap own_count takes.2
 own_of_taking old given (Err taking.OutOfMemory) new takes = ap own_count takes.1
 own_of_taking old given (Err taking.Journal) new takes = ap own_count takes.2
+
+-- after an answer that leaves a server as it is the device is as it was
+pub stays_stored : {D : Type 0} (d : Ghosts D) (server : ServerState D) (given : Write) (answer : Result Took TakeFault) → Takes server.core given answer server.core → StoresTaken d server answer server
+stays_stored d server given (Ok New) takes = absurd (omega (arith, ap (λ (core : Core). length core.held) takes.2, length-append server.core.held (given ∷ [])))
+stays_stored d server given (Ok Had) takes = refl
+stays_stored d server given (Err taking.Conflict) takes = refl
+stays_stored d server given (Err taking.Down) takes = refl
+stays_stored d server given (Err taking.OwnLost) takes = refl
+stays_stored d server given (Err taking.Gap) takes = refl
+stays_stored d server given (Err taking.BadStamp) takes = refl
+stays_stored d server given (Err taking.LogFull) takes = refl
+stays_stored d server given (Err taking.OutOfMemory) takes = refl
+stays_stored d server given (Err taking.Journal) takes =
+    let some : Some given ≡ None = sym (ap (λ (core : Core). core.doubt) takes.2) ∙ takes.0.fit.foreign.up in
+    absurd (cc)

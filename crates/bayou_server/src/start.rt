@@ -2,7 +2,7 @@ ghost use Rattle.std.specs.Prelude.{◌≡◌, ◌<◌, ◌≤◌, ◌⊎◌, �
 ghost use Rattle.bayou_base.specs.declared.limits.TheConstants.{SERVERS, MAX_WRITES};
 ghost use Rattle.bayou_server.specs.declared.fault.StartFault.TheVariants.{OutOfMemory};
 ghost use Rattle.bayou_server.specs.Server.{MayFollow};
-ghost use Rattle.bayou_server.specs.Inner.Replaying.{IsAdmitted, Replays};
+ghost use Rattle.bayou_server.specs.Inner.Replaying.{IsAdded, IsAdmitted, Replays};
 ghost use Rattle.bayou_server.specs.Starts.{RefusesBody, RefusesEntry};
 
 use crate::fault::StartFault;
@@ -43,6 +43,19 @@ fn next_of(log: &WriteLog, id: ServerId, body: &[u8]) -> Result<Write, StartFaul
     Ok(write)
 }
 
+// Adds the Write that the body of the next entry spells to the log of the server `id`.
+fn add_next(alloc: Global, log: &mut WriteLog, id: ServerId, body: &[u8]) -> Result<(), StartFault>
+    requires { log.old.limit ≤ MAX_WRITES }
+    ensures { MatchResult result
+        (λ _. IsAdded id.index log.old body.now log.new)
+        (λ fault. (fault ≡ OutOfMemory) ⊎ RefusesBody id.index log.old.count log.old.limit log.old.receipts body.now fault) }
+{
+    let write = next_of(log, id, body)?.rest(alloc)?;
+    log.reserve(&write)?;
+    log.insert(write);
+    Ok(())
+}
+
 // The log of the Writes that the bodies spell, in their order.
 pub fn log_of(
     alloc: Global,
@@ -60,10 +73,7 @@ pub fn log_of(
 {
     let mut log = WriteLog::new(alloc, count, limit);
     for at in 0..opened.len() {
-        let admitted = next_of(&log, id, opened.body(at))?;
-        let write = admitted.rest(alloc)?;
-        log.reserve(&write)?;
-        log.insert(write);
+        add_next(alloc, &mut log, id, opened.body(at))?;
     }
     Ok(log)
 }

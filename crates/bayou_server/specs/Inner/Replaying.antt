@@ -15,6 +15,12 @@ pub record IsAdmitted (id : ℕ) (log : Log) (body : List ℕ) (write : Write) :
   pub follows : MayFollow id log.count log.receipts write
   pub room : length log.receipts < log.limit
 
+-- and is added to it
+pub record IsAdded (id : ℕ) (log : Log) (body : List ℕ) (new : Log) : Type 0 where
+  pub write : Write
+  pub admitted : IsAdmitted id log body write
+  pub is : new ≡ record log { receipts = log.receipts ++ write ∷ []; room = new.room }
+
 -- the log holds exactly the Writes that the bodies spell
 pub record Replays (id count limit : ℕ) (bodies : List (List ℕ)) (log : Log) : Type 0 where
   pub whole : bodies ≡ bodies_of log.receipts

@@ -63,3 +63,6 @@ returns-clause-stores g c =
       left = c.append-added.ensures.left;
     })
     c.settle.ensures)
+
+pub returns-clause-safe : goal.returns-clause-safe
+returns-clause-safe g c = λ modelled. rw (← c.self.view_is) (c.append-added.ensures.safe modelled)

@@ -8,7 +8,7 @@ use Rattle.bayou_server.specs.Inner.Storing.{Keeps, StoresEntry}
 use Rattle.bayou_server.specs.Server.{Core}
 use Rattle.bayou_server.specs.Takes.{IsTakable}
 use Rattle.bayou_server.proofs.Adding.{stored_after}
-use Rattle.bayou_server.proofs.Steps.{own_of_taking}
+use Rattle.bayou_server.proofs.Steps.{own_of_taking, stays_stored}
 use Rattle.bayou_server.proofs.server.Server.take.Goals as goal
 
 pub returns-in-Held-clause-takes : goal.returns-in-Held-clause-takes
@@ -27,3 +27,8 @@ pub returns-in-Held-clause-stored : goal.returns-in-Held-clause-stored
 returns-in-Held-clause-stored g c = λ modelled.
     stored_after g.D.Device c.args.self.now c.store.new.self modelled (ap (λ (core : Core). core.id) (returns-in-Held-clause-takes g c).2)
     (subst (λ (s : Stored). StoresEntry g.D.Device c.args.self.now s c.store.new.self) c.in-Held.is c.in_ok-store.ensures.stores)
+
+pub returns-in-Some-clause-stores : goal.returns-in-Some-clause-stores
+returns-in-Some-clause-stores g c =
+    rw (← c.self.view_is)
+    (stays_stored g.D.Device (record { core = core_of c.self.inside.log c.self.inside.id.index c.self.inside.doubt; device = c.self.inside.journal.device }) c.unfold.result c.in-Some.answer c.in-Some.ensures)
