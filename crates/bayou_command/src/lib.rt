@@ -8,7 +8,7 @@
 ghost use Rattle.std.specs.Prelude.{◌≡◌, ◌∷◌, [], IfOk, MatchResult, codes, false, map};
 ghost use Rattle.clap.specs.declared.builder.command.Command.TheViews.{out-Command as fields_of};
 ghost use Rattle.clap.specs.Words.{app_of, found_of, kind_of, rows_of, rule_of, subcommand_rows_of};
-ghost use Rattle.bayou_command.specs.Words.{AskFor, Names, a_net, a_run, an_audit, asked_by, audit_app, bayou_app, faults_of, file, folder_of, folder_rule, input_of, input_seen, net_app, run_app, standard, task_seen};
+ghost use Rattle.bayou_command.specs.Words.{AskFor, Names, a_net, a_run, an_audit, asked_by, audit_app, bayou_app, faults_of, file, folder_of, folder_rule, input_of, input_seen, main_app, net_app, run_app, standard, task_seen};
 ghost use Rattle.bayou_command.specs.Inner.Stops.{StopsAt};
 
 use clap::builder::ValueParser;
@@ -306,23 +306,26 @@ fn net_command<'a>(alloc: Global) -> Result<Command<'a>, AllocError>
     ensures app { IfOk result (λ command. app_of command ≡ net_app) }
     ensures local { IfOk result (λ command. (fields_of command).has_globals ≡ false) }
 {
-    let file = Arg::new(alloc, "FILE").help(RUN_FILE);
     Command::new(alloc, "net")
         .about(NET_ABOUT)
         .after_help(NET_FORM)
         .arg(folder_option(alloc))?
-        .arg(file)
+        .arg(Arg::new(alloc, "FILE").help(RUN_FILE))
+}
+
+// The program's command, with none below it.
+fn main_command<'a>(alloc: Global) -> Result<Command<'a>, AllocError>
+    ensures { IfOk result (λ command. app_of command ≡ main_app) }
+{
+    let command = Command::new(alloc, "bayou").bin_name("bayou")?;
+    let command = command.version("0.1.0").about(ABOUT).after_help(EXAMPLE);
+    Ok(command.subcommand_required(true))
 }
 
 fn bayou_command<'a>(alloc: Global) -> Result<Command<'a>, AllocError>
     ensures { IfOk result (λ command. app_of command ≡ bayou_app) }
 {
-    Command::new(alloc, "bayou")
-        .bin_name("bayou")?
-        .version("0.1.0")
-        .about(ABOUT)
-        .after_help(EXAMPLE)
-        .subcommand_required(true)
+    main_command(alloc)?
         .subcommand(run_command(alloc)?)?
         .subcommand(net_command(alloc)?)?
         .subcommand(audit_command(alloc)?)

@@ -1,0 +1,14 @@
+use Rattle.std.proofs.Common.{rules, ◌≡◌, ◌∙◌, ap₂, codes, false, sym}
+use Rattle.std.proofs.lemmas.Result.{IfOk-weaker}
+use Rattle.clap.specs.Words.{app_of, new_app, rule_of, with_rule}
+use Rattle.bayou_command.specs.Words.{file_rule}
+use Rattle.bayou_command.proofs.net_command.Goals as goal
+
+pub returns-clause-app : goal.returns-clause-app
+returns-clause-app c =
+    let bare : app_of c.after_help.result ≡ new_app (codes "net") = search rules in
+    let file : rule_of c.help.result ≡ file_rule = search rules in
+    let free : c.help.result.global ≡ false = search rules in
+    IfOk-weaker c.arg-2.result _ _
+    (λ command h. h.shape free ∙ ap₂ with_rule (c.in_ok-arg.ensures.shape c.folder_option.ensures.local ∙ ap₂ with_rule bare c.folder_option.ensures.rule) file)
+    c.arg-2.ensures
