@@ -3,3 +3,4 @@ pub mod Vectors
 pub mod Written
 pub mod Again
 pub mod Lengths
+pub mod Pushed
