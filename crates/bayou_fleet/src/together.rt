@@ -63,8 +63,11 @@ where
     K: Ledgers + Send + Sync,
     T: Threads + Wait + Net<Stream = TcpStream, Listener = TcpListener> + Send + Sync,
 {
+    if operations.is_empty() {
+        return Ok(Going::Idle(member));
+    }
     match member {
-        Member::Present(visitor) if !operations.is_empty() => {
+        Member::Present(visitor) => {
             let started = scope.spawn(
                 move || -> Visited<K>
                     requires { IsSend K.Slips.row × IsSend K.Reads.row × IsSend K.Writes.row × IsSend K.Refusals.row }
@@ -97,11 +100,8 @@ where
     let mut operations = operations;
     let mut going = Vec::with_capacity(alloc, members.len())?;
     for member in members {
-        let own = match operations.pop_front() {
-            Some(own) => own,
-            None => Vec::new(alloc),
-        };
-        going.push(begin(scope, rt, alloc, network, member, own)?)?;
+        let own = operations.pop_front().unwrap_or(Vec::new(alloc));
+        going.push_reserved(begin(scope, rt, alloc, network, member, own)?);
     }
     Ok(going)
 }
@@ -168,7 +168,7 @@ fn end_all<K: Ledgers + Send + Sync, T: Threads>(
 {
     let mut members = Vec::with_capacity(alloc, going.len())?;
     for one in going {
-        members.push(end_one(rt, one, answers)?)?;
+        members.push_reserved(end_one(rt, one, answers)?);
     }
     Ok(members)
 }
@@ -208,6 +208,21 @@ pub struct Together<K: Ledgers> {
     pub answers: Vec<Answer>,
 }
 
+// Waits for all sessions, and then for the pulls.
+fn end<K: Ledgers + Send + Sync, T: Threads>(
+    rt: &T,
+    alloc: Global,
+    going: Vec<Going<K>>,
+    pulling: Pulling,
+) -> Result<Together<K>, FleetFault>
+    ensures { IfOk result (λ together. vec_len together.members ≡ vec_len going) }
+{
+    let mut answers = Vec::new(alloc);
+    let members = end_all(rt, alloc, going, &mut answers)?;
+    put_all(pulling.join(rt)?, &mut answers)?;
+    Ok(Together { members, answers })
+}
+
 // The sessions and the pulls, side by side.
 fn go<'s, E, F, K, T>(
     scope: &'s Scope<'s, E>,
@@ -226,10 +241,7 @@ where
 {
     let going = begin_all(scope, rt, alloc, network, members, operations)?;
     let pulling = begin_pulls(scope, rt, alloc, network, pulls)?;
-    let mut answers = Vec::new(alloc);
-    let members = end_all(rt, alloc, going, &mut answers)?;
-    put_all(pulling.join(rt)?, &mut answers)?;
-    Ok(Together { members, answers })
+    end(rt, alloc, going, pulling)
 }
 
 /// Opens the sessions of a phase; then each session does its operations in order, in a thread of its own, and the pulls are done in order in

@@ -1,5 +1,5 @@
 -- Runs, one turn after another, and what is printed for them.
-use Rattle.std.proofs.Common.{◌≡◌, ℕ, zero, suc, Bool, true, false, ◌&&◌, List, [], ◌∷◌, ◌++◌, Option, None, Some, IfSome, IfErr, IfOk, Result, Ok, Err, inl, inr, IsTrue, map, take, length, ap, ap₂, max, sym, ◌∙◌, refl, subst, append_assoc, arith, ◌+◌, ◌≤◌}
+use Rattle.std.proofs.Common.{◌≡◌, ℕ, zero, suc, Bool, true, false, ◌&&◌, List, [], ◌∷◌, ◌++◌, Option, None, Some, IfSome, IfErr, IfOk, Result, Ok, Err, OnOk, inl, inr, IsTrue, map, take, length, ap, ap₂, max, sym, ◌∙◌, refl, subst, append_assoc, arith, ◌+◌, ◌≤◌}
 use Rattle.std.proofs.lemmas.List.{append-nil, take_all}
 use Rattle.std.proofs.lemmas.Grind.{flat_map-append}
 use Rattle.std.proofs.KnownBytes.{Keeps-refl}
@@ -13,7 +13,9 @@ use Rattle.bayou_machine.specs.Laws.Runs.{Run-more, Turn-moves, operations-first
 use Rattle.bayou_machine.specs.Machine.{FailsToBegin}
 use Rattle.bayou_machine.specs.Run.{Audited, IsNewRun, Run, Turn}
 use Rattle.bayou_script.specs.Script.{IsScript, Plan, is_served, lines_of, script_order}
-use Rattle.bayou_streams.specs.Account.{Account, Takes, TakesFront}
+use Rattle.bayou_base.specs.declared.limits.TheConstants.{MAX_TURNS}
+use Rattle.bayou_streams.specs.Account.{Account, Pays, Takes, TakesFront}
+use Rattle.bayou_streams.proofs.Taken.{Pays-part, Pays-whole}
 use Rattle.bayou_text.specs.declared.command.Command.{Command}
 use Rattle.bayou_text.specs.Said.{Said, command_said}
 use Rattle.bayou_shell.specs.declared.fault.Fault.{Fault}
@@ -26,7 +28,7 @@ use Rattle.bayou_shell.specs.Inner.Faults.{IsReadFault, IsRunFault}
 use Rattle.bayou_shell.specs.Inner.Waiting.{Gathers, Stage}
 use Rattle.bayou_print.specs.Printed.{answer_text}
 use Rattle.bayou_shell.specs.Run.{Prints, PrintsPart, RunsAs, answers_text}
-use Rattle.bayou_shell.specs.Turns.{EndsReading, EndsWriting}
+use Rattle.bayou_shell.specs.Turns.{EndsReading, EndsWriting, cut_lines}
 use Rattle.bayou_shell.proofs.Gathered.{Gathers-trans, Takes-all, Takes-front, Takes-rest}
 
 and_right : (a b : Bool) → IsTrue (a && b) → IsTrue b
@@ -246,3 +248,22 @@ unbegun_reads fails turns beginning.Device = tt
 pub unbegun_writes : (fails : Bool) (turns : ℕ) (fault : BeginFault) → EndsWriting fails turns (fault_of_begin fault)
 unbegun_writes fails turns beginning.OutOfMemory = tt
 unbegun_writes fails turns beginning.Device = tt
+
+-- what was written is paid for
+pub run_paid : (plan : Plan) (old new : Account) (result : Result Ended Fault) → old.turns_left ≤ MAX_TURNS
+    → IfOk result (λ ended. (text : List ℕ) × Prints plan ended text × Takes old new text)
+    → IfErr result (λ fault. IsRunFault fault × (text : List ℕ) × PrintsPart plan text × Takes old new text)
+    → OnOk result (old.turns_left ≤ new.turns_left) → Pays old new (cut_lines result)
+run_paid plan old new (Ok ended) within (text, prints, took) err ready = Pays-whole old new text took ready
+run_paid plan old new (Err fault) within ok (is, text, part, took) ready = Pays-part old new text within took
+
+-- a fault of a run tells of no input
+pub run_reads : (fails : Bool) (turns : ℕ) (plan : Plan) (old new : Account) (result : Result Ended Fault)
+    → IfErr result (λ fault. IsRunFault fault × (text : List ℕ) × PrintsPart plan text × Takes old new text) → IfErr result (EndsReading fails turns)
+run_reads fails turns plan old new (Ok ended) err = tt
+run_reads fails turns plan old new (Err (Line number why)) (is, text, part, took) = absurd is
+run_reads fails turns plan old new (Err faults.Memory) (is, text, part, took) = tt
+run_reads fails turns plan old new (Err Device) (is, text, part, took) = absurd is
+run_reads fails turns plan old new (Err Network) (is, text, part, took) = absurd is
+run_reads fails turns plan old new (Err Input) (is, text, part, took) = absurd is
+run_reads fails turns plan old new (Err Output) (is, text, part, took) = tt

@@ -1,13 +1,14 @@
 -- What words ask for, and what becomes of it.
-use Rattle.std.proofs.Common.{◌≡◌, ◌∙◌, ℕ, Bool, List, [], Option, None, Some, IfSome, IfErr, Result, Err, ap, inl, sym}
+use Rattle.std.proofs.Common.{◌≡◌, ◌<◌, ◌≤◌, ◌∙◌, ℕ, Bool, List, [], Option, None, Some, IfSome, IfErr, Result, Ok, Err, ap, arith, inl, sym}
 use Rattle.std.proofs.KnownBytes.{Keeps-refl}
-use Rattle.bayou_command.specs.Words.{AskFor, Asked, Input as Named, a_net, a_run, an_audit, file, standard}
+use Rattle.bayou_command.specs.Words.{AreMistaken, AskFor, AskForText, Asked, Input as Named, a_net, a_run, an_audit, file, standard}
 use Rattle.bayou_shell.specs.declared.ended.Ended.{Ended}
 use Rattle.bayou_shell.specs.declared.fault.Fault.{Fault}
-use Rattle.bayou_shell.specs.declared.fault.Fault.TheVariants.{Memory}
+use Rattle.bayou_shell.specs.declared.fault.Fault.TheVariants.{Line, Memory, Device, Network, Input, Output}
 use Rattle.bayou_shell.specs.Fault.{exit_status, status_of}
 use Rattle.bayou_shell.specs.Program.{Works}
-use Rattle.bayou_shell.specs.Turns.{EndsReading, EndsWriting}
+use Rattle.bayou_shell.specs.Turns.{EndsReading, EndsWriting, cut_lines}
+use Rattle.bayou_streams.specs.Account.{Account, Pays}
 
 -- words ask for one thing
 pub asked_once : (words : List (List ℕ)) (one other : Asked) → AskFor words one → AskFor words other → one ≡ other
@@ -41,3 +42,28 @@ name_in (file name) = name
 -- a file has one name
 pub same_name : (one other : List ℕ) → file one ≡ file other → one ≡ other
 same_name one other is = ap name_in is
+
+-- words that ask for a text, or are a mistake, ask for nothing else
+pub no_text : (words : List (List ℕ)) (asked : Asked) → AskForText words → AskFor words asked → ⊥
+no_text words asked text is = rw is.good at text.among
+
+pub no_mistake : (words : List (List ℕ)) (asked : Asked) → AreMistaken words → AskFor words asked → ⊥
+no_mistake words asked why is = rw is.good at why.among
+
+-- at most one line is cut short
+pub pays_one : (a b : Account) (result : Result Ended Fault) → Pays a b (cut_lines result) → Pays a b 1
+pays_one a b (Ok ended) paid = record { text = paid.text; written = paid.written; lines = paid.lines; turns = omega (arith, paid.turns) }
+pays_one a b (Err fault) paid = paid
+
+at_least_two : (fault : Fault) → 2 ≤ status_of fault
+at_least_two (Line number why) = omega arith
+at_least_two Memory = omega arith
+at_least_two Device = omega arith
+at_least_two Network = omega arith
+at_least_two Input = omega arith
+at_least_two Output = omega arith
+
+-- and none where the status tells of no fault
+pub pays_none : (a b : Account) (result : Result Ended Fault) (status : ℕ) → status ≡ exit_status result → status < 2 → Pays a b (cut_lines result) → Pays a b 0
+pays_none a b (Ok ended) status is low paid = paid
+pays_none a b (Err fault) status is low paid = absurd (omega (arith, is, low, at_least_two fault))

@@ -63,12 +63,12 @@ fn answer_one<K: Ledgers, W: Write>(
 fn answer_each<K: Ledgers, W: Write>(
     alloc: Global,
     script: Script,
-    store: Store,
-    filing: Filing<K>,
+    store: &mut Store,
+    filing: &mut Filing<K>,
     output: &mut Output<W>,
     waiting: &mut Waiting,
 ) -> Result<Ended, Fault>
-    requires { IsNewRun (plan_of script) (audited store filing) }
+    requires { IsNewRun (plan_of script) (audited store.old filing.old) }
     ensures ok { IfOk result (λ ended. (text : List ℕ) × Prints (plan_of script) ended text × Gathers (stage W.contents output.old waiting.old) (stage W.contents output.new waiting.new) text []) }
     ensures err { IfErr result (λ fault. IsRunFault fault × (text : List ℕ) × (missing : List ℕ) × PrintsPart (plan_of script) text
         × Gathers (stage W.contents output.old waiting.old) (stage W.contents output.new waiting.new) text missing) }
@@ -79,19 +79,9 @@ fn answer_each<K: Ledgers, W: Write>(
         servers,
         mut commands,
     } = script;
-    let mut store = store;
-    let mut filing = filing;
     let mut ended = Ended::Clean;
     while let Some(command) = commands.pop_front() {
-        let told = answer_one(
-            alloc,
-            servers,
-            &mut store,
-            &mut filing,
-            command,
-            output,
-            waiting,
-        )?;
+        let told = answer_one(alloc, servers, store, filing, command, output, waiting)?;
         ended = ended.and(told);
     }
     Ok(ended)
@@ -101,12 +91,12 @@ fn answer_each<K: Ledgers, W: Write>(
 fn answer_all<K: Ledgers, W: Write>(
     alloc: Global,
     script: Script,
-    store: Store,
-    filing: Filing<K>,
+    store: &mut Store,
+    filing: &mut Filing<K>,
     output: &mut Output<W>,
     waiting: Waiting,
 ) -> Result<Ended, Fault>
-    requires begun { IsNewRun (plan_of script) (audited store filing) }
+    requires begun { IsNewRun (plan_of script) (audited store.old filing.old) }
     requires none { waiting.lines.items ≡ [] }
     ensures ok { IfOk result (λ ended. (text : List ℕ) × Prints (plan_of script) ended text × Takes (account W.contents output.old) (account W.contents output.new) text) }
     ensures err { IfErr result (λ fault. IsRunFault fault
@@ -146,9 +136,9 @@ fn run_with<K: Ledgers, R: Read, W: Write>(
 {
     let script = read_script(alloc, input)?;
     let waiting = Waiting::new(alloc)?;
-    let store = Store::new(alloc, script.servers)?;
-    let filing = Filing::<K>::new(alloc, blanks, places_for(&script.commands))?;
-    answer_all(alloc, script, store, filing, output, waiting)
+    let mut store = Store::new(alloc, script.servers)?;
+    let mut filing = Filing::<K>::new(alloc, blanks, places_for(&script.commands))?;
+    answer_all(alloc, script, &mut store, &mut filing, output, waiting)
 }
 
 /// The same, with a ledger for each of the four totals.

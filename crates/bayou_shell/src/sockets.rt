@@ -44,6 +44,15 @@ struct Ready {
     server: Box<Journaled>,
 }
 
+/// A run whose servers are put in front of one another, from the last one on.
+#[derive(Drop)]
+struct Setting<K: Ledgers> {
+    book: AuditBook<K>,
+    course: Course<K>,
+    /// The servers that aren't put there yet.
+    servers: VecDeque<Box<Journaled>>,
+}
+
 /// Has each server listen in a thread of its own, runs the phases, and has each listener end. The output comes back with what waits to be
 /// written.
 fn run_listened<'s, 'o, E, F, K, T, W>(
@@ -221,8 +230,7 @@ fn run_fleet<F, K, T, W>(
     rt: &T,
     alloc: Global,
     fleet: F,
-    book: AuditBook<K>,
-    course: Course<K>,
+    setting: Setting<K>,
     output: &mut Output<W>,
 ) -> Result<Ended, Fault>
 where
@@ -235,6 +243,7 @@ where
     ensures ended { IfErr result (EndsWriting output.new.channel.write_failed output.new.channel.turns_left) }
     ensures ready { OnOk result (output.old.channel.turns_left ≤ output.new.channel.turns_left) }
 {
+    let Setting { book, course, .. } = setting;
     let network = Network::bind(rt, alloc, fleet, course.servers.count, book)?;
     run_at(rt, alloc, network, course, output)
 }
@@ -255,14 +264,13 @@ fn led<A: Desks, F: Fleet>(
     }
 }
 
-/// Runs the phases over one server in front of a fleet.
+/// Puts a server in front of a fleet, and runs the phases over it.
 #[tactic(auto, using(crate::proofs::Told::took_nothing))]
-fn run_one<A, F, K, T, W>(
+fn lead_one<A, F, K, T, W>(
     rt: &T,
     alloc: Global,
-    book: AuditBook<K>,
-    course: Course<K>,
-    first: Ready,
+    setting: Setting<K>,
+    ready: Ready,
     behind: F,
     output: &mut Output<W>,
 ) -> Result<Ended, Fault>
@@ -272,134 +280,125 @@ where
     K: Ledgers + Send + Sync,
     T: Threads + Wait + Net<Stream = TcpStream, Listener = TcpListener> + Send + Sync,
     W: Write,
-    requires first { IsBlankOf first.blank A.name A.parts course.connections × (first.server.value.core.id ≡ A.server) × (own_count first.server.value.core ≡ A.stored) }
+    requires ready { IsBlankOf ready.blank A.name A.parts setting.course.connections × (ready.server.value.core.id ≡ A.server) × (own_count ready.server.value.core ≡ A.stored) }
     ensures took { (text : List ℕ) × Takes (account W.contents output.old) (account W.contents output.new) text }
     ensures fault { IfErr result IsPhaseFault }
     ensures ended { IfErr result (EndsWriting output.new.channel.write_failed output.new.channel.turns_left) }
     ensures ready { OnOk result (output.old.channel.turns_left ≤ output.new.channel.turns_left) }
 {
-    let Ok(fleet) = led::<A, F>(alloc, course.connections, first, behind) else {
+    let Ok(fleet) = led::<A, F>(alloc, setting.course.connections, ready, behind) else {
         return Err(Fault::Memory);
     };
-    run_fleet(rt, alloc, fleet, book, course, output)
+    run_fleet(rt, alloc, fleet, setting, output)
 }
 
-/// Runs the phases over two servers in front of a fleet.
+/// The same with up to two servers.
 #[tactic(auto, using(crate::proofs::Told::took_nothing))]
-fn run_two<A, B, F, K, T, W>(
+fn lead_two<A, F, K, T, W>(
     rt: &T,
     alloc: Global,
-    book: AuditBook<K>,
-    course: Course<K>,
-    first: Ready,
-    second: Ready,
+    setting: Setting<K>,
+    ready: Ready,
     behind: F,
     output: &mut Output<W>,
 ) -> Result<Ended, Fault>
 where
     A: Desks + Send + Sync,
-    B: Desks + Send + Sync,
     F: Fleet + Send + Sync,
     K: Ledgers + Send + Sync,
     T: Threads + Wait + Net<Stream = TcpStream, Listener = TcpListener> + Send + Sync,
     W: Write,
-    requires first { IsBlankOf first.blank A.name A.parts course.connections × (first.server.value.core.id ≡ A.server) × (own_count first.server.value.core ≡ A.stored) }
-    requires second { IsBlankOf second.blank B.name B.parts course.connections × (second.server.value.core.id ≡ B.server) × (own_count second.server.value.core ≡ B.stored) }
+    requires ready { IsBlankOf ready.blank A.name A.parts setting.course.connections × (ready.server.value.core.id ≡ A.server) × (own_count ready.server.value.core ≡ A.stored) }
     ensures took { (text : List ℕ) × Takes (account W.contents output.old) (account W.contents output.new) text }
     ensures fault { IfErr result IsPhaseFault }
     ensures ended { IfErr result (EndsWriting output.new.channel.write_failed output.new.channel.turns_left) }
     ensures ready { OnOk result (output.old.channel.turns_left ≤ output.new.channel.turns_left) }
 {
-    let Ok(fleet) = led::<B, F>(alloc, course.connections, second, behind) else {
+    let Ok(fleet) = led::<A, F>(alloc, setting.course.connections, ready, behind) else {
         return Err(Fault::Memory);
     };
-    run_one::<A, Led<FileDevice<File>, B, F>, K, T, W>(
-        rt, alloc, book, course, first, fleet, output,
-    )
+    let mut setting = setting;
+    match next_ready(&mut setting.servers, setting.course.connections) {
+        Some(next) => lead_one::<Brand, Led<FileDevice<File>, A, F>, K, T, W>(
+            rt, alloc, setting, next, fleet, output,
+        ),
+        None => run_fleet(rt, alloc, fleet, setting, output),
+    }
 }
 
-/// Runs the phases over three servers in front of a fleet.
+/// The same with up to three servers.
 #[tactic(auto, using(crate::proofs::Told::took_nothing))]
-fn run_three<A, B, C, F, K, T, W>(
+fn lead_three<A, F, K, T, W>(
     rt: &T,
     alloc: Global,
-    book: AuditBook<K>,
-    course: Course<K>,
-    first: Ready,
-    second: Ready,
-    third: Ready,
+    setting: Setting<K>,
+    ready: Ready,
     behind: F,
     output: &mut Output<W>,
 ) -> Result<Ended, Fault>
 where
     A: Desks + Send + Sync,
-    B: Desks + Send + Sync,
-    C: Desks + Send + Sync,
     F: Fleet + Send + Sync,
     K: Ledgers + Send + Sync,
     T: Threads + Wait + Net<Stream = TcpStream, Listener = TcpListener> + Send + Sync,
     W: Write,
-    requires first { IsBlankOf first.blank A.name A.parts course.connections × (first.server.value.core.id ≡ A.server) × (own_count first.server.value.core ≡ A.stored) }
-    requires second { IsBlankOf second.blank B.name B.parts course.connections × (second.server.value.core.id ≡ B.server) × (own_count second.server.value.core ≡ B.stored) }
-    requires third { IsBlankOf third.blank C.name C.parts course.connections × (third.server.value.core.id ≡ C.server) × (own_count third.server.value.core ≡ C.stored) }
+    requires ready { IsBlankOf ready.blank A.name A.parts setting.course.connections × (ready.server.value.core.id ≡ A.server) × (own_count ready.server.value.core ≡ A.stored) }
     ensures took { (text : List ℕ) × Takes (account W.contents output.old) (account W.contents output.new) text }
     ensures fault { IfErr result IsPhaseFault }
     ensures ended { IfErr result (EndsWriting output.new.channel.write_failed output.new.channel.turns_left) }
     ensures ready { OnOk result (output.old.channel.turns_left ≤ output.new.channel.turns_left) }
 {
-    let Ok(fleet) = led::<C, F>(alloc, course.connections, third, behind) else {
+    let Ok(fleet) = led::<A, F>(alloc, setting.course.connections, ready, behind) else {
         return Err(Fault::Memory);
     };
-    run_two::<A, B, Led<FileDevice<File>, C, F>, K, T, W>(
-        rt, alloc, book, course, first, second, fleet, output,
-    )
+    let mut setting = setting;
+    match next_ready(&mut setting.servers, setting.course.connections) {
+        Some(next) => lead_two::<Brand, Led<FileDevice<File>, A, F>, K, T, W>(
+            rt, alloc, setting, next, fleet, output,
+        ),
+        None => run_fleet(rt, alloc, fleet, setting, output),
+    }
 }
 
-/// Runs the phases over four servers in front of a fleet.
+/// The same with up to four servers.
 #[tactic(auto, using(crate::proofs::Told::took_nothing))]
-fn run_four<A, B, C, D, F, K, T, W>(
+fn lead_four<A, F, K, T, W>(
     rt: &T,
     alloc: Global,
-    book: AuditBook<K>,
-    course: Course<K>,
-    first: Ready,
-    second: Ready,
-    third: Ready,
-    fourth: Ready,
+    setting: Setting<K>,
+    ready: Ready,
     behind: F,
     output: &mut Output<W>,
 ) -> Result<Ended, Fault>
 where
     A: Desks + Send + Sync,
-    B: Desks + Send + Sync,
-    C: Desks + Send + Sync,
-    D: Desks + Send + Sync,
     F: Fleet + Send + Sync,
     K: Ledgers + Send + Sync,
     T: Threads + Wait + Net<Stream = TcpStream, Listener = TcpListener> + Send + Sync,
     W: Write,
-    requires first { IsBlankOf first.blank A.name A.parts course.connections × (first.server.value.core.id ≡ A.server) × (own_count first.server.value.core ≡ A.stored) }
-    requires second { IsBlankOf second.blank B.name B.parts course.connections × (second.server.value.core.id ≡ B.server) × (own_count second.server.value.core ≡ B.stored) }
-    requires third { IsBlankOf third.blank C.name C.parts course.connections × (third.server.value.core.id ≡ C.server) × (own_count third.server.value.core ≡ C.stored) }
-    requires fourth { IsBlankOf fourth.blank D.name D.parts course.connections × (fourth.server.value.core.id ≡ D.server) × (own_count fourth.server.value.core ≡ D.stored) }
+    requires ready { IsBlankOf ready.blank A.name A.parts setting.course.connections × (ready.server.value.core.id ≡ A.server) × (own_count ready.server.value.core ≡ A.stored) }
     ensures took { (text : List ℕ) × Takes (account W.contents output.old) (account W.contents output.new) text }
     ensures fault { IfErr result IsPhaseFault }
     ensures ended { IfErr result (EndsWriting output.new.channel.write_failed output.new.channel.turns_left) }
     ensures ready { OnOk result (output.old.channel.turns_left ≤ output.new.channel.turns_left) }
 {
-    let Ok(fleet) = led::<D, F>(alloc, course.connections, fourth, behind) else {
+    let Ok(fleet) = led::<A, F>(alloc, setting.course.connections, ready, behind) else {
         return Err(Fault::Memory);
     };
-    run_three::<A, B, C, Led<FileDevice<File>, D, F>, K, T, W>(
-        rt, alloc, book, course, first, second, third, fleet, output,
-    )
+    let mut setting = setting;
+    match next_ready(&mut setting.servers, setting.course.connections) {
+        Some(next) => lead_three::<Brand, Led<FileDevice<File>, A, F>, K, T, W>(
+            rt, alloc, setting, next, fleet, output,
+        ),
+        None => run_fleet(rt, alloc, fleet, setting, output),
+    }
 }
 
-/// The next server, with a ledger of so many parts.
+/// The last of these servers, with a ledger of so many parts.
 fn next_ready(servers: &mut VecDeque<Box<Journaled>>, desks: u32) -> Option<Ready>
     ensures { IfSome result (λ ready. ready.blank.parts ≡ desks) }
 {
-    let server = servers.pop_front()?;
+    let server = servers.pop_back()?;
     Some(Ready {
         blank: Blank::new(u64::from(desks)),
         server,
@@ -407,12 +406,11 @@ fn next_ready(servers: &mut VecDeque<Box<Journaled>>, desks: u32) -> Option<Read
 }
 
 /// Runs the phases over these servers, which are one to four.
+#[tactic(auto, using(crate::proofs::Told::took_nothing))]
 fn run_servers<K, T, W>(
     rt: &T,
     alloc: Global,
-    book: AuditBook<K>,
-    course: Course<K>,
-    servers: VecDeque<Box<Journaled>>,
+    setting: Setting<K>,
     output: &mut Output<W>,
 ) -> Result<Ended, Fault>
 where
@@ -424,27 +422,13 @@ where
     ensures ended { IfErr result (EndsWriting output.new.channel.write_failed output.new.channel.turns_left) }
     ensures ready { OnOk result (output.old.channel.turns_left ≤ output.new.channel.turns_left) }
 {
-    let mut servers = servers;
-    let desks = course.connections;
-    let Some(first) = next_ready(&mut servers, desks) else {
-        return Err(Fault::Memory);
-    };
-    let Some(second) = next_ready(&mut servers, desks) else {
-        return run_one::<Brand, Nothing, K, T, W>(rt, alloc, book, course, first, Nothing, output);
-    };
-    let Some(third) = next_ready(&mut servers, desks) else {
-        return run_two::<Brand, Brand, Nothing, K, T, W>(
-            rt, alloc, book, course, first, second, Nothing, output,
-        );
-    };
-    let Some(fourth) = next_ready(&mut servers, desks) else {
-        return run_three::<Brand, Brand, Brand, Nothing, K, T, W>(
-            rt, alloc, book, course, first, second, third, Nothing, output,
-        );
-    };
-    run_four::<Brand, Brand, Brand, Brand, Nothing, K, T, W>(
-        rt, alloc, book, course, first, second, third, fourth, Nothing, output,
-    )
+    let mut setting = setting;
+    match next_ready(&mut setting.servers, setting.course.connections) {
+        Some(last) => lead_four::<Brand, Nothing, K, T, W>(
+            rt, alloc, setting, last, Nothing, output,
+        ),
+        None => Err(Fault::Memory),
+    }
 }
 
 /// How many connections each server is reached by at the most: one by each session, one by each pull, and one for the rest.
@@ -511,7 +495,12 @@ where
         commands: script.commands,
         members,
     };
-    run_servers(rt, alloc, book, course, servers, output)
+    let setting = Setting {
+        book,
+        course,
+        servers,
+    };
+    run_servers(rt, alloc, setting, output)
 }
 
 /// Runs a script over sockets: each of its servers has its journal in the folder of this name, and listens at a port of the loopback address

@@ -128,20 +128,13 @@ fn write_parts<W: Write>(
             output,
             waiting,
         ),
-        Answer::Surveyed(Ok(list)) => write_each(alloc, &Survey, list.as_slice(), output, waiting),
+        Answer::Surveyed(told) => match told {
+            Ok(list) => write_each(alloc, &Survey, list.as_slice(), output, waiting),
+            Err(_) => Ok(()),
+        },
         Answer::Booked(file) => write_book(alloc, file, output, waiting),
-        Answer::Done
-        | Answer::Wrote { .. }
-        | Answer::Read { .. }
-        | Answer::Refused { .. }
-        | Answer::NotServed { .. }
-        | Answer::Lost { .. }
-        | Answer::Stopped { .. }
-        | Answer::Recovered(_)
-        | Answer::Exchanged(_)
-        | Answer::Counted(_)
-        | Answer::Judged(_)
-        | Answer::Surveyed(Err(_)) => Ok(()),
+        // The others have a last line alone, or none.
+        _ => Ok(()),
     }
 }
 

@@ -1,6 +1,9 @@
--- each session so far, and those that are left
-use Rattle.std.proofs.Common.{◌≡◌, ◌+◌, length, vec_len}
+-- each session so far, and those that are left, and room for these
+use Rattle.std.proofs.Common.{◌≡◌, ◌+◌, ◌≤◌, length, vec_capacity, vec_len}
 use Rattle.bayou_fleet.proofs.together.end_all.Given as goal
 
 abbrev pub invariant-loop-one : goal.invariant-loop-one
-invariant-loop-one g l = vec_len l.members + length l.one-iterator.rest.items ≡ vec_len l.fn.going
+invariant-loop-one g l = record {
+  all : vec_len l.members + length l.one-iterator.rest.items ≡ vec_len l.fn.going;
+  room : vec_len l.fn.going ≤ vec_capacity l.members;
+}

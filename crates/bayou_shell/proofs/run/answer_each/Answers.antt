@@ -12,10 +12,10 @@ use Rattle.bayou_shell.proofs.Runs.{SoFar, SoFar-more, SoFar-part, SoFar-stopped
 use Rattle.bayou_shell.proofs.run.answer_each.Goals as goal
 
 pub loop-command-init : goal.loop-command-init
-loop-command-init g c = let so_far : SoFar (plan_of c.args.script) Clean (audited c.args.store c.args.filing) c.args.script.commands.items (stage g.W.Write.contents c.args.output.now c.args.waiting.now) (stage g.W.Write.contents c.args.output.now c.args.waiting.now) = record {
+loop-command-init g c = let so_far : SoFar (plan_of c.args.script) Clean (audited c.args.store.now c.args.filing.now) c.args.script.commands.items (stage g.W.Write.contents c.args.output.now c.args.waiting.now) (stage g.W.Write.contents c.args.output.now c.args.waiting.now) = record {
   done = [];
   answers = [];
-  first = audited c.args.store c.args.filing;
+  first = audited c.args.store.now c.args.filing.now;
   begun = c.requires;
   whole = refl;
   run = refl;

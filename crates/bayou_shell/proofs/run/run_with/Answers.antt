@@ -1,7 +1,8 @@
 use Rattle.std.proofs.lemmas.Result.{err_from_is_err_and}
 use Rattle.bayou_script.specs.Plan.{plan_of}
 use Rattle.bayou_streams.specs.Account.{account}
-use Rattle.bayou_shell.proofs.Runs.{RunsAs-script, RunsAs-unbegun, RunsAs-unread, unbegun_reads, unbegun_writes}
+use Rattle.bayou_streams.proofs.Taken.{Pays-none}
+use Rattle.bayou_shell.proofs.Runs.{RunsAs-script, RunsAs-unbegun, RunsAs-unread, run_paid, run_reads, unbegun_reads, unbegun_writes}
 use Rattle.bayou_shell.proofs.run.run_with.Goals as goal
 
 pub returns-in_err-script-clause-runs : goal.returns-in_err-script-clause-runs
@@ -31,3 +32,28 @@ pub returns-in_err-store-clause-written : goal.returns-in_err-store-clause-writt
 returns-in_err-store-clause-written g c =
     let p = err_from_is_err_and c.from_residual-in_err-store.result c.from_residual-in_err-store.ensures.1 in
     rw (p.1, p.2) (unbegun_writes _ _ c.in_err-store.field-0.0)
+
+pub returns-clause-paid : goal.returns-clause-paid
+returns-clause-paid g c =
+    run_paid (plan_of c.in_ok-script.script) (account g.W.Write.contents c.args.output.now) (account g.W.Write.contents c.answer_all.new.output) c.answer_all.result
+    c.args.output.now.channel.in_budget c.answer_all.ensures.ok c.answer_all.ensures.err c.answer_all.ensures.ready
+
+pub returns-clause-read : goal.returns-clause-read
+returns-clause-read g c =
+    run_reads _ _ (plan_of c.in_ok-script.script) (account g.W.Write.contents c.args.output.now) (account g.W.Write.contents c.answer_all.new.output) c.answer_all.result
+    c.answer_all.ensures.err
+
+pub returns-clause-written : goal.returns-clause-written
+returns-clause-written g c = c.answer_all.ensures.ended
+
+pub returns-in_err-script-clause-paid : goal.returns-in_err-script-clause-paid
+returns-in_err-script-clause-paid g c = Pays-none _ _
+
+pub returns-in_err-waiting-clause-paid : goal.returns-in_err-waiting-clause-paid
+returns-in_err-waiting-clause-paid g c = Pays-none _ _
+
+pub returns-in_err-store-clause-paid : goal.returns-in_err-store-clause-paid
+returns-in_err-store-clause-paid g c = Pays-none _ _
+
+pub returns-in_err-filing-clause-paid : goal.returns-in_err-filing-clause-paid
+returns-in_err-filing-clause-paid g c = Pays-none _ _
