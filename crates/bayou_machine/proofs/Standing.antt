@@ -47,3 +47,7 @@ same_machine machine replicas place at replica servers here found =
 -- there is a dump for each server
 pub one_dump_each : (dumps : List (Vec Write)) (servers : List Replica) → lists_of dumps ≡ map held_by servers → length dumps ≡ length servers
 one_dump_each dumps servers same = sym (length-map dumps (λ (dump : Vec Write). dump.items)) ∙ ap length same ∙ length-map servers held_by
+
+-- one server stands at a place
+pub one_there : (servers : List Replica) (place : ℕ) (one other : Replica) → slice_get servers place ≡ Some one → slice_get servers place ≡ Some other → one ≡ other
+one_there servers place one other first second = cc

@@ -1,9 +1,10 @@
 -- What a turn is made of.
-use Rattle.std.proofs.Common.{◌≡◌, ℕ, Option, None, Some, sym, subst}
+use Rattle.std.proofs.Common.{◌≡◌, ℕ, Option, None, Some, MatchResult, Result, Ok, Err, refl, sym, subst}
 use Rattle.bayou_text.specs.Said.{Said, servers, session, write, read, log, fuse, lose, reopen, restart, pull, resend, totals, judge, survey, book, phase, entry, held}
 use Rattle.bayou_machine.specs.declared.answer.Answer.{Answer}
-use Rattle.bayou_machine.specs.Filed.{operation_of}
-use Rattle.bayou_machine.specs.Run.{Audited, Does, Leaves, Tries, Turn}
+use Rattle.bayou_machine.specs.Filed.{Filings, operation_of}
+use Rattle.bayou_machine.specs.Machine.{Machine}
+use Rattle.bayou_machine.specs.Run.{Audited, Does, Leaves, Step, TakesMemory, Tries, Turn, audited}
 
 -- what a turn is made of: a session's operation, or what leaves the book
 pub tries_turn : (old new : Audited) (who place : ℕ) (said : Said) (answer : Answer) → operation_of said ≡ Some (who, place)
@@ -46,3 +47,10 @@ leaves_turn old new book answer is leaves = absurd leaves.step
 leaves_turn old new phase answer is leaves = leaves
 leaves_turn old new (entry what counts) answer is leaves = absurd leaves.step
 leaves_turn old new (held at written counts) answer is leaves = absurd leaves.step
+
+-- what servers and sessions do alone, or want memory for, leaves the book
+pub left_turn : {E : Type 0} (before after : Machine) (filings : Filings) (said : Said) (result : Result Answer E) → operation_of said ≡ None
+    → MatchResult result (λ answer. Step before said answer after) (λ _. TakesMemory said × (after ≡ before))
+    → MatchResult result (λ answer. Turn (audited before filings) said answer (audited after filings)) (λ _. TakesMemory said × (after ≡ before) × (filings ≡ filings))
+left_turn before after filings said (Ok answer) is step = leaves_turn (audited before filings) (audited after filings) said answer is (record { step = step; same = refl })
+left_turn before after filings said (Err lack) is (takes, same) = (takes, same, refl)
