@@ -3,6 +3,7 @@ ghost use Rattle.std.specs.Prelude.{◌≡◌, ◌<◌, ◌≤◌, length};
 ghost use Rattle.bayou_audit.specs.Blanks.{AreBlanksOf, named};
 ghost use Rattle.bayou_base.specs.declared.limits.TheConstants.{SESSIONS};
 
+use crate::fixtures::must_be_so;
 use bayou_audit::{
     AuditBook, Blanks, Book, Four, Full, Ledgers, SettleFault, Settled, Share, Totals, Unsettled,
 };
@@ -12,7 +13,6 @@ use std::marker::Brand;
 use std::process::Abort;
 use std::sync::Wait;
 use std::sync::ledger::{Blank, Ledger};
-use std::test::Fail;
 use std::thread;
 use std::thread::Threads;
 
@@ -148,7 +148,7 @@ fn settled<K: Ledgers>(rt: &impl Abort, book: AuditBook<K>, shares: Vec<Share<K>
 }
 
 /// What a book of eight places comes to at which two threads filed, three reads and two, and a slip was voided.
-fn file_at_once<S, T, U, V, R>(rt: &R, alloc: Global, blanks: Blanks) -> Result<Settled, AllocError>
+fn file_at_once<S, T, U, V, R>(rt: &R, alloc: Global, blanks: Blanks) -> Settled
 where
     S: Ledger + Send + Sync,
     T: Ledger + Send + Sync,
@@ -157,9 +157,11 @@ where
     R: Threads + Wait + Abort + Sync,
     requires blanks { AreBlanksOf blanks (named S.name S.parts) (named T.name T.parts) (named U.name U.parts) (named V.name V.parts) 2 }
 {
-    let (book, mut shares) = AuditBook::<Four<S, T, U, V>>::new(alloc, blanks, 2, 8)?;
+    let Ok((book, mut shares)) = AuditBook::<Four<S, T, U, V>>::new(alloc, blanks, 2, 8) else {
+        rt.abort();
+    };
     file_by_two(rt, &book, &mut shares);
-    Ok(settled(rt, book, shares))
+    settled(rt, book, shares)
 }
 
 /// The places of the entries of this session, in the order in which they were filed.
@@ -176,12 +178,12 @@ fn places_of(entries: &[Entry], session: u8) -> [u32; 4] {
 }
 
 #[test]
-fn two_threads_file_at_once(rt: HostRuntime) -> Result<(), Fail> {
+fn two_threads_file_at_once(rt: HostRuntime) {
     let settled = file_at_once::<Brand, Brand, Brand, Brand, HostRuntime>(
         &rt,
         rt.alloc(),
         blanks(2),
-    )?;
+    );
     let reads = Totals {
         slips: 0,
         reads: 5,
@@ -191,15 +193,10 @@ fn two_threads_file_at_once(rt: HostRuntime) -> Result<(), Fail> {
     let entries = settled.entries.as_slice();
     let in_order = places_of(entries, 0) == [1, 4, 7, 0] && places_of(entries, 1) == [1, 4, 0, 0];
     assert!(rt; settled.totals == reads && entries.len() == 5 && in_order);
-    Ok(())
 }
 
 /// Why a book isn't settled with one of two shares kept back.
-fn settle_without<S, T, U, V>(
-    rt: &impl Abort,
-    alloc: Global,
-    blanks: Blanks,
-) -> Result<SettleFault, AllocError>
+fn settle_without<S, T, U, V>(rt: &impl Abort, alloc: Global, blanks: Blanks) -> SettleFault
 where
     S: Ledger + Send + Sync,
     T: Ledger + Send + Sync,
@@ -207,14 +204,16 @@ where
     V: Ledger + Send + Sync,
     requires blanks { AreBlanksOf blanks (named S.name S.parts) (named T.name T.parts) (named U.name U.parts) (named V.name V.parts) 2 }
 {
-    let (book, mut shares) = AuditBook::<Four<S, T, U, V>>::new(alloc, blanks, 2, 8)?;
+    let Ok((book, mut shares)) = AuditBook::<Four<S, T, U, V>>::new(alloc, blanks, 2, 8) else {
+        rt.abort();
+    };
     let Some(_) = shares.pop() else {
         rt.abort();
     };
     let Err(left) = book.settle(shares) else {
         rt.abort();
     };
-    Ok(left.fault)
+    left.fault
 }
 
 /// Why the book isn't settled with a slip of its one share out, and what it comes to once that is spent.
@@ -242,11 +241,7 @@ fn settle_twice<K: Ledgers, R: Wait + Abort>(
 }
 
 /// The same of a new book.
-fn settle_with_slip<S, T, U, V, R>(
-    rt: &R,
-    alloc: Global,
-    blanks: Blanks,
-) -> Result<(SettleFault, Settled), AllocError>
+fn settle_with_slip<S, T, U, V, R>(rt: &R, alloc: Global, blanks: Blanks) -> (SettleFault, Settled)
 where
     S: Ledger + Send + Sync,
     T: Ledger + Send + Sync,
@@ -255,25 +250,26 @@ where
     R: Wait + Abort,
     requires blanks { AreBlanksOf blanks (named S.name S.parts) (named T.name T.parts) (named U.name U.parts) (named V.name V.parts) 1 }
 {
-    let (book, shares) = AuditBook::<Four<S, T, U, V>>::new(alloc, blanks, 1, 8)?;
-    Ok(settle_twice(rt, book, shares))
+    let Ok((book, shares)) = AuditBook::<Four<S, T, U, V>>::new(alloc, blanks, 1, 8) else {
+        rt.abort();
+    };
+    settle_twice(rt, book, shares)
 }
 
 #[test]
-fn a_share_or_a_slip_is_missed(rt: HostRuntime) -> Result<(), Fail> {
+fn a_share_or_a_slip_is_missed(rt: HostRuntime) {
     let alloc = rt.alloc();
-    let missing = settle_without::<Brand, Brand, Brand, Brand>(&rt, alloc, blanks(2))?;
+    let missing = settle_without::<Brand, Brand, Brand, Brand>(&rt, alloc, blanks(2));
     let (out, settled) = settle_with_slip::<Brand, Brand, Brand, Brand, HostRuntime>(
         &rt,
         alloc,
         blanks(1),
-    )?;
+    );
     assert!(rt;
         (missing, out) == (SettleFault::ShareMissing, SettleFault::SlipOut)
             && settled.totals == Totals::default()
             && settled.entries.is_empty()
     );
-    Ok(())
 }
 
 /// How many entries find a place.
@@ -322,7 +318,7 @@ fn fill_places<S, T, U, V>(
     alloc: Global,
     blanks: Blanks,
     places: usize,
-) -> Result<(usize, bool), AllocError>
+) -> (usize, bool)
 where
     S: Ledger + Send + Sync,
     T: Ledger + Send + Sync,
@@ -330,17 +326,18 @@ where
     V: Ledger + Send + Sync,
     requires blanks { AreBlanksOf blanks (named S.name S.parts) (named T.name T.parts) (named U.name U.parts) (named V.name V.parts) 1 }
 {
-    let (mut book, mut shares) = Book::<Four<S, T, U, V>>::new(alloc, blanks, 1, places)?;
-    Ok(fills(rt, &mut book, &mut shares[0], places))
+    let Ok((mut book, mut shares)) = Book::<Four<S, T, U, V>>::new(alloc, blanks, 1, places) else {
+        rt.abort();
+    };
+    fills(rt, &mut book, &mut shares[0], places)
 }
 
 #[test]
-fn a_book_is_full_at_its_places(rt: HostRuntime) -> Result<(), Fail> {
+fn a_book_is_full_at_its_places(rt: HostRuntime) {
     for places in 0..5 {
-        let found = fill_places::<Brand, Brand, Brand, Brand>(&rt, rt.alloc(), blanks(1), places)?;
-        assert!(rt; found == (places, true), "{places}");
+        let found = fill_places::<Brand, Brand, Brand, Brand>(&rt, rt.alloc(), blanks(1), places);
+        must_be_so(&rt, found == (places, true), places);
     }
-    Ok(())
 }
 
 /// Whether the entries are the first seven of the session of this share.
@@ -373,19 +370,38 @@ fn keeps<K: Ledgers, R: Wait + Abort>(
     book: &AuditBook<K>,
     share: &mut Share<K>,
 ) -> Result<bool, AllocError> {
+    let are_filed = files_seven(rt, book, share);
+    let are_counted = counts_seven(rt, book, share);
+    let entries = book.entries(rt, alloc)?;
+    Ok(are_filed && are_counted && are_first(rt, &entries, share))
+}
+
+/// Files the first seven of the session. Whether there is a place for each.
+fn files_seven<K: Ledgers, R: Wait + Abort>(
+    rt: &R,
+    book: &AuditBook<K>,
+    share: &mut Share<K>,
+) -> bool {
     let mut are_filed = true;
     for number in 0..7 {
         are_filed &= files(rt, book, share, number);
     }
+    are_filed
+}
+
+/// Whether the book counts the seven, and a slip that is out.
+fn counts_seven<K: Ledgers, R: Wait + Abort>(
+    rt: &R,
+    book: &AuditBook<K>,
+    share: &mut Share<K>,
+) -> bool {
     let counts = Totals {
         slips: 1,
         reads: 3,
         writes: 2,
         refusals: 2,
     };
-    let are_counted = totals_with_slip(rt, book, share) == counts && book.totals(rt).slips == 0;
-    let entries = book.entries(rt, alloc)?;
-    Ok(are_filed && are_counted && are_first(rt, &entries, share))
+    totals_with_slip(rt, book, share) == counts && book.totals(rt).slips == 0
 }
 
 /// The same of a new book.
@@ -403,24 +419,18 @@ where
 }
 
 #[test]
-fn what_is_filed_is_counted_and_kept(rt: HostRuntime) -> Result<(), Fail> {
-    let is_kept = keeps_all::<Brand, Brand, Brand, Brand, HostRuntime>(&rt, rt.alloc(), blanks(1))?;
-    assert!(rt; is_kept);
-    Ok(())
+fn what_is_filed_is_counted_and_kept(rt: HostRuntime) {
+    let is_kept = keeps_all::<Brand, Brand, Brand, Brand, HostRuntime>(&rt, rt.alloc(), blanks(1));
+    assert!(rt; is_kept == Ok(true));
 }
 
 /// Want of memory, once, is answered by what takes memory, and the next try succeeds.
 #[test]
-fn one_want_of_memory_costs_no_entry(rt: HostRuntime) -> Result<(), Fail> {
+fn one_want_of_memory_costs_no_entry(rt: HostRuntime) {
     let alloc = rt.alloc();
-    let is_kept = match keeps_all::<Brand, Brand, Brand, Brand, HostRuntime>(
-        &rt,
-        alloc,
-        blanks(1),
-    ) {
-        Ok(is_kept) => is_kept,
-        Err(_) => keeps_all::<Brand, Brand, Brand, Brand, HostRuntime>(&rt, alloc, blanks(1))?,
-    };
-    assert!(rt; is_kept);
-    Ok(())
+    let mut is_kept = keeps_all::<Brand, Brand, Brand, Brand, HostRuntime>(&rt, alloc, blanks(1));
+    if is_kept.is_err() {
+        is_kept = keeps_all::<Brand, Brand, Brand, Brand, HostRuntime>(&rt, alloc, blanks(1));
+    }
+    assert!(rt; is_kept == Ok(true));
 }

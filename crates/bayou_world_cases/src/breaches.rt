@@ -1,14 +1,14 @@
 //! A breach of each guarantee, in presence and in order, at each server; and what the judge makes of a session that asks for
 //! it, and of one that doesn't.
 use crate::evidence::{Evidence, Held, Line, Told, asked, evidence_of, server_id, session_id};
+use crate::fixtures::must_be_so;
 use crate::twin;
 use Guarantee::{MonotonicReads, MonotonicWrites, ReadYourWrites, WritesFollowReads};
 use Told::{Read, Refused, Wrote};
 use bayou_base::Wid;
 use bayou_judge::{Breach, Guarantee, Refusal, Surveyed, Verdict};
-use std::alloc::{AllocError, Global};
+use std::alloc::Global;
 use std::process::Abort;
-use std::test::Fail;
 
 /// Where the least breach of the guarantee is: the places, the server, and origin and seq of the Write.
 type At = (u32, u32, u8, (u8, u32));
@@ -223,39 +223,30 @@ fn is_found(rt: &impl Abort, alloc: Global, evidence: &Evidence, breach: Breach)
 }
 
 /// The same of what the case tells and holds.
-fn is_told(rt: &impl Abort, alloc: Global, case: &Case) -> Result<bool, AllocError> {
+fn is_told(rt: &impl Abort, alloc: Global, case: &Case) -> bool {
     let (lists, lines, guarantee, at) = case;
-    let evidence = evidence_of(rt, alloc, lists, lines)?;
-    Ok(is_found(rt, alloc, &evidence, breach_of(rt, *guarantee, *at)))
+    let evidence = evidence_of(rt, alloc, lists, lines);
+    is_found(rt, alloc, &evidence, breach_of(rt, *guarantee, *at))
 }
 
-/// How many cases are told, up to one that isn't.
-fn told_of(rt: &impl Abort, alloc: Global, cases: &[Case]) -> Result<usize, AllocError> {
+/// Each of the cases is told.
+fn all_told(rt: &impl Abort, alloc: Global, cases: &[Case]) {
     for (at, case) in cases.iter().enumerate() {
-        if !is_told(rt, alloc, case)? {
-            return Ok(at);
-        }
+        must_be_so(rt, is_told(rt, alloc, case), at);
     }
-    Ok(cases.len())
 }
 
 #[test]
-fn reads_that_lack(rt: HostRuntime) -> Result<(), Fail> {
-    let told = told_of(&rt, rt.alloc(), &OF_READS)?;
-    assert!(rt; told == OF_READS.len(), "case {told}");
-    Ok(())
+fn reads_that_lack(rt: HostRuntime) {
+    all_told(&rt, rt.alloc(), &OF_READS);
 }
 
 #[test]
-fn writes_that_do_not_follow_reads(rt: HostRuntime) -> Result<(), Fail> {
-    let told = told_of(&rt, rt.alloc(), &AFTER_READS)?;
-    assert!(rt; told == AFTER_READS.len(), "case {told}");
-    Ok(())
+fn writes_that_do_not_follow_reads(rt: HostRuntime) {
+    all_told(&rt, rt.alloc(), &AFTER_READS);
 }
 
 #[test]
-fn writes_that_do_not_follow_writes(rt: HostRuntime) -> Result<(), Fail> {
-    let told = told_of(&rt, rt.alloc(), &AFTER_WRITES)?;
-    assert!(rt; told == AFTER_WRITES.len(), "case {told}");
-    Ok(())
+fn writes_that_do_not_follow_writes(rt: HostRuntime) {
+    all_told(&rt, rt.alloc(), &AFTER_WRITES);
 }

@@ -1,10 +1,10 @@
 //! What the tests of the judge are made of. Vectors have the counts of the first three servers.
-use crate::fixtures::put_at;
+use crate::fixtures::{boxed, put_at, room_for};
 pub use crate::fixtures::{server_id, session_id};
 use bayou_base::{Asks, Entry, Key, SERVERS, Stamp, Vector, What, Wid};
 use bayou_judge::{Refusal, Surveyed, Verdict, judge, survey};
 use bayou_lang::{RestingProgram, RestingWrite};
-use std::alloc::{AllocError, Global};
+use std::alloc::Global;
 use std::process::Abort;
 
 pub const COUNT: u8 = 3;
@@ -19,24 +19,20 @@ pub fn vector(rt: &impl Abort, counts: [u32; 3]) -> Vector {
 }
 
 /// A program that puts the number at `a`.
-pub fn put(rt: &impl Abort, alloc: Global, number: i64) -> Result<RestingProgram, AllocError> {
+pub fn put(rt: &impl Abort, alloc: Global, number: i64) -> RestingProgram {
     put_at(rt, alloc, Key::new("a").expect(rt, "no key"), number)
 }
 
 /// A Write at rest of this origin, seq, clock and past, which puts the number at `a`.
-pub fn held(
-    rt: &impl Abort,
-    alloc: Global,
-    write: (u8, u32, u32, [u32; 3], i64),
-) -> Result<RestingWrite, AllocError> {
+pub fn held(rt: &impl Abort, alloc: Global, write: (u8, u32, u32, [u32; 3], i64)) -> RestingWrite {
     let (origin, seq, clock, deps, number) = write;
     let server = server_id(rt, origin);
-    Ok(RestingWrite::new(
+    RestingWrite::new(
         Wid::new(server, seq).expect(rt, "no name"),
         Stamp::new(clock, server).expect(rt, "no stamp"),
         vector(rt, deps),
-        put(rt, alloc, number)?,
-    ))
+        put(rt, alloc, number),
+    )
 }
 
 /// What an entry tells.
@@ -96,12 +92,12 @@ pub fn evidence_of(
     alloc: Global,
     lists: &[&[Held]; 3],
     lines: &[Line],
-) -> Result<Box<Evidence>, AllocError> {
+) -> Box<Evidence> {
     let evidence = Evidence {
-        entries: entries_of(rt, alloc, lines)?,
-        dumps: dumps_of(rt, alloc, lists)?,
+        entries: entries_of(rt, alloc, lines),
+        dumps: dumps_of(rt, alloc, lists),
     };
-    Ok(Box::new(alloc, evidence)?)
+    boxed(rt, alloc, evidence)
 }
 
 /// What the judge answers, and what it surveys.
@@ -132,36 +128,28 @@ pub type Held = (u8, u32, u32, [u32; 3], i64);
 /// An entry: its session, its place, what is asked for, its server and what it tells.
 pub type Line = (u8, u32, &'static str, u8, Told);
 
-fn entries_of(rt: &impl Abort, alloc: Global, lines: &[Line]) -> Result<Vec<Entry>, AllocError> {
-    let mut entries = Vec::new(alloc);
+fn entries_of(rt: &impl Abort, alloc: Global, lines: &[Line]) -> Vec<Entry> {
+    let mut entries = room_for(rt, alloc, lines.len());
     for (session, place, asks, server, told) in lines {
         let what = what_of(rt, *told);
         let line = entry(rt, asks_of(asks), (*session, *place, *server), what);
-        entries.push(line)?;
+        entries.push(line).expect(rt, "no memory");
     }
-    Ok(entries)
+    entries
 }
 
-fn dump_of(
-    rt: &impl Abort,
-    alloc: Global,
-    writes: &[Held],
-) -> Result<Vec<RestingWrite>, AllocError> {
-    let mut dump = Vec::new(alloc);
+fn dump_of(rt: &impl Abort, alloc: Global, writes: &[Held]) -> Vec<RestingWrite> {
+    let mut dump = room_for(rt, alloc, writes.len());
     for write in writes {
-        dump.push(held(rt, alloc, *write)?)?;
+        dump.push(held(rt, alloc, *write)).expect(rt, "no memory");
     }
-    Ok(dump)
+    dump
 }
 
-fn dumps_of(
-    rt: &impl Abort,
-    alloc: Global,
-    lists: &[&[Held]; 3],
-) -> Result<Vec<Vec<RestingWrite>>, AllocError> {
-    let mut dumps = Vec::new(alloc);
+fn dumps_of(rt: &impl Abort, alloc: Global, lists: &[&[Held]; 3]) -> Vec<Vec<RestingWrite>> {
+    let mut dumps = room_for(rt, alloc, 3);
     for list in lists {
-        dumps.push(dump_of(rt, alloc, list)?)?;
+        dumps.push(dump_of(rt, alloc, list)).expect(rt, "no memory");
     }
-    Ok(dumps)
+    dumps
 }

@@ -1,5 +1,5 @@
 //! Servers whose device calls fail: what each event is answered then, and that each run is clean.
-use crate::fixtures::history_of;
+use crate::fixtures::{history, must_be_so};
 use crate::scripts::{ALL, Act, NOTHING, Said, add, are_said, events_of, has_names};
 use Said::{
     Accepted, Delivered, Doubted, Down, Fused, Holds, Kept, NotDown, NotReopened, NotRestarted,
@@ -8,9 +8,8 @@ use Said::{
 use bayou_judge::{Verdict, judge};
 use bayou_server::{JournalFault, ReopenFault, StartFault, TakeFault, WriteFault};
 use bayou_world::{Event, History, Reply};
-use std::alloc::{AllocError, Global};
+use std::alloc::Global;
 use std::process::Abort;
-use std::test::Fail;
 
 /// Events at one server and of one session that asks for nothing, what each is answered, and what the server holds in the end.
 struct Row {
@@ -156,10 +155,10 @@ static ROWS: [Row; 10] = [
     },
 ];
 
-fn is_answered(rt: &impl Abort, alloc: Global, row: &Row) -> Result<bool, AllocError> {
-    let events = events_of(rt, alloc, row.acts)?;
-    let history = history_of(rt, alloc, (1, 100), &[NOTHING], events.as_slice())?;
-    Ok(is_of(&history, row))
+fn is_answered(rt: &impl Abort, alloc: Global, row: &Row) -> bool {
+    let events = events_of(rt, alloc, row.acts);
+    let history = history(rt, alloc, (1, 100), &[NOTHING], events.as_slice());
+    is_of(&history, row)
 }
 
 /// Whether these are the answers, and the dump, of the row.
@@ -171,11 +170,10 @@ fn is_of(history: &History, row: &Row) -> bool {
 }
 
 #[test]
-fn servers_fail_and_are_recovered(rt: HostRuntime) -> Result<(), Fail> {
+fn servers_fail_and_are_recovered(rt: HostRuntime) {
     for (at, row) in ROWS.iter().enumerate() {
-        assert!(rt; is_answered(&rt, rt.alloc(), row)?, "row {at}");
+        must_be_so(&rt, is_answered(&rt, rt.alloc(), row), at);
     }
-    Ok(())
 }
 
 /// How many rounds of ten events the run has in which each device call fails in turn.
@@ -211,31 +209,19 @@ fn round_of(round: u8) -> [Act; 10] {
 }
 
 /// Sixty events, and a fuse before them.
-fn fused_events(
-    rt: &impl Abort,
-    alloc: Global,
-    server: u8,
-    call: u32,
-    kept: usize,
-) -> Result<Vec<Event>, AllocError> {
+fn fused_events(rt: &impl Abort, alloc: Global, server: u8, call: u32, kept: usize) -> Vec<Event> {
     let mut events = Vec::new(alloc);
-    add(rt, alloc, &mut events, Act::Fuse(server, call, kept))?;
+    add(rt, alloc, &mut events, Act::Fuse(server, call, kept));
     for round in 0..ROUNDS {
-        add_round(rt, alloc, &mut events, round)?;
+        add_round(rt, alloc, &mut events, round);
     }
-    Ok(events)
+    events
 }
 
-fn add_round(
-    rt: &impl Abort,
-    alloc: Global,
-    events: &mut Vec<Event>,
-    round: u8,
-) -> Result<(), AllocError> {
+fn add_round(rt: &impl Abort, alloc: Global, events: &mut Vec<Event>, round: u8) {
     for act in round_of(round) {
-        add(rt, alloc, events, act)?;
+        add(rt, alloc, events, act);
     }
-    Ok(())
 }
 
 /// A device call failed, as the reply tells.
@@ -271,16 +257,10 @@ fn is_clean(alloc: Global, history: &History) -> bool {
 }
 
 /// How many faults the run had in which that call fails, if it is clean.
-fn faults_of(
-    rt: &impl Abort,
-    alloc: Global,
-    server: u8,
-    call: u32,
-    kept: usize,
-) -> Result<Option<u32>, AllocError> {
-    let events = fused_events(rt, alloc, server, call, kept)?;
-    let history = history_of(rt, alloc, (2, 100), &[ALL], events.as_slice())?;
-    Ok(clean_faults_in(alloc, &history))
+fn faults_of(rt: &impl Abort, alloc: Global, server: u8, call: u32, kept: usize) -> Option<u32> {
+    let events = fused_events(rt, alloc, server, call, kept);
+    let history = history(rt, alloc, (2, 100), &[ALL], events.as_slice());
+    clean_faults_in(alloc, &history)
 }
 
 fn clean_faults_in(alloc: Global, history: &History) -> Option<u32> {
@@ -291,37 +271,31 @@ fn clean_faults_in(alloc: Global, history: &History) -> Option<u32> {
 }
 
 /// Whether all is clean where that call of the server fails, whatever it keeps of its piece. Just one fault is told.
-fn is_clean_at(
-    rt: &impl Abort,
-    alloc: Global,
-    server: u8,
-    call: u32,
-    faults: u32,
-) -> Result<bool, AllocError> {
+fn is_clean_at(rt: &impl Abort, alloc: Global, server: u8, call: u32, faults: u32) -> bool {
     let mut is_each = true;
     for kept in 0..LONGEST {
-        is_each = is_each && faults_of(rt, alloc, server, call, kept)? == Some(faults);
+        is_each = is_each && faults_of(rt, alloc, server, call, kept) == Some(faults);
     }
-    Ok(is_each)
+    is_each
 }
 
 /// Whether each of its calls may fail, and none behind them does.
-fn is_clean_whatever_fails(rt: &impl Abort, alloc: Global, server: u8) -> Result<bool, AllocError> {
+fn is_clean_whatever_fails(rt: &impl Abort, alloc: Global, server: u8) -> bool {
     let mut is_each = true;
     for call in 1..CALLS + 3 {
         let faults = if call <= CALLS { 1 } else { 0 };
-        is_each = is_each && is_clean_at(rt, alloc, server, call, faults)?;
+        is_each = is_each && is_clean_at(rt, alloc, server, call, faults);
     }
-    Ok(is_each)
+    is_each
 }
 
 #[test]
-fn whichever_device_call_fails_the_run_is_clean(rt: HostRuntime) -> Result<(), Fail> {
+fn whichever_device_call_fails_the_run_is_clean(rt: HostRuntime) {
     for server in 0..2 {
-        assert!(rt;
-            is_clean_whatever_fails(&rt, rt.alloc(), server)?,
-            "{server}"
+        must_be_so(
+            &rt,
+            is_clean_whatever_fails(&rt, rt.alloc(), server),
+            usize::from(server),
         );
     }
-    Ok(())
 }

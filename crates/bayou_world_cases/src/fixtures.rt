@@ -19,21 +19,40 @@ pub fn room(rt: &impl Abort) -> Key {
     Key::new("room").expect(rt, "no key")
 }
 
-/// A program that puts the number at the key.
-pub fn put_at(
-    rt: &impl Abort,
-    alloc: Global,
-    key: Key,
-    number: i64,
-) -> Result<RestingProgram, AllocError> {
+/// Stops the test where it isn't so, and says at which number: the one assert of all loops over tables, since each costs.
+pub fn must_be_so(rt: &impl Abort, is_so: bool, number: usize) {
+    assert!(rt; is_so, "{number}");
+}
+
+/// A list with room for so many, also where one allocation is refused: nothing that is pushed to it then wants memory.
+pub fn room_for<T>(rt: &impl Abort, alloc: Global, count: usize) -> Vec<T> {
+    match Vec::with_capacity(alloc, count) {
+        Ok(list) => list,
+        Err(_) => Vec::with_capacity(alloc, count).expect(rt, "no memory"),
+    }
+}
+
+/// The value in a box of its own, also where one allocation is refused: a function that owns a box is proved in a third of the time that one
+/// takes which owns what is in it.
+pub fn boxed<T: Drop>(rt: &impl Abort, alloc: Global, value: T) -> Box<T> {
+    match Box::new(alloc, value) {
+        Ok(value) => value,
+        Err(refused) => Box::new(alloc, refused.value).expect(rt, "no memory"),
+    }
+}
+
+/// A program that puts the number at the key, also where one allocation is refused.
+pub fn put_at(rt: &impl Abort, alloc: Global, key: Key, number: i64) -> RestingProgram {
     let op = Op::Put(key, Term::Lit(Value::Num(number)));
-    Program::new(&[], &[op], &[])
-        .expect(rt, "no program")
-        .rest(alloc)
+    let program = Program::new(&[], &[op], &[]).expect(rt, "no program");
+    match program.rest(alloc) {
+        Ok(program) => program,
+        Err(_) => program.rest(alloc).expect(rt, "no memory"),
+    }
 }
 
 /// A program that puts the number at `room`.
-pub fn put(rt: &impl Abort, alloc: Global, number: i64) -> Result<RestingProgram, AllocError> {
+pub fn put(rt: &impl Abort, alloc: Global, number: i64) -> RestingProgram {
     put_at(rt, alloc, room(rt), number)
 }
 
@@ -50,6 +69,17 @@ pub fn sessions_of(
         index = index.saturating_add(1);
     }
     Ok(sessions)
+}
+
+/// The same, where there is memory for it.
+pub fn history(
+    rt: &impl Abort,
+    alloc: Global,
+    size: (u8, u32),
+    asks: &[Asks],
+    events: &[Event],
+) -> Box<History> {
+    history_of(rt, alloc, size, asks, events).expect(rt, "no memory")
 }
 
 /// What a run leaves, of so many servers, at most four, which hold so many Writes each, at most 1,000, and of sessions with these asks.

@@ -7,9 +7,8 @@ use crate::twin;
 use bayou_base::{Entry, Key, ServerId, Stamp, Vector, What, Wid};
 use bayou_judge::{Guarantee, Refusal, Verdict};
 use bayou_lang::RestingWrite;
-use std::alloc::{AllocError, Global};
+use std::alloc::Global;
 use std::process::Abort;
-use std::test::Fail;
 
 /// How many from each seed.
 const HISTORIES: u32 = 1_000;
@@ -56,34 +55,23 @@ fn clock_of(writes: &[RestingWrite]) -> u32 {
 }
 
 /// Another Write of the same name, stamp and past.
-fn other_of(
-    rt: &impl Abort,
-    alloc: Global,
-    write: &RestingWrite,
-) -> Result<RestingWrite, AllocError> {
-    let program = put(rt, alloc, 7)?;
-    Ok(RestingWrite::new(write.wid(), write.stamp(), *write.deps(), program))
+fn other_of(rt: &impl Abort, alloc: Global, write: &RestingWrite) -> RestingWrite {
+    let program = put(rt, alloc, 7);
+    RestingWrite::new(write.wid(), write.stamp(), *write.deps(), program)
 }
 
 /// Two Writes that stand side by side are swapped, or the first one of them is removed or is another.
-fn spoil_at(
-    rt: &impl Abort,
-    alloc: Global,
-    list: &mut Vec<RestingWrite>,
-    at: usize,
-    kind: u32,
-) -> Result<(), AllocError> {
+fn spoil_at(rt: &impl Abort, alloc: Global, list: &mut Vec<RestingWrite>, at: usize, kind: u32) {
     if at >= list.len().saturating_sub(1) {
-        return Ok(());
+        return;
     }
     match kind {
         0 => list.swap(at, at + 1),
         1 => {
             let _ = list.remove(at);
         }
-        _ => list[at] = other_of(rt, alloc, &list[at])?,
+        _ => list[at] = other_of(rt, alloc, &list[at]),
     }
-    Ok(())
 }
 
 /// Three servers, and sessions that go from one to the other, whatever they ask for.
@@ -97,21 +85,21 @@ struct World {
 }
 
 impl World {
-    fn new(alloc: Global, dice: &mut Dice) -> Result<Self, AllocError> {
+    fn new(rt: &impl Abort, alloc: Global, dice: &mut Dice) -> Self {
         let mut dumps = Vec::new(alloc);
         for _ in 0..COUNT {
-            dumps.push(Vec::new(alloc))?;
+            dumps.push(Vec::new(alloc)).expect(rt, "no memory");
         }
         let mut places = [(0, 0); 4];
         for place in &mut places {
             *place = (0, dice.below(8) as usize);
         }
-        Ok(World {
+        World {
             alloc,
             dumps,
             entries: Vec::new(alloc),
             places,
-        })
+        }
     }
 
     fn list(&self, server: u8) -> &[RestingWrite] {
@@ -121,87 +109,83 @@ impl World {
         }
     }
 
-    fn take(&mut self, server: u8, write: RestingWrite) -> Result<(), AllocError> {
-        match self.dumps.get_mut(usize::from(server)) {
-            Some(list) => Ok(list.push(write)?),
-            None => Ok(()),
+    fn take(&mut self, rt: &impl Abort, server: u8, write: RestingWrite) {
+        if let Some(list) = self.dumps.get_mut(usize::from(server)) {
+            list.push(write).expect(rt, "no memory");
         }
     }
 
     /// The session's next operation at the server is told of.
-    fn tell(
-        &mut self,
-        rt: &impl Abort,
-        dice: &mut Dice,
-        server: u8,
-        what: What,
-    ) -> Result<(), AllocError> {
+    fn tell(&mut self, rt: &impl Abort, dice: &mut Dice, server: u8, what: What) {
         let session = dice.below(4) as u8;
         let (place, asks) = self.places[usize::from(session)];
         let next = place.saturating_add(1).saturating_add(dice.below(2));
         self.places[usize::from(session)] = (next, asks);
-        self.entries.push(entry(rt, asks_of(ASKS[asks % 8]), (session, next, server), what))?;
-        Ok(())
+        let entry = entry(rt, asks_of(ASKS[asks % 8]), (session, next, server), what);
+        self.entries.push(entry).expect(rt, "no memory");
     }
 
-    fn read(&mut self, rt: &impl Abort, dice: &mut Dice, server: u8) -> Result<(), AllocError> {
+    fn read(&mut self, rt: &impl Abort, dice: &mut Dice, server: u8) {
         let vector = vector_of(self.list(server));
-        self.tell(rt, dice, server, What::Read(Key::default(), vector))
+        self.tell(rt, dice, server, What::Read(Key::default(), vector));
     }
 
     /// The server makes its next Write, which now and then no entry tells of.
-    fn write(&mut self, rt: &impl Abort, dice: &mut Dice, server: u8) -> Result<(), AllocError> {
+    fn write(&mut self, rt: &impl Abort, dice: &mut Dice, server: u8) {
         let id = server_id(rt, server);
         let deps = vector_of(self.list(server));
         let clock = clock_of(self.list(server)).saturating_add(1);
         let seq = deps.get(id).saturating_add(1);
         let wid = Wid::new(id, seq).expect(rt, "no name");
         let stamp = Stamp::new(clock, id).expect(rt, "no stamp");
-        let program = put(rt, self.alloc, i64::from(dice.below(3)))?;
-        self.take(server, RestingWrite::new(wid, stamp, deps, program))?;
-        if dice.chance(8) {
-            return Ok(());
+        let program = put(rt, self.alloc, i64::from(dice.below(3)));
+        self.take(rt, server, RestingWrite::new(wid, stamp, deps, program));
+        if !dice.chance(8) {
+            self.tell(rt, dice, server, What::Write(wid, stamp, deps));
         }
-        self.tell(rt, dice, server, What::Write(wid, stamp, deps))
     }
 
     /// The one server takes what it lacks of the other's, or the first of that.
-    fn pull(&mut self, dice: &mut Dice, to: u8, from: u8) -> Result<(), AllocError> {
+    fn pull(&mut self, rt: &impl Abort, dice: &mut Dice, to: u8, from: u8) {
         for place in 0..self.list(from).len() {
             if dice.chance(6) {
-                return Ok(());
+                return;
             }
-            let Some(write) = self.list(from).get(place) else {
-                return Ok(());
-            };
-            if !twin::has(self.list(to), write.wid()) {
-                let copy = write.copy(self.alloc)?;
-                self.take(to, copy)?;
-            }
+            self.pull_one(rt, to, from, place);
         }
-        Ok(())
+    }
+
+    /// The one server takes the other's Write at this place, if it lacks it.
+    fn pull_one(&mut self, rt: &impl Abort, to: u8, from: u8, place: usize) {
+        let Some(write) = self.list(from).get(place) else {
+            return;
+        };
+        if !twin::has(self.list(to), write.wid()) {
+            let copy = write.copy(self.alloc).expect(rt, "no memory");
+            self.take(rt, to, copy);
+        }
     }
 
     /// Something happens.
-    fn step(&mut self, rt: &impl Abort, dice: &mut Dice) -> Result<(), AllocError> {
+    fn step(&mut self, rt: &impl Abort, dice: &mut Dice) {
         let server = dice.below(3) as u8;
         match dice.below(8) {
             0..=2 => self.read(rt, dice, server),
             3 | 4 => self.write(rt, dice, server),
             5 | 6 => {
                 let from = dice.below(3) as u8;
-                self.pull(dice, server, from)
+                self.pull(rt, dice, server, from);
             }
             _ => self.tell(rt, dice, server, What::Refused),
         }
     }
 
     /// One entry is changed, or told again.
-    fn forge(&mut self, rt: &impl Abort, dice: &mut Dice) -> Result<(), AllocError> {
+    fn forge(&mut self, rt: &impl Abort, dice: &mut Dice) {
         let many = self.entries.len();
         let other = dice.below(40) as usize % many.max(1);
         if many == 0 {
-            return Ok(());
+            return;
         }
         let at = dice.below(40) as usize % many.max(1);
         let kind = dice.below(5);
@@ -212,38 +196,39 @@ impl World {
             1 => self.entries[at].server = server,
             2 => self.entries[at].asks = asks,
             3 => self.entries[at].what = self.entries[other].what.copy(),
-            _ => self.entries.push(self.entries[other].copy())?,
+            _ => {
+                let copy = self.entries[other].copy();
+                self.entries.push(copy).expect(rt, "no memory");
+            }
         }
-        Ok(())
     }
 
     /// One dump is changed.
-    fn spoil(&mut self, rt: &impl Abort, dice: &mut Dice) -> Result<(), AllocError> {
+    fn spoil(&mut self, rt: &impl Abort, dice: &mut Dice) {
         let server = dice.below(3) as u8;
         let many = self.list(server).len();
         let at = dice.below(40) as usize % many.max(1);
         let kind = dice.below(3);
-        match self.dumps.get_mut(usize::from(server)) {
-            Some(list) => spoil_at(rt, self.alloc, list, at, kind),
-            None => Ok(()),
+        if let Some(list) = self.dumps.get_mut(usize::from(server)) {
+            spoil_at(rt, self.alloc, list, at, kind);
         }
     }
 }
 
 /// A history from these dice, of which now and then an entry or a dump is changed.
-fn history(rt: &impl Abort, alloc: Global, dice: &mut Dice) -> Result<World, AllocError> {
-    let mut world = World::new(alloc, dice)?;
+fn history(rt: &impl Abort, alloc: Global, dice: &mut Dice) -> World {
+    let mut world = World::new(rt, alloc, dice);
     let steps = dice.below(41);
     for _ in 0..steps {
-        world.step(rt, dice)?;
+        world.step(rt, dice);
     }
     if dice.chance(8) {
-        world.forge(rt, dice)?;
+        world.forge(rt, dice);
     }
     if dice.chance(8) {
-        world.spoil(rt, dice)?;
+        world.spoil(rt, dice);
     }
-    Ok(world)
+    world
 }
 
 /// Which kind of answer it is: clean, a breach of one of the four guarantees, a bad dump, or a forged entry.
@@ -273,12 +258,12 @@ fn agreed(rt: &impl Abort, alloc: Global, world: &World) -> Option<Result<Verdic
 }
 
 /// How many answers of each kind come from the dice, and how often the twin answers otherwise.
-fn answers(rt: &impl Abort, alloc: Global, seed: u64) -> Result<([u32; 8], u32), AllocError> {
+fn answers(rt: &impl Abort, alloc: Global, seed: u64) -> ([u32; 8], u32) {
     let mut dice = Dice { state: seed };
     let mut kinds = [0_u32; 8];
     let mut others = 0_u32;
     for _ in 0..HISTORIES {
-        let world = history(rt, alloc, &mut dice)?;
+        let world = history(rt, alloc, &mut dice);
         match agreed(rt, alloc, &world) {
             Some(verdict) => {
                 let kind = kind_of(verdict) % 8;
@@ -287,13 +272,13 @@ fn answers(rt: &impl Abort, alloc: Global, seed: u64) -> Result<([u32; 8], u32),
             None => others = others.saturating_add(1),
         }
     }
-    Ok((kinds, others))
+    (kinds, others)
 }
 
 #[test]
-fn the_judge_is_its_twin(rt: HostRuntime) -> Result<(), Fail> {
+fn the_judge_is_its_twin(rt: HostRuntime) {
     for seed in [1994, 1997] {
-        let (kinds, others) = answers(&rt, rt.alloc(), seed)?;
+        let (kinds, others) = answers(&rt, rt.alloc(), seed);
         let (told, want_of_memory) = (&kinds[..7], kinds[7]);
         let is_each = !told.contains(&0);
         assert!(rt;
@@ -301,5 +286,4 @@ fn the_judge_is_its_twin(rt: HostRuntime) -> Result<(), Fail> {
             "{kinds:?} {others}"
         );
     }
-    Ok(())
 }

@@ -6,7 +6,6 @@ use Said::{Accepted, Delivered, Doubted, Dropped, Filed, Flown, Kept, New, Seen,
 use bayou_world::{Event, Reply};
 use std::alloc::{AllocError, Global};
 use std::process::Abort;
-use std::test::Fail;
 
 /// Every event once.
 static EACH_EVENT: Script = Script {
@@ -26,13 +25,6 @@ static EACH_EVENT: Script = Script {
     dumps: [&[(0, 1)], &[(0, 1)]],
     totals: (0, 1, 0),
 };
-
-fn events_at_last(rt: &impl Abort, alloc: Global) -> Result<Vec<Event>, AllocError> {
-    match events_of(rt, alloc, EACH_EVENT.acts) {
-        Ok(events) => Ok(events),
-        Err(AllocError) => events_of(rt, alloc, EACH_EVENT.acts),
-    }
-}
 
 /// Whether this may be said for want of memory.
 fn is_want(said: Said) -> bool {
@@ -76,9 +68,8 @@ fn is_run(rt: &impl Abort, alloc: Global, events: &[Event]) -> bool {
 /// For runs in which any one allocation is refused: the answers are the same as ever up to want of memory, and all of them when the
 /// events are run again.
 #[test]
-fn one_want_of_memory_changes_no_other_answer(rt: HostRuntime) -> Result<(), Fail> {
+fn one_want_of_memory_changes_no_other_answer(rt: HostRuntime) {
     let alloc = rt.alloc();
-    let events = events_at_last(&rt, alloc)?;
+    let events = events_of(&rt, alloc, EACH_EVENT.acts);
     assert!(rt; is_run(&rt, alloc, events.as_slice()));
-    Ok(())
 }

@@ -3,13 +3,13 @@
 use crate::evidence::{
     Evidence, Held, Line, Told, asked, evidence_of, is_alone, server_id, session_id,
 };
+use crate::fixtures::must_be_so;
 use crate::twin;
 use Told::{Read, Refused, Wrote};
 use bayou_base::Wid;
 use bayou_judge::{Breach, Guarantee, Refusal, Surveyed, Verdict};
-use std::alloc::{AllocError, Global};
+use std::alloc::Global;
 use std::process::Abort;
-use std::test::Fail;
 
 const ZERO: [u32; 3] = [0, 0, 0];
 
@@ -154,9 +154,9 @@ fn is_refused(
     lists: &[&[Held]; 3],
     lines: &[Line],
     refusal: Refusal,
-) -> Result<bool, AllocError> {
-    let evidence = evidence_of(rt, alloc, lists, lines)?;
-    Ok(are_refusals(rt, alloc, &evidence, refusal))
+) -> bool {
+    let evidence = evidence_of(rt, alloc, lists, lines);
+    are_refusals(rt, alloc, &evidence, refusal)
 }
 
 fn are_refusals(rt: &impl Abort, alloc: Global, evidence: &Evidence, refusal: Refusal) -> bool {
@@ -169,49 +169,39 @@ fn are_refusals(rt: &impl Abort, alloc: Global, evidence: &Evidence, refusal: Re
 /// A forged entry, which is told after a dump that is bad.
 static FORGED: [Line; 1] = [(0, 1, "", 7, Refused)];
 
-fn is_bad(rt: &impl Abort, alloc: Global, dump: &BadDump) -> Result<bool, AllocError> {
+fn is_bad(rt: &impl Abort, alloc: Global, dump: &BadDump) -> bool {
     let (lists, (server, at)) = dump;
     let refusal = Refusal::BadDump(server_id(rt, *server), *at);
     is_refused(rt, alloc, lists, &FORGED, refusal)
 }
 
-/// How many of the dumps are refused, up to one that isn't.
-fn bad_among(rt: &impl Abort, alloc: Global, dumps: &[BadDump]) -> Result<usize, AllocError> {
+/// Each of the dumps is refused.
+fn all_bad(rt: &impl Abort, alloc: Global, dumps: &[BadDump]) {
     for (at, dump) in dumps.iter().enumerate() {
-        if !is_bad(rt, alloc, dump)? {
-            return Ok(at);
-        }
+        must_be_so(rt, is_bad(rt, alloc, dump), at);
     }
-    Ok(dumps.len())
 }
 
 #[test]
-fn bad_dumps(rt: HostRuntime) -> Result<(), Fail> {
-    let bad = bad_among(&rt, rt.alloc(), &BAD_DUMPS)?;
-    assert!(rt; bad == BAD_DUMPS.len(), "dump {bad}");
-    Ok(())
+fn bad_dumps(rt: HostRuntime) {
+    all_bad(&rt, rt.alloc(), &BAD_DUMPS);
 }
 
-fn is_forged(rt: &impl Abort, alloc: Global, forged: &Forged) -> Result<bool, AllocError> {
+fn is_forged(rt: &impl Abort, alloc: Global, forged: &Forged) -> bool {
     let (lists, lines, at) = forged;
     is_refused(rt, alloc, lists, lines, Refusal::Forged(*at))
 }
 
-/// How many of the forgeries are refused, up to one that isn't.
-fn forged_among(rt: &impl Abort, alloc: Global, forgeries: &[Forged]) -> Result<usize, AllocError> {
+/// Each of the forgeries is refused.
+fn all_forged(rt: &impl Abort, alloc: Global, forgeries: &[Forged]) {
     for (at, forged) in forgeries.iter().enumerate() {
-        if !is_forged(rt, alloc, forged)? {
-            return Ok(at);
-        }
+        must_be_so(rt, is_forged(rt, alloc, forged), at);
     }
-    Ok(forgeries.len())
 }
 
 #[test]
-fn forged_entries(rt: HostRuntime) -> Result<(), Fail> {
-    let forged = forged_among(&rt, rt.alloc(), &FORGERIES)?;
-    assert!(rt; forged == FORGERIES.len(), "forgery {forged}");
-    Ok(())
+fn forged_entries(rt: HostRuntime) {
+    all_forged(&rt, rt.alloc(), &FORGERIES);
 }
 
 /// The breach of Read Your Writes in the file of docs/FORMATS.md.
@@ -233,11 +223,11 @@ fn is_judged(
     alloc: Global,
     file: (u32, &'static str, [u32; 3]),
     wanted: Result<Verdict, Refusal>,
-) -> Result<bool, AllocError> {
+) -> bool {
     let (clock, asks, counts) = file;
     let lines = [(0, 1, asks, 0, WROTE_FIRST), (0, 2, asks, 1, Read(counts))];
-    let evidence = evidence_of(rt, alloc, &[&[(0, 1, clock, ZERO, 1)], &[], &[]], &lines)?;
-    Ok(are_answers(rt, alloc, &evidence, wanted))
+    let evidence = evidence_of(rt, alloc, &[&[(0, 1, clock, ZERO, 1)], &[], &[]], &lines);
+    are_answers(rt, alloc, &evidence, wanted)
 }
 
 fn are_answers(
@@ -263,16 +253,12 @@ fn are_answers(
 }
 
 #[test]
-fn the_file_of_the_formats(rt: HostRuntime) -> Result<(), Fail> {
-    let table = [
-        ((1, "", ZERO), Ok(Verdict::Clean)),
-        ((1, "r", ZERO), Ok(Verdict::Broken(breach_of_the_file(&rt)))),
-        ((1, "", [0, 1, 0]), Err(Refusal::Forged(1))),
-        ((2, "", ZERO), Err(Refusal::BadDump(server_id(&rt, 0), 0))),
-    ];
-    for (file, wanted) in table {
-        let is_so = is_judged(&rt, rt.alloc(), file, wanted)?;
-        assert!(rt; is_so, "{file:?}");
-    }
-    Ok(())
+fn the_file_of_the_formats(rt: HostRuntime) {
+    let breach = breach_of_the_file(&rt);
+    let bad = Refusal::BadDump(server_id(&rt, 0), 0);
+    let is_clean = is_judged(&rt, rt.alloc(), (1, "", ZERO), Ok(Verdict::Clean));
+    let is_broken = is_judged(&rt, rt.alloc(), (1, "r", ZERO), Ok(Verdict::Broken(breach)));
+    let is_forged = is_judged(&rt, rt.alloc(), (1, "", [0, 1, 0]), Err(Refusal::Forged(1)));
+    let is_bad = is_judged(&rt, rt.alloc(), (2, "", ZERO), Err(bad));
+    assert!(rt; is_clean && is_broken && is_forged && is_bad);
 }

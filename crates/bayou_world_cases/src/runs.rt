@@ -4,14 +4,13 @@
 ghost use Rattle.std.specs.Prelude.{◌<◌};
 
 use crate::failures::is_fault;
-use crate::fixtures::{history_of, put, room, server_id, session_id};
+use crate::fixtures::{history, put, room, server_id, session_id};
 use bayou_base::{Asks, Entry, ServerId, SessionId};
 use bayou_judge::{Guarantee, Refusal, Verdict, judge};
 use bayou_server::{JournalFault, ReopenFault, StartFault, TakeFault, Took, WriteFault};
 use bayou_world::{Event, History, Reply};
-use std::alloc::{AllocError, Global};
+use std::alloc::Global;
 use std::process::Abort;
-use std::test::Fail;
 
 /// How many lists from the seed. In every other one device calls fail.
 const LISTS: u32 = 400;
@@ -109,8 +108,12 @@ impl List {
         }
     }
 
+    fn add(&mut self, rt: &impl Abort, event: Event) {
+        self.events.push(event).expect(rt, "no memory");
+    }
+
     /// A session tries something, and mostly hears of it at once.
-    fn operate(&mut self, rt: &impl Abort, dice: &mut Dice) -> Result<(), AllocError> {
+    fn operate(&mut self, rt: &impl Abort, dice: &mut Dice) {
         let (session, server) = (dice.session(rt), dice.server(rt));
         let event = if dice.chance(2) {
             let key = room(rt);
@@ -120,59 +123,56 @@ impl List {
                 key,
             }
         } else {
-            let program = put(rt, self.alloc, i64::from(dice.below(100)))?;
+            let program = put(rt, self.alloc, i64::from(dice.below(100)));
             Event::Write {
                 session,
                 server,
                 program,
             }
         };
-        self.events.push(event)?;
-        self.hear(session, dice)
+        self.add(rt, event);
+        self.hear(rt, session, dice);
     }
 
     /// The session hears of it, or loses it, or neither yet.
-    fn hear(&mut self, session: SessionId, dice: &mut Dice) -> Result<(), AllocError> {
+    fn hear(&mut self, rt: &impl Abort, session: SessionId, dice: &mut Dice) {
         let event = match dice.below(8) {
             0..=5 => Event::Deliver(session),
             6 => Event::Lose(session),
-            _ => return Ok(()),
+            _ => return,
         };
-        self.events.push(event)?;
-        Ok(())
+        self.add(rt, event);
     }
 
     /// A server offers, and one collects for that offer or the one before.
-    fn collect(&mut self, rt: &impl Abort, dice: &mut Dice) -> Result<(), AllocError> {
+    fn collect(&mut self, rt: &impl Abort, dice: &mut Dice) {
         let to = dice.server(rt);
         let server = dice.server(rt);
         let last = self.offers.len().min(EVENTS) as u32;
         let offer = last.saturating_sub(dice.below(2));
-        self.offers.push(to.index)?;
-        self.events.push(Event::Offer(to))?;
-        self.events.push(Event::Collect { server, offer })?;
-        Ok(())
+        self.offers.push(to.index).expect(rt, "no memory");
+        self.add(rt, Event::Offer(to));
+        self.add(rt, Event::Collect { server, offer });
     }
 
     /// A server is given what was collected for it not long ago, but for an item now and then.
-    fn take(&mut self, rt: &impl Abort, dice: &mut Dice) -> Result<(), AllocError> {
+    fn take(&mut self, rt: &impl Abort, dice: &mut Dice) {
         let back = dice.below(4) as usize + 1;
         let place = self.batches.len().saturating_sub(back);
         let Some((to, first, number)) = self.batches.get(place).copied() else {
-            return Ok(());
+            return;
         };
         let server = server_id(rt, to);
         for offset in 0..number.min(8) {
             let item = first.saturating_add(offset);
             if !dice.chance(10) {
-                self.events.push(Event::Take { server, item })?;
+                self.add(rt, Event::Take { server, item });
             }
         }
-        Ok(())
     }
 
     /// An event of a session alone, or one that names what isn't there.
-    fn stray(&mut self, rt: &impl Abort, dice: &mut Dice) -> Result<(), AllocError> {
+    fn stray(&mut self, rt: &impl Abort, dice: &mut Dice) {
         let (session, server) = (dice.session(rt), dice.server(rt));
         let event = match dice.below(15) {
             0 => Event::Offer(server_id(rt, 4)),
@@ -200,12 +200,11 @@ impl List {
             5..=7 => Event::Deliver(session),
             _ => Event::File(session),
         };
-        self.events.push(event)?;
-        Ok(())
+        self.add(rt, event);
     }
 
     /// A device call is to fail, or a server is recovered.
-    fn fail(&mut self, rt: &impl Abort, dice: &mut Dice) -> Result<(), AllocError> {
+    fn fail(&mut self, rt: &impl Abort, dice: &mut Dice) {
         let server = dice.server(rt);
         let event = match dice.below(6) {
             0 | 1 => Event::Fuse {
@@ -216,21 +215,19 @@ impl List {
             2 => Event::Restart(server),
             _ => Event::Reopen(server),
         };
-        self.events.push(event)?;
-        Ok(())
+        self.add(rt, event);
     }
 
     /// So many events, or a few more.
-    fn grow(&mut self, rt: &impl Abort, dice: &mut Dice, many: usize) -> Result<(), AllocError> {
+    fn grow(&mut self, rt: &impl Abort, dice: &mut Dice, many: usize) {
         for _ in 0..EVENTS {
             if self.events.len() < many {
-                self.grow_once(rt, dice)?;
+                self.grow_once(rt, dice);
             }
         }
-        Ok(())
     }
 
-    fn grow_once(&mut self, rt: &impl Abort, dice: &mut Dice) -> Result<(), AllocError> {
+    fn grow_once(&mut self, rt: &impl Abort, dice: &mut Dice) {
         match dice.below(10) {
             0..=3 => self.operate(rt, dice),
             4 | 5 => self.collect(rt, dice),
@@ -241,10 +238,9 @@ impl List {
     }
 
     /// What a run of it kept and collected.
-    fn learn(&mut self, replies: &[Reply]) -> Result<(), AllocError> {
-        self.offers = offers_of(self.alloc, self.events.as_slice(), replies)?;
-        self.batches = batches_of(self.alloc, self, replies)?;
-        Ok(())
+    fn learn(&mut self, rt: &impl Abort, replies: &[Reply]) {
+        self.offers = offers_of(rt, self.alloc, self.events.as_slice(), replies);
+        self.batches = batches_of(rt, self.alloc, self, replies);
     }
 
     /// Grows to all of its events, for sessions that ask for these.
@@ -254,13 +250,13 @@ impl List {
         dice: &mut Dice,
         limit: u32,
         asks: &[Asks; 8],
-    ) -> Result<(), AllocError> {
+    ) {
         for round in 1..ROUNDS {
-            self.grow(rt, dice, round * (EVENTS / ROUNDS))?;
-            let history = run(rt, self.alloc, limit, asks, self.events.as_slice())?;
-            self.learn(history.replies.as_slice())?;
+            self.grow(rt, dice, round * (EVENTS / ROUNDS));
+            let history = run(rt, self.alloc, limit, asks, self.events.as_slice());
+            self.learn(rt, history.replies.as_slice());
         }
-        self.grow(rt, dice, EVENTS)
+        self.grow(rt, dice, EVENTS);
     }
 }
 
@@ -273,14 +269,14 @@ fn offer_of(event: &Event, reply: Option<&Reply>) -> Option<u8> {
 }
 
 /// The server of each offer that was kept.
-fn offers_of(alloc: Global, events: &[Event], replies: &[Reply]) -> Result<Vec<u8>, AllocError> {
+fn offers_of(rt: &impl Abort, alloc: Global, events: &[Event], replies: &[Reply]) -> Vec<u8> {
     let mut offers = Vec::new(alloc);
     for (at, event) in events.iter().enumerate() {
         if let Some(offer) = offer_of(event, replies.get(at)) {
-            offers.push(offer)?;
+            offers.push(offer).expect(rt, "no memory");
         }
     }
-    Ok(offers)
+    offers
 }
 
 /// What was collected, and for which server: the one of that offer.
@@ -296,14 +292,14 @@ fn batch_of(offers: &[u8], event: &Event, reply: Option<&Reply>) -> Option<Batch
 }
 
 /// What was collected for which server.
-fn batches_of(alloc: Global, list: &List, replies: &[Reply]) -> Result<Vec<Batch>, AllocError> {
+fn batches_of(rt: &impl Abort, alloc: Global, list: &List, replies: &[Reply]) -> Vec<Batch> {
     let mut batches = Vec::new(alloc);
     for (at, event) in list.events.iter().enumerate() {
         if let Some(batch) = batch_of(list.offers.as_slice(), event, replies.get(at)) {
-            batches.push(batch)?;
+            batches.push(batch).expect(rt, "no memory");
         }
     }
-    Ok(batches)
+    batches
 }
 
 /// A run of the events where sessions ask for these.
@@ -313,8 +309,8 @@ fn run(
     limit: u32,
     asks: &[Asks; 8],
     events: &[Event],
-) -> Result<Box<History>, AllocError> {
-    history_of(rt, alloc, (4, limit), asks, events)
+) -> Box<History> {
+    history(rt, alloc, (4, limit), asks, events)
 }
 
 /// The server that the event is of, if it is of one alone.
@@ -456,19 +452,12 @@ impl Tally {
     }
 
     /// The run with what is asked for, and the one where nothing is, which is judged as if everything were.
-    fn add(
-        &mut self,
-        rt: &impl Abort,
-        alloc: Global,
-        dice: &mut Dice,
-        limit: u32,
-        fails: bool,
-    ) -> Result<(), AllocError> {
+    fn add(&mut self, rt: &impl Abort, alloc: Global, dice: &mut Dice, limit: u32, fails: bool) {
         let asks = dice.asks_of_all();
         let mut list = List::new(alloc, fails);
-        list.fill(rt, dice, limit, &asks)?;
-        self.add_asked(rt, alloc, limit, &asks, list.events.as_slice())?;
-        self.add_free(rt, alloc, limit, list.events.as_slice())
+        list.fill(rt, dice, limit, &asks);
+        self.add_asked(rt, alloc, limit, &asks, list.events.as_slice());
+        self.add_free(rt, alloc, limit, list.events.as_slice());
     }
 
     fn add_asked(
@@ -478,10 +467,9 @@ impl Tally {
         limit: u32,
         asks: &[Asks; 8],
         events: &[Event],
-    ) -> Result<(), AllocError> {
-        let history = run(rt, alloc, limit, asks, events)?;
+    ) {
+        let history = run(rt, alloc, limit, asks, events);
         self.add_history(alloc, events, &history);
-        Ok(())
     }
 
     fn add_history(&mut self, alloc: Global, events: &[Event], history: &History) {
@@ -494,17 +482,10 @@ impl Tally {
         }
     }
 
-    fn add_free(
-        &mut self,
-        rt: &impl Abort,
-        alloc: Global,
-        limit: u32,
-        events: &[Event],
-    ) -> Result<(), AllocError> {
-        let free = run(rt, alloc, limit, &[Asks::default(); 8], events)?;
-        let entries = asking_for_all(alloc, free.served.as_slice())?;
+    fn add_free(&mut self, rt: &impl Abort, alloc: Global, limit: u32, events: &[Event]) {
+        let free = run(rt, alloc, limit, &[Asks::default(); 8], events);
+        let entries = asking_for_all(rt, alloc, free.served.as_slice());
         self.add_breach(verdict_of(alloc, entries.as_slice(), &free));
-        Ok(())
     }
 
     /// Whether each run was clean, no kind of answer is missing, and none other was among them.
@@ -526,17 +507,17 @@ fn verdict_of(alloc: Global, entries: &[Entry], history: &History) -> Result<Ver
 }
 
 /// The entries, as if their sessions had asked for everything.
-fn asking_for_all(alloc: Global, served: &[Entry]) -> Result<Vec<Entry>, AllocError> {
+fn asking_for_all(rt: &impl Abort, alloc: Global, served: &[Entry]) -> Vec<Entry> {
     let mut entries = Vec::new(alloc);
     for entry in served {
         let mut other = entry.copy();
         other.asks = ALL;
-        entries.push(other)?;
+        entries.push(other).expect(rt, "no memory");
     }
-    Ok(entries)
+    entries
 }
 
-fn found_from(rt: &impl Abort, alloc: Global, seed: u64) -> Result<Tally, AllocError> {
+fn found_from(rt: &impl Abort, alloc: Global, seed: u64) -> Tally {
     let mut dice = Dice { state: seed };
     let mut tally = Tally {
         clean: 0,
@@ -546,14 +527,13 @@ fn found_from(rt: &impl Abort, alloc: Global, seed: u64) -> Result<Tally, AllocE
     };
     for number in 0..LISTS {
         let limit = LIMITS[number as usize / 2 % LIMITS.len()];
-        tally.add(rt, alloc, &mut dice, limit, number % 2 == 1)?;
+        tally.add(rt, alloc, &mut dice, limit, number % 2 == 1);
     }
-    Ok(tally)
+    tally
 }
 
 #[test]
-fn each_run_is_clean(rt: HostRuntime) -> Result<(), Fail> {
-    let found = found_from(&rt, rt.alloc(), 1994)?;
+fn each_run_is_clean(rt: HostRuntime) {
+    let found = found_from(&rt, rt.alloc(), 1994);
     assert!(rt; found.is_full(), "{found:?}");
-    Ok(())
 }

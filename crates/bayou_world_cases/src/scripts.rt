@@ -1,5 +1,5 @@
 //! Scripts at two servers: what each event is answered, and what is left.
-use crate::fixtures::{history_of, put, room, server_id, session_id};
+use crate::fixtures::{history_of, must_be_so, put, room, room_for, server_id, session_id};
 use Said::{
     Accepted, Delivered, Doubted, Down, Dropped, Filed, Flown, Full, Fused, Gap, Had, Holds, Kept,
     New, NotDown, NotReopened, NotRestarted, ReadBehind, Seen, Skipped, Up, Wanting, WriteBehind,
@@ -12,7 +12,6 @@ use bayou_server::{Behind, JournalFault, ReopenFault, StartFault, TakeFault, Too
 use bayou_world::{Event, History, Reply};
 use std::alloc::{AllocError, Global};
 use std::process::Abort;
-use std::test::Fail;
 
 /// The counts of the two servers.
 pub type Counts = [u32; 2];
@@ -241,8 +240,8 @@ static OF_BOOKS: [Script; 3] = [
     },
 ];
 
-fn event_of(rt: &impl Abort, alloc: Global, act: Act) -> Result<Event, AllocError> {
-    Ok(match act {
+fn event_of(rt: &impl Abort, alloc: Global, act: Act) -> Event {
+    match act {
         Act::Read(session, server) => Event::Read {
             session: session_id(rt, session),
             server: server_id(rt, server),
@@ -251,7 +250,7 @@ fn event_of(rt: &impl Abort, alloc: Global, act: Act) -> Result<Event, AllocErro
         Act::Write(session, server, number) => Event::Write {
             session: session_id(rt, session),
             server: server_id(rt, server),
-            program: put(rt, alloc, number)?,
+            program: put(rt, alloc, number),
         },
         Act::Deliver(session) => Event::Deliver(session_id(rt, session)),
         Act::Lose(session) => Event::Lose(session_id(rt, session)),
@@ -272,7 +271,7 @@ fn event_of(rt: &impl Abort, alloc: Global, act: Act) -> Result<Event, AllocErro
         Act::Reopen(server) => Event::Reopen(server_id(rt, server)),
         Act::Restart(server) => Event::Restart(server_id(rt, server)),
         Act::File(session) => Event::File(session_id(rt, session)),
-    })
+    }
 }
 
 fn counts_of(vector: &Vector) -> Counts {
@@ -401,26 +400,17 @@ fn have_names(dumps: &[Vec<RestingWrite>], names: &[&'static [(u8, u32)]; 2]) ->
 }
 
 /// Adds the event of this act.
-pub fn add(
-    rt: &impl Abort,
-    alloc: Global,
-    events: &mut Vec<Event>,
-    act: Act,
-) -> Result<(), AllocError> {
-    events.push(event_of(rt, alloc, act)?)?;
-    Ok(())
+pub fn add(rt: &impl Abort, alloc: Global, events: &mut Vec<Event>, act: Act) {
+    let event = event_of(rt, alloc, act);
+    events.push(event).expect(rt, "no memory");
 }
 
-pub fn events_of(
-    rt: &impl Abort,
-    alloc: Global,
-    acts: &[(Act, Said)],
-) -> Result<Vec<Event>, AllocError> {
-    let mut events = Vec::new(alloc);
+pub fn events_of(rt: &impl Abort, alloc: Global, acts: &[(Act, Said)]) -> Vec<Event> {
+    let mut events = room_for(rt, alloc, acts.len());
     for (act, _) in acts {
-        add(rt, alloc, &mut events, *act)?;
+        add(rt, alloc, &mut events, *act);
     }
-    Ok(events)
+    events
 }
 
 pub fn play(
@@ -447,36 +437,25 @@ pub fn is_as_it_says(script: &Script, history: &History) -> bool {
         && history.totals == totals
 }
 
-fn leaves_what_it_says(
-    rt: &impl Abort,
-    alloc: Global,
-    script: &Script,
-) -> Result<bool, AllocError> {
-    let events = events_of(rt, alloc, script.acts)?;
-    let history = play(rt, alloc, script, events.as_slice())?;
-    Ok(is_as_it_says(script, &history))
+fn leaves_what_it_says(rt: &impl Abort, alloc: Global, script: &Script) -> bool {
+    let events = events_of(rt, alloc, script.acts);
+    let history = play(rt, alloc, script, events.as_slice()).expect(rt, "no memory");
+    is_as_it_says(script, &history)
 }
 
-/// How many scripts leave what they say, up to one that doesn't.
-fn played(rt: &impl Abort, alloc: Global, scripts: &[Script]) -> Result<usize, AllocError> {
+/// Each script leaves what it says.
+fn all_leave_what_they_say(rt: &impl Abort, alloc: Global, scripts: &[Script]) {
     for (at, script) in scripts.iter().enumerate() {
-        if !leaves_what_it_says(rt, alloc, script)? {
-            return Ok(at);
-        }
+        must_be_so(rt, leaves_what_it_says(rt, alloc, script), at);
     }
-    Ok(scripts.len())
 }
 
 #[test]
-fn a_session_finds_the_write_that_it_was_told_of(rt: HostRuntime) -> Result<(), Fail> {
-    let count = played(&rt, rt.alloc(), &OF_ONE_WRITE)?;
-    assert!(rt; count == OF_ONE_WRITE.len(), "script {count}");
-    Ok(())
+fn a_session_finds_the_write_that_it_was_told_of(rt: HostRuntime) {
+    all_leave_what_they_say(&rt, rt.alloc(), &OF_ONE_WRITE);
 }
 
 #[test]
-fn what_was_delivered_is_entered_once(rt: HostRuntime) -> Result<(), Fail> {
-    let count = played(&rt, rt.alloc(), &OF_BOOKS)?;
-    assert!(rt; count == OF_BOOKS.len(), "script {count}");
-    Ok(())
+fn what_was_delivered_is_entered_once(rt: HostRuntime) {
+    all_leave_what_they_say(&rt, rt.alloc(), &OF_BOOKS);
 }

@@ -2,14 +2,14 @@
 //! and isn't before the later one. The last server tells of none in order where the two Writes are two: who makes a Write behind
 //! another stamps it later, and a server that makes it before the other is where the other is missing.
 use crate::evidence::{asks_of, entry, is_alone, put, server_id, session_id};
+use crate::fixtures::must_be_so;
 use Guarantee::{MonotonicReads, MonotonicWrites, ReadYourWrites, WritesFollowReads};
 use Told::{Read, Wrote};
 use bayou_base::{Entry, Key, SERVERS, Stamp, Vector, What, Wid};
 use bayou_judge::{Breach, Guarantee, Surveyed, Verdict, judge, survey};
 use bayou_lang::RestingWrite;
-use std::alloc::{AllocError, Global};
+use std::alloc::Global;
 use std::process::Abort;
-use std::test::Fail;
 
 const COUNT: u8 = SERVERS as u8;
 
@@ -58,46 +58,39 @@ struct Scene {
 }
 
 impl Scene {
-    fn new(alloc: Global) -> Result<Self, AllocError> {
+    fn new(rt: &impl Abort, alloc: Global) -> Self {
         let mut dumps = Vec::new(alloc);
         for _ in 0..COUNT {
-            dumps.push(Vec::new(alloc))?;
+            dumps.push(Vec::new(alloc)).expect(rt, "no memory");
         }
-        Ok(Scene {
+        Scene {
             alloc,
             dumps,
             entries: Vec::new(alloc),
             places: 0,
-        })
+        }
     }
 
     /// The server receives that Write, which was made behind those of its origin alone.
-    fn hold(
-        &mut self,
-        rt: &impl Abort,
-        server: u8,
-        origin: u8,
-        seq: u32,
-    ) -> Result<(), AllocError> {
+    fn hold(&mut self, rt: &impl Abort, server: u8, origin: u8, seq: u32) {
         let deps = counts_of(rt, origin, seq.saturating_sub(1));
         let id = server_id(rt, origin);
         let wid = Wid::new(id, seq).expect(rt, "no name");
         let stamp = Stamp::new(seq, id).expect(rt, "no stamp");
-        let program = put(rt, self.alloc, 1)?;
+        let program = put(rt, self.alloc, 1);
         if let Some(dump) = self.dumps.get_mut(usize::from(server)) {
-            dump.push(RestingWrite::new(wid, stamp, deps, program))?;
+            let write = RestingWrite::new(wid, stamp, deps, program);
+            dump.push(write).expect(rt, "no memory");
         }
-        Ok(())
     }
 
-    fn hold_all(&mut self, rt: &impl Abort, all: &[Held]) -> Result<(), AllocError> {
+    fn hold_all(&mut self, rt: &impl Abort, all: &[Held]) {
         for (server, origin, seq) in all {
-            self.hold(rt, *server, *origin, *seq)?;
+            self.hold(rt, *server, *origin, *seq);
         }
-        Ok(())
     }
 
-    fn tell(&mut self, rt: &impl Abort, told: Told) -> Result<(), AllocError> {
+    fn tell(&mut self, rt: &impl Abort, told: Told) {
         self.places = self.places.saturating_add(1);
         let server = match told {
             Read(server, _) | Wrote(server, _) => server,
@@ -108,15 +101,13 @@ impl Scene {
             (0, self.places, server),
             what_of(rt, told),
         );
-        self.entries.push(line)?;
-        Ok(())
+        self.entries.push(line).expect(rt, "no memory");
     }
 
-    fn tell_all(&mut self, rt: &impl Abort, all: &[Told]) -> Result<(), AllocError> {
+    fn tell_all(&mut self, rt: &impl Abort, all: &[Told]) {
         for told in all {
-            self.tell(rt, *told)?;
+            self.tell(rt, *told);
         }
-        Ok(())
     }
 
     /// Whether the verdict is this breach, and no other guarantee is broken.
@@ -182,27 +173,15 @@ fn surveyed_of(breach: Breach) -> Surveyed {
 }
 
 /// Whether what the servers hold, and what the session is told of, is that breach.
-fn is_broken(
-    rt: &impl Abort,
-    alloc: Global,
-    held: &[Held],
-    told: &[Told],
-    breach: Breach,
-) -> Result<bool, AllocError> {
-    let mut scene = Scene::new(alloc)?;
-    scene.hold_all(rt, held)?;
-    scene.tell_all(rt, told)?;
-    Ok(scene.breaks(rt, breach))
+fn is_broken(rt: &impl Abort, alloc: Global, held: &[Held], told: &[Told], breach: Breach) -> bool {
+    let mut scene = Scene::new(rt, alloc);
+    scene.hold_all(rt, held);
+    scene.tell_all(rt, told);
+    scene.breaks(rt, breach)
 }
 
 /// Whether the guarantee is broken at the server for what only the other one has.
-fn is_missing(
-    rt: &impl Abort,
-    alloc: Global,
-    guarantee: Guarantee,
-    server: u8,
-    other: u8,
-) -> Result<bool, AllocError> {
+fn is_missing(rt: &impl Abort, alloc: Global, guarantee: Guarantee, server: u8, other: u8) -> bool {
     let first = first_of(guarantee, other, 1);
     let breach = breach_of(rt, guarantee, server, (other, 1));
     let held = [(other, other, 1), (server, server, 1)];
@@ -218,13 +197,7 @@ fn is_missing(
 
 /// Whether the guarantee is broken at the server, which has its own two Writes before the later Write, which was made at home without
 /// them and is before the second of them.
-fn is_behind(
-    rt: &impl Abort,
-    alloc: Global,
-    guarantee: Guarantee,
-    server: u8,
-    home: u8,
-) -> Result<bool, AllocError> {
+fn is_behind(rt: &impl Abort, alloc: Global, guarantee: Guarantee, server: u8, home: u8) -> bool {
     let held = [
         (server, server, 1),
         (server, server, 2),
@@ -237,43 +210,45 @@ fn is_behind(
 }
 
 /// Whether Writes Follow Reads is broken at the server by a Write that was read before it was written.
-fn is_itself(rt: &impl Abort, alloc: Global, server: u8) -> Result<bool, AllocError> {
+fn is_itself(rt: &impl Abort, alloc: Global, server: u8) -> bool {
     let told = [Read(server, 1), Wrote(server, 1)];
     let breach = breach_of(rt, WritesFollowReads, server, (server, 1));
     is_broken(rt, alloc, &[(server, server, 1)], &told, breach)
 }
 
+/// The two servers in digits.
+fn number_of(first: u8, second: u8) -> usize {
+    usize::from(first) * 10 + usize::from(second)
+}
+
 #[test]
-fn presence_at_each_server(rt: HostRuntime) -> Result<(), Fail> {
+fn presence_at_each_server(rt: HostRuntime) {
     for guarantee in &GUARANTEES {
         for server in 0..COUNT {
             for other in 0..COUNT {
                 let is_told = server == other
-                    || is_missing(&rt, rt.alloc(), *guarantee, server, other)?;
-                assert!(rt; is_told, "{guarantee:?} {server} {other}");
+                    || is_missing(&rt, rt.alloc(), *guarantee, server, other);
+                must_be_so(&rt, is_told, number_of(server, other));
             }
         }
     }
-    Ok(())
 }
 
 #[test]
-fn order_at_each_server(rt: HostRuntime) -> Result<(), Fail> {
+fn order_at_each_server(rt: HostRuntime) {
     for guarantee in &[WritesFollowReads, MonotonicWrites] {
         for home in 0..COUNT {
             for server in 0..home {
-                let is_told = is_behind(&rt, rt.alloc(), *guarantee, server, home)?;
-                assert!(rt; is_told, "{guarantee:?} {server} {home}");
+                let is_told = is_behind(&rt, rt.alloc(), *guarantee, server, home);
+                must_be_so(&rt, is_told, number_of(server, home));
             }
         }
     }
-    Ok(())
 }
 
 #[test]
-fn a_write_that_was_read_before(rt: HostRuntime) -> Result<(), Fail> {
+fn a_write_that_was_read_before(rt: HostRuntime) {
     for server in 0..COUNT {
-        assert!(rt; is_itself(&rt, rt.alloc(), server)?, "{server}");
+        must_be_so(&rt, is_itself(&rt, rt.alloc(), server), usize::from(server));
     }
-    Ok(())
 }

@@ -1,11 +1,10 @@
 //! A third Write whose entry is torn: its server is reopened, or it crashes and is started again.
-use crate::fixtures::{put, server_id};
+use crate::fixtures::{boxed, must_be_so, put, server_id};
 use bayou_base::{ServerId, Vector};
 use bayou_device::{MemoryDevice, OpenGate};
 use bayou_server::{Server, WriteFault};
-use std::alloc::{AllocError, Global};
+use std::alloc::Global;
 use std::process::Abort;
-use std::test::Fail;
 
 type Memory = MemoryDevice<OpenGate>;
 
@@ -18,11 +17,11 @@ const BEFORE: usize = 198;
 const ENTRY: usize = 94;
 
 /// The server on the device, alone, and how many bytes were dropped.
-fn started(rt: &impl Abort, alloc: Global, device: Memory) -> Option<(Box<Served>, usize)> {
+fn started(rt: &impl Abort, alloc: Global, device: Memory) -> (Box<Served>, usize) {
     let id = ServerId::new(0).expect(rt, "no server");
     match Server::start(alloc, id, 1, 100, device) {
-        Ok((server, dropped)) => Some((Box::new(alloc, server).ok()?, dropped)),
-        Err(_) => None,
+        Ok((server, dropped)) => (boxed(rt, alloc, server), dropped),
+        Err(_) => rt.abort(),
     }
 }
 
@@ -33,15 +32,15 @@ fn puts(
     server: &mut Served,
     number: i64,
 ) -> Result<u32, WriteFault> {
-    let program = put(rt, alloc, number)?;
+    let program = put(rt, alloc, number);
     let accepted = server.write(alloc, &Vector::zero(), program)?;
     Ok(accepted.wid.seq)
 }
 
 /// A new server, alone.
-fn begun(rt: &impl Abort, alloc: Global) -> Option<Box<Served>> {
-    let (server, _) = started(rt, alloc, MemoryDevice::new(alloc, OpenGate))?;
-    Some(server)
+fn begun(rt: &impl Abort, alloc: Global) -> Box<Served> {
+    let (server, _) = started(rt, alloc, MemoryDevice::new(alloc, OpenGate));
+    server
 }
 
 /// Whether a new server holds two Writes then, with the third in doubt, of whose entry so much was added.
@@ -62,10 +61,8 @@ fn is_in_doubt(third: Result<u32, WriteFault>) -> bool {
 
 /// Whether a reopening adopts it just where its entry is whole.
 fn is_reopened(rt: &impl Abort, alloc: Global, kept: usize) -> bool {
-    let Some(mut server) = begun(rt, alloc) else {
-        return false;
-    };
-    reopens(rt, alloc, &mut server, kept)
+    let mut server = begun(rt, alloc);
+    reopens(rt, alloc, server.as_mut(), kept)
 }
 
 fn reopens(rt: &impl Abort, alloc: Global, server: &mut Served, kept: usize) -> bool {
@@ -81,13 +78,11 @@ fn reopens(rt: &impl Abort, alloc: Global, server: &mut Served, kept: usize) -> 
     }
 }
 
-/// The device of a server that was stopped with all of the third entry added, if that was in doubt.
-fn stopped(rt: &impl Abort, alloc: Global) -> Option<Memory> {
-    let mut server = begun(rt, alloc)?;
-    if !tears(rt, alloc, &mut server, ENTRY) {
-        return None;
-    }
-    Some(device_of(server))
+/// The device of a server that was stopped with all of the third entry added, which was in doubt.
+fn stopped(rt: &impl Abort, alloc: Global) -> Memory {
+    let mut server = begun(rt, alloc);
+    assert!(rt; tears(rt, alloc, server.as_mut(), ENTRY));
+    device_of(server)
 }
 
 fn device_of(server: Box<Served>) -> Memory {
@@ -95,21 +90,20 @@ fn device_of(server: Box<Served>) -> Memory {
 }
 
 /// Whether it had all of the entry, and a crash leaves so much of it.
-fn crashes(alloc: Global, device: &mut Memory, kept: usize) -> Result<bool, AllocError> {
+fn crashes(rt: &impl Abort, alloc: Global, device: &mut Memory, kept: usize) -> bool {
     let bytes = device.bytes();
     if bytes.len() != BEFORE + ENTRY || kept > ENTRY {
-        return Ok(false);
+        return false;
     }
-    let left = bytes[BEFORE..BEFORE + kept].to_vec(alloc)?;
-    device.crash(left.as_slice())?;
-    Ok(true)
+    let left = bytes[BEFORE..BEFORE + kept]
+        .to_vec(alloc)
+        .expect(rt, "no memory");
+    device.crash(left.as_slice()).is_ok()
 }
 
 /// Whether a start on this device holds the third Write just where its entry is whole, and drops the rest.
 fn holds_what_is_whole(rt: &impl Abort, alloc: Global, device: Memory, kept: usize) -> bool {
-    let Some((server, dropped)) = started(rt, alloc, device) else {
-        return false;
-    };
+    let (server, dropped) = started(rt, alloc, device);
     is_left(server.receipts().len(), dropped, kept)
 }
 
@@ -121,19 +115,16 @@ fn is_left(held: usize, dropped: usize, kept: usize) -> bool {
 }
 
 /// The same of a start behind a crash that left so much of its entry.
-fn is_started(rt: &impl Abort, alloc: Global, kept: usize) -> Result<bool, AllocError> {
-    let Some(mut device) = stopped(rt, alloc) else {
-        return Ok(false);
-    };
-    let is_crashed = crashes(alloc, &mut device, kept)?;
-    Ok(holds_what_is_whole(rt, alloc, device, kept) && is_crashed)
+fn is_started(rt: &impl Abort, alloc: Global, kept: usize) -> bool {
+    let mut device = stopped(rt, alloc);
+    let is_crashed = crashes(rt, alloc, &mut device, kept);
+    holds_what_is_whole(rt, alloc, device, kept) && is_crashed
 }
 
 #[test]
-fn a_torn_entry_is_forgotten_and_a_whole_one_is_held(rt: HostRuntime) -> Result<(), Fail> {
+fn a_torn_entry_is_forgotten_and_a_whole_one_is_held(rt: HostRuntime) {
     for kept in 0..ENTRY + 1 {
-        let is_told = is_reopened(&rt, rt.alloc(), kept) && is_started(&rt, rt.alloc(), kept)?;
-        assert!(rt; is_told, "{kept}");
+        let is_told = is_reopened(&rt, rt.alloc(), kept) && is_started(&rt, rt.alloc(), kept);
+        must_be_so(&rt, is_told, kept);
     }
-    Ok(())
 }

@@ -3,9 +3,8 @@ use crate::evidence::{COUNT, Evidence, Held, Line, Told, evidence_of, server_id,
 use Told::{Read, Wrote};
 use bayou_base::Wid;
 use bayou_judge::{Breach, Guarantee, Refusal, Surveyed, Verdict, judge, survey};
-use std::alloc::{AllocError, Global};
+use std::alloc::Global;
 use std::process::Abort;
-use std::test::Fail;
 
 const ZERO: [u32; 3] = [0, 0, 0];
 
@@ -44,13 +43,6 @@ fn surveyed_of(rt: &impl Abort, session: u8, server: u8, seq: u32) -> Surveyed {
     }
 }
 
-fn evidence_at_last(rt: &impl Abort, alloc: Global) -> Result<Box<Evidence>, AllocError> {
-    match evidence_of(rt, alloc, &HELD, &LINES) {
-        Ok(evidence) => Ok(evidence),
-        Err(AllocError) => evidence_of(rt, alloc, &HELD, &LINES),
-    }
-}
-
 /// Whether the verdict comes, at once or after want of memory.
 fn is_judged(rt: &impl Abort, alloc: Global, evidence: &Evidence) -> bool {
     let (entries, dumps) = (evidence.entries.as_slice(), evidence.dumps.as_slice());
@@ -79,11 +71,10 @@ fn is_surveyed(rt: &impl Abort, alloc: Global, evidence: &Evidence) -> bool {
 
 /// For runs in which any one allocation is refused: what was refused for it is answered as ever when it is asked again.
 #[test]
-fn one_want_of_memory_changes_no_verdict(rt: HostRuntime) -> Result<(), Fail> {
+fn one_want_of_memory_changes_no_verdict(rt: HostRuntime) {
     let alloc = rt.alloc();
-    let evidence = evidence_at_last(&rt, alloc)?;
+    let evidence = evidence_of(&rt, alloc, &HELD, &LINES);
     let is_verdict = is_judged(&rt, alloc, &evidence);
     let is_survey = is_surveyed(&rt, alloc, &evidence);
     assert!(rt; is_verdict && is_survey);
-    Ok(())
 }
