@@ -4,88 +4,59 @@ ghost use Rattle.bayou_node.specs.Books.{IsBlankOf};
 ghost use Rattle.bayou_server.specs.Server.{own_count};
 
 use crate::fixtures::{
-    Memory, Served, Site, have_programs, key, new_site, plus, put, resting, served, vector,
+    Memory, Served, Site, begun, dumped, fuse, have_programs, key, new_site, plus, put, reopened,
+    resting, settled, vector, written,
 };
 use bayou_base::{Value, Vector};
 use bayou_lang::Program;
-use bayou_node::{Desk, DeskMissing, Desks, Node, Settled};
+use bayou_node::{DeskMissing, Desks, Node, Settled};
 use bayou_server::{ReopenFault, WriteFault};
 use std::alloc::Global;
 use std::marker::Brand;
 use std::process::Abort;
 use std::sync::Wait;
 use std::sync::ledger::Blank;
-use std::test::Fail;
 
-/// A node and its two desks.
-#[derive(Drop)]
-struct Place<L: Desks> {
-    site: Box<Site<Memory, L>>,
-    first: Desk<L>,
-    second: Desk<L>,
-}
-
-/// The server behind a lock.
-fn made<L: Desks>(rt: &impl Abort, alloc: Global, blank: Blank, server: Box<Served>) -> Place<L>
-    requires blank { IsBlankOf blank L.name L.parts 2 }
-    requires whose { (server.value.core.id ≡ L.server) × (own_count server.value.core ≡ L.stored) }
-{
-    let mut site = new_site::<_, L>(rt, alloc, blank, server, 2);
-    Place {
-        second: site.as_mut().desks.pop().expect(rt, "no desk"),
-        first: site.as_mut().desks.pop().expect(rt, "no desk"),
-        site,
-    }
-}
-
-/// The seq of the Write that is accepted for the desk.
+/// The seq of the Write that is accepted for the desk of this number.
 fn writes<L: Desks, R: Wait + Abort>(
     rt: &R,
     alloc: Global,
-    node: &Node<Memory, L>,
-    desk: &mut Desk<L>,
+    site: &mut Site<Memory, L>,
+    at: usize,
     program: &Program,
 ) -> Result<u32, WriteFault> {
-    let accepted = node.write(rt, alloc, desk, &Vector::zero(), program.rest(alloc)?)?;
-    Ok(accepted.wid.seq)
+    let desk = site.desks.get_mut(at).expect(rt, "no desk");
+    written(rt, alloc, &site.node, desk, program)
 }
 
 /// What a node comes to with both desks, which isn't settled with one kept back.
-fn settles<L: Desks>(rt: &impl Abort, place: Place<L>) -> Settled {
-    let Place {
-        site,
-        first,
-        second,
-    } = place;
+fn settles<L: Desks>(rt: &impl Abort, site: Box<Site<Memory, L>>) -> Settled {
     let Site { node, mut desks } = Box::into_inner(site);
-    let is_back = desks.push(first).is_ok();
+    let desk = desks.pop().expect(rt, "no desk");
     let Err(left) = node.settle(desks) else {
         rt.abort();
     };
     let DeskMissing { node, mut desks } = left;
-    let are_back = desks.push(second).is_ok();
-    assert!(rt; is_back && are_back);
-    node.settle(desks).ok().expect(rt, "not settled")
+    let is_back = desks.push(desk).is_ok();
+    assert!(rt; is_back);
+    settled(node, desks).expect(rt, "not settled")
+}
+
+/// Whether the node reads what two programs make.
+fn reads_two<L: Desks, R: Wait + Abort>(rt: &R, node: &Node<Memory, L>) -> bool {
+    match node.read(rt, &vector(rt, 2, 0), &key(rt, "a")) {
+        Ok(seen) => seen.value == Some(Value::Num(2)) && seen.vector == vector(rt, 2, 0),
+        Err(_) => false,
+    }
 }
 
 /// Whether two programs, each for a desk of its own, are accepted, and read there.
-fn takes_two<L: Desks, R: Wait + Abort>(
-    rt: &R,
-    alloc: Global,
-    node: &Node<Memory, L>,
-    first: &mut Desk<L>,
-    second: &mut Desk<L>,
-) -> bool {
+fn takes_two<L: Desks, R: Wait + Abort>(rt: &R, alloc: Global, site: &mut Site<Memory, L>) -> bool {
     let programs = [put(rt, 1), plus(rt, 1)];
-    let is_first = writes(rt, alloc, node, first, &programs[0]) == Ok(1);
-    let is_second = writes(rt, alloc, node, second, &programs[1]) == Ok(2);
-    let dumped = node.dump(rt, alloc).expect(rt, "no memory for Writes");
-    let are_kept = have_programs(&dumped, &programs);
-    let is_two = match node.read(rt, &vector(rt, 2, 0), &key(rt, "a")) {
-        Ok(seen) => seen.value == Some(Value::Num(2)) && seen.vector == vector(rt, 2, 0),
-        Err(_) => false,
-    };
-    is_first && is_second && are_kept && is_two
+    let is_first = writes(rt, alloc, site, 0, &programs[0]) == Ok(1);
+    let is_second = writes(rt, alloc, site, 1, &programs[1]) == Ok(2);
+    let are_kept = have_programs(&dumped(rt, alloc, &site.node), &programs);
+    is_first && is_second && are_kept && reads_two(rt, &site.node)
 }
 
 /// What two programs, each for a desk of its own, come to.
@@ -98,10 +69,9 @@ fn two_programs<L: Desks, R: Wait + Abort>(
     requires blank { IsBlankOf blank L.name L.parts 2 }
     requires whose { (server.value.core.id ≡ L.server) × (own_count server.value.core ≡ L.stored) }
 {
-    let mut place = made::<L>(rt, alloc, blank, server);
-    let node = &place.site.as_ref().node;
-    let are_taken = takes_two(rt, alloc, node, &mut place.first, &mut place.second);
-    let is_settled = is_settled(rt, settles(rt, place), [2, 0], 2);
+    let mut site = new_site::<_, L>(rt, alloc, blank, server, 2);
+    let are_taken = takes_two(rt, alloc, site.as_mut());
+    let is_settled = is_settled(rt, settles(rt, site), [2, 0], 2);
     are_taken && is_settled
 }
 
@@ -117,54 +87,35 @@ fn is_settled(rt: &impl Abort, settled: Settled, counts: [u32; 2], held: u32) ->
 }
 
 #[test]
-fn a_node_is_settled_once_all_desks_are_back(rt: HostRuntime) -> Result<(), Fail> {
+fn a_node_is_settled_once_all_desks_are_back(rt: HostRuntime) {
     let alloc = rt.alloc();
-    let server = served(&rt, alloc, 0)?;
+    let server = begun(&rt, alloc, (0, 2, 1000)).expect(&rt, "no server");
     let is_so = two_programs::<Brand, HostRuntime>(&rt, alloc, Blank::new(2), server);
     assert!(rt; is_so);
-    Ok(())
-}
-
-/// The seq of the Write that a reopening adopts, if any.
-fn reopens<L: Desks, R: Wait>(
-    rt: &R,
-    alloc: Global,
-    node: &Node<Memory, L>,
-) -> Result<Option<u32>, ReopenFault> {
-    let reopened = node.reopen(rt, alloc)?;
-    match reopened.adopted {
-        Some(wid) => Ok(Some(wid.seq)),
-        None => Ok(None),
-    }
 }
 
 /// Whether a Write is in doubt, no other is made then, and a reopening adopts it. There is nothing to reopen before or behind that.
-fn doubts<L: Desks, R: Wait + Abort>(
-    rt: &R,
-    alloc: Global,
-    node: &Node<Memory, L>,
-    desk: &mut Desk<L>,
-) -> bool {
-    let was_up = reopens(rt, alloc, node) == Err(ReopenFault::NotDown);
-    let is_doubted = writes(rt, alloc, node, desk, &put(rt, 3)) == Err(WriteFault::Journal);
-    let is_down = writes(rt, alloc, node, desk, &put(rt, 3)) == Err(WriteFault::Down);
-    let is_adopted = reopens(rt, alloc, node) == Ok(Some(3));
-    let is_up = reopens(rt, alloc, node) == Err(ReopenFault::NotDown);
-    was_up && is_doubted && is_down && is_adopted && is_up
+fn doubts<L: Desks, R: Wait + Abort>(rt: &R, alloc: Global, site: &mut Site<Memory, L>) -> bool {
+    let was_up = reopened(rt, alloc, &site.node) == Err(ReopenFault::NotDown);
+    let is_doubted = writes(rt, alloc, site, 0, &put(rt, 3)) == Err(WriteFault::Journal);
+    let is_down = writes(rt, alloc, site, 0, &put(rt, 3)) == Err(WriteFault::Down);
+    let is_adopted = reopened(rt, alloc, &site.node) == Ok(Some(3));
+    let is_up = reopened(rt, alloc, &site.node) == Err(ReopenFault::NotDown);
+    was_up & is_doubted & is_down & is_adopted & is_up
 }
 
 /// Whether a second Write is accepted and a third one adopted, and both told of.
 fn accepts_and_adopts<L: Desks, R: Wait + Abort>(
     rt: &R,
     alloc: Global,
-    node: &Node<Memory, L>,
-    desk: &mut Desk<L>,
+    site: &mut Site<Memory, L>,
 ) -> bool {
-    let is_next = writes(rt, alloc, node, desk, &put(rt, 2)) == Ok(2);
-    let is_adopted = doubts(rt, alloc, node, desk);
-    let is_offered = node.offer(rt) == vector(rt, 3, 0);
-    let listed = node.listing(rt, alloc).expect(rt, "no memory for a list");
-    is_next && is_adopted && is_offered && listed.len() == 3
+    let is_next = writes(rt, alloc, site, 0, &put(rt, 2)) == Ok(2);
+    let is_adopted = doubts(rt, alloc, site);
+    let is_offered = site.node.offer(rt) == vector(rt, 3, 0);
+    let listed = site.node.listing(rt, alloc);
+    let are_listed = listed.expect(rt, "no memory for a list").len() == 3;
+    is_next && is_adopted && is_offered && are_listed
 }
 
 /// What a server comes to that has made a Write as its node is made: a second one is accepted, and a third one adopted.
@@ -177,25 +128,25 @@ fn one_of_each<L: Desks, R: Wait + Abort>(
     requires blank { IsBlankOf blank L.name L.parts 2 }
     requires whose { (server.value.core.id ≡ L.server) × (own_count server.value.core ≡ L.stored) }
 {
-    let mut place = made::<L>(rt, alloc, blank, server);
-    let node = &place.site.as_ref().node;
-    let are_told = accepts_and_adopts(rt, alloc, node, &mut place.first);
-    let is_settled = is_settled(rt, settles(rt, place), [1, 1], 3);
+    let mut site = new_site::<_, L>(rt, alloc, blank, server, 2);
+    let are_told = accepts_and_adopts(rt, alloc, site.as_mut());
+    let is_settled = is_settled(rt, settles(rt, site), [1, 1], 3);
     are_told && is_settled
 }
 
+/// Whether the server makes a Write of its own. The second Write's two calls succeed then; the third one's entry is added, and not synced.
+fn puts(rt: &impl Abort, alloc: Global, server: &mut Served) -> bool {
+    let program = resting(rt, alloc, &put(rt, 1));
+    let was_put = server.write(alloc, &Vector::zero(), program).is_ok();
+    fuse(server, 4, 0);
+    was_put
+}
+
 #[test]
-fn what_is_adopted_is_told_beside_what_was_accepted(rt: HostRuntime) -> Result<(), Fail> {
+fn what_is_adopted_is_told_beside_what_was_accepted(rt: HostRuntime) {
     let alloc = rt.alloc();
-    let mut server = served(&rt, alloc, 0)?;
-    let program = resting(&rt, alloc, &put(&rt, 1));
-    let was_put = server
-        .as_mut()
-        .write(alloc, &Vector::zero(), program)
-        .is_ok();
-    // The second Write's two calls succeed; the third one's entry is added, and not synced.
-    server.as_mut().device().fuse(4, 0);
+    let mut server = begun(&rt, alloc, (0, 2, 1000)).expect(&rt, "no server");
+    let was_put = puts(&rt, alloc, server.as_mut());
     let is_so = one_of_each::<Brand, HostRuntime>(&rt, alloc, Blank::new(2), server);
     assert!(rt; was_put && is_so);
-    Ok(())
 }

@@ -3,13 +3,14 @@ ghost use Rattle.std.specs.Prelude.{◌≡◌};
 ghost use Rattle.bayou_node.specs.Books.{IsBlankOf};
 ghost use Rattle.bayou_server.specs.Server.{own_count};
 
-use bayou_base::{Key, SERVERS, ServerId, Value, Vector};
+use bayou_base::{Key, MAX_WRITES, SERVERS, ServerId, Value, Vector};
 use bayou_device::{Device, Gate, MemoryDevice, OpenGate};
 use bayou_lang::{Op, Program, RestingProgram, RestingWrite, Term};
 use bayou_node::{Desk, Desks, Node, Settled};
-use bayou_server::{Server, StartFault};
+use bayou_server::{NotStarted, ReopenFault, Server, StartFault, WriteFault};
 use std::alloc::Global;
 use std::process::Abort;
+use std::sync::Wait;
 use std::sync::ledger::Blank;
 
 pub type Memory = MemoryDevice<OpenGate>;
@@ -18,6 +19,16 @@ pub type Served = Server<Memory>;
 
 pub fn key(rt: &impl Abort, name: &str) -> Key {
     Key::new(name).expect(rt, "no key")
+}
+
+/// Stops the test where it isn't so, and says at which number: the one assert of all loops over numbers, since each costs.
+pub fn must_be_so(rt: &impl Abort, is_so: bool, number: usize) {
+    assert!(rt; is_so, "{number}");
+}
+
+/// Stops the test where it isn't so, and says in which row.
+pub fn must_hold(rt: &impl Abort, is_so: bool, row: &str) {
+    assert!(rt; is_so, "{row}");
 }
 
 /// So many Writes of the first two servers, and none of the others.
@@ -47,23 +58,57 @@ pub fn resting(rt: &impl Abort, alloc: Global, program: &Program) -> RestingProg
     program.rest(alloc).expect(rt, "no memory for a program")
 }
 
-/// A server of two, which holds nothing.
-pub fn begun<G: Gate>(
+/// The server of this index, of so many, which may hold so many Writes, on the device; or why it didn't start, and the device.
+pub fn started<G: Gate>(
     rt: &impl Abort,
     alloc: Global,
-    index: u8,
+    (index, count, limit): (u8, u8, u32),
     device: MemoryDevice<G>,
-) -> Result<Box<Server<MemoryDevice<G>>>, StartFault> {
-    let id = ServerId::new(index % 2).expect(rt, "no server");
-    match Server::start(alloc, id, 2, 1000, device) {
-        Ok((server, _)) => boxed(alloc, server).ok_or(StartFault::OutOfMemory),
+) -> Result<Box<Server<MemoryDevice<G>>>, NotStarted<MemoryDevice<G>>> {
+    let id = ServerId::new(index).expect(rt, "no server");
+    let (count, limit) = (count.min(8), limit.min(MAX_WRITES));
+    if index >= count {
+        rt.abort();
+    }
+    match Server::start(alloc, id, count, limit, device) {
+        Ok((server, _)) => Ok(boxed(alloc, server).expect(rt, "no memory for a server")),
+        Err(refused) => Err(refused),
+    }
+}
+
+/// The same, where it starts.
+pub fn on_device<G: Gate>(
+    rt: &impl Abort,
+    alloc: Global,
+    size: (u8, u8, u32),
+    device: MemoryDevice<G>,
+) -> Box<Server<MemoryDevice<G>>> {
+    match started(rt, alloc, size, device) {
+        Ok(server) => server,
+        Err(_) => rt.abort(),
+    }
+}
+
+/// Such a server, which holds nothing, over memory that holds nobody.
+pub fn begun(
+    rt: &impl Abort,
+    alloc: Global,
+    size: (u8, u8, u32),
+) -> Result<Box<Served>, StartFault> {
+    match started(rt, alloc, size, MemoryDevice::new(alloc, OpenGate)) {
+        Ok(server) => Ok(server),
         Err(refused) => Err(refused.fault),
     }
 }
 
-/// The same, over memory that holds nobody.
-pub fn served(rt: &impl Abort, alloc: Global, index: u8) -> Result<Box<Served>, StartFault> {
-    begun(rt, alloc, index, MemoryDevice::new(alloc, OpenGate))
+/// The server's device fails at this call from now, with so much of a piece added.
+pub fn fuse(server: &mut Served, call: u32, kept: usize) {
+    server.device().fuse(call.max(1), kept);
+}
+
+/// Whether so many Writes of each of the first two servers are held, and none of the others.
+pub fn holds(rt: &impl Abort, server: &Served, first: u32, second: u32) -> bool {
+    server.vector() == vector(rt, first, second)
 }
 
 /// The value in a box of its own, also where one allocation is refused: a function that owns a box is proved in a third of the time that one
@@ -100,25 +145,63 @@ pub fn new_site<D: Device, L: Desks>(
 }
 
 /// What a node comes to, all of whose desks are back.
-pub fn settled<L: Desks>(site: Box<Site<Memory, L>>) -> Option<Settled> {
-    let Site { node, desks } = Box::into_inner(site);
+pub fn settled<L: Desks>(node: Node<Memory, L>, desks: Vec<Desk<L>>) -> Option<Settled> {
     node.settle(desks).ok()
+}
+
+/// The seq of the Write that is accepted for the desk.
+pub fn written<D: Device, L: Desks, R: Wait>(
+    rt: &R,
+    alloc: Global,
+    node: &Node<D, L>,
+    desk: &mut Desk<L>,
+    program: &Program,
+) -> Result<u32, WriteFault> {
+    let accepted = node.write(rt, alloc, desk, &Vector::zero(), program.rest(alloc)?)?;
+    Ok(accepted.wid.seq)
+}
+
+/// The seq of the Write that a reopening adopts, if any.
+pub fn reopened<L: Desks, R: Wait>(
+    rt: &R,
+    alloc: Global,
+    node: &Node<Memory, L>,
+) -> Result<Option<u32>, ReopenFault> {
+    match node.reopen(rt, alloc)?.adopted {
+        Some(wid) => Ok(Some(wid.seq)),
+        None => Ok(None),
+    }
+}
+
+/// What the node dumps.
+pub fn dumped<L: Desks, R: Wait + Abort>(
+    rt: &R,
+    alloc: Global,
+    node: &Node<Memory, L>,
+) -> Vec<RestingWrite> {
+    node.dump(rt, alloc).expect(rt, "no memory for Writes")
 }
 
 /// Whether the two have the same Writes.
 pub fn are_same(some: &[RestingWrite], others: &[RestingWrite]) -> bool {
-    some.len() == others.len()
-        && some
-            .iter()
-            .zip(others)
-            .all(|(one, other)| one.unfold() == other.unfold())
+    let mut are_so = some.len() == others.len();
+    for (at, one) in some.iter().enumerate() {
+        are_so &= match others.get(at) {
+            Some(other) => one.unfold() == other.unfold(),
+            None => false,
+        };
+    }
+    are_so
 }
 
 /// Whether these are the programs of the Writes, in their order.
 pub fn have_programs(writes: &[RestingWrite], programs: &[Program]) -> bool {
-    writes.len() == programs.len()
-        && writes
-            .iter()
-            .zip(programs)
-            .all(|(write, program)| write.unfold().program == *program)
+    let mut are_so = writes.len() == programs.len();
+    for (at, write) in writes.iter().enumerate() {
+        are_so &= match programs.get(at) {
+            Some(program) => write.unfold().program == *program,
+            None => false,
+        };
+    }
+    are_so
 }

@@ -3,7 +3,7 @@ ghost use Rattle.std.specs.Prelude.{◌≡◌};
 ghost use Rattle.bayou_node.specs.Books.{IsBlankOf};
 ghost use Rattle.bayou_server.specs.Server.{own_count};
 
-use crate::fixtures::{Memory, Served, begun, boxed, key, put, served};
+use crate::fixtures::{Memory, Served, Site, begun, key, new_site, on_device, put, written};
 use bayou_base::Vector;
 use bayou_device::{Device, Gate, MemoryDevice};
 use bayou_node::{Desk, Desks, Node};
@@ -14,7 +14,6 @@ use std::process::Abort;
 use std::sync::Wait;
 use std::sync::atomic::{AtomicU64, Ordering};
 use std::sync::ledger::Blank;
-use std::test::Fail;
 use std::thread;
 use std::thread::Threads;
 use std::time::{Clock, Duration};
@@ -46,21 +45,14 @@ impl<C: Clock> Gate for HoldingGate<'_, C> {
     }
 }
 
-/// A server whose appends are held.
-type HeldUp<'a, C> = Server<MemoryDevice<HoldingGate<'a, C>>>;
-
 /// Whether a Write is accepted at the node, however long its device holds it up.
-fn is_written<C: Clock, L: Desks, R: Wait + Abort>(
+fn is_written<D: Device, L: Desks, R: Wait + Abort>(
     rt: &R,
     alloc: Global,
-    node: &Node<MemoryDevice<HoldingGate<'_, C>>, L>,
+    node: &Node<D, L>,
     desk: &mut Desk<L>,
 ) -> bool {
-    let Ok(program) = put(rt, 1).rest(alloc) else {
-        return false;
-    };
-    node.write(rt, alloc, desk, &Vector::zero(), program)
-        .is_ok()
+    written(rt, alloc, node, desk, &put(rt, 1)).is_ok()
 }
 
 /// Whether a read is answered, before anybody was given up. Then the gate is opened.
@@ -81,28 +73,26 @@ fn desked<D: Device, L: Desks>(
     alloc: Global,
     blank: Blank,
     server: Box<Server<D>>,
-) -> (Box<Node<D, L>>, Desk<L>)
+) -> (Box<Site<D, L>>, Desk<L>)
     requires blank { IsBlankOf blank L.name L.parts 1 }
     requires whose { (server.value.core.id ≡ L.server) × (own_count server.value.core ≡ L.stored) }
 {
-    let Ok((node, mut desks)) = Node::new(alloc, blank, Box::into_inner(server), 1) else {
-        rt.abort();
-    };
-    let desk = desks.pop().expect(rt, "no desk");
-    (boxed(alloc, node).expect(rt, "no memory for a node"), desk)
+    let mut site = new_site::<_, L>(rt, alloc, blank, server, 1);
+    let desk = site.as_mut().desks.pop().expect(rt, "no desk");
+    (site, desk)
 }
 
 /// Whether both are answered, each in a thread of its own.
-fn are_answered<'a, C, L, M, R>(
+fn are_answered<D, L, M, R>(
     rt: &R,
     alloc: Global,
     state: &AtomicU64,
-    slow: &Node<MemoryDevice<HoldingGate<'a, C>>, L>,
+    slow: &Node<D, L>,
     desk: Desk<L>,
     quick: &Node<Memory, M>,
 ) -> bool
 where
-    C: Clock + Sync,
+    D: Device + Send,
     L: Desks + Send + Sync,
     M: Desks + Send + Sync,
     R: Threads + Wait + Abort + Sync,
@@ -117,17 +107,17 @@ where
 }
 
 /// Whether the nodes over both are answered.
-fn serves_both<'a, C, L, M, R>(
+fn serves_both<D, L, M, R>(
     rt: &R,
     alloc: Global,
     state: &AtomicU64,
     first: Blank,
-    slow: Box<HeldUp<'a, C>>,
+    slow: Box<Server<D>>,
     second: Blank,
     quick: Box<Served>,
 ) -> bool
 where
-    C: Clock + Sync,
+    D: Device + Send,
     L: Desks + Send + Sync,
     M: Desks + Send + Sync,
     R: Threads + Wait + Abort + Sync,
@@ -136,22 +126,23 @@ where
 {
     let (slow, desk) = desked::<_, L>(rt, alloc, first, slow);
     let (quick, _) = desked::<_, M>(rt, alloc, second, quick);
-    are_answered(rt, alloc, state, slow.as_ref(), desk, quick.as_ref())
+    let (slow, quick) = (&slow.as_ref().node, &quick.as_ref().node);
+    are_answered(rt, alloc, state, slow, desk, quick)
 }
 
 #[test]
-fn a_write_that_waits_at_one_node_holds_up_no_read_at_another(rt: HostRuntime) -> Result<(), Fail> {
+fn a_write_that_waits_at_one_node_holds_up_no_read_at_another(rt: HostRuntime) {
     let alloc = rt.alloc();
     let state = AtomicU64::new(OPEN);
     let gate = HoldingGate {
         state: &state,
         clock: &rt,
     };
-    let slow = begun(&rt, alloc, 0, MemoryDevice::new(alloc, gate))?;
-    let quick = served(&rt, alloc, 1)?;
+    let slow = on_device(&rt, alloc, (0, 2, 1000), MemoryDevice::new(alloc, gate));
+    let quick = begun(&rt, alloc, (1, 2, 1000)).expect(&rt, "no server");
     // The header of the journal was appended as the server began; what is appended from now on is held.
     state.store(SHUT, Ordering::SeqCst);
-    let are_served = serves_both::<HostRuntime, Brand, Brand, HostRuntime>(
+    let are_served = serves_both::<_, Brand, Brand, HostRuntime>(
         &rt,
         alloc,
         &state,
@@ -161,5 +152,4 @@ fn a_write_that_waits_at_one_node_holds_up_no_read_at_another(rt: HostRuntime) -
         quick,
     );
     assert!(rt; are_served && state.load(Ordering::SeqCst) == OPEN);
-    Ok(())
 }

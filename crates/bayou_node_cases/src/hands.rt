@@ -1,8 +1,7 @@
 //! What one thread does at three nodes.
 use crate::dice::Dice;
-use crate::meetings::{Memory, meets};
-use bayou_base::{Key, Value, Vector};
-use bayou_lang::{Op, Program, Term};
+use crate::fixtures::{Memory, key, put, reopened, written};
+use crate::meetings::meets;
 use bayou_node::{Desk, Desks, Node};
 use bayou_server::{ReopenFault, WriteFault};
 use std::alloc::Global;
@@ -35,14 +34,10 @@ pub struct Hand<L: Desks, M: Desks, N: Desks> {
     pub dice: Dice,
 }
 
-fn a(rt: &impl Abort) -> Key {
-    Key::new("a").expect(rt, "no key")
-}
-
 /// A read whose need is what the thread just saw there: it is served, and has seen no less.
 fn reads<L: Desks, R: Wait + Abort>(rt: &R, node: &Node<Memory, L>) -> bool {
     let need = node.offer(rt);
-    match node.read(rt, &need, &a(rt)) {
+    match node.read(rt, &need, &key(rt, "a")) {
         Ok(seen) => seen.vector.dominates(&need),
         Err(_) => false,
     }
@@ -56,12 +51,7 @@ fn writes<L: Desks, R: Wait + Abort>(
     desk: &mut Desk<L>,
     number: u32,
 ) -> Option<bool> {
-    let op = Op::Put(a(rt), Term::Lit(Value::Num(i64::from(number))));
-    let program = Program::new(&[], &[op], &[]).expect(rt, "no program");
-    let Ok(program) = program.rest(alloc) else {
-        return Some(false);
-    };
-    match node.write(rt, alloc, desk, &Vector::zero(), program) {
+    match written(rt, alloc, node, desk, &put(rt, i64::from(number))) {
         Ok(_) => None,
         Err(fault) => Some(fault == WriteFault::Down || fault == WriteFault::Journal),
     }
@@ -69,7 +59,7 @@ fn writes<L: Desks, R: Wait + Abort>(
 
 /// Whether a reopening is answered as it may be.
 pub fn reopens<L: Desks, R: Wait>(rt: &R, alloc: Global, node: &Node<Memory, L>) -> bool {
-    match node.reopen(rt, alloc) {
+    match reopened(rt, alloc, node) {
         Ok(_) => true,
         Err(fault) => fault == ReopenFault::NotDown,
     }

@@ -37,11 +37,14 @@ static ITEMS: [(&str, Given); 6] = [
 /// The bytes of a word: of an Item by its name, of a vector that counts nothing, of as much of it as stands behind its first count, or
 /// those that it says in hexadecimal.
 fn word_bytes(alloc: Global, word: &str) -> Option<Vec<u8>> {
-    let named = ITEMS.iter().find(|(name, _)| *name == word);
-    match (word, named) {
-        (_, Some((_, given))) => item(*given).to_vec(alloc).ok(),
-        ("<none>", None) => [0; 32].to_vec(alloc).ok(),
-        ("<zeros>", None) => [0; 28].to_vec(alloc).ok(),
+    for (name, given) in ITEMS.iter() {
+        if *name == word {
+            return item(*given).to_vec(alloc).ok();
+        }
+    }
+    match word {
+        "<none>" => [0; 32].to_vec(alloc).ok(),
+        "<zeros>" => [0; 28].to_vec(alloc).ok(),
         _ => hex::decode(alloc, word).ok(),
     }
 }

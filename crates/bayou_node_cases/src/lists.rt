@@ -5,17 +5,18 @@ ghost use Rattle.bayou_server.specs.Server.{own_count};
 
 use crate::dice::Dice;
 use crate::fixtures::{
-    Memory, Served, Site, are_same, key, new_site, plus, put, resting, served, vector,
+    Memory, Served, Site, are_same, begun, dumped, fuse, key, must_be_so, new_site, plus, put,
+    resting, settled, vector,
 };
-use bayou_base::{ServerId, Stamp, Vector, Wid};
-use bayou_lang::{Program, Write};
-use bayou_node::{Desk, Desks};
+use bayou_base::{Accepted, ServerId, Stamp, Vector, Wid};
+use bayou_lang::{Program, RestingProgram, RestingWrite, Write};
+use bayou_node::{Desks, Node};
+use bayou_server::WriteFault;
 use std::alloc::Global;
 use std::marker::Brand;
 use std::process::Abort;
 use std::sync::Wait;
 use std::sync::ledger::Blank;
-use std::test::Fail;
 
 /// How many lists there are, and how many calls each has.
 const LISTS: u32 = 100;
@@ -75,153 +76,155 @@ fn any_call(rt: &impl Abort, dice: &mut Dice) -> Call {
     }
 }
 
-/// A node, its one desk, and the server beside it.
-#[derive(Drop)]
-struct Pair<L: Desks> {
-    site: Box<Site<Memory, L>>,
-    desk: Desk<L>,
-    server: Box<Served>,
-    /// How many programs were accepted.
-    accepted: u32,
-}
-
-fn reads_alike<L: Desks, R: Wait + Abort>(rt: &R, pair: &Pair<L>, need: &Vector) -> bool {
+fn reads_alike<L: Desks, R: Wait + Abort>(
+    rt: &R,
+    node: &Node<Memory, L>,
+    server: &Served,
+    need: &Vector,
+) -> bool {
     let a = key(rt, "a");
-    pair.server.as_ref().read(need, &a) == pair.site.as_ref().node.read(rt, need, &a)
+    server.read(need, &a) == node.read(rt, need, &a)
 }
 
+/// What the node answers to the program, for its one desk.
+fn written<L: Desks, R: Wait + Abort>(
+    rt: &R,
+    alloc: Global,
+    site: &mut Site<Memory, L>,
+    need: &Vector,
+    program: RestingProgram,
+) -> Result<Accepted, WriteFault> {
+    let desk = site.desks.first_mut().expect(rt, "no desk");
+    site.node.write(rt, alloc, desk, need, program)
+}
+
+/// Whether both answer alike, and how many Writes are accepted.
 fn writes_alike<L: Desks, R: Wait + Abort>(
     rt: &R,
     alloc: Global,
-    pair: &mut Pair<L>,
-    need: &Vector,
-    program: &Program,
-) -> bool {
-    let (one, other) = (resting(rt, alloc, program), resting(rt, alloc, program));
-    let answer = pair.server.as_mut().write(alloc, need, one);
-    if answer.is_ok() {
-        pair.accepted = pair.accepted.saturating_add(1);
-    }
-    answer
-        == pair
-            .site
-            .as_ref()
-            .node
-            .write(rt, alloc, &mut pair.desk, need, other)
+    site: &mut Site<Memory, L>,
+    server: &mut Served,
+    (need, program): (&Vector, &Program),
+) -> (bool, u32) {
+    let answer = server.write(alloc, need, resting(rt, alloc, program));
+    let is_same = answer == written(rt, alloc, site, need, resting(rt, alloc, program));
+    (is_same, u32::from(answer.is_ok()))
+}
+
+/// The Write as it rests.
+fn rested(rt: &impl Abort, alloc: Global, write: &Write) -> RestingWrite {
+    write.rest(alloc).expect(rt, "no memory for a Write")
 }
 
 fn takes_alike<L: Desks, R: Wait + Abort>(
     rt: &R,
     alloc: Global,
-    pair: &mut Pair<L>,
+    node: &Node<Memory, L>,
+    server: &mut Served,
     write: &Write,
 ) -> bool {
-    let one = write.rest(alloc).expect(rt, "no memory for a Write");
-    let other = write.rest(alloc).expect(rt, "no memory for a Write");
-    pair.server.as_mut().take(alloc, one) == pair.site.as_ref().node.take(rt, alloc, other)
+    let answer = server.take(alloc, rested(rt, alloc, write));
+    answer == node.take(rt, alloc, rested(rt, alloc, write))
+}
+
+fn reopens_alike<L: Desks, R: Wait>(
+    rt: &R,
+    alloc: Global,
+    node: &Node<Memory, L>,
+    server: &mut Served,
+) -> bool {
+    server.reopen(alloc) == node.reopen(rt, alloc)
 }
 
 fn lacks_alike<L: Desks, R: Wait + Abort>(
     rt: &R,
     alloc: Global,
-    pair: &Pair<L>,
+    node: &Node<Memory, L>,
+    server: &Served,
     (counts, most): (&Vector, usize),
 ) -> bool {
-    let one = pair.server.as_ref().lacking(alloc, counts, most);
-    let other = pair.site.as_ref().node.lacking(rt, alloc, counts, most);
+    let one = server.lacking(alloc, counts, most);
+    let other = node.lacking(rt, alloc, counts, most);
     are_same(
         &one.expect(rt, "no memory for Writes"),
         &other.expect(rt, "no memory for Writes"),
     )
 }
 
-fn lists_alike<L: Desks, R: Wait + Abort>(rt: &R, alloc: Global, pair: &Pair<L>) -> bool {
-    let one = pair.server.as_ref().listing(alloc);
-    let other = pair.site.as_ref().node.listing(rt, alloc);
-    one.expect(rt, "no memory for a list").as_slice()
-        == other.expect(rt, "no memory for a list").as_slice()
+fn lists_alike<L: Desks, R: Wait + Abort>(
+    rt: &R,
+    alloc: Global,
+    node: &Node<Memory, L>,
+    server: &Served,
+) -> bool {
+    let one = server.listing(alloc).expect(rt, "no memory for a list");
+    let other = node.listing(rt, alloc).expect(rt, "no memory for a list");
+    one.as_slice() == other.as_slice()
 }
 
-fn dumps_alike<L: Desks, R: Wait + Abort>(rt: &R, alloc: Global, pair: &Pair<L>) -> bool {
-    let one = pair.server.as_ref().dump(alloc);
-    let other = pair.site.as_ref().node.dump(rt, alloc);
-    are_same(
-        &one.expect(rt, "no memory for Writes"),
-        &other.expect(rt, "no memory for Writes"),
-    )
+fn dumps_alike<L: Desks, R: Wait + Abort>(
+    rt: &R,
+    alloc: Global,
+    node: &Node<Memory, L>,
+    server: &Served,
+) -> bool {
+    let one = server.dump(alloc).expect(rt, "no memory for Writes");
+    are_same(&one, &dumped(rt, alloc, node))
 }
 
-/// Whether both answer the call in the same way.
+/// Whether both answer the call in the same way, and how many Writes are accepted.
 fn answers_alike<L: Desks, R: Wait + Abort>(
     rt: &R,
     alloc: Global,
-    pair: &mut Pair<L>,
+    site: &mut Site<Memory, L>,
+    server: &mut Served,
     call: &Call,
-) -> bool {
-    match call {
-        Call::Read(need) => reads_alike(rt, pair, need),
-        Call::Write(need, program) => writes_alike(rt, alloc, pair, need, program),
-        Call::Take(write) => takes_alike(rt, alloc, pair, write),
-        Call::Reopen => pair.server.as_mut().reopen(alloc)
-            == pair.site.as_ref().node.reopen(rt, alloc),
-        Call::Offer => pair.server.as_ref().vector() == pair.site.as_ref().node.offer(rt),
-        Call::Lacking(counts, most) => lacks_alike(rt, alloc, pair, (counts, *most)),
-        Call::Listing => lists_alike(rt, alloc, pair),
-        Call::Dump => dumps_alike(rt, alloc, pair),
+) -> (bool, u32) {
+    if let Call::Write(need, program) = call {
+        return writes_alike(rt, alloc, site, server, (need, program));
     }
+    let node = &site.node;
+    let is_so = match call {
+        Call::Read(need) => reads_alike(rt, node, server, need),
+        Call::Write(_, _) => false,
+        Call::Take(write) => takes_alike(rt, alloc, node, server, write),
+        Call::Reopen => reopens_alike(rt, alloc, node, server),
+        Call::Offer => server.vector() == node.offer(rt),
+        Call::Lacking(counts, most) => lacks_alike(rt, alloc, node, server, (counts, *most)),
+        Call::Listing => lists_alike(rt, alloc, node, server),
+        Call::Dump => dumps_alike(rt, alloc, node, server),
+    };
+    (is_so, 0)
 }
 
 /// Whether the node, settled, tells as many accepted programs as the server did, and what the server holds.
-fn settles_alike<L: Desks>(pair: Pair<L>) -> bool {
-    let Pair {
-        site,
-        desk,
-        server,
-        accepted,
-    } = pair;
-    let vector = server.as_ref().vector();
-    let Site { node, mut desks } = Box::into_inner(site);
-    let is_back = desks.push(desk).is_ok();
-    match node.settle(desks) {
-        Ok(settled) => is_back && settled.accepted == accepted && settled.vector == vector,
-        Err(_) => false,
+fn settles_alike<L: Desks>(site: Box<Site<Memory, L>>, accepted: u32, vector: Vector) -> bool {
+    let Site { node, desks } = Box::into_inner(site);
+    match settled(node, desks) {
+        Some(settled) => settled.accepted == accepted && settled.vector == vector,
+        None => false,
     }
 }
 
-/// The one server behind a lock, and the other beside it.
-fn pair_of<L: Desks>(
-    rt: &impl Abort,
-    alloc: Global,
-    blank: Blank,
-    server: Box<Served>,
-    beside: Box<Served>,
-) -> Pair<L>
-    requires blank { IsBlankOf blank L.name L.parts 1 }
-    requires whose { (server.value.core.id ≡ L.server) × (own_count server.value.core ≡ L.stored) }
-{
-    let mut site = new_site::<_, L>(rt, alloc, blank, server, 1);
-    Pair {
-        desk: site.as_mut().desks.pop().expect(rt, "no desk"),
-        site,
-        server: beside,
-        accepted: 0,
-    }
-}
-
-/// Whether both answer alike over the list that begins with this number, and have the same in the end.
+/// Whether both answer alike over the list that begins with this number, and have the same in the end; and how many Writes are accepted.
 fn all_alike<L: Desks, R: Wait + Abort>(
     rt: &R,
     alloc: Global,
-    pair: &mut Pair<L>,
+    site: &mut Site<Memory, L>,
+    server: &mut Served,
     number: u32,
-) -> bool {
+) -> (bool, u32) {
     let mut dice = Dice { state: number };
     let mut are_alike = true;
+    let mut accepted: u32 = 0;
     for _ in 0..CALLS {
         let call = any_call(rt, &mut dice);
-        are_alike &= answers_alike(rt, alloc, pair, &call);
+        let (is_so, count) = answers_alike(rt, alloc, site, server, &call);
+        are_alike &= is_so;
+        accepted = accepted.saturating_add(count);
     }
-    are_alike && dumps_alike(rt, alloc, pair)
+    let is_same = dumps_alike(rt, alloc, &site.node, server);
+    (are_alike && is_same, accepted)
 }
 
 /// Whether both go alike over the list that begins with this number.
@@ -230,39 +233,33 @@ fn go_alike<L: Desks, R: Wait + Abort>(
     alloc: Global,
     blank: Blank,
     server: Box<Served>,
-    beside: Box<Served>,
+    beside: &mut Served,
     number: u32,
 ) -> bool
     requires blank { IsBlankOf blank L.name L.parts 1 }
     requires whose { (server.value.core.id ≡ L.server) × (own_count server.value.core ≡ L.stored) }
 {
-    let mut pair = pair_of::<L>(rt, alloc, blank, server, beside);
-    let are_alike = all_alike(rt, alloc, &mut pair, number);
-    settles_alike(pair) && are_alike
+    let mut site = new_site::<_, L>(rt, alloc, blank, server, 1);
+    let (are_alike, accepted) = all_alike(rt, alloc, site.as_mut(), beside, number);
+    settles_alike(site, accepted, beside.vector()) && are_alike
 }
 
 /// A server whose device fails at a call that the number picks.
 fn fused(rt: &impl Abort, alloc: Global, number: u32) -> Box<Served> {
-    let Ok(mut server) = served(rt, alloc, 0) else {
-        rt.abort();
-    };
-    server
-        .as_mut()
-        .device()
-        .fuse(number % 30 + 1, (number % 90) as usize);
+    let mut server = begun(rt, alloc, (0, 2, 1000)).expect(rt, "no server");
+    fuse(server.as_mut(), number % 30 + 1, (number % 90) as usize);
     server
 }
 
 /// The same of a new node and a new server.
 fn goes<R: Wait + Abort>(rt: &R, alloc: Global, number: u32) -> bool {
-    let (server, beside) = (fused(rt, alloc, number), fused(rt, alloc, number));
-    go_alike::<Brand, R>(rt, alloc, Blank::new(1), server, beside, number)
+    let (server, mut beside) = (fused(rt, alloc, number), fused(rt, alloc, number));
+    go_alike::<Brand, R>(rt, alloc, Blank::new(1), server, beside.as_mut(), number)
 }
 
 #[test]
-fn a_node_answers_as_a_server_does(rt: HostRuntime) -> Result<(), Fail> {
+fn a_node_answers_as_a_server_does(rt: HostRuntime) {
     for number in 0..LISTS {
-        assert!(rt; goes(&rt, rt.alloc(), number), "{number}");
+        must_be_so(&rt, goes(&rt, rt.alloc(), number), number as usize);
     }
-    Ok(())
 }

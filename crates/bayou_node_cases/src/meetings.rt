@@ -1,6 +1,6 @@
 //! One node that pulls from another, over memory.
+use crate::fixtures::Memory;
 use bayou_base::Vector;
-use bayou_device::{MemoryDevice, OpenGate};
 use bayou_node::{Desks, Node};
 use bayou_peer::{Fault, PullFault, answer_offer, pull_from};
 use bayou_server::TakeFault;
@@ -8,8 +8,6 @@ use bayou_streams::Channel;
 use std::alloc::Global;
 use std::io;
 use std::sync::Wait;
-
-pub type Memory = MemoryDevice<OpenGate>;
 
 /// The node's answer to an Offer of these counts.
 fn answered<L: Desks, R: Wait>(

@@ -3,17 +3,18 @@ ghost use Rattle.std.specs.Prelude.{◌≡◌};
 ghost use Rattle.bayou_node.specs.Books.{IsBlankOf};
 ghost use Rattle.bayou_server.specs.Server.{own_count};
 
-use crate::fixtures::{Memory, Served, Site, boxed, put, served, settled, vector};
+use crate::fixtures::{
+    Memory, Served, Site, begun, boxed, fuse, put, reopened, settled, vector, written,
+};
 use bayou_base::{ServerId, Stamp, Vector, Wid};
 use bayou_lang::Write;
 use bayou_node::{Desk, Desks, Node, Settled};
-use bayou_server::{ReopenFault, TakeFault, Took, WriteFault};
+use bayou_server::{ReopenFault, StartFault, TakeFault, Took, WriteFault};
 use std::alloc::Global;
 use std::marker::Brand;
 use std::process::Abort;
 use std::sync::Wait;
 use std::sync::ledger::Blank;
-use std::test::Fail;
 
 /// What became of the programs.
 #[derive(Clone, Copy)]
@@ -22,25 +23,14 @@ struct Made {
     adopted: u32,
 }
 
-fn writes<L: Desks, R: Wait + Abort>(
-    rt: &R,
-    alloc: Global,
-    node: &Node<Memory, L>,
-    desk: &mut Desk<L>,
-) -> Result<u32, WriteFault> {
-    let program = put(rt, 1).rest(alloc)?;
-    let accepted = node.write(rt, alloc, desk, &Vector::zero(), program)?;
-    Ok(accepted.wid.seq)
-}
-
 /// Whether a reopening adopts the Write in doubt, tried again where memory was refused, or where the device's one failing call fell into it;
 /// or nothing where it isn't up then.
 fn adopts<L: Desks, R: Wait>(rt: &R, alloc: Global, node: &Node<Memory, L>) -> Option<bool> {
-    let reopened = match node.reopen(rt, alloc) {
-        Err(ReopenFault::OutOfMemory | ReopenFault::Journal(_)) => node.reopen(rt, alloc),
+    let adopted = match reopened(rt, alloc, node) {
+        Err(ReopenFault::OutOfMemory | ReopenFault::Journal(_)) => reopened(rt, alloc, node),
         answer => answer,
     };
-    Some(reopened.ok()?.adopted.is_some())
+    Some(adopted.ok()?.is_some())
 }
 
 /// What becomes of a program that is tried once, where its Write is held then; one in doubt is settled by a reopening.
@@ -50,7 +40,7 @@ fn writes_once<L: Desks, R: Wait + Abort>(
     node: &Node<Memory, L>,
     desk: &mut Desk<L>,
 ) -> Option<Made> {
-    match writes(rt, alloc, node, desk) {
+    match written(rt, alloc, node, desk, &put(rt, 1)) {
         Ok(_) => Some(Made {
             accepted: 1,
             adopted: 0,
@@ -118,25 +108,40 @@ fn told<L: Desks, R: Wait>(rt: &R, alloc: Global, node: &Node<Memory, L>) -> Opt
     Some([listed, dumped, sent])
 }
 
-/// What becomes of three programs, one after another, and then whether the second server's Write is taken, and all are told.
+/// What becomes of three programs, one after another.
+fn writes_three<L: Desks, R: Wait + Abort>(
+    rt: &R,
+    alloc: Global,
+    site: &mut Site<Memory, L>,
+) -> Option<Made> {
+    let (node, desk) = (&site.node, site.desks.first_mut()?);
+    let mut made = Made {
+        accepted: 0,
+        adopted: 0,
+    };
+    for _ in 0..3 {
+        let one = writes_at_last(rt, alloc, node, desk)?;
+        made.accepted = made.accepted.saturating_add(one.accepted);
+        made.adopted = made.adopted.saturating_add(one.adopted);
+    }
+    Some(made)
+}
+
+/// What becomes of them at a node, where the second server's Write is taken then, and all are told.
 fn goes<L: Desks, R: Wait + Abort>(
     rt: &R,
     alloc: Global,
-    node: &Node<Memory, L>,
-    desk: &mut Desk<L>,
+    site: &mut Site<Memory, L>,
 ) -> Option<Made> {
-    let first = writes_at_last(rt, alloc, node, desk)?;
-    let second = writes_at_last(rt, alloc, node, desk)?;
-    let third = writes_at_last(rt, alloc, node, desk)?;
+    let made = writes_three(rt, alloc, site)?;
+    let node = &site.node;
     let is_taken = takes_at_last(rt, alloc, node);
     let are_told = told(rt, alloc, node) == Some([4; 3]) || told(rt, alloc, node) == Some([4; 3]);
-    if !is_taken || !are_told {
-        return None;
+    if is_taken && are_told {
+        Some(made)
+    } else {
+        None
     }
-    Some(Made {
-        accepted: first.accepted.min(1) + second.accepted.min(1) + third.accepted.min(1),
-        adopted: first.adopted.min(1) + second.adopted.min(1) + third.adopted.min(1),
-    })
 }
 
 fn is_as_made(rt: &impl Abort, settled: Settled, made: Made) -> bool {
@@ -148,27 +153,15 @@ fn is_as_made(rt: &impl Abort, settled: Settled, made: Made) -> bool {
         }
 }
 
-/// What becomes of that at a node whose one desk this is; it is put back.
-fn goes_at<L: Desks, R: Wait + Abort>(
-    rt: &R,
-    alloc: Global,
-    site: &mut Site<Memory, L>,
-) -> Option<Made> {
-    let mut desk = site.desks.pop()?;
-    let made = goes(rt, alloc, &site.node, &mut desk);
-    // Its place in the list is there.
-    site.desks.push(desk).ok()?;
-    made
-}
-
 /// Whether the node goes so, and comes to what was made.
 fn comes_to_all<L: Desks, R: Wait + Abort>(
     rt: &R,
     alloc: Global,
     mut site: Box<Site<Memory, L>>,
 ) -> bool {
-    let made = goes_at(rt, alloc, site.as_mut());
-    match (settled(site), made) {
+    let made = goes(rt, alloc, site.as_mut());
+    let Site { node, desks } = Box::into_inner(site);
+    match (settled(node, desks), made) {
         (Some(settled), Some(made)) => is_as_made(rt, settled, made),
         _ => false,
     }
@@ -179,43 +172,47 @@ fn goes_of<L: Desks, R: Wait + Abort>(
     rt: &R,
     alloc: Global,
     blank: Blank,
-    server: Served,
-) -> Result<bool, Served>
+    server: Box<Served>,
+) -> Result<bool, Box<Served>>
     requires blank { IsBlankOf blank L.name L.parts 1 }
-    requires whose { (server.core.id ≡ L.server) × (own_count server.core ≡ L.stored) }
+    requires whose { (server.value.core.id ≡ L.server) × (own_count server.value.core ≡ L.stored) }
 {
-    match Node::<_, L>::new(alloc, blank, server, 1) {
+    match Node::<_, L>::new(alloc, blank, Box::into_inner(server), 1) {
         Ok((node, desks)) => match boxed(alloc, Site { node, desks }) {
             Some(site) => Ok(comes_to_all(rt, alloc, site)),
             None => Ok(false),
         },
-        Err(left) => Err(left.server),
+        Err(left) => Err(boxed(alloc, left.server).expect(rt, "no memory for a server")),
     }
 }
 
 /// Once more, with the server that came back.
-fn goes_again<R: Wait + Abort>(rt: &R, alloc: Global, server: Served) -> bool {
+fn goes_again<R: Wait + Abort>(rt: &R, alloc: Global, server: Box<Served>) -> bool {
     match goes_of::<Brand, R>(rt, alloc, Blank::new(1), server) {
         Ok(is_so) => is_so,
         Err(_) => false,
     }
 }
 
+/// A server whose device fails at its fourth call from then; tried once more where that was refused.
+fn begun_at_last(rt: &impl Abort, alloc: Global) -> Result<Box<Served>, StartFault> {
+    let mut server = match begun(rt, alloc, (0, 2, 1000)) {
+        Err(_) => begun(rt, alloc, (0, 2, 1000))?,
+        Ok(server) => server,
+    };
+    fuse(server.as_mut(), 4, 0);
+    Ok(server)
+}
+
 /// For runs in which any one allocation is refused: what was acknowledged is kept and counted, and what was refused can be done again.
 /// The second program's Write is added and not synced where all memory is given.
 #[test]
-fn one_want_of_memory_costs_a_node_nothing(rt: HostRuntime) -> Result<(), Fail> {
+fn one_want_of_memory_costs_a_node_nothing(rt: HostRuntime) {
     let alloc = rt.alloc();
-    let mut server = match served(&rt, alloc, 0) {
-        Ok(server) => server,
-        Err(_) => served(&rt, alloc, 0)?,
-    };
-    server.as_mut().device().fuse(4, 0);
-    let server = Box::into_inner(server);
+    let server = begun_at_last(&rt, alloc).expect(&rt, "no server");
     let is_so = match goes_of::<Brand, HostRuntime>(&rt, alloc, Blank::new(1), server) {
         Ok(is_so) => is_so,
         Err(server) => goes_again(&rt, alloc, server),
     };
     assert!(rt; is_so);
-    Ok(())
 }

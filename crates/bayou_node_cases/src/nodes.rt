@@ -3,11 +3,10 @@ ghost use Rattle.std.specs.Prelude.{◌≡◌};
 ghost use Rattle.bayou_node.specs.Books.{IsBlankOf};
 ghost use Rattle.bayou_server.specs.Server.{own_count};
 
-use crate::fixtures::vector;
+use crate::fixtures::{Memory, Served, new_site, vector};
 use crate::items::{is_stream, item, stream};
-use crate::pulls::{Served, full};
+use crate::pulls::full;
 use bayou_base::Vector;
-use bayou_device::{MemoryDevice, OpenGate};
 use bayou_node::{Desks, Node};
 use bayou_peer::{Fault, PullFault, Pulled, answer_offer, pull, pull_from, serve_offer};
 use bayou_streams::Channel;
@@ -19,20 +18,8 @@ use std::marker::Brand;
 use std::process::Abort;
 use std::sync::Wait;
 use std::sync::ledger::Blank;
-use std::test::Fail;
 
-type Kept<L> = Node<MemoryDevice<OpenGate>, L>;
-
-/// The server behind a lock, with one desk that nobody uses.
-fn kept<L: Desks>(rt: &impl Abort, alloc: Global, blank: Blank, server: Served) -> Kept<L>
-    requires blank { IsBlankOf blank L.name L.parts 1 }
-    requires whose { (server.core.id ≡ L.server) × (own_count server.core ≡ L.stored) }
-{
-    match Node::<_, L>::new(alloc, blank, server, 1) {
-        Ok((node, _)) => node,
-        Err(_) => rt.abort(),
-    }
-}
+type Kept<L> = Node<Memory, L>;
 
 /// What is done at a node.
 #[derive(Clone, Copy, PartialEq, Eq)]
@@ -100,30 +87,30 @@ fn goes<L: Desks, R: Wait + Abort>(
     rt: &R,
     alloc: Global,
     blank: Blank,
-    server: Served,
+    server: Box<Served>,
     call: Call,
 ) -> bool
     requires blank { IsBlankOf blank L.name L.parts 1 }
-    requires whose { (server.core.id ≡ L.server) × (own_count server.core ≡ L.stored) }
+    requires whose { (server.value.core.id ≡ L.server) × (own_count server.value.core ≡ L.stored) }
 {
-    let node = kept::<L>(rt, alloc, blank, server);
+    let site = new_site::<_, L>(rt, alloc, blank, server, 1);
+    let node = &site.as_ref().node;
     match call {
-        Call::Serve => serves(rt, alloc, &node),
-        Call::Answer => answers(rt, alloc, &node),
-        Call::PullFromZero => takes_again(rt, alloc, &node),
-        Call::Pull => pulls(rt, alloc, &node),
+        Call::Serve => serves(rt, alloc, node),
+        Call::Answer => answers(rt, alloc, node),
+        Call::PullFromZero => takes_again(rt, alloc, node),
+        Call::Pull => pulls(rt, alloc, node),
     }
 }
 
 #[test]
-fn a_node_sends_and_takes(rt: HostRuntime) -> Result<(), Fail> {
+fn a_node_sends_and_takes(rt: HostRuntime) {
     let alloc = rt.alloc();
     for call in [Call::Serve, Call::Answer, Call::PullFromZero, Call::Pull] {
-        let server = Box::into_inner(full(&rt, alloc, 2, [1, 0]));
+        let server = full(&rt, alloc, 2, [1, 0]);
         let is_so = goes::<Brand, HostRuntime>(&rt, alloc, Blank::new(1), server, call);
         assert!(rt; is_so);
     }
-    Ok(())
 }
 
 /// Gives Items, one at each read, and reads meanwhile, at the node that takes them, how many are held.
@@ -158,30 +145,30 @@ fn is_free_between_items<L: Desks, R: Wait + Abort>(
     rt: &R,
     alloc: Global,
     blank: Blank,
-    server: Served,
+    server: Box<Served>,
 ) -> bool
     requires blank { IsBlankOf blank L.name L.parts 1 }
-    requires whose { (server.core.id ≡ L.server) × (own_count server.core ≡ L.stored) }
+    requires whose { (server.value.core.id ≡ L.server) × (own_count server.value.core ≡ L.stored) }
 {
-    let node = kept::<L>(rt, alloc, blank, server);
+    let site = new_site::<_, L>(rt, alloc, blank, server, 1);
+    let node = &site.as_ref().node;
     let reader = Looking {
         rt,
-        node: &node,
+        node,
         given: 0,
         is_so: true,
     };
     let mut channel = Channel::new(reader, io::sink());
-    let answer = pull(rt, alloc, &node, &mut channel);
+    let answer = pull(rt, alloc, node, &mut channel);
     let (reader, _) = channel.into_parts();
     answer == Err(PullFault::Stream(Fault::Cut)) && reader.is_so && reader.given == 3
 }
 
 #[test]
-fn a_node_is_free_between_two_items_that_come(rt: HostRuntime) -> Result<(), Fail> {
+fn a_node_is_free_between_two_items_that_come(rt: HostRuntime) {
     let alloc = rt.alloc();
-    let server = Box::into_inner(full(&rt, alloc, 2, [0, 0]));
+    let server = full(&rt, alloc, 2, [0, 0]);
     assert!(rt; is_free_between_items::<Brand, HostRuntime>(&rt, alloc, Blank::new(1), server));
-    Ok(())
 }
 
 /// Takes what is written, and reads at each call, at the node that writes, how many Writes are held.
@@ -207,20 +194,26 @@ impl<L: Desks, R: Wait + Abort> Write for Overhearing<'_, L, R> {
 }
 
 /// In how many writes the node answers an Offer of zero: at each of them it is free.
-fn batches<L: Desks, R: Wait + Abort>(rt: &R, alloc: Global, blank: Blank, server: Served) -> u32
+fn batches<L: Desks, R: Wait + Abort>(
+    rt: &R,
+    alloc: Global,
+    blank: Blank,
+    server: Box<Served>,
+) -> u32
     requires blank { IsBlankOf blank L.name L.parts 1 }
-    requires whose { (server.core.id ≡ L.server) × (own_count server.core ≡ L.stored) }
+    requires whose { (server.value.core.id ≡ L.server) × (own_count server.value.core ≡ L.stored) }
 {
-    let node = kept::<L>(rt, alloc, blank, server);
+    let site = new_site::<_, L>(rt, alloc, blank, server, 1);
+    let node = &site.as_ref().node;
     let calls = Cell::new(0);
     let writer = Overhearing {
         rt,
-        node: &node,
+        node,
         held: 40,
         calls: &calls,
     };
     let mut channel = Channel::new((), writer);
-    let answer = answer_offer(rt, alloc, &node, &Vector::zero(), &mut channel);
+    let answer = answer_offer(rt, alloc, node, &Vector::zero(), &mut channel);
     if answer != Ok(40) {
         return 0;
     }
@@ -229,10 +222,9 @@ fn batches<L: Desks, R: Wait + Abort>(rt: &R, alloc: Global, blank: Blank, serve
 
 /// Forty Items are sent sixteen at a time, and an End behind them.
 #[test]
-fn a_node_is_free_between_two_batches(rt: HostRuntime) -> Result<(), Fail> {
+fn a_node_is_free_between_two_batches(rt: HostRuntime) {
     let alloc = rt.alloc();
-    let server = Box::into_inner(full(&rt, alloc, 2, [40, 0]));
+    let server = full(&rt, alloc, 2, [40, 0]);
     let number = batches::<Brand, HostRuntime>(&rt, alloc, Blank::new(1), server);
     assert!(rt; number == 4, "{number}");
-    Ok(())
 }

@@ -1,34 +1,50 @@
 //! Servers that send each other what they lack: what stands in the stream, what is taken of it however it ends, each call of a
 //! reader or a writer failing in turn, and want of memory.
 use crate::fakes::{EndlessReader, FakeReader, FakeWriter};
-use crate::fixtures::vector;
+use crate::fixtures::{Served, begun, holds, must_be_so, must_hold, vector};
 use crate::items::{Given, item, stream, write};
 use crate::takes;
-use bayou_base::{ServerId, Vector};
-use bayou_device::{MemoryDevice, OpenGate};
+use bayou_base::Vector;
 use bayou_peer::{
     Fault, PullFault, Pulled, answer_offer_on, cut_after, pull_from_on, pull_on, serve_offer_on,
 };
-use bayou_server::{Server, StartFault, TakeFault};
+use bayou_server::{StartFault, TakeFault};
 use bayou_streams::Channel;
 use std::alloc::{AllocError, Global};
 use std::io;
+use std::io::{Read, Write};
 use std::process::Abort;
-use std::test::Fail;
-
-pub type Served = Server<MemoryDevice<OpenGate>>;
 
 /// All three Items, and the End.
 const THREE: &str = "<item-1> <item-2> <item-3> 0005 16 00000003";
 
-/// One of eight servers, which holds nothing.
-fn begun(rt: &impl Abort, alloc: Global, index: u8) -> Result<Box<Served>, StartFault> {
-    let device = MemoryDevice::new(alloc, OpenGate);
-    let id = ServerId::new(index).expect(rt, "no server");
-    match Server::start(alloc, id, 8, 100, device) {
-        Ok((server, _)) => takes::kept(alloc, server),
-        Err(refused) => Err(refused.fault),
-    }
+/// What the server makes of what comes over the channel. Each call of the peer stands in one place: what it promises costs wherever it is
+/// called.
+fn pulled_over<I: Read, O: Write>(
+    alloc: Global,
+    server: &mut Served,
+    channel: &mut Channel<I, O>,
+) -> Result<Pulled, PullFault> {
+    pull_on(alloc, server, channel)
+}
+
+/// How many Items the server answers to an Offer of these counts.
+fn answered_over<I, O: Write>(
+    alloc: Global,
+    server: &mut Served,
+    counts: &Vector,
+    channel: &mut Channel<I, O>,
+) -> Result<u32, Fault> {
+    answer_offer_on(alloc, server, counts, channel)
+}
+
+/// How many Items the server answers to the Offer that it reads.
+pub fn served_over<I: Read, O: Write>(
+    alloc: Global,
+    server: &mut Served,
+    channel: &mut Channel<I, O>,
+) -> Result<u32, Fault> {
+    serve_offer_on(alloc, server, channel)
 }
 
 /// The Write of this number of one of the first two servers, which held its own alone.
@@ -49,7 +65,7 @@ fn takes_all(rt: &impl Abort, alloc: Global, server: &mut Served, origin: u8, co
 
 /// A server that took so many Writes of the second server, and then of the first.
 pub fn full(rt: &impl Abort, alloc: Global, index: u8, [first, second]: [u8; 2]) -> Box<Served> {
-    let mut server = begun(rt, alloc, index).expect(rt, "no server");
+    let mut server = begun(rt, alloc, (index, 8, 100)).expect(rt, "no server");
     let are_taken = takes_all(rt, alloc, server.as_mut(), 1, second)
         && takes_all(rt, alloc, server.as_mut(), 0, first);
     assert!(rt; are_taken);
@@ -60,13 +76,13 @@ pub fn full(rt: &impl Abort, alloc: Global, index: u8, [first, second]: [u8; 2])
 /// memory is the server's.
 fn answered(alloc: Global, server: &mut Served, counts: &Vector) -> Result<(Vec<u8>, u32), Fault> {
     let mut channel = Channel::new((), Vec::with_capacity(alloc, 4096)?);
-    let number = answer_offer_on(alloc, server, counts, &mut channel)?;
+    let number = answered_over(alloc, server, counts, &mut channel)?;
     Ok((channel.into_parts().1, number))
 }
 
 /// What the server makes of what is sent to it.
 fn pulled(alloc: Global, server: &mut Served, sent: &[u8]) -> Result<Pulled, PullFault> {
-    pull_on(alloc, server, &mut Channel::new(sent, io::sink()))
+    pulled_over(alloc, server, &mut Channel::new(sent, io::sink()))
 }
 
 /// So many came that were new, and so many that were held.
@@ -96,35 +112,33 @@ fn answers(
 }
 
 #[test]
-fn an_offer_is_answered_byte_for_byte(rt: HostRuntime) -> Result<(), Fail> {
+fn an_offer_is_answered_byte_for_byte(rt: HostRuntime) {
     let alloc = rt.alloc();
     let mut server = full(&rt, alloc, 2, [3, 0]);
     for (counted, items, sent) in ANSWERS {
         let bytes = stream(&rt, alloc, sent);
         let counts = vector(&rt, counted, 0);
         let is_so = answers(alloc, server.as_mut(), &counts, (&bytes, items));
-        assert!(rt; is_so, "{counted}");
+        must_be_so(&rt, is_so, counted as usize);
     }
-    Ok(())
 }
 
 /// Whether the server, to which nothing is sent, writes these bytes.
 fn writes(alloc: Global, server: &mut Served, offer: &[u8]) -> bool {
     let mut channel = Channel::new(io::empty(), Vec::new(alloc));
-    let is_cut = pull_on(alloc, server, &mut channel) == Err(PullFault::Stream(Fault::Cut));
+    let is_cut = pulled_over(alloc, server, &mut channel) == Err(PullFault::Stream(Fault::Cut));
     is_cut && channel.into_parts().1.as_slice() == offer
 }
 
 /// An Offer of what the puller counts is written, whatever is sent.
 #[test]
-fn a_pull_writes_its_offer(rt: HostRuntime) -> Result<(), Fail> {
+fn a_pull_writes_its_offer(rt: HostRuntime) {
     let alloc = rt.alloc();
     for (counted, text) in [(0, "0021 05 <none>"), (1, "0021 05 00000001 <zeros>")] {
         let offer = stream(&rt, alloc, text);
         let mut server = full(&rt, alloc, 3, [counted, 0]);
-        assert!(rt; writes(alloc, server.as_mut(), &offer), "{text}");
+        must_hold(&rt, writes(alloc, server.as_mut(), &offer), text);
     }
-    Ok(())
 }
 
 /// Streams, how many of the first server's Writes the second one holds after it, and its answer. Neither an Item behind the End
@@ -162,7 +176,7 @@ fn pulled_in_pieces(
         fails_at: 0,
         calls: 0,
     };
-    pull_on(alloc, server, &mut Channel::new(reader, io::sink()))
+    pulled_over(alloc, server, &mut Channel::new(reader, io::sink()))
 }
 
 /// Whether that is what is printed of a server that holds so many Writes and answers so.
@@ -193,15 +207,14 @@ fn is_taken_in_any_pieces(rt: &impl Abort, alloc: Global, sent: &[u8], expected:
 }
 
 #[test]
-fn a_stream_is_taken_up_to_its_end_or_fault(rt: HostRuntime) -> Result<(), Fail> {
+fn a_stream_is_taken_up_to_its_end_or_fault(rt: HostRuntime) {
     let alloc = rt.alloc();
     for row in STREAMS.lines() {
         let (text, expected) = row.split_once(" => ").unwrap_or((row, row));
         let sent = stream(&rt, alloc, text);
         let is_so = is_taken_in_any_pieces(&rt, alloc, &sent, expected);
-        assert!(rt; is_so, "{row}");
+        must_hold(&rt, is_so, row);
     }
-    Ok(())
 }
 
 /// So many Writes of the first server are taken, and as many of the second, each Item before those of later clocks.
@@ -223,7 +236,7 @@ fn takes_both(rt: &impl Abort, alloc: Global, puller: &mut Served, sent: &[u8]) 
     let is_taken = pulled(alloc, puller, sent) == came(40, 0);
     let mut channel = Channel::new(sent, io::sink());
     let again = pull_from_on(alloc, puller, &Vector::zero(), &mut channel);
-    is_taken && again == came(0, 40) && puller.vector() == vector(rt, 20, 20)
+    is_taken && again == came(0, 40) && holds(rt, puller, 20, 20)
 }
 
 /// Whether the server sends all forty, and the puller takes each and then lacks nothing.
@@ -241,14 +254,13 @@ fn are_sent(
 }
 
 #[test]
-fn forty_writes_of_two_servers_go_in_stamp_order(rt: HostRuntime) -> Result<(), Fail> {
+fn forty_writes_of_two_servers_go_in_stamp_order(rt: HostRuntime) {
     let alloc = rt.alloc();
-    let whole = both(alloc)?;
+    let whole = both(alloc).expect(&rt, "no memory for Items");
     let mut server = full(&rt, alloc, 2, [EACH, EACH]);
     let mut puller = full(&rt, alloc, 3, [0, 0]);
     let are_sent = are_sent(&rt, alloc, server.as_mut(), puller.as_mut(), &whole);
     assert!(rt; are_sent);
-    Ok(())
 }
 
 /// How many of two Items came whole in a front of so many bytes.
@@ -273,21 +285,20 @@ fn takes_front(rt: &impl Abort, alloc: Global, server: &mut Served, front: &[u8]
     let mut puller = full(rt, alloc, 3, [0, 0]);
     let is_cut = pulled(alloc, puller.as_mut(), front) == Err(PullFault::Stream(Fault::Cut));
     let held = whole_in(front.len());
-    let is_held = puller.vector() == vector(rt, held, 0);
+    let is_held = holds(rt, puller.as_ref(), held, 0);
     is_cut && is_held && takes_the_rest(alloc, server, puller.as_mut(), 2_u32.saturating_sub(held))
 }
 
 /// A stream of two Items and the End that is cut; then what is lacking is sent.
 #[test]
-fn what_is_cut_is_taken_up_to_there(rt: HostRuntime) -> Result<(), Fail> {
+fn what_is_cut_is_taken_up_to_there(rt: HostRuntime) {
     let alloc = rt.alloc();
     let whole = stream(&rt, alloc, "<item-1> <item-2> 0005 16 00000002");
     let mut server = full(&rt, alloc, 2, [2, 0]);
     for cut in 0..whole.len() {
         let is_so = takes_front(&rt, alloc, server.as_mut(), &whole[..cut]);
-        assert!(rt; is_so && whole.len() == 127, "{cut}");
+        must_be_so(&rt, is_so && whole.len() == 127, cut);
     }
-    Ok(())
 }
 
 /// Whether a pull, whose reader gives an Item at a call and fails at this one, ends there, and what came before is taken.
@@ -300,7 +311,7 @@ fn ends_at_read(rt: &impl Abort, alloc: Global, sent: &[u8], fails_at: u32) -> b
         calls: 0,
     };
     let mut channel = Channel::new(reader, io::sink());
-    let answer = pull_on(alloc, puller.as_mut(), &mut channel);
+    let answer = pulled_over(alloc, puller.as_mut(), &mut channel);
     let (reader, _) = channel.into_parts();
     let (expected, held) = match fails_at {
         5 => (came(3, 0), 3),
@@ -309,19 +320,18 @@ fn ends_at_read(rt: &impl Abort, alloc: Global, sent: &[u8], fails_at: u32) -> b
             fails_at.saturating_sub(1),
         ),
     };
-    let is_held = puller.vector() == vector(rt, held, 0);
+    let is_held = holds(rt, puller.as_ref(), held, 0);
     answer == expected && is_held && reader.calls == fails_at.min(4)
 }
 
 /// The last call doesn't come to it. Each Item is taken before the next one is read.
 #[test]
-fn each_read_of_a_pull_may_fail(rt: HostRuntime) -> Result<(), Fail> {
+fn each_read_of_a_pull_may_fail(rt: HostRuntime) {
     let sent = stream(&rt, rt.alloc(), THREE);
     for fails_at in 1..6_u32 {
         let is_so = ends_at_read(&rt, rt.alloc(), &sent, fails_at);
-        assert!(rt; is_so, "call {fails_at}");
+        must_be_so(&rt, is_so, fails_at as usize);
     }
-    Ok(())
 }
 
 /// A writer that takes ten bytes at a call, and fails at this one.
@@ -343,7 +353,7 @@ pub const fn tens_before(fails_at: u32) -> usize {
 fn ends_at_write(rt: &impl Abort, alloc: Global, sent: &[u8], offer: &[u8], fails_at: u32) -> bool {
     let mut puller = full(rt, alloc, 3, [0, 0]);
     let mut channel = Channel::new(sent, failing(alloc, fails_at));
-    let answer = pull_on(alloc, puller.as_mut(), &mut channel);
+    let answer = pulled_over(alloc, puller.as_mut(), &mut channel);
     let (reader, writer) = channel.into_parts();
     let (expected, held, written, left) = match fails_at {
         5 => (came(3, 0), 3, 35, 0),
@@ -355,21 +365,20 @@ fn ends_at_write(rt: &impl Abort, alloc: Global, sent: &[u8], offer: &[u8], fail
         ),
     };
     let is_written = offer.starts_with(&writer.bytes) && writer.bytes.len() == written;
-    let is_held = puller.vector() == vector(rt, held, 0) && reader.len() == left;
+    let is_held = holds(rt, puller.as_ref(), held, 0) && reader.len() == left;
     answer == expected && is_written && is_held
 }
 
 /// An Offer takes four calls; the last doesn't come to it.
 #[test]
-fn each_write_of_a_pull_may_fail(rt: HostRuntime) -> Result<(), Fail> {
+fn each_write_of_a_pull_may_fail(rt: HostRuntime) {
     let alloc = rt.alloc();
     let sent = stream(&rt, alloc, THREE);
     let offer = stream(&rt, alloc, "0021 05 <none>");
     for fails_at in 1..6_u32 {
         let is_so = ends_at_write(&rt, alloc, &sent, &offer, fails_at);
-        assert!(rt; is_so, "call {fails_at}");
+        must_be_so(&rt, is_so, fails_at as usize);
     }
-    Ok(())
 }
 
 /// Whether an answer, whose writer takes ten bytes at a call and fails at this one, ends there, with the front of it written and no
@@ -382,46 +391,44 @@ fn answers_up_to(
     fails_at: u32,
 ) -> bool {
     let mut channel = Channel::new((), failing(alloc, fails_at));
-    let answer = answer_offer_on(alloc, server, &Vector::zero(), &mut channel);
+    let answer = answered_over(alloc, server, &Vector::zero(), &mut channel);
     let written = channel.into_parts().1.bytes;
     let (expected, count) = match fails_at {
         20 => (Ok(3), 187),
         _ => (Err(Fault::Write), tens_before(fails_at)),
     };
     let is_written = whole.starts_with(&written) && written.len() == count;
-    answer == expected && is_written && server.vector() == vector(rt, 3, 0)
+    answer == expected && is_written && holds(rt, server, 3, 0)
 }
 
 /// Three Items take 18 calls, and the End one; the last doesn't come to it.
 #[test]
-fn each_write_of_an_answer_may_fail(rt: HostRuntime) -> Result<(), Fail> {
+fn each_write_of_an_answer_may_fail(rt: HostRuntime) {
     let alloc = rt.alloc();
     let whole = stream(&rt, alloc, THREE);
     let mut server = full(&rt, alloc, 2, [3, 0]);
     for fails_at in 1..21_u32 {
-        let is_so = answers_up_to(&rt, alloc, server.as_mut(), &whole, fails_at);
-        assert!(rt; is_so, "call {fails_at}");
+        let is_so = answers_up_to(&rt, alloc, &mut server, &whole, fails_at);
+        must_be_so(&rt, is_so, fails_at as usize);
     }
-    Ok(())
 }
 
 /// A writer that takes nothing has failed.
 #[test]
-fn a_full_writer_fails(rt: HostRuntime) -> Result<(), Fail> {
+fn a_full_writer_fails(rt: HostRuntime) {
     let alloc = rt.alloc();
     let mut server = full(&rt, alloc, 2, [3, 0]);
     let mut nothing: [u8; 0] = [];
     let mut channel = Channel::new(io::empty(), nothing.as_mut_slice());
-    let answer = answer_offer_on(alloc, server.as_mut(), &Vector::zero(), &mut channel);
-    let offer = pull_on(alloc, server.as_mut(), &mut channel);
+    let answer = answered_over(alloc, server.as_mut(), &Vector::zero(), &mut channel);
+    let offer = pulled_over(alloc, server.as_mut(), &mut channel);
     assert!(rt; answer == Err(Fault::Write) && offer == Err(PullFault::Stream(Fault::Write)));
-    Ok(())
 }
 
 /// A Write that is held comes at each read, without an end: the stream is given up after 1,000,000 calls, one of which wrote the
 /// Offer. A run with checks takes more than a minute for it.
 #[test]
-fn a_stream_without_an_end_is_given_up(rt: HostRuntime) -> Result<(), Fail> {
+fn a_stream_without_an_end_is_given_up(rt: HostRuntime) {
     let alloc = rt.alloc();
     let item = stream(&rt, alloc, "<item-1>");
     let mut puller = full(&rt, alloc, 3, [1, 0]);
@@ -431,11 +438,10 @@ fn a_stream_without_an_end_is_given_up(rt: HostRuntime) -> Result<(), Fail> {
         calls: 0,
     };
     let mut channel = Channel::new(reader, io::sink());
-    let answer = pull_on(alloc, puller.as_mut(), &mut channel);
+    let answer = pulled_over(alloc, puller.as_mut(), &mut channel);
     let (reader, _) = channel.into_parts();
-    let is_so = puller.vector() == vector(&rt, 1, 0) && reader.calls == 999_999;
+    let is_so = holds(&rt, puller.as_ref(), 1, 0) && reader.calls == 999_999;
     assert!(rt; answer == Err(PullFault::Stream(Fault::TooManyTurns)) && is_so);
-    Ok(())
 }
 
 /// After how many Items an answer of three is cut, and how many of its bytes are left.
@@ -456,18 +462,17 @@ fn is_cut_to(whole: &[u8], items: u32, left: usize) -> bool {
 }
 
 #[test]
-fn an_answer_is_cut_after_so_many_items(rt: HostRuntime) -> Result<(), Fail> {
+fn an_answer_is_cut_after_so_many_items(rt: HostRuntime) {
     let whole = stream(&rt, rt.alloc(), THREE);
     for (items, left) in CUTS {
-        assert!(rt; is_cut_to(&whole, items, left), "{items}");
+        must_be_so(&rt, is_cut_to(&whole, items, left), items as usize);
     }
-    Ok(())
 }
 
 /// A server that holds nothing, and once more where that was refused.
 fn begun_at_last(rt: &impl Abort, alloc: Global, index: u8) -> Result<Box<Served>, StartFault> {
-    match begun(rt, alloc, index) {
-        Err(_) => begun(rt, alloc, index),
+    match begun(rt, alloc, (index, 8, 100)) {
+        Err(_) => begun(rt, alloc, (index, 8, 100)),
         server => server,
     }
 }
@@ -480,21 +485,18 @@ fn answered_at_last(alloc: Global, server: &mut Served) -> Result<(Vec<u8>, u32)
     }
 }
 
+/// The number that the server answers to this Offer.
+fn served_for(alloc: Global, server: &mut Served, offer: &[u8]) -> Result<u32, Fault> {
+    served_over(alloc, server, &mut Channel::new(offer, io::sink()))
+}
+
 /// The number that the server answers to an Offer of nothing which it reads, and once more where memory ran out.
 fn served_at_last(alloc: Global, server: &mut Served) -> Result<u32, Fault> {
     let mut offer = [0; 35];
     offer[1] = 0x21;
     offer[2] = 5;
-    match serve_offer_on(
-        alloc,
-        server,
-        &mut Channel::new(offer.as_slice(), io::sink()),
-    ) {
-        Err(Fault::OutOfMemory) => serve_offer_on(
-            alloc,
-            server,
-            &mut Channel::new(offer.as_slice(), io::sink()),
-        ),
+    match served_for(alloc, server, &offer) {
+        Err(Fault::OutOfMemory) => served_for(alloc, server, &offer),
         answer => answer,
     }
 }
@@ -531,16 +533,15 @@ fn are_handed_on(rt: &impl Abort, alloc: Global, server: &mut Served, puller: &m
         return false;
     };
     let is_kept = pulled_at_last(alloc, puller, &answer);
-    is_served && is_kept && number == 3 && puller.vector() == vector(rt, 3, 0)
+    is_served && is_kept && number == 3 && holds(rt, puller, 3, 0)
 }
 
 /// For runs in which any one allocation is refused: what was refused for it can be done again, and costs no Write that was taken.
 #[test]
-fn one_want_of_memory_costs_no_pulled_write(rt: HostRuntime) -> Result<(), Fail> {
+fn one_want_of_memory_costs_no_pulled_write(rt: HostRuntime) {
     let alloc = rt.alloc();
-    let mut server = begun_at_last(&rt, alloc, 2)?;
+    let mut server = begun_at_last(&rt, alloc, 2).expect(&rt, "no server");
     let are_taken = takes::take_three_at_last(&rt, alloc, server.as_mut());
-    let mut puller = begun_at_last(&rt, alloc, 3)?;
+    let mut puller = begun_at_last(&rt, alloc, 3).expect(&rt, "no server");
     assert!(rt; are_taken && are_handed_on(&rt, alloc, server.as_mut(), puller.as_mut()));
-    Ok(())
 }

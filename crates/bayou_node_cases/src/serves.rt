@@ -1,14 +1,13 @@
 //! Servers that are asked by an Offer: what is read of a stream and what is written, each call of a reader or a writer failing in turn,
 //! and want of memory.
 use crate::fakes::{EndlessReader, FakeReader};
-use crate::fixtures::vector;
+use crate::fixtures::{Served, holds, must_be_so, must_hold};
 use crate::items::{is_stream, stream};
-use crate::pulls::{Served, failing, full, tens_before};
-use bayou_peer::{Fault, serve_offer_on};
+use crate::pulls::{failing, full, served_over, tens_before};
+use bayou_peer::Fault;
 use bayou_streams::Channel;
 use std::alloc::Global;
 use std::io;
-use std::test::Fail;
 
 /// Streams, and what a server that holds three Writes answers and writes. Nothing behind the Offer is looked at, and nothing is
 /// written where none comes.
@@ -49,7 +48,7 @@ fn serves(alloc: Global, server: &mut Served, sent: &[u8], most: usize, expected
         calls: 0,
     };
     let mut channel = Channel::new(reader, Vec::new(alloc));
-    let answer = serve_offer_on(alloc, server, &mut channel);
+    let answer = served_over(alloc, server, &mut channel);
     is_told(alloc, answer, &channel.into_parts().1, expected)
 }
 
@@ -63,17 +62,16 @@ fn serves_in_any_pieces(alloc: Global, server: &mut Served, sent: &[u8], expecte
 }
 
 #[test]
-fn an_offer_is_read_and_answered(rt: HostRuntime) -> Result<(), Fail> {
+fn an_offer_is_read_and_answered(rt: HostRuntime) {
     let alloc = rt.alloc();
     let mut server = full(&rt, alloc, 2, [3, 0]);
     for row in STREAMS.lines() {
         let (text, expected) = row.split_once(" => ").unwrap_or((row, row));
         let sent = stream(&rt, alloc, text);
         let is_so = serves_in_any_pieces(alloc, server.as_mut(), &sent, expected)
-            && server.as_ref().vector() == vector(&rt, 3, 0);
-        assert!(rt; is_so, "{row}");
+            && holds(&rt, server.as_ref(), 3, 0);
+        must_hold(&rt, is_so, row);
     }
-    Ok(())
 }
 
 /// Whether an Offer, whose reader gives five bytes at a call and fails at this one, is answered only where all of it came.
@@ -85,7 +83,7 @@ fn answers_read(alloc: Global, server: &mut Served, sent: &[u8], fails_at: u32) 
         calls: 0,
     };
     let mut channel = Channel::new(reader, Vec::new(alloc));
-    let answer = serve_offer_on(alloc, server, &mut channel);
+    let answer = served_over(alloc, server, &mut channel);
     let (reader, written) = channel.into_parts();
     let (expected, count) = match fails_at {
         8 => (Ok(3), 187),
@@ -96,21 +94,20 @@ fn answers_read(alloc: Global, server: &mut Served, sent: &[u8], fails_at: u32) 
 
 /// An Offer of nothing comes in seven calls, and no more are made; the last doesn't come to it.
 #[test]
-fn each_read_of_an_offer_may_fail(rt: HostRuntime) -> Result<(), Fail> {
+fn each_read_of_an_offer_may_fail(rt: HostRuntime) {
     let alloc = rt.alloc();
     let sent = stream(&rt, alloc, "0021 05 <none> <item-1>");
     let mut server = full(&rt, alloc, 2, [3, 0]);
     for fails_at in 1..9_u32 {
         let is_so = answers_read(alloc, server.as_mut(), &sent, fails_at);
-        assert!(rt; is_so, "call {fails_at}");
+        must_be_so(&rt, is_so, fails_at as usize);
     }
-    Ok(())
 }
 
 /// Whether an answer, whose writer takes ten bytes at a call and fails at this one, ends there.
 fn answers_up_to(alloc: Global, server: &mut Served, offer: &[u8], fails_at: u32) -> bool {
     let mut channel = Channel::new(offer, failing(alloc, fails_at));
-    let answer = serve_offer_on(alloc, server, &mut channel);
+    let answer = served_over(alloc, server, &mut channel);
     let written = channel.into_parts().1.bytes.len();
     let (expected, count) = match fails_at {
         20 => (Ok(3), 187),
@@ -121,20 +118,19 @@ fn answers_up_to(alloc: Global, server: &mut Served, offer: &[u8], fails_at: u32
 
 /// Three Items take 18 calls, and the End one; the last doesn't come to it.
 #[test]
-fn each_write_behind_an_offer_may_fail(rt: HostRuntime) -> Result<(), Fail> {
+fn each_write_behind_an_offer_may_fail(rt: HostRuntime) {
     let alloc = rt.alloc();
     let offer = stream(&rt, alloc, "0021 05 <none>");
     let mut server = full(&rt, alloc, 2, [3, 0]);
     for fails_at in 1..21_u32 {
         let is_so = answers_up_to(alloc, server.as_mut(), &offer, fails_at);
-        assert!(rt; is_so, "call {fails_at}");
+        must_be_so(&rt, is_so, fails_at as usize);
     }
-    Ok(())
 }
 
 /// A reader that is always interrupted is given up after 1,000,000 calls.
 #[test]
-fn an_offer_that_never_comes_is_given_up(rt: HostRuntime) -> Result<(), Fail> {
+fn an_offer_that_never_comes_is_given_up(rt: HostRuntime) {
     let alloc = rt.alloc();
     let mut server = full(&rt, alloc, 2, [3, 0]);
     let reader = EndlessReader {
@@ -143,8 +139,7 @@ fn an_offer_that_never_comes_is_given_up(rt: HostRuntime) -> Result<(), Fail> {
         calls: 0,
     };
     let mut channel = Channel::new(reader, io::sink());
-    let answer = serve_offer_on(alloc, server.as_mut(), &mut channel);
+    let answer = served_over(alloc, server.as_mut(), &mut channel);
     let (reader, _) = channel.into_parts();
     assert!(rt; answer == Err(Fault::TooManyTurns) && reader.calls == 1_000_000);
-    Ok(())
 }

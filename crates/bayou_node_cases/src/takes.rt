@@ -1,18 +1,15 @@
 //! Servers that are given Writes that others accepted: what each answers and leaves, which of two refusals comes, each device call
 //! failing in turn, every order of receipt, and want of memory.
-use crate::fixtures::{boxed, vector};
+use crate::fixtures::{
+    Memory, Served, begun, fuse, holds, key, must_be_so, on_device, plus, started, vector,
+};
 use crate::items::{Given, write};
-use bayou_base::{Key, MAX_WRITES, ServerId, Value, Vector};
+use bayou_base::{Value, Vector};
 use bayou_device::{MemoryDevice, OpenGate};
-use bayou_lang::{Op, Outcome, Program, Term, Write};
-use bayou_server::{ReopenFault, Server, StartFault, TakeFault, Took, WriteFault};
+use bayou_lang::{Outcome, Write};
+use bayou_server::{ReopenFault, TakeFault, Took, WriteFault};
 use std::alloc::Global;
 use std::process::Abort;
-use std::test::Fail;
-
-type Memory = MemoryDevice<OpenGate>;
-
-type Served = Server<Memory>;
 
 /// What is done to a server, and what it answers.
 #[derive(Clone, Copy)]
@@ -31,23 +28,14 @@ enum Step {
 
 use Step::{Fuse, Has, Put, Reopen, Take};
 
-/// The server in a box of its own.
-pub fn kept(alloc: Global, server: Served) -> Result<Box<Served>, StartFault> {
-    boxed(alloc, server).ok_or(StartFault::OutOfMemory)
+/// The second of two servers on the device.
+fn start(rt: &impl Abort, alloc: Global, limit: u32, device: Memory) -> Box<Served> {
+    on_device(rt, alloc, (1, 2, limit), device)
 }
 
-/// The second of two servers on the device.
-fn start(
-    rt: &impl Abort,
-    alloc: Global,
-    limit: u32,
-    device: Memory,
-) -> Result<Box<Served>, StartFault> {
-    let id = ServerId::new(1).expect(rt, "no server");
-    match Server::start(alloc, id, 2, limit.min(MAX_WRITES), device) {
-        Ok((server, _)) => kept(alloc, server),
-        Err(refused) => Err(refused.fault),
-    }
+/// What the server answers, which is given the Write.
+fn given(alloc: Global, server: &mut Served, write: &Write) -> Result<Took, TakeFault> {
+    server.take(alloc, write.rest(alloc)?)
 }
 
 /// Whether the server, which is given the Write, answers so, and is down exactly where it was or a device call failed.
@@ -57,11 +45,8 @@ fn takes(
     write: &Write,
     answer: Result<Took, TakeFault>,
 ) -> bool {
-    let Ok(resting) = write.rest(alloc) else {
-        return false;
-    };
     let is_down = server.is_down() || answer == Err(TakeFault::Journal);
-    server.take(alloc, resting) == answer && server.is_down() == is_down
+    given(alloc, server, write) == answer && server.is_down() == is_down
 }
 
 /// Makes a Write that puts the number at `a`: its seq.
@@ -84,24 +69,29 @@ fn reopens(alloc: Global, server: &mut Served) -> Result<Option<(u8, u32)>, Reop
     }
 }
 
-fn key(rt: &impl Abort) -> Key {
-    Key::new("a").expect(rt, "no key")
+/// Whether the value is the number, or there is neither.
+fn is_number(found: &Option<Value>, number: Option<i64>) -> bool {
+    match (found, number) {
+        (Some(Value::Num(found)), Some(number)) => *found == number,
+        (None, None) => true,
+        _ => false,
+    }
 }
 
 /// Whether `a` has that, and so many Writes of each server are held.
 fn has(rt: &impl Abort, server: &Served, value: Option<i64>, held: [u32; 2]) -> bool {
     let [first, second] = held;
-    let seen = server.read(&Vector::zero(), &key(rt));
-    seen.is_ok_and(|seen| {
-        seen.value == value.map(Value::Num) && seen.vector == vector(rt, first, second)
-    })
+    match server.read(&Vector::zero(), &key(rt, "a")) {
+        Ok(seen) => is_number(&seen.value, value) && seen.vector == vector(rt, first, second),
+        Err(_) => false,
+    }
 }
 
 /// Does the step. Whether the server answers so.
 fn goes(rt: &impl Abort, alloc: Global, server: &mut Served, step: Step) -> bool {
     match step {
         Fuse(call, kept) => {
-            server.device().fuse(call.max(1), kept);
+            fuse(server, call, kept);
             true
         }
         Take(parts, answer) => takes(alloc, server, &write(rt, parts), answer),
@@ -114,7 +104,7 @@ fn goes(rt: &impl Abort, alloc: Global, server: &mut Served, step: Step) -> bool
 /// The steps go so, one after another.
 fn all_go(rt: &impl Abort, alloc: Global, server: &mut Served, steps: &[Step]) {
     for (at, step) in steps.iter().enumerate() {
-        assert!(rt; goes(rt, alloc, server, *step), "step {at}");
+        must_be_so(rt, goes(rt, alloc, server, *step), at);
     }
 }
 
@@ -163,14 +153,13 @@ const TWO_STAND: [Step; 14] = [
 ];
 
 #[test]
-fn a_write_is_taken_or_refused(rt: HostRuntime) -> Result<(), Fail> {
+fn a_write_is_taken_or_refused(rt: HostRuntime) {
     let alloc = rt.alloc();
     let runs: [&[Step]; 2] = [&MISFITS, &TWO_STAND];
     for steps in runs {
         let server = start(&rt, alloc, 2, MemoryDevice::new(alloc, OpenGate));
-        all_go_to_the_end(&rt, alloc, server.expect(&rt, "no server"), steps);
+        all_go_to_the_end(&rt, alloc, server, steps);
     }
-    Ok(())
 }
 
 /// The device call under a taken Write that fails, how much of its entry of 91 bytes is added, the Write that a reopening adopts, if
@@ -199,24 +188,17 @@ fn fails_and_goes_on(rt: &impl Abort, alloc: Global, (call, kept, adopted, value
         Has(Some(value), [held, 0]),
     ];
     let server = start(rt, alloc, 100, MemoryDevice::new(alloc, OpenGate));
-    let device = all_go_to_the_end(rt, alloc, server.expect(rt, "no server"), &steps);
+    let device = all_go_to_the_end(rt, alloc, server, &steps);
     let again = [Has(Some(value), [held, 0]), Put(9, Ok(1))];
     let server = start(rt, alloc, 100, device);
-    all_go_to_the_end(rt, alloc, server.expect(rt, "no server"), &again);
+    all_go_to_the_end(rt, alloc, server, &again);
 }
 
 #[test]
-fn each_device_call_of_a_take_may_fail(rt: HostRuntime) -> Result<(), Fail> {
+fn each_device_call_of_a_take_may_fail(rt: HostRuntime) {
     for row in FAILING {
         fails_and_goes_on(&rt, rt.alloc(), row);
     }
-    Ok(())
-}
-
-/// A program that adds the number to what `a` has.
-fn adding(rt: &impl Abort, number: i64) -> Program {
-    let op = Op::Put(key(rt), Term::Plus(key(rt), number));
-    Program::new(&[], &[op], &[]).expect(rt, "no program")
 }
 
 /// The first Write of one of the servers 1, 2 and 3, which held none. In stamp order `a` becomes 5, then 10 and 100 more.
@@ -224,19 +206,10 @@ fn first(rt: &impl Abort, origin: u8) -> Write {
     let mut first = write(rt, (origin, 1, 1, [0, 0], 5));
     match origin {
         1 => {}
-        2 => first.program = adding(rt, 10),
-        _ => first.program = adding(rt, 100),
+        2 => first.program = plus(rt, 10),
+        _ => first.program = plus(rt, 100),
     }
     first
-}
-
-/// The first of four servers.
-fn first_of_four(rt: &impl Abort, alloc: Global) -> Result<Box<Served>, StartFault> {
-    let id = ServerId::new(0).expect(rt, "no server");
-    match Server::start(alloc, id, 4, 100, MemoryDevice::new(alloc, OpenGate)) {
-        Ok((server, _)) => kept(alloc, server),
-        Err(refused) => Err(refused.fault),
-    }
 }
 
 /// Whether the server takes the first Writes of the others in this order.
@@ -262,6 +235,11 @@ fn lists_all(alloc: Global, server: &Served) -> bool {
     last == 3 && listing.len() == 3
 }
 
+/// The order in digits.
+fn number_of([first, second, third]: [u8; 3]) -> usize {
+    usize::from(first) * 100 + usize::from(second) * 10 + usize::from(third)
+}
+
 const ORDERS: [[u8; 3]; 6] = [
     [1, 2, 3],
     [1, 3, 2],
@@ -273,7 +251,7 @@ const ORDERS: [[u8; 3]; 6] = [
 
 /// Whether `a` has 115 at the server.
 fn has_115(rt: &impl Abort, server: &Served) -> bool {
-    match server.read(&Vector::zero(), &key(rt)) {
+    match server.read(&Vector::zero(), &key(rt, "a")) {
         Ok(seen) => seen.value == Some(Value::Num(115)),
         Err(_) => false,
     }
@@ -309,30 +287,24 @@ fn has_all(rt: &impl Abort, alloc: Global, server: &Served) -> bool {
 
 /// Every order of takes gives one listing, and what another server lacks.
 #[test]
-fn every_order_of_takes_is_one(rt: HostRuntime) -> Result<(), Fail> {
+fn every_order_of_takes_is_one(rt: HostRuntime) {
     let alloc = rt.alloc();
     for order in ORDERS {
-        let mut server = first_of_four(&rt, alloc)?;
+        let mut server = begun(&rt, alloc, (0, 4, 100)).expect(&rt, "no server");
         let are_taken = takes_in_order(&rt, alloc, server.as_mut(), order);
-        assert!(rt;
-            are_taken && has_all(&rt, alloc, server.as_ref()),
-            "{order:?}"
-        );
+        let is_so = are_taken && has_all(&rt, alloc, server.as_ref());
+        must_be_so(&rt, is_so, number_of(order));
     }
-    Ok(())
 }
 
 /// Whether the server takes the Write.
 pub fn is_given(alloc: Global, server: &mut Served, write: &Write) -> bool {
-    let Ok(resting) = write.rest(alloc) else {
-        return false;
-    };
-    server.take(alloc, resting).is_ok()
+    given(alloc, server, write).is_ok()
 }
 
 /// Reopens the server where it is down, again where that was refused.
 pub fn reopen_at_last(alloc: Global, server: &mut Served) -> bool {
-    !server.is_down() || server.reopen(alloc).is_ok() || server.reopen(alloc).is_ok()
+    !server.is_down() || reopens(alloc, server).is_ok() || reopens(alloc, server).is_ok()
 }
 
 /// Gives the Write, again where that was refused; a Write in doubt is settled first. Whether it is taken, and a refused Write wasn't
@@ -347,14 +319,9 @@ fn take_at_last(alloc: Global, server: &mut Served, write: &Write) -> bool {
 }
 
 /// Starts a server on the device, again where that was refused.
-fn start_at_last(
-    rt: &impl Abort,
-    alloc: Global,
-    device: Memory,
-) -> Result<Box<Served>, StartFault> {
-    let id = ServerId::new(1).expect(rt, "no server");
-    match Server::start(alloc, id, 2, 100, device) {
-        Ok((server, _)) => kept(alloc, server),
+fn start_at_last(rt: &impl Abort, alloc: Global, device: Memory) -> Box<Served> {
+    match started(rt, alloc, (1, 2, 100), device) {
+        Ok(server) => server,
         Err(refused) => start(rt, alloc, 100, refused.device),
     }
 }
@@ -371,16 +338,15 @@ pub fn take_three_at_last(rt: &impl Abort, alloc: Global, server: &mut Served) -
     let mut are_kept = true;
     for given in THREE {
         let is_taken = take_at_last(alloc, server, &write(rt, given));
-        are_kept &= is_taken && server.vector() == vector(rt, u32::from(given.1), 0);
+        are_kept &= is_taken && holds(rt, server, u32::from(given.1), 0);
     }
     are_kept
 }
 
 /// For runs in which any one allocation is refused: a Write that was refused for it wasn't held, and can be given again.
 #[test]
-fn one_want_of_memory_costs_no_taken_write(rt: HostRuntime) -> Result<(), Fail> {
+fn one_want_of_memory_costs_no_taken_write(rt: HostRuntime) {
     let alloc = rt.alloc();
-    let mut server = start_at_last(&rt, alloc, MemoryDevice::new(alloc, OpenGate))?;
+    let mut server = start_at_last(&rt, alloc, MemoryDevice::new(alloc, OpenGate));
     assert!(rt; take_three_at_last(&rt, alloc, server.as_mut()));
-    Ok(())
 }

@@ -4,19 +4,17 @@ ghost use Rattle.bayou_node.specs.Books.{IsBlankOf};
 ghost use Rattle.bayou_server.specs.Server.{own_count};
 
 use crate::dice::Dice;
-use crate::fixtures::{Memory, Site, boxed, new_site, settled};
+use crate::fixtures::{Memory, Served, Site, fuse, new_site, on_device, settled};
 use crate::hands::{Hand, Three, reopens, works};
 use crate::meetings::meets;
 use bayou_base::ServerId;
 use bayou_device::{MemoryDevice, OpenGate};
-use bayou_node::{Desk, Desks, Settled};
-use bayou_server::Server;
-use std::alloc::{AllocError, Global};
+use bayou_node::{Desk, Desks, Node, Settled};
+use std::alloc::Global;
 use std::marker::Brand;
 use std::process::Abort;
 use std::sync::Wait;
 use std::sync::ledger::Blank;
-use std::test::Fail;
 use std::thread;
 use std::thread::Threads;
 
@@ -27,48 +25,51 @@ const THREADS: u32 = 8;
 type Row<L> = Vec<Desk<L>>;
 
 /// One server of three. Its device fails at this call.
-fn begun(rt: &impl Abort, alloc: Global, index: u8, fails_at: u32) -> Box<Server<Memory>> {
-    let id = ServerId::new(index % 3).expect(rt, "no server");
+fn begun(rt: &impl Abort, alloc: Global, index: u8, fails_at: u32) -> Box<Served> {
     let device = MemoryDevice::new(alloc, OpenGate);
-    let Ok((mut server, _)) = Server::start(alloc, id, 3, 60_000, device) else {
-        rt.abort();
-    };
-    server.device().fuse(fails_at.max(1), 40);
-    boxed(alloc, server).expect(rt, "no memory for a server")
+    let mut server = on_device(rt, alloc, (index, 3, 60_000), device);
+    fuse(server.as_mut(), fails_at, 40);
+    server
 }
 
-/// A hand with the next desk of each row, where there is one.
+/// The next desk of a row.
+fn next<L: Desks>(rt: &impl Abort, row: &mut Row<L>) -> Desk<L> {
+    row.pop().expect(rt, "no desk")
+}
+
+/// A hand with the next desk of each row.
 fn next_hand<L: Desks, M: Desks, N: Desks>(
+    rt: &impl Abort,
     firsts: &mut Row<L>,
     seconds: &mut Row<M>,
     thirds: &mut Row<N>,
     state: u32,
-) -> Option<Hand<L, M, N>> {
-    Some(Hand {
-        first: firsts.pop()?,
-        second: seconds.pop()?,
-        third: thirds.pop()?,
+) -> Hand<L, M, N> {
+    Hand {
+        first: next(rt, firsts),
+        second: next(rt, seconds),
+        third: next(rt, thirds),
         accepted: [0; 3],
         done: 0,
         is_so: true,
         dice: Dice { state },
-    })
+    }
 }
 
 /// A hand for each thread.
 fn hands<L: Desks, M: Desks, N: Desks>(
+    rt: &impl Abort,
     alloc: Global,
     firsts: &mut Row<L>,
     seconds: &mut Row<M>,
     thirds: &mut Row<N>,
-) -> Result<Vec<Hand<L, M, N>>, AllocError> {
-    let mut hands = Vec::with_capacity(alloc, THREADS as usize)?;
+) -> Vec<Hand<L, M, N>> {
+    let mut hands = Vec::new(alloc);
     for state in 0..THREADS {
-        if let Some(hand) = next_hand(firsts, seconds, thirds, state) {
-            hands.push(hand)?;
-        }
+        let hand = next_hand(rt, firsts, seconds, thirds, state);
+        hands.push(hand).expect(rt, "no memory for a hand");
     }
-    Ok(hands)
+    hands
 }
 
 /// What the threads say in the end.
@@ -83,10 +84,18 @@ impl Sums {
     fn add(&mut self, accepted: [u32; 3], done: u32, is_so: bool) {
         self.done = self.done.saturating_add(done);
         self.is_so &= is_so;
-        for (sum, number) in self.accepted.iter_mut().zip(accepted) {
-            *sum = sum.saturating_add(number);
-        }
+        let ([first, second, third], [one, two, three]) = (self.accepted, accepted);
+        self.accepted = [
+            first.saturating_add(one),
+            second.saturating_add(two),
+            third.saturating_add(three),
+        ];
     }
+}
+
+/// Whether the desk is put back in its row.
+fn put_back<L: Desks>(row: &mut Row<L>, desk: Desk<L>) -> bool {
+    row.push(desk).is_ok()
 }
 
 /// The desks of the hands are put back, each in its row. What the threads say.
@@ -103,9 +112,9 @@ fn laid_down<L: Desks, M: Desks, N: Desks>(
     };
     for hand in hands {
         sums.add(hand.accepted, hand.done, hand.is_so);
-        sums.is_so &= firsts.push(hand.first).is_ok();
-        sums.is_so &= seconds.push(hand.second).is_ok();
-        sums.is_so &= thirds.push(hand.third).is_ok();
+        sums.is_so &= put_back(firsts, hand.first);
+        sums.is_so &= put_back(seconds, hand.second);
+        sums.is_so &= put_back(thirds, hand.third);
     }
     sums
 }
@@ -126,19 +135,26 @@ fn come_together<L: Desks, M: Desks, N: Desks, R: Wait + Abort>(
     are_up && have_met && hold_the_same(rt, alloc, three)
 }
 
+/// Whether the two list the same Writes, with the same outcomes.
+fn list_the_same<L: Desks, M: Desks, R: Wait + Abort>(
+    rt: &R,
+    alloc: Global,
+    one: &Node<Memory, L>,
+    other: &Node<Memory, M>,
+) -> bool {
+    let one = one.listing(rt, alloc).expect(rt, "no memory for a list");
+    let other = other.listing(rt, alloc).expect(rt, "no memory for a list");
+    one.as_slice() == other.as_slice()
+}
+
 /// Whether the three list the same Writes, with the same outcomes.
 fn hold_the_same<L: Desks, M: Desks, N: Desks, R: Wait + Abort>(
     rt: &R,
     alloc: Global,
     three: &Three<'_, L, M, N>,
 ) -> bool {
-    let first = three.first.listing(rt, alloc);
-    let first = first.expect(rt, "no memory for a list");
-    let second = three.second.listing(rt, alloc);
-    let second = second.expect(rt, "no memory for a list");
-    let third = three.third.listing(rt, alloc);
-    let third = third.expect(rt, "no memory for a list");
-    first.as_slice() == second.as_slice() && second.as_slice() == third.as_slice()
+    list_the_same(rt, alloc, three.first, three.second)
+        && list_the_same(rt, alloc, three.second, three.third)
 }
 
 /// Whether what a node comes to is what the threads counted, and all of its own Writes.
@@ -172,24 +188,37 @@ fn work<L, M, N, R>(
     first: &mut Site<Memory, L>,
     second: &mut Site<Memory, M>,
     third: &mut Site<Memory, N>,
-) -> Result<Sums, AllocError>
+) -> Sums
 where
     L: Desks + Send + Sync,
     M: Desks + Send + Sync,
     N: Desks + Send + Sync,
     R: Threads + Wait + Abort + Sync,
 {
-    let hands = hands(alloc, &mut first.desks, &mut second.desks, &mut third.desks)?;
+    let hands = hands(
+        rt,
+        alloc,
+        &mut first.desks,
+        &mut second.desks,
+        &mut third.desks,
+    );
     let three = &Three {
         first: &first.node,
         second: &second.node,
         third: &third.node,
     };
-    let done = thread::map_vec(rt, hands, &|hand| works(rt, alloc, three, hand))?;
+    let done = thread::map_vec(rt, hands, &|hand| works(rt, alloc, three, hand));
+    let done = done.expect(rt, "no memory for what was done");
     let are_one = come_together(rt, alloc, three);
     let mut sums = laid_down(done, &mut first.desks, &mut second.desks, &mut third.desks);
     sums.is_so &= are_one;
-    Ok(sums)
+    sums
+}
+
+/// What a node comes to, all of whose desks are back.
+fn come_to<L: Desks>(site: Box<Site<Memory, L>>) -> Option<Settled> {
+    let Site { node, desks } = Box::into_inner(site);
+    settled(node, desks)
 }
 
 /// What eight threads at three new nodes come to.
@@ -197,12 +226,8 @@ fn work_together<L, M, N, R>(
     rt: &R,
     alloc: Global,
     blanks: (Blank, Blank, Blank),
-    servers: (
-        Box<Server<Memory>>,
-        Box<Server<Memory>>,
-        Box<Server<Memory>>,
-    ),
-) -> Result<bool, AllocError>
+    servers: (Box<Served>, Box<Served>, Box<Served>),
+) -> bool
 where
     L: Desks + Send + Sync,
     M: Desks + Send + Sync,
@@ -215,15 +240,14 @@ where
     let mut first = new_site::<_, L>(rt, alloc, blanks.0, servers.0, THREADS);
     let mut second = new_site::<_, M>(rt, alloc, blanks.1, servers.1, THREADS);
     let mut third = new_site::<_, N>(rt, alloc, blanks.2, servers.2, THREADS);
-    let said = work(rt, alloc, first.as_mut(), second.as_mut(), third.as_mut());
-    let settled = [settled(first), settled(second), settled(third)];
-    let sums = said?;
+    let sums = work(rt, alloc, first.as_mut(), second.as_mut(), third.as_mut());
+    let settled = [come_to(first), come_to(second), come_to(third)];
     let add_up = are_exact(rt, settled, sums.accepted);
-    Ok(sums.done == 10_000 && sums.is_so && add_up)
+    sums.done == 10_000 && sums.is_so && add_up
 }
 
 #[test]
-fn eight_threads_at_three_nodes_keep_exact_books(rt: HostRuntime) -> Result<(), Fail> {
+fn eight_threads_at_three_nodes_keep_exact_books(rt: HostRuntime) {
     let alloc = rt.alloc();
     let servers = (
         begun(&rt, alloc, 0, 100),
@@ -235,7 +259,6 @@ fn eight_threads_at_three_nodes_keep_exact_books(rt: HostRuntime) -> Result<(), 
         Blank::new(u64::from(THREADS)),
         Blank::new(u64::from(THREADS)),
     );
-    let is_so = work_together::<Brand, Brand, Brand, HostRuntime>(&rt, alloc, blanks, servers)?;
+    let is_so = work_together::<Brand, Brand, Brand, HostRuntime>(&rt, alloc, blanks, servers);
     assert!(rt; is_so);
-    Ok(())
 }

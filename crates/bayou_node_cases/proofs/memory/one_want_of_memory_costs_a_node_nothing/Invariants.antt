@@ -6,4 +6,4 @@ abbrev pub ghosts-goes_of-L-Ledger : goal.ghosts-goes_of-L-Ledger
 ghosts-goes_of-L-Ledger g a = record { name = a.blank.name; parts = a.blank.parts }
 
 abbrev pub ghosts-goes_of-L-Desks : goal.ghosts-goes_of-L-Desks
-ghosts-goes_of-L-Desks g a = record { server = a.server.core.id; stored = own_count a.server.core }
+ghosts-goes_of-L-Desks g a = record { server = a.server.value.core.id; stored = own_count a.server.value.core }

@@ -6,4 +6,4 @@ abbrev pub ghosts-batches-L-Ledger : goal.ghosts-batches-L-Ledger
 ghosts-batches-L-Ledger g a = record { name = a.blank.name; parts = a.blank.parts }
 
 abbrev pub ghosts-batches-L-Desks : goal.ghosts-batches-L-Desks
-ghosts-batches-L-Desks g a = record { server = a.server.core.id; stored = own_count a.server.core }
+ghosts-batches-L-Desks g a = record { server = a.server.value.core.id; stored = own_count a.server.value.core }

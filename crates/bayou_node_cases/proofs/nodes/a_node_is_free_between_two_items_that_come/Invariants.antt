@@ -6,4 +6,4 @@ abbrev pub ghosts-is_free_between_items-L-Ledger : goal.ghosts-is_free_between_i
 ghosts-is_free_between_items-L-Ledger g a = record { name = a.blank.name; parts = a.blank.parts }
 
 abbrev pub ghosts-is_free_between_items-L-Desks : goal.ghosts-is_free_between_items-L-Desks
-ghosts-is_free_between_items-L-Desks g a = record { server = a.server.core.id; stored = own_count a.server.core }
+ghosts-is_free_between_items-L-Desks g a = record { server = a.server.value.core.id; stored = own_count a.server.value.core }

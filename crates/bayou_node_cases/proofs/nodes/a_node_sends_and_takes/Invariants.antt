@@ -6,4 +6,4 @@ abbrev pub ghosts-goes-L-Ledger : goal.ghosts-goes-L-Ledger
 ghosts-goes-L-Ledger g a = record { name = a.blank.name; parts = a.blank.parts }
 
 abbrev pub ghosts-goes-L-Desks : goal.ghosts-goes-L-Desks
-ghosts-goes-L-Desks g a = record { server = a.server.core.id; stored = own_count a.server.core }
+ghosts-goes-L-Desks g a = record { server = a.server.value.core.id; stored = own_count a.server.value.core }
