@@ -2,11 +2,11 @@
 ghost use Rattle.std.specs.Prelude.{◌≡◌};
 ghost use Rattle.bayou_audit.specs.Blanks.{AreBlanksOf, named};
 
-use crate::fixtures::{blanks, key, put, server_id};
+use crate::fixtures::{blanks, key, must_be_so, must_hold, put, server_id};
 use crate::streams::{Counting, Slow, counting_writer, slow_reader};
 use crate::words::{bytes, parts};
 use bayou_audit::{AuditBook, Blanks, Four, Ledgers, Share, Totals};
-use bayou_base::{Asks, SERVERS, Seen, SessionId, Vector};
+use bayou_base::{Asks, Entry, SERVERS, Seen, SessionId, Vector};
 use bayou_client::{Client, ClientFault, Link, LinkFault};
 use bayou_session::Session;
 use std::alloc::Global;
@@ -227,6 +227,11 @@ fn needs_the_same(before: &Session, now: &Session) -> bool {
     now.need_read() == before.need_read() && now.need_write() == before.need_write()
 }
 
+/// Whether the entry is of the first session, at its first place.
+fn is_first(entry: &Entry, asks: Asks) -> bool {
+    entry.place == 1 && entry.session.index == 0 && entry.server.index == 0 && entry.asks == asks
+}
+
 /// Whether each entry of the book is of the first session, at its first place.
 fn are_first<K: Ledgers, R: Wait + Abort>(
     rt: &R,
@@ -235,12 +240,11 @@ fn are_first<K: Ledgers, R: Wait + Abort>(
     asks: Asks,
 ) -> bool {
     let entries = book.entries(rt, alloc).expect(rt, "no memory");
-    entries.iter().all(|entry| {
-        entry.place == 1
-            && entry.session.index == 0
-            && entry.server.index == 0
-            && entry.asks == asks
-    })
+    let mut are_so = true;
+    for entry in entries.iter() {
+        are_so &= is_first(entry, asks);
+    }
+    are_so
 }
 
 /// Whether this was told and that was sent, and nothing is told over the link any more if no answer came.
@@ -374,21 +378,21 @@ fn holds_in_pieces<R: Wait + Abort>(rt: &R, alloc: Global, row: &str) -> bool {
 #[test]
 fn a_session_is_told_what_answers_it(rt: HostRuntime) {
     for row in REPLIES.lines() {
-        assert!(rt; holds_in_pieces(&rt, rt.alloc(), row), "{row}");
+        must_hold(&rt, holds_in_pieces(&rt, rt.alloc(), row), row);
     }
 }
 
 #[test]
 fn a_session_is_told_of_nothing_behind_a_reply(rt: HostRuntime) {
     for row in MORE.lines() {
-        assert!(rt; row_holds(&rt, rt.alloc(), row, 4096), "{row}");
+        must_hold(&rt, row_holds(&rt, rt.alloc(), row, 4096), row);
     }
 }
 
 #[test]
 fn each_read_of_a_link_may_fail(rt: HostRuntime) {
-    for at in 1..=36 {
-        assert!(rt; is_lost(&rt, rt.alloc(), at, 0), "{at}");
+    for at in 1..37_u32 {
+        must_be_so(&rt, is_lost(&rt, rt.alloc(), at, 0), at as usize);
     }
 }
 

@@ -151,13 +151,13 @@ fn serves_both<L, R>(
     alloc: Global,
     state: &AtomicU64,
     blank: Blank,
-    server: Server<Memory>,
+    server: Box<Server<Memory>>,
 ) -> bool
 where
     L: Desks + Send + Sync,
     R: Threads + Wait + Abort + Clock + Sync,
     requires blank { IsBlankOf blank L.name L.parts 2 }
-    requires whose { (server.core.id ≡ L.server) × (own_count server.core ≡ L.stored) }
+    requires whose { (server.value.core.id ≡ L.server) × (own_count server.value.core ≡ L.stored) }
 {
     let (node, desks) = opened::<L>(rt, alloc, blank, server, 2);
     match both_had(rt, alloc, state, &node, both(rt, desks)) {

@@ -1,5 +1,5 @@
 //! Journals in files.
-use crate::fixtures::{key, put, server_id};
+use crate::fixtures::{boxed, key, put, server_id};
 use bayou_base::{Value, Vector};
 use bayou_device::{Device, FileDevice};
 use bayou_server::Server;
@@ -57,10 +57,10 @@ fn started<R: Files<File = File> + Abort>(
     alloc: Global,
     path: &str,
 ) -> Box<Server<FileDevice<File>>> {
-    let (server, _) = Server::start(alloc, server_id(rt), 2, 100, opened(rt, path))
-        .ok()
-        .expect(rt, "no start");
-    Box::new(alloc, server).expect(rt, "no memory")
+    match Server::start(alloc, server_id(rt), 2, 100, opened(rt, path)) {
+        Ok((server, _)) => boxed(rt, alloc, server),
+        Err(_) => rt.abort(),
+    }
 }
 
 /// Whether the server puts the number at `a`.

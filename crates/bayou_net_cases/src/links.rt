@@ -1,5 +1,6 @@
 //! A link over which a journal is to be opened again, and all Writes held are asked for: what is told of each reply, byte for byte, whatever
 //! pieces it comes in.
+use crate::fixtures::{must_be_so, must_hold};
 use crate::streams::{Counting, Slow, counting_writer, slow_reader};
 use crate::words::{bytes, is_said, parts};
 use bayou_base::Wid;
@@ -119,7 +120,7 @@ fn holds_in_pieces(rt: &impl Abort, alloc: Global, row: &str) -> bool {
 #[test]
 fn a_link_tells_what_answers_it(rt: HostRuntime) {
     for row in ROWS.lines() {
-        assert!(rt; holds_in_pieces(&rt, rt.alloc(), row), "{row}");
+        must_hold(&rt, holds_in_pieces(&rt, rt.alloc(), row), row);
     }
 }
 
@@ -138,8 +139,8 @@ fn is_lost(rt: &impl Abort, alloc: Global, read_fails_at: u32, write_fails_at: u
 
 #[test]
 fn each_call_of_a_dump_may_fail(rt: HostRuntime) {
-    for at in 1..=67 {
-        assert!(rt; is_lost(&rt, rt.alloc(), at, 0), "{at}");
+    for at in 1..68_u32 {
+        must_be_so(&rt, is_lost(&rt, rt.alloc(), at, 0), at as usize);
     }
     assert!(rt; is_lost(&rt, rt.alloc(), 0, 1));
 }

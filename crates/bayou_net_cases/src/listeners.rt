@@ -186,7 +186,7 @@ fn serves<S, T, U, V, L, R>(
     book: &AuditBook<Four<S, T, U, V>>,
     shares: Vec<Share<Four<S, T, U, V>>>,
     blank: Blank,
-    server: Server<Memory>,
+    server: Box<Server<Memory>>,
 ) -> bool
 where
     S: Ledger + Send + Sync,
@@ -196,7 +196,7 @@ where
     L: Desks + Send + Sync,
     R: Threads + Wait + Abort + Clock + Net<Stream = TcpStream> + Send + Sync,
     requires blank { IsBlankOf blank L.name L.parts 5 }
-    requires whose { (server.core.id ≡ L.server) × (own_count server.core ≡ L.stored) }
+    requires whose { (server.value.core.id ≡ L.server) × (own_count server.value.core ≡ L.stored) }
 {
     let (node, desks) = opened::<L>(rt, alloc, blank, server, 5);
     match reached(rt, alloc, place, book, shares, &node, desks) {
@@ -212,7 +212,7 @@ fn serves_sessions<S, T, U, V, L, R>(
     place: &Place,
     blanks: Blanks,
     blank: Blank,
-    server: Server<Memory>,
+    server: Box<Server<Memory>>,
 ) -> bool
 where
     S: Ledger + Send + Sync,
@@ -223,7 +223,7 @@ where
     R: Threads + Wait + Abort + Clock + Net<Stream = TcpStream> + Send + Sync,
     requires blanks { AreBlanksOf blanks (named S.name S.parts) (named T.name T.parts) (named U.name U.parts) (named V.name V.parts) 2 }
     requires blank { IsBlankOf blank L.name L.parts 5 }
-    requires whose { (server.core.id ≡ L.server) × (own_count server.core ≡ L.stored) }
+    requires whose { (server.value.core.id ≡ L.server) × (own_count server.value.core ≡ L.stored) }
 {
     let (book, shares) = AuditBook::<Four<S, T, U, V>>::new(alloc, blanks, 2, 65_536).expect(
         rt, "no book",

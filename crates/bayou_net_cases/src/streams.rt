@@ -1,5 +1,5 @@
 //! A server that is asked over a stream: what it answers, byte for byte, whatever pieces the requests come in.
-use crate::fixtures::{Memory, begun};
+use crate::fixtures::{Memory, begun, must_be_so, must_hold};
 use crate::words::{bytes, is_said};
 use bayou_net::{NoGate, serve_on};
 use bayou_peer::Fault;
@@ -102,10 +102,13 @@ impl Write for Counting {
     }
 }
 
-/// The first of two servers, which may hold two Writes and holds nothing, in a box of its own: a function that owns a box is proved in a third of
-/// the time that one takes which owns the server.
-fn boxed(rt: &impl Abort, alloc: Global) -> Box<Server<Memory>> {
-    Box::new(alloc, begun(rt, alloc, 2)).expect(rt, "no memory")
+/// What the server comes to over the channel. Its call stands in one place: what it promises costs wherever it is called.
+fn served_over<I: Read, O: Write>(
+    alloc: Global,
+    server: &mut Server<Memory>,
+    channel: &mut Channel<I, O>,
+) -> Result<u32, Fault> {
+    serve_on(alloc, server, &NoGate, channel)
 }
 
 /// Whether that is what is printed of the answer, and then the bytes that were written.
@@ -126,7 +129,7 @@ fn is_told(
 /// Whether a new server, which is sent this in pieces of at most so many bytes, ends so.
 fn serves(rt: &impl Abort, alloc: Global, sent: &[u8], most: usize, expected: &str) -> bool {
     let mut channel = Channel::new(slow_reader(sent, most, 0), Vec::new(alloc));
-    let answer = serve_on(alloc, boxed(rt, alloc).as_mut(), &NoGate, &mut channel);
+    let answer = served_over(alloc, begun(rt, alloc, 2).as_mut(), &mut channel);
     is_told(rt, alloc, answer, &channel.into_parts().1, expected)
 }
 
@@ -142,7 +145,7 @@ fn holds(rt: &impl Abort, alloc: Global, row: &str) -> bool {
 #[test]
 fn requests_are_answered_byte_for_byte(rt: HostRuntime) {
     for row in STREAMS.lines() {
-        assert!(rt; holds(&rt, rt.alloc(), row), "{row}");
+        must_hold(&rt, holds(&rt, rt.alloc(), row), row);
     }
 }
 
@@ -165,14 +168,18 @@ fn ends_as(answer: Result<u32, Fault>, written: usize, fails_at: u32) -> bool {
 fn ends_reading(rt: &impl Abort, alloc: Global, fails_at: u32) -> bool {
     let sent = bytes(rt, alloc, TWO);
     let mut channel = Channel::new(slow_reader(&sent, 30, fails_at), Vec::new(alloc));
-    let answer = serve_on(alloc, boxed(rt, alloc).as_mut(), &NoGate, &mut channel);
+    let answer = served_over(alloc, begun(rt, alloc, 2).as_mut(), &mut channel);
     ends_as(answer, channel.into_parts().1.len(), fails_at)
 }
 
 #[test]
 fn each_read_of_requests_may_fail(rt: HostRuntime) {
     for fails_at in 1..6_u32 {
-        assert!(rt; ends_reading(&rt, rt.alloc(), fails_at), "call {fails_at}");
+        must_be_so(
+            &rt,
+            ends_reading(&rt, rt.alloc(), fails_at),
+            fails_at as usize,
+        );
     }
 }
 
@@ -194,18 +201,22 @@ fn writes_to_an_end(
     fails_at: u32,
 ) -> bool {
     let mut channel = Channel::new(sent, counting_writer(alloc, fails_at));
-    let answer = serve_on(alloc, server, &NoGate, &mut channel);
+    let answer = served_over(alloc, server, &mut channel);
     replies_end_as(answer, &channel.into_parts().1, fails_at) && server.receipts().len() == 1
 }
 
 fn ends_writing(rt: &impl Abort, alloc: Global, fails_at: u32) -> bool {
     let sent = bytes(rt, alloc, TWO);
-    writes_to_an_end(alloc, &mut boxed(rt, alloc), &sent, fails_at)
+    writes_to_an_end(alloc, begun(rt, alloc, 2).as_mut(), &sent, fails_at)
 }
 
 #[test]
 fn each_write_of_replies_may_fail(rt: HostRuntime) {
     for fails_at in 1..4_u32 {
-        assert!(rt; ends_writing(&rt, rt.alloc(), fails_at), "call {fails_at}");
+        must_be_so(
+            &rt,
+            ends_writing(&rt, rt.alloc(), fails_at),
+            fails_at as usize,
+        );
     }
 }

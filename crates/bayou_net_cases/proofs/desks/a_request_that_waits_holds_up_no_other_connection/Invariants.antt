@@ -6,4 +6,4 @@ abbrev pub ghosts-serves_both-L-Ledger : goal.ghosts-serves_both-L-Ledger
 ghosts-serves_both-L-Ledger g a = record { name = a.blank.name; parts = a.blank.parts }
 
 abbrev pub ghosts-serves_both-L-Desks : goal.ghosts-serves_both-L-Desks
-ghosts-serves_both-L-Desks g a = record { server = a.server.core.id; stored = own_count a.server.core }
+ghosts-serves_both-L-Desks g a = record { server = a.server.value.core.id; stored = own_count a.server.value.core }

@@ -18,4 +18,4 @@ abbrev pub ghosts-serves_sessions-L-Ledger : goal.ghosts-serves_sessions-L-Ledge
 ghosts-serves_sessions-L-Ledger g a = record { name = a.blank.name; parts = a.blank.parts }
 
 abbrev pub ghosts-serves_sessions-L-Desks : goal.ghosts-serves_sessions-L-Desks
-ghosts-serves_sessions-L-Desks g a = record { server = a.server.core.id; stored = own_count a.server.core }
+ghosts-serves_sessions-L-Desks g a = record { server = a.server.value.core.id; stored = own_count a.server.value.core }
