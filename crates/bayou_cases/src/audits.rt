@@ -1,11 +1,11 @@
 //! Audit files, and the scripts that judge, survey and print one.
 use crate::borders::has_told;
 use crate::fakes::FakeFiles;
-use crate::memory::{Given, call, call_on, joined, run};
+use crate::memory::{Given, call, call_on, joined, must_be_so, must_hold, run};
 use crate::scripts::{Case, are_answered};
-use std::alloc::{AllocError, Global};
+use std::alloc::Global;
+use std::process::Abort;
 use std::str;
-use std::test::Fail;
 
 /// The file that a script prints of which a session wrote at one server and read at another.
 const FIRST: &str = r#"["servers",2]
@@ -168,27 +168,32 @@ fn worked() -> &'static [Case] {
 }
 
 /// Audits the text on the standard input.
-fn audit(alloc: Global, text: &[u8]) -> Result<Given, AllocError> {
-    call(alloc, &["bayou", "audit", "-"], text)
+fn audit(rt: &impl Abort, alloc: Global, text: &[u8]) -> Given {
+    call(rt, alloc, &["bayou", "audit", "-"], text)
 }
 
 /// Whether the audit file is answered as it is written, by its name and on the standard input.
-fn is_audited(alloc: Global, case: &Case) -> Result<bool, AllocError> {
+fn is_audited(rt: &impl Abort, alloc: Global, case: &Case) -> bool {
     let mut files = FakeFiles {
         files: &[("other.jsonl", "["), ("file.jsonl", case.script)],
         fails_at: 0,
     };
-    let named = call_on(alloc, &["bayou", "audit", "file.jsonl"], &mut files, b"")?;
-    let on_input = audit(alloc, case.script.as_bytes())?;
-    Ok(case.is_whole(&named) && case.is_whole(&on_input))
+    let named = call_on(
+        rt,
+        alloc,
+        &["bayou", "audit", "file.jsonl"],
+        &mut files,
+        b"",
+    );
+    let on_input = audit(rt, alloc, case.script.as_bytes());
+    case.is_whole(&named) && case.is_whole(&on_input)
 }
 
 #[test]
-fn worked_audits(rt: HostRuntime) -> Result<(), Fail> {
+fn worked_audits(rt: HostRuntime) {
     for case in worked() {
-        assert!(rt; is_audited(rt.alloc(), case)?, "{}", case.name);
+        must_hold(&rt, is_audited(&rt, rt.alloc(), case), case.name);
     }
-    Ok(())
 }
 
 /// Scripts that judge, survey and print an audit file. No session of a run is broken in what it asks for: a verdict `broken`, and with it
@@ -307,8 +312,8 @@ totals reads 0 writes 1 refusals 1 slips 0
 ];
 
 #[test]
-fn worked_verdicts_of_scripts(rt: HostRuntime) -> Result<(), Fail> {
-    Ok(are_answered(&rt, rt.alloc(), &SCRIPTS)?)
+fn worked_verdicts_of_scripts(rt: HostRuntime) {
+    are_answered(&rt, rt.alloc(), &SCRIPTS);
 }
 
 /// Scripts, and how many of their sessions have an entry.
@@ -372,21 +377,20 @@ fn is_clean(told: &Given, sessions: usize) -> bool {
 }
 
 /// Whether the audit file that the script prints last is clean, and has a line of the survey for each of so many sessions.
-fn comes_back(alloc: Global, script: &str, sessions: usize) -> Result<bool, AllocError> {
-    let given = run(alloc, script.as_bytes())?;
+fn comes_back(rt: &impl Abort, alloc: Global, script: &str, sessions: usize) -> bool {
+    let given = run(rt, alloc, script.as_bytes());
     let Some(rest) = last_file(given.output.as_slice()) else {
-        return Ok(false);
+        return false;
     };
-    let file = joined(alloc, &[b"[\"servers\",", rest.as_bytes()])?;
-    Ok(is_clean(&audit(alloc, &file)?, sessions))
+    let file = joined(rt, alloc, &[b"[\"servers\",", rest.as_bytes()]);
+    is_clean(&audit(rt, alloc, &file), sessions)
 }
 
 #[test]
-fn books_that_are_audited(rt: HostRuntime) -> Result<(), Fail> {
+fn books_that_are_audited(rt: HostRuntime) {
     for (script, sessions) in BOOKED.iter() {
-        assert!(rt; comes_back(rt.alloc(), script, *sessions)?, "{script}");
+        must_hold(&rt, comes_back(&rt, rt.alloc(), script, *sessions), script);
     }
-    Ok(())
 }
 
 /// Second lines of an audit file of two servers, and what each is told, where it is told anything.
@@ -446,23 +450,22 @@ const LINES: &str = r#"["entry",0,1,[],0,"refused"]
 ["phase",1] => bad shape"#;
 
 /// Whether the row's line is told so behind the servers.
-fn is_so(alloc: Global, row: &str) -> Result<bool, AllocError> {
+fn is_so(rt: &impl Abort, alloc: Global, row: &str) -> bool {
     let (line, told) = row.split_once(" => ").unwrap_or((row, ""));
-    let file = joined(alloc, &[b"[\"servers\",2]\n", line.as_bytes()])?;
-    let given = audit(alloc, &file)?;
+    let file = joined(rt, alloc, &[b"[\"servers\",2]\n", line.as_bytes()]);
+    let given = audit(rt, alloc, &file);
     if told.is_empty() {
-        return Ok(has_told(&given, ""));
+        return has_told(&given, "");
     }
-    let fault = format!(in alloc; "bayou: line 2: {told}\n")?;
-    Ok(has_told(&given, fault.as_str()))
+    let fault = format!(in alloc; "bayou: line 2: {told}\n").expect(rt, "no memory");
+    has_told(&given, fault.as_str())
 }
 
 #[test]
-fn lines_of_audit_files(rt: HostRuntime) -> Result<(), Fail> {
+fn lines_of_audit_files(rt: HostRuntime) {
     for row in LINES.lines() {
-        assert!(rt; is_so(rt.alloc(), row)?, "{row}");
+        must_hold(&rt, is_so(&rt, rt.alloc(), row), row);
     }
-    Ok(())
 }
 
 /// What stands in front, a piece that stands behind it so many times, what stands last, and what is printed and told. The last file has as
@@ -530,37 +533,37 @@ static WHOLE: [(&str, &str, usize, &str, &str, &str); 9] = [
 
 /// The piece so many times between these two.
 fn repeated(
+    rt: &impl Abort,
     alloc: Global,
     front: &str,
     piece: &str,
     count: usize,
     back: &str,
-) -> Result<Vec<u8>, AllocError> {
-    let mut file = front.as_bytes().to_vec(alloc)?;
+) -> Vec<u8> {
+    let mut file = front.as_bytes().to_vec(alloc).expect(rt, "no memory");
     for _ in 0..count {
-        file.extend_from_slice(piece.as_bytes())?;
+        file.extend_from_slice(piece.as_bytes())
+            .expect(rt, "no memory");
     }
-    file.extend_from_slice(back.as_bytes())?;
-    Ok(file)
+    file.extend_from_slice(back.as_bytes())
+        .expect(rt, "no memory");
+    file
 }
 
 /// Whether the audit of the file prints this and tells that.
-fn is_answer(alloc: Global, file: &[u8], printed: &str, told: &str) -> Result<bool, AllocError> {
-    let given = audit(alloc, file)?;
-    Ok(given.output.as_slice() == printed.as_bytes() && given.errors.as_slice() == told.as_bytes())
+fn is_answer(rt: &impl Abort, alloc: Global, file: &[u8], printed: &str, told: &str) -> bool {
+    let given = audit(rt, alloc, file);
+    given.output.as_slice() == printed.as_bytes() && given.errors.as_slice() == told.as_bytes()
 }
 
 #[test]
-fn audit_files_as_a_whole(rt: HostRuntime) -> Result<(), Fail> {
+fn audit_files_as_a_whole(rt: HostRuntime) {
     let alloc = rt.alloc();
-    for (front, piece, count, back, printed, told) in WHOLE.iter() {
-        let file = repeated(alloc, front, piece, *count, back)?;
-        assert!(rt;
-            is_answer(alloc, &file, printed, told)?,
-            "{front}, {count}: {printed}{told}"
-        );
+    for (at, (front, piece, count, back, printed, told)) in WHOLE.iter().enumerate() {
+        let file = repeated(&rt, alloc, front, piece, *count, back);
+        let is_so = is_answer(&rt, alloc, &file, printed, told);
+        must_be_so(&rt, is_so, at as u64);
     }
-    Ok(())
 }
 
 const SCRIPT: &str = "[\"servers\",1]\n[\"session\",0,[]]\n[\"read\",0,0,\"x\"]\n";
@@ -601,48 +604,45 @@ static NAMED: [(&[&str], u64, &str, &str, u8); 9] = [
 
 /// Whether the call ends so.
 fn ends_so(
+    rt: &impl Abort,
     alloc: Global,
     words: &[&str],
     fails_at: u64,
     printed: &str,
     told: &str,
     status: u8,
-) -> Result<bool, AllocError> {
+) -> bool {
     let mut files = FakeFiles {
         files: &[("audit.jsonl", FIRST), ("script.jsonl", SCRIPT)],
         fails_at,
     };
-    let given = call_on(alloc, words, &mut files, SCRIPT.as_bytes())?;
+    let given = call_on(rt, alloc, words, &mut files, SCRIPT.as_bytes());
     let is_printed = given.output.as_slice() == printed.as_bytes();
     let is_told = given.errors.as_slice() == told.as_bytes();
-    Ok(is_printed && is_told && given.status == status)
+    is_printed && is_told && given.status == status
 }
 
 #[test]
-fn files_that_are_named(rt: HostRuntime) -> Result<(), Fail> {
-    for (words, fails_at, printed, told, status) in NAMED.iter() {
-        assert!(rt;
-            ends_so(rt.alloc(), words, *fails_at, printed, told, *status)?,
-            "{printed}{told}"
-        );
+fn files_that_are_named(rt: HostRuntime) {
+    for (at, (words, fails_at, printed, told, status)) in NAMED.iter().enumerate() {
+        let is_so = ends_so(&rt, rt.alloc(), words, *fails_at, printed, told, *status);
+        must_be_so(&rt, is_so, at as u64);
     }
-    Ok(())
 }
 
 /// This is for runs in which any one allocation is refused: the file is answered as ever, or the audit ends for want of memory behind a
 /// front of what it prints.
-fn ends_well(alloc: Global, case: &Case) -> Result<bool, AllocError> {
-    let given = audit(alloc, case.script.as_bytes())?;
+fn ends_well(rt: &impl Abort, alloc: Global, case: &Case) -> bool {
+    let given = audit(rt, alloc, case.script.as_bytes());
     let has_ended = given.errors.as_slice() == b"bayou: memory\n".as_slice()
         && given.status == 3
         && case.output.as_bytes().starts_with(given.output.as_slice());
-    Ok(case.is_whole(&given) || has_ended)
+    case.is_whole(&given) || has_ended
 }
 
 #[test]
-fn want_of_memory_over_the_worked_audits(rt: HostRuntime) -> Result<(), Fail> {
+fn want_of_memory_over_the_worked_audits(rt: HostRuntime) {
     for case in worked() {
-        assert!(rt; ends_well(rt.alloc(), case)?, "{}", case.name);
+        must_hold(&rt, ends_well(&rt, rt.alloc(), case), case.name);
     }
-    Ok(())
 }

@@ -1,7 +1,7 @@
 //! The borders of what a line may say, each within a script.
-use crate::memory::{Given, joined, run};
-use std::alloc::{AllocError, Global};
-use std::test::Fail;
+use crate::memory::{Given, joined, must_be_so, must_hold, run};
+use std::alloc::Global;
+use std::process::Abort;
 
 const BEGIN: &str = "[\"servers\",1]\n[\"session\",0,[]]\n";
 
@@ -71,22 +71,27 @@ const LINES: &str = r#"["session",31,[]]
 null => bad shape"#;
 
 /// Whether the row's line is told so behind these.
-fn is_so(alloc: Global, begin: &str, row: &str) -> Result<bool, AllocError> {
+fn is_so(rt: &impl Abort, alloc: Global, begin: &str, row: &str) -> bool {
     let (line, told) = row.split_once(" => ").unwrap_or((row, ""));
-    let given = run(alloc, format!(in alloc; "{begin}{line}")?.as_bytes())?;
+    let given = run(
+        rt,
+        alloc,
+        format!(in alloc; "{begin}{line}")
+            .expect(rt, "no memory")
+            .as_bytes(),
+    );
     if told.is_empty() {
-        return Ok(has_told(&given, ""));
+        return has_told(&given, "");
     }
-    let fault = format!(in alloc; "bayou: line 3: {told}\n")?;
-    Ok(has_told(&given, fault.as_str()))
+    let fault = format!(in alloc; "bayou: line 3: {told}\n").expect(rt, "no memory");
+    has_told(&given, fault.as_str())
 }
 
 #[test]
-fn lines_at_their_borders(rt: HostRuntime) -> Result<(), Fail> {
+fn lines_at_their_borders(rt: HostRuntime) {
     for row in LINES.lines() {
-        assert!(rt; is_so(rt.alloc(), BEGIN, row)?, "{row}");
+        must_hold(&rt, is_so(&rt, rt.alloc(), BEGIN, row), row);
     }
-    Ok(())
 }
 
 /// Lines that have one of two servers send its Writes to the other, or to itself; lines that ask for what was served; and lines of an audit
@@ -131,11 +136,10 @@ const EXCHANGES: &str = r#"["pull",0,1]
 ["held",0,[0,1,1,[0,0]]] => bad shape"#;
 
 #[test]
-fn exchanges_at_their_borders(rt: HostRuntime) -> Result<(), Fail> {
+fn exchanges_at_their_borders(rt: HostRuntime) {
     for row in EXCHANGES.lines() {
-        assert!(rt; is_so(rt.alloc(), BEGIN_TWO, row)?, "{row}");
+        must_hold(&rt, is_so(&rt, rt.alloc(), BEGIN_TWO, row), row);
     }
-    Ok(())
 }
 
 /// Bytes, and what a read of the key of one of them is told: those beside each range of the alphabet, and some others of ASCII that JSON
@@ -147,22 +151,22 @@ static KEYS: [(&[u8], &str); 3] = [
 ];
 
 /// Whether a read of the key of this one byte, as the third line, is told so.
-fn is_read(alloc: Global, byte: u8, told: &str) -> Result<bool, AllocError> {
+fn is_read(rt: &impl Abort, alloc: Global, byte: u8, told: &str) -> bool {
     let script = joined(
+        rt,
         alloc,
         &[BEGIN.as_bytes(), b"[\"read\",0,0,\"", &[byte], b"\"]\n"],
-    )?;
-    Ok(has_told(&run(alloc, &script)?, told))
+    );
+    has_told(&run(rt, alloc, &script), told)
 }
 
 #[test]
-fn bytes_of_keys(rt: HostRuntime) -> Result<(), Fail> {
+fn bytes_of_keys(rt: HostRuntime) {
     for (bytes, told) in KEYS.iter() {
         for byte in bytes.iter() {
-            assert!(rt; is_read(rt.alloc(), *byte, told)?, "the byte {byte}");
+            must_be_so(&rt, is_read(&rt, rt.alloc(), *byte, told), u64::from(*byte));
         }
     }
-    Ok(())
 }
 
 /// What stands in front of a byte that stands so many times, the byte, their number, what stands behind them, and what is told. The last
@@ -196,26 +200,29 @@ static LONG: [(&str, u8, usize, &str, &str); 5] = [
 
 /// The byte so many times between these two.
 fn filled(
+    rt: &impl Abort,
     alloc: Global,
     front: &str,
     byte: u8,
     count: usize,
     back: &str,
-) -> Result<Vec<u8>, AllocError> {
-    let mut script = front.as_bytes().to_vec(alloc)?;
+) -> Vec<u8> {
+    let mut script = front.as_bytes().to_vec(alloc).expect(rt, "no memory");
     for _ in 0..count {
-        script.push(byte)?;
+        script.push(byte).expect(rt, "no memory");
     }
-    script.extend_from_slice(back.as_bytes())?;
-    Ok(script)
+    script
+        .extend_from_slice(back.as_bytes())
+        .expect(rt, "no memory");
+    script
 }
 
 #[test]
-fn numbers_and_lengths_of_lines(rt: HostRuntime) -> Result<(), Fail> {
+fn numbers_and_lengths_of_lines(rt: HostRuntime) {
     let alloc = rt.alloc();
-    for (front, byte, count, back, told) in LONG.iter() {
-        let script = filled(alloc, front, *byte, *count, back)?;
-        assert!(rt; has_told(&run(alloc, &script)?, told), "{front}, {told}");
+    for (at, (front, byte, count, back, told)) in LONG.iter().enumerate() {
+        let script = filled(&rt, alloc, front, *byte, *count, back);
+        let is_so = has_told(&run(&rt, alloc, &script), told);
+        must_be_so(&rt, is_so, at as u64);
     }
-    Ok(())
 }

@@ -1,7 +1,7 @@
 //! Scripts over a network: which are refused before anything is asked of one, and that what ends a run is told.
-use crate::memory::call;
-use std::alloc::{AllocError, Global};
-use std::test::Fail;
+use crate::memory::{call, must_hold};
+use std::alloc::Global;
+use std::process::Abort;
 
 /// What is told of a script that a network may run, where there is none.
 const NO_NETWORK: &str = "bayou: network\n";
@@ -56,20 +56,16 @@ static NETS: [(&str, &str, u8); 13] = [
 ];
 
 /// Whether nothing is printed for the script, and just this is told of it.
-fn is_refused(alloc: Global, script: &str, fault: &str, status: u8) -> Result<bool, AllocError> {
+fn is_refused(rt: &impl Abort, alloc: Global, script: &str, fault: &str, status: u8) -> bool {
     let words = ["bayou", "net", "--dir", "folder"];
-    let given = call(alloc, &words, script.as_bytes())?;
-    Ok(
-        given.output.is_empty()
-            && given.errors.as_slice() == fault.as_bytes()
-            && given.status == status,
-    )
+    let given = call(rt, alloc, &words, script.as_bytes());
+    given.output.is_empty() && given.errors.as_slice() == fault.as_bytes() && given.status == status
 }
 
 #[test]
-fn scripts_over_a_network(rt: HostRuntime) -> Result<(), Fail> {
+fn scripts_over_a_network(rt: HostRuntime) {
     for (script, fault, status) in NETS.iter() {
-        assert!(rt; is_refused(rt.alloc(), script, fault, *status)?, "{script}");
+        let is_so = is_refused(&rt, rt.alloc(), script, fault, *status);
+        must_hold(&rt, is_so, script);
     }
-    Ok(())
 }

@@ -1,9 +1,8 @@
 //! The worked scripts: what each prints, what fault it tells, and its exit status.
-use crate::memory::{Given, run};
-use std::alloc::{AllocError, Global};
+use crate::memory::{Given, must_hold, run};
+use std::alloc::Global;
 use std::process::Abort;
 use std::str;
-use std::test::Fail;
 
 pub struct Case {
     pub name: &'static str,
@@ -415,39 +414,37 @@ impl Case {
 }
 
 /// Whether the case is answered as it is written.
-pub fn is_answered(alloc: Global, case: &Case) -> Result<bool, AllocError> {
-    Ok(case.is_whole(&run(alloc, case.script.as_bytes())?))
+pub fn is_answered(rt: &impl Abort, alloc: Global, case: &Case) -> bool {
+    case.is_whole(&run(rt, alloc, case.script.as_bytes()))
 }
 
 /// Each case is answered as it is written.
-pub fn are_answered(rt: &impl Abort, alloc: Global, cases: &[Case]) -> Result<(), AllocError> {
+pub fn are_answered(rt: &impl Abort, alloc: Global, cases: &[Case]) {
     for case in cases {
-        assert!(rt; is_answered(alloc, case)?, "{}", case.name);
+        must_hold(rt, is_answered(rt, alloc, case), case.name);
     }
-    Ok(())
 }
 
 #[test]
-fn worked_scripts(rt: HostRuntime) -> Result<(), Fail> {
-    Ok(are_answered(&rt, rt.alloc(), worked())?)
+fn worked_scripts(rt: HostRuntime) {
+    are_answered(&rt, rt.alloc(), worked());
 }
 
 /// This is for runs in which any one allocation is refused: the case is answered as ever, or ends for want of memory, or
 /// has a Write refused for it, or a pull that ends for it.
-fn ends_well(alloc: Global, case: &Case) -> Result<bool, AllocError> {
-    let given = run(alloc, case.script.as_bytes())?;
-    Ok(case.is_whole(&given) || case.has_ended(&given) || case.has_lacked(&given))
+fn ends_well(rt: &impl Abort, alloc: Global, case: &Case) -> bool {
+    let given = run(rt, alloc, case.script.as_bytes());
+    case.is_whole(&given) || case.has_ended(&given) || case.has_lacked(&given)
 }
 
 /// Each case ends so.
-fn all_end_well(rt: &impl Abort, alloc: Global, cases: &[Case]) -> Result<(), AllocError> {
+fn all_end_well(rt: &impl Abort, alloc: Global, cases: &[Case]) {
     for case in cases {
-        assert!(rt; ends_well(alloc, case)?, "{}", case.name);
+        must_hold(rt, ends_well(rt, alloc, case), case.name);
     }
-    Ok(())
 }
 
 #[test]
-fn want_of_memory_over_the_worked_scripts(rt: HostRuntime) -> Result<(), Fail> {
-    Ok(all_end_well(&rt, rt.alloc(), worked())?)
+fn want_of_memory_over_the_worked_scripts(rt: HostRuntime) {
+    all_end_well(&rt, rt.alloc(), worked());
 }

@@ -1,10 +1,10 @@
 //! The program over readers and writers that are slow, fail, or never end.
 use crate::fakes::{FakeFiles, FakeReader, FakeWriter, Pieces};
-use crate::memory::roomy;
+use crate::memory::{must_be_so, must_hold, roomy};
 use bayou_shell::run_main;
 use bayou_streams::{Channel, Output};
-use std::alloc::{AllocError, Global};
-use std::test::Fail;
+use std::alloc::Global;
+use std::process::Abort;
 
 const SCRIPT: &str =
     "[\"servers\",1]\n[\"session\",0,[]]\n[\"read\",0,0,\"x\"]\n[\"read\",0,0,\"y\"]\n";
@@ -24,14 +24,14 @@ fn reader_of(pace: u64, fails_at: u64) -> FakeReader<'static> {
     }
 }
 
-fn writer_of(alloc: Global, pace: u64, fails_at: u64) -> Result<FakeWriter, AllocError> {
-    Ok(FakeWriter {
-        bytes: roomy(alloc)?,
+fn writer_of(rt: &impl Abort, alloc: Global, pace: u64, fails_at: u64) -> FakeWriter {
+    FakeWriter {
+        bytes: roomy(rt, alloc),
         is_full: false,
         pace,
         fails_at,
         calls: 0,
-    })
+    }
 }
 
 /// Runs the program: the status that it ends with.
@@ -55,68 +55,64 @@ fn run(
 }
 
 /// Whether a run whose reader fails at this call, of so many, tells it, and prints nothing; or prints all where it doesn't come to it.
-fn ends_at_read(alloc: Global, fails_at: u64, calls: u64) -> Result<bool, AllocError> {
+fn ends_at_read(rt: &impl Abort, alloc: Global, fails_at: u64, calls: u64) -> bool {
     let mut reader = reader_of(2, fails_at);
-    let mut writer = writer_of(alloc, 1, 0)?;
-    let mut errors = writer_of(alloc, 1, 0)?;
+    let mut writer = writer_of(rt, alloc, 1, 0);
+    let mut errors = writer_of(rt, alloc, 1, 0);
     let status = run(alloc, &mut reader, &mut writer, &mut errors);
     let (wanted, printed, told) = if fails_at > calls {
         (0, PRINTED, "")
     } else {
         (3, "", "bayou: input\n")
     };
-    Ok(
-        status == wanted
-            && errors.bytes.as_slice() == told.as_bytes()
-            && writer.bytes.as_slice() == printed.as_bytes()
-            && reader.calls == fails_at.min(calls),
-    )
+    status == wanted
+        && errors.bytes.as_slice() == told.as_bytes()
+        && writer.bytes.as_slice() == printed.as_bytes()
+        && reader.calls == fails_at.min(calls)
 }
 
 /// Each call of a reader failing, in turn: the fault is told, and nothing is printed. The last doesn't come to it.
 #[test]
-fn readers(rt: HostRuntime) -> Result<(), Fail> {
+fn readers(rt: HostRuntime) {
     let calls = 2 * SCRIPT.len() as u64 + 2;
     for fails_at in 1..calls + 2 {
-        assert!(rt;
-            ends_at_read(rt.alloc(), fails_at, calls)?,
-            "call {fails_at}"
+        must_be_so(
+            &rt,
+            ends_at_read(&rt, rt.alloc(), fails_at, calls),
+            fails_at,
         );
     }
-    Ok(())
 }
 
 /// Whether a run whose writer fails at this call, of so many, tells it behind what was taken; or prints all where it doesn't come to it.
-fn ends_at_write(alloc: Global, fails_at: u64, calls: u64) -> Result<bool, AllocError> {
+fn ends_at_write(rt: &impl Abort, alloc: Global, fails_at: u64, calls: u64) -> bool {
     let mut reader = reader_of(1, 0);
-    let mut writer = writer_of(alloc, 2, fails_at)?;
-    let mut errors = writer_of(alloc, 1, 0)?;
+    let mut writer = writer_of(rt, alloc, 2, fails_at);
+    let mut errors = writer_of(rt, alloc, 1, 0);
     let status = run(alloc, &mut reader, &mut writer, &mut errors);
     let (wanted, told) = if fails_at > calls {
         (0, "")
     } else {
         (3, "bayou: output\n")
     };
-    Ok(
-        status == wanted
-            && errors.bytes.as_slice() == told.as_bytes()
-            && PRINTED.as_bytes().starts_with(&writer.bytes)
-            && writer.bytes.len() as u64 == fails_at.saturating_sub(1) / 2
-            && writer.calls == fails_at.min(calls),
-    )
+    status == wanted
+        && errors.bytes.as_slice() == told.as_bytes()
+        && PRINTED.as_bytes().starts_with(&writer.bytes)
+        && writer.bytes.len() as u64 == fails_at.saturating_sub(1) / 2
+        && writer.calls == fails_at.min(calls)
 }
 
 /// Each call of a writer failing, in turn: the fault is told behind what was taken. The last doesn't come to it.
 #[test]
-fn writers(rt: HostRuntime) -> Result<(), Fail> {
+fn writers(rt: HostRuntime) {
     let calls = 2 * PRINTED.len() as u64;
     for fails_at in 1..calls + 2 {
-        assert!(rt;
-            ends_at_write(rt.alloc(), fails_at, calls)?,
-            "call {fails_at}"
+        must_be_so(
+            &rt,
+            ends_at_write(&rt, rt.alloc(), fails_at, calls),
+            fails_at,
         );
     }
-    Ok(())
 }
 
 /// A run over streams some of which have no end.
@@ -219,40 +215,42 @@ static ENDLESS: [Endless; 9] = [
 ];
 
 /// Whether the run ends so. Streams without an end are given up after 1,000,000 calls: a writer's for each line.
-fn ends_so(alloc: Global, case: &Endless) -> Result<bool, AllocError> {
+fn ends_so(rt: &impl Abort, alloc: Global, case: &Endless) -> bool {
     let mut reader = reader_of(case.reader.1, 0);
     reader.is_endless = case.reader.0;
-    let mut writer = writer_of(alloc, case.writer.1, 0)?;
+    let mut writer = writer_of(rt, alloc, case.writer.1, 0);
     writer.is_full = case.writer.0;
-    let mut errors = writer_of(alloc, 1, 0)?;
+    let mut errors = writer_of(rt, alloc, 1, 0);
     errors.is_full = case.is_mute;
     let status = run(alloc, &mut reader, &mut writer, &mut errors);
-    Ok(
-        status == case.status
-            && errors.bytes.as_slice() == case.told.as_bytes()
-            && (reader.calls, writer.calls) == case.calls,
-    )
+    status == case.status
+        && errors.bytes.as_slice() == case.told.as_bytes()
+        && reader.calls == case.calls.0
+        && writer.calls == case.calls.1
 }
 
 #[test]
-fn streams_without_an_end(rt: HostRuntime) -> Result<(), Fail> {
+fn streams_without_an_end(rt: HostRuntime) {
     for case in ENDLESS.iter() {
-        assert!(rt; ends_so(rt.alloc(), case)?, "{}", case.name);
+        must_hold(&rt, ends_so(&rt, rt.alloc(), case), case.name);
     }
-    Ok(())
 }
 
 /// How many reads of 19 printed bytes make more than a piece.
 const READS: usize = 4_000;
 
 /// So many reads of a key that nothing was written to, as a script.
-fn many_reads(alloc: Global, count: usize) -> Result<Vec<u8>, AllocError> {
+fn many_reads(rt: &impl Abort, alloc: Global, count: usize) -> Vec<u8> {
     let mut script = Vec::new(alloc);
-    script.extend_from_slice(b"[\"servers\",1]\n[\"session\",0,[]]\n")?;
+    script
+        .extend_from_slice(b"[\"servers\",1]\n[\"session\",0,[]]\n")
+        .expect(rt, "no memory");
     for _ in 0..count {
-        script.extend_from_slice(b"[\"read\",0,0,\"x\"]\n")?;
+        script
+            .extend_from_slice(b"[\"read\",0,0,\"x\"]\n")
+            .expect(rt, "no memory");
     }
-    Ok(script)
+    script
 }
 
 /// The status that the script ends with, whose output is written to these.
@@ -273,20 +271,17 @@ fn run_pieces(alloc: Global, script: &[u8], writer: &mut Pieces, errors: &mut Ve
 
 /// Printed lines are written in pieces of whole lines, of at most 65,536 bytes, and the last ones too.
 #[test]
-fn pieces(rt: HostRuntime) -> Result<(), Fail> {
+fn pieces(rt: HostRuntime) {
     let alloc = rt.alloc();
-    let script = many_reads(alloc, READS)?;
+    let script = many_reads(&rt, alloc, READS);
     let mut writer = Pieces {
         lengths: Vec::new(alloc),
     };
-    let mut errors = roomy(alloc)?;
+    let mut errors = roomy(&rt, alloc);
     let status = run_pieces(alloc, &script, &mut writer, &mut errors);
     let wanted = [3_449 * 19, (READS - 3_449) * 19];
-    assert!(rt;
-        status == 0 && writer.lengths.as_slice() == wanted.as_slice(),
-        "pieces"
-    );
-    Ok(())
+    let are_whole = writer.lengths.as_slice() == wanted.as_slice();
+    assert!(rt; status == 0 && are_whole);
 }
 
 /// A script that is refused: its bytes, behind which line feeds stand without an end, what is told, and how many bytes are read.
@@ -316,7 +311,7 @@ static REFUSED: [(&str, u8, usize, &str, u64); 4] = [
 ];
 
 /// Whether the script is refused so, once so many bytes were read of it and of the line feeds behind it.
-fn is_refused(alloc: Global, script: &[u8], told: &str, calls: u64) -> Result<bool, AllocError> {
+fn is_refused(rt: &impl Abort, alloc: Global, script: &[u8], told: &str, calls: u64) -> bool {
     let mut reader = FakeReader {
         bytes: script,
         is_endless: true,
@@ -324,32 +319,33 @@ fn is_refused(alloc: Global, script: &[u8], told: &str, calls: u64) -> Result<bo
         fails_at: 0,
         calls: 0,
     };
-    let mut writer = writer_of(alloc, 1, 0)?;
-    let mut errors = writer_of(alloc, 1, 0)?;
+    let mut writer = writer_of(rt, alloc, 1, 0);
+    let mut errors = writer_of(rt, alloc, 1, 0);
     let status = run(alloc, &mut reader, &mut writer, &mut errors);
-    Ok(
-        status == 2
-            && errors.bytes.as_slice() == told.as_bytes()
-            && writer.bytes.is_empty()
-            && reader.calls == calls,
-    )
+    status == 2
+        && errors.bytes.as_slice() == told.as_bytes()
+        && writer.bytes.is_empty()
+        && reader.calls == calls
 }
 
 /// The text, and so many of this byte behind it.
-fn followed(alloc: Global, front: &str, byte: u8, count: usize) -> Result<Vec<u8>, AllocError> {
+fn followed(rt: &impl Abort, alloc: Global, front: &str, byte: u8, count: usize) -> Vec<u8> {
     let mut script = Vec::new(alloc);
-    script.extend_from_slice(front.as_bytes())?;
-    script.resize(front.len().saturating_add(count), byte)?;
-    Ok(script)
+    script
+        .extend_from_slice(front.as_bytes())
+        .expect(rt, "no memory");
+    script
+        .resize(front.len().saturating_add(count), byte)
+        .expect(rt, "no memory");
+    script
 }
 
 /// The input is read no further than to where its least line with a fault is sure to have one.
 #[test]
-fn refused_as_it_comes(rt: HostRuntime) -> Result<(), Fail> {
+fn refused_as_it_comes(rt: HostRuntime) {
     let alloc = rt.alloc();
     for (front, byte, count, told, calls) in REFUSED.iter() {
-        let script = followed(alloc, front, *byte, *count)?;
-        assert!(rt; is_refused(alloc, &script, told, *calls)?, "{told}");
+        let script = followed(&rt, alloc, front, *byte, *count);
+        must_hold(&rt, is_refused(&rt, alloc, &script, told, *calls), told);
     }
-    Ok(())
 }

@@ -1,7 +1,6 @@
 //! Command lines: what is asked for goes to the output, what is refused to the errors.
-use crate::memory::call;
+use crate::memory::{call, must_be_so};
 use std::str;
-use std::test::Fail;
 
 /// Whether the text has the part, or is empty where there is none.
 fn has(text: &[u8], part: &str) -> bool {
@@ -39,11 +38,10 @@ static WORDS: [(&[&str], &str, &str, u8); 13] = [
 ];
 
 #[test]
-fn asked_and_refused(rt: HostRuntime) -> Result<(), Fail> {
-    for (words, output, errors, status) in WORDS.iter() {
-        let given = call(rt.alloc(), words, b"")?;
+fn asked_and_refused(rt: HostRuntime) {
+    for (at, (words, output, errors, status)) in WORDS.iter().enumerate() {
+        let given = call(&rt, rt.alloc(), words, b"");
         let is_told = has(&given.output, output) && has(&given.errors, errors);
-        assert!(rt; is_told && given.status == *status, "{output}{errors}");
+        must_be_so(&rt, is_told && given.status == *status, at as u64);
     }
-    Ok(())
 }
