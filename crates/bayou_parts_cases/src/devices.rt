@@ -1,4 +1,5 @@
 //! A device in memory: what it holds after each call, and which calls fail.
+use crate::fixtures::must_be_so;
 use bayou_device::{Device, MemoryDevice, OpenGate, ReadFault};
 use std::alloc::Global;
 use std::process::Abort;
@@ -88,7 +89,7 @@ static STEPS: [(Step, &str); 31] = [
 fn all_go(rt: &impl Abort, alloc: Global, device: &mut MemoryDevice<OpenGate>) {
     for (at, (step, held)) in STEPS.iter().enumerate() {
         let is_so = goes(alloc, device, *step) && device.bytes() == held.as_bytes();
-        assert!(rt; is_so, "step {at}");
+        must_be_so(rt, is_so, at);
     }
 }
 

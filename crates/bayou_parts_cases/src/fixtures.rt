@@ -3,6 +3,16 @@ use bayou_base::{Key, SERVERS, ServerId, SessionId, Stamp, Value, Vector, Wid};
 use bayou_lang::{Op, Program, Term, Write};
 use std::process::Abort;
 
+/// Stops the test where it isn't so, and says at which number: the one assert of all loops over numbers, since each costs.
+pub fn must_be_so(rt: &impl Abort, is_so: bool, number: usize) {
+    assert!(rt; is_so, "{number}");
+}
+
+/// Stops the test where it isn't so, and says in which row.
+pub fn must_hold(rt: &impl Abort, is_so: bool, row: &str) {
+    assert!(rt; is_so, "{row}");
+}
+
 pub fn server_id(rt: &impl Abort, index: u8) -> ServerId {
     ServerId::new(index).expect(rt, "no server")
 }

@@ -1,4 +1,5 @@
 //! Frames and Writes, byte for byte. Behind `=>` stands the value as it prints itself, or the fault, which a `!` begins.
+use crate::fixtures::{must_be_so, must_hold};
 use crate::notation::{AS_PRINTED, bytes_of, expanded, parts, repeated};
 use bayou_lang::Write;
 use bayou_wire::{
@@ -213,7 +214,7 @@ static GREATEST: [(usize, &str); 2] = [(8190, "!BadBody"), (8191, "!Trailing")];
 #[test]
 fn frames_of_the_greatest_length(rt: HostRuntime) {
     for (count, fault) in GREATEST.iter() {
-        assert!(rt; ends_with(&rt, rt.alloc(), *count, fault), "{count}");
+        must_be_so(&rt, ends_with(&rt, rt.alloc(), *count, fault), *count);
     }
 }
 
@@ -300,7 +301,7 @@ fn is_row(rt: &impl Abort, alloc: Global, table: &Table, row: &str) -> bool {
 /// The bytes of each row are what it says.
 fn all_are_so(rt: &impl Abort, alloc: Global, table: &Table, rows: &str) {
     for row in rows.lines() {
-        assert!(rt; is_row(rt, alloc, table, row), "{row}");
+        must_hold(rt, is_row(rt, alloc, table, row), row);
     }
 }
 

@@ -1,5 +1,5 @@
 //! Journals: the bytes of the page, each cut and each changed byte, and each device call failing in turn.
-use crate::fixtures::server_id;
+use crate::fixtures::{must_be_so, must_hold, server_id};
 use crate::notation::{bytes_of, repeated};
 use bayou_base::{MAX_BODY_BYTES, ServerId};
 use bayou_device::{MemoryDevice, OpenGate};
@@ -165,7 +165,7 @@ fn each_front_is_a_journal(rt: HostRuntime) {
     let bytes = bytes_of(&rt, rt.alloc(), THREE);
     for len in 0..293 {
         let is_so = bytes.len() == 292 && is_journal(&rt, rt.alloc(), server, &bytes, len);
-        assert!(rt; is_so, "{len} bytes");
+        must_be_so(&rt, is_so, len);
     }
 }
 
@@ -208,7 +208,7 @@ fn a_changed_byte_ends_the_chain_before_it(rt: HostRuntime) {
     for at in 0..292 {
         change(&mut bytes, at);
         let is_so = is_ended(&rt, rt.alloc(), server, &bytes, at);
-        assert!(rt; is_so, "byte {at}");
+        must_be_so(&rt, is_so, at);
         change(&mut bytes, at);
     }
 }
@@ -229,7 +229,7 @@ fn is_foreign(rt: &impl Abort, alloc: Global, index: u8, text: &str, fault: Open
 fn foreign_bytes_are_refused(rt: HostRuntime) {
     for (index, text, fault) in FOREIGN.iter() {
         let is_so = is_foreign(&rt, rt.alloc(), *index, text, *fault);
-        assert!(rt; is_so, "{fault:?}");
+        must_hold(&rt, is_so, text);
     }
 }
 
@@ -305,9 +305,9 @@ fn fails_however_much_is_kept(
 fn each_device_call_of_an_opening_may_fail(rt: HostRuntime) {
     let server = server_id(&rt, 0);
     let bytes = bytes_of(&rt, rt.alloc(), THREE);
-    for row in FAILING.iter() {
+    for (at, row) in FAILING.iter().enumerate() {
         let is_so = fails_however_much_is_kept(&rt, rt.alloc(), server, &bytes, *row);
-        assert!(rt; is_so, "{row:?}");
+        must_be_so(&rt, is_so, at);
     }
 }
 
@@ -365,7 +365,7 @@ fn opened(rt: &impl Abort, alloc: Global, front: &[u8], fuse: u32) -> Option<Jou
 /// The steps go so, one after another.
 fn go_in_turn(rt: &impl Abort, alloc: Global, journal: &mut Journal<Memory>, steps: &[Step]) {
     for (at, step) in steps.iter().enumerate() {
-        assert!(rt; goes(alloc, journal, *step), "step {at}");
+        must_be_so(rt, goes(alloc, journal, *step), at);
     }
 }
 

@@ -1,4 +1,5 @@
 //! Keys and texts at their borders.
+use crate::fixtures::must_hold;
 use bayou_base::{Key, KeyFault, Value};
 
 /// A name, and why it is no key.
@@ -30,7 +31,7 @@ static KEYS: [Row; 16] = [
 #[test]
 fn names_of_keys(rt: HostRuntime) {
     for (name, fault) in KEYS.iter() {
-        assert!(rt; Key::new(name).err() == *fault, "{name}");
+        must_hold(&rt, Key::new(name).err() == *fault, name);
     }
 }
 
@@ -50,6 +51,6 @@ static TEXTS: [(&str, bool); 9] = [
 #[test]
 fn texts_of_values(rt: HostRuntime) {
     for (text, fits) in TEXTS.iter() {
-        assert!(rt; Value::text(text).is_some() == *fits, "{text}");
+        must_hold(&rt, Value::text(text).is_some() == *fits, text);
     }
 }

@@ -1,4 +1,5 @@
 //! Every limit, as a number.
+use crate::fixtures::must_hold;
 use bayou_base::limits::*;
 
 /// The name of a limit, the limit, and its number.
@@ -34,6 +35,6 @@ static LIMITS: [(&str, u64, u64); 22] = [
 #[test]
 fn numbers_of_limits(rt: HostRuntime) {
     for (name, limit, number) in LIMITS.iter() {
-        assert!(rt; limit == number, "{name}");
+        must_hold(&rt, limit == number, name);
     }
 }

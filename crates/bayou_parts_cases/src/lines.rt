@@ -1,4 +1,5 @@
 //! Lines of JSON: what each is read as, in its spelling, or its first fault.
+use crate::fixtures::{must_be_so, must_hold};
 use crate::notation::{parts, repeated};
 use arrayvec::ArrayString;
 use bayou_text::{Line, LineFault, read_line};
@@ -53,7 +54,7 @@ pub fn agrees(alloc: Global, bytes: &[u8], expected: &str) -> bool {
 fn all_agree(rt: &impl Abort, alloc: Global, table: &str) {
     for row in table.lines() {
         let (text, expected) = parts(row);
-        assert!(rt; agrees(alloc, text.as_bytes(), expected), "{row}");
+        must_hold(rt, agrees(alloc, text.as_bytes(), expected), row);
     }
 }
 
@@ -278,8 +279,8 @@ static ODD: [(&[u8], &str); 7] = [
 
 #[test]
 fn odd_bytes(rt: HostRuntime) {
-    for (bytes, expected) in ODD.iter() {
-        assert!(rt; agrees(rt.alloc(), bytes, expected), "{bytes:?}");
+    for (at, (bytes, expected)) in ODD.iter().enumerate() {
+        must_be_so(&rt, agrees(rt.alloc(), bytes, expected), at);
     }
 }
 
@@ -315,7 +316,7 @@ static LONG: [(&[(&[u8], usize)], &str); 6] = [
 fn depths_and_lengths(rt: HostRuntime) {
     for (pieces, expected) in LONG.iter() {
         let bytes = repeated(&rt, rt.alloc(), pieces);
-        assert!(rt; agrees(rt.alloc(), &bytes, expected), "{expected}");
+        must_hold(&rt, agrees(rt.alloc(), &bytes, expected), expected);
     }
 }
 

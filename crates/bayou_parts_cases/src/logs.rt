@@ -1,5 +1,5 @@
 //! Logs of Writes, and the databases that they make.
-use crate::fixtures::{key, plus, put, vector, wid, write};
+use crate::fixtures::{key, must_be_so, plus, put, vector, wid, write};
 use crate::notation::bytes_of;
 use arrayvec::ArrayVec;
 use bayou_base::{Key, MAX_WRITES, SERVERS, Value, Vector};
@@ -129,7 +129,7 @@ fn every_order_of_receipt_makes_one_database(rt: HostRuntime) {
     let a = key(&rt, "a");
     for number in 0..ORDERS {
         let is_so = makes_one_database(&rt, rt.alloc(), order_of(number).as_slice(), &a);
-        assert!(rt; is_so, "{number}");
+        must_be_so(&rt, is_so, number);
     }
 }
 
@@ -257,8 +257,8 @@ fn is_told(rt: &impl Abort, log: &WriteLog, (origin, seq, clock, deps, answer): 
 /// The log takes the first Write, and tells of each that is offered then.
 fn tells_all(rt: &impl Abort, alloc: Global, log: &mut WriteLog) {
     let is_added = answers(rt, alloc, log, 0, Ok(true));
-    for offer in OFFERS.iter() {
-        assert!(rt; is_added && is_told(rt, log, offer), "{offer:?}");
+    for (at, offer) in OFFERS.iter().enumerate() {
+        must_be_so(rt, is_added && is_told(rt, log, offer), at);
     }
 }
 
@@ -320,8 +320,8 @@ const LACKED: [([u32; 2], usize, &[(u8, u32)]); 7] = [
 /// Whether the Writes have these names.
 fn are_named(writes: &[RestingWrite], names: &[(u8, u32)]) -> bool {
     let mut are_so = writes.len() == names.len();
-    for (write, (origin, seq)) in writes.iter().zip(names) {
-        are_so &= write.wid().origin.index == *origin && write.wid().seq == *seq;
+    for (at, write) in writes.iter().enumerate() {
+        are_so &= names.get(at) == Some(&(write.wid().origin.index, write.wid().seq));
     }
     are_so
 }
@@ -347,9 +347,11 @@ fn lacks(alloc: Global, log: &WriteLog, counts: &Vector, max: usize, names: &[(u
 /// The log receives the Writes, and then tells of each row what is lacking.
 fn tells_lacking(rt: &impl Abort, alloc: Global, log: &mut WriteLog) {
     let are_held = receives_all(rt, alloc, log);
+    let mut row: usize = 0;
     for ([first, second], max, names) in LACKED {
         let is_so = are_held && lacks(alloc, log, &vector(rt, first, second), max, names);
-        assert!(rt; is_so, "{first} {second} {max}");
+        must_be_so(rt, is_so, row);
+        row = row.saturating_add(1);
     }
 }
 

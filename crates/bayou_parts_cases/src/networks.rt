@@ -1,4 +1,5 @@
 //! Scripts over a network: which lines they may have, and what they do in which phase.
+use crate::fixtures::must_hold;
 use arrayvec::ArrayString;
 use bayou_script::{NetworkScriptReader, Part, Refusal, Script, ScriptReader, next_phase};
 use bayou_text::Command;
@@ -111,7 +112,7 @@ fn scripts_over_a_network(rt: HostRuntime) {
     for (text, here, there) in SCRIPTS.iter() {
         let is_so = is_told(read_here(alloc, text), here)
             && is_told(read_there(alloc, text), there);
-        assert!(rt; is_so, "{text}");
+        must_hold(&rt, is_so, text);
     }
 }
 
@@ -174,6 +175,6 @@ static PHASES: [(&str, &str); 6] = [
 #[test]
 fn phases_of_scripts(rt: HostRuntime) {
     for (text, expected) in PHASES.iter() {
-        assert!(rt; has_phases(rt.alloc(), text, expected), "{text}");
+        must_hold(&rt, has_phases(rt.alloc(), text, expected), text);
     }
 }

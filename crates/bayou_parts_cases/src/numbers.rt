@@ -1,5 +1,5 @@
 //! Names of servers, sessions and Writes, and stamps, at their borders.
-use crate::fixtures::server_id;
+use crate::fixtures::{must_be_so, server_id};
 use bayou_base::{ServerId, SessionId, Stamp, Wid};
 use std::process::Abort;
 
@@ -16,11 +16,9 @@ static INDEXES: [(u8, bool, bool); 6] = [
 #[test]
 fn indexes(rt: HostRuntime) {
     for (index, is_server, is_session) in INDEXES.iter() {
-        let found = (
-            ServerId::new(*index).is_some(),
-            SessionId::new(*index).is_some(),
-        );
-        assert!(rt; found == (*is_server, *is_session), "{index}");
+        let is_so = ServerId::new(*index).is_some() == *is_server
+            && SessionId::new(*index).is_some() == *is_session;
+        must_be_so(&rt, is_so, usize::from(*index));
     }
 }
 
@@ -37,10 +35,8 @@ static NUMBERS: [(u32, bool); 5] = [
 fn places_and_clocks(rt: HostRuntime) {
     let server = server_id(&rt, 1);
     for (number, fits) in NUMBERS.iter() {
-        let found = (
-            Wid::new(server, *number).is_some(),
-            Stamp::new(*number, server).is_some(),
-        );
-        assert!(rt; found == (*fits, *fits), "{number}");
+        let is_so = Wid::new(server, *number).is_some() == *fits
+            && Stamp::new(*number, server).is_some() == *fits;
+        must_be_so(&rt, is_so, *number as usize);
     }
 }

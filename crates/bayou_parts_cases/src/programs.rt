@@ -1,4 +1,5 @@
 //! Programs in lines, part by part: each text is put where such a part stands in a line.
+use crate::fixtures::must_hold;
 use crate::lines::agrees;
 use crate::notation::parts;
 use std::alloc::Global;
@@ -22,7 +23,7 @@ fn agrees_within(alloc: Global, front: &str, row: &str, back: &str) -> bool {
 /// Each row of the table is so between these two.
 fn all_agree_within(rt: &impl Abort, alloc: Global, front: &str, table: &str, back: &str) {
     for row in table.lines() {
-        assert!(rt; agrees_within(alloc, front, row, back), "{row}");
+        must_hold(rt, agrees_within(alloc, front, row, back), row);
     }
 }
 

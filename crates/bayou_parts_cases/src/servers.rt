@@ -1,5 +1,5 @@
 //! Servers: what each call answers and leaves, each device call failing in turn, and want of memory.
-use crate::fixtures::{key, put, vector, wid};
+use crate::fixtures::{key, must_be_so, must_hold, put, vector, wid};
 use crate::notation::bytes_of;
 use bayou_base::{MAX_WRITES, ServerId, Value, Vector, Wid};
 use bayou_device::{MemoryDevice, OpenGate};
@@ -69,7 +69,8 @@ fn puts(
 /// It puts 1, 2 and so on.
 fn put_all(rt: &impl Abort, alloc: Global, server: &mut Served, count: u8) {
     for number in 0..count {
-        assert!(rt; puts(rt, alloc, server, i64::from(number) + 1).is_ok());
+        let is_put = puts(rt, alloc, server, i64::from(number) + 1).is_ok();
+        must_be_so(rt, is_put, usize::from(number));
     }
 }
 
@@ -106,23 +107,29 @@ fn has(rt: &impl Abort, server: &Served, value: Option<i64>, held: u32) -> bool 
     }
 }
 
+/// The seq of the Write that a reopening adopts, if any.
+fn reopened(alloc: Global, server: &mut Served) -> Result<Option<u32>, ReopenFault> {
+    match server.reopen(alloc)?.adopted {
+        Some(wid) => Ok(Some(wid.seq)),
+        None => Ok(None),
+    }
+}
+
 /// Whether the server, which reopens, answers so, and is down where it refuses.
 fn reopens(alloc: Global, server: &mut Served, answer: Result<Option<u32>, ReopenFault>) -> bool {
-    let given = match server.reopen(alloc) {
-        Ok(reopened) => match reopened.adopted {
-            Some(wid) => Ok(Some(wid.seq)),
-            None => Ok(None),
-        },
-        Err(fault) => Err(fault),
-    };
-    given == answer && server.is_down() == answer.is_err()
+    reopened(alloc, server) == answer && server.is_down() == answer.is_err()
+}
+
+/// The server's device fails at this call from now, with so much of a piece added.
+fn fuse(server: &mut Served, call: u32, kept: usize) {
+    server.device().fuse(call.max(1), kept);
 }
 
 /// Does the step. Whether the server answers so.
 fn goes(rt: &impl Abort, alloc: Global, server: &mut Served, step: Step) -> bool {
     match step {
         Fuse(call, kept) => {
-            server.device().fuse(call.max(1), kept);
+            fuse(server, call, kept);
             true
         }
         Lose(count) => {
@@ -142,7 +149,7 @@ fn goes(rt: &impl Abort, alloc: Global, server: &mut Served, step: Step) -> bool
 /// The steps go so, one after another.
 fn go_in_turn(rt: &impl Abort, alloc: Global, server: &mut Served, steps: &[Step]) {
     for (at, step) in steps.iter().enumerate() {
-        assert!(rt; goes(rt, alloc, server, *step), "step {at}");
+        must_be_so(rt, goes(rt, alloc, server, *step), at);
     }
 }
 
@@ -328,7 +335,7 @@ fn is_refused(rt: &impl Abort, alloc: Global, text: &str, call: u32, fault: Star
 fn what_no_server_stored_is_refused(rt: HostRuntime) {
     for (text, call, fault) in REFUSED.iter() {
         let is_so = is_refused(&rt, rt.alloc(), text, *call, *fault);
-        assert!(rt; is_so, "{fault:?}");
+        must_hold(&rt, is_so, text);
     }
 }
 
@@ -342,11 +349,14 @@ fn is_behind(rt: &impl Abort, server: &Served, held: u32) -> bool {
 
 /// Whether the two have the same Writes.
 fn are_same(some: &[RestingWrite], others: &[RestingWrite]) -> bool {
-    some.len() == others.len()
-        && some
-            .iter()
-            .zip(others)
-            .all(|(one, other)| one.unfold() == other.unfold())
+    let mut are_so = some.len() == others.len();
+    for (at, one) in some.iter().enumerate() {
+        are_so &= match others.get(at) {
+            Some(other) => one.unfold() == other.unfold(),
+            None => false,
+        };
+    }
+    are_so
 }
 
 /// Whether it dumps what it holds.
@@ -403,7 +413,7 @@ fn start_at_last(rt: &impl Abort, alloc: Global, device: Memory) -> Box<Served> 
 
 /// Reopens the server where it is down, again where that was refused.
 fn reopen_at_last(alloc: Global, server: &mut Served) -> bool {
-    !server.is_down() || server.reopen(alloc).is_ok() || server.reopen(alloc).is_ok()
+    !server.is_down() || reopened(alloc, server).is_ok() || reopened(alloc, server).is_ok()
 }
 
 /// Puts the number, again where that was refused; a Write in doubt is settled first. Whether it is put, and a refused Write wasn't held.
@@ -451,7 +461,7 @@ fn tells_at_last(alloc: Global, server: &Served, held: usize) -> bool {
 /// The last Write is added and not synced; it, or the one before it, may be refused for memory before the device is called. Whether no
 /// fewer than three are held then, and told.
 fn doubts_at_last(rt: &impl Abort, alloc: Global, server: &mut Served) -> bool {
-    server.device().fuse(2, 0);
+    fuse(server, 2, 0);
     let _ = puts(rt, alloc, server, 9);
     let _ = puts(rt, alloc, server, 9);
     let is_up = reopen_at_last(alloc, server);

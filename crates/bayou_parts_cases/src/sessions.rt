@@ -1,5 +1,5 @@
 //! Sessions: what they need of a server, and whether a server serves them.
-use crate::fixtures::{key, put, server_id, session_id, vector, wid};
+use crate::fixtures::{key, must_be_so, put, server_id, session_id, vector, wid};
 use crate::servers::start;
 use bayou_base::{Accepted, Asks, Seen, Stamp, Vector, Wid};
 use bayou_device::{MemoryDevice, OpenGate};
@@ -57,25 +57,28 @@ fn serves_as_asked(rt: &impl Abort, asks: Asks, (first, second): (u32, u32)) -> 
 fn a_server_behind_may_serve_what_is_not_asked(rt: HostRuntime) {
     for number in 0..64_u8 {
         let (asks, held) = (asks_of(number % 16), HELD[usize::from(number / 16)]);
-        assert!(rt; serves_as_asked(&rt, asks, held), "{number}");
+        must_be_so(&rt, serves_as_asked(&rt, asks, held), usize::from(number));
     }
+}
+
+/// Begins so many operations, where more than so many are left: the place of the last.
+fn begins_all(session: &mut Session, count: u32, least: u32) -> u32 {
+    let mut last = 0;
+    for _ in 0..count {
+        if session.left() > least {
+            last = session.begin();
+        }
+    }
+    last
 }
 
 #[test]
 fn places(rt: HostRuntime) {
     let mut session = told(&rt, Asks::default(), vector(&rt, 2, 0), wid(&rt, 1, 3));
-    let mut last = 0;
     let are_all_left = session.left() == 4_294_967_295;
-    for _ in 1..4_294_967_295_u32 {
-        if session.left() > 1 {
-            last = session.begin();
-        }
-    }
-    let is_one_left = last == 4_294_967_294 && session.left() == 1;
-    if session.left() > 0 {
-        last = session.begin();
-    }
-    let is_none_left = last == 4_294_967_295 && session.left() == 0;
+    let is_one_left = begins_all(&mut session, 4_294_967_294, 1) == 4_294_967_294
+        && session.left() == 1;
+    let is_none_left = begins_all(&mut session, 1, 0) == 4_294_967_295 && session.left() == 0;
     let is_the_same = session.id().index == 5 && session.need_read() == Vector::zero();
     assert!(rt; are_all_left && is_one_left && is_none_left && is_the_same);
 }
@@ -116,7 +119,7 @@ fn checks_all(rt: &impl Abort, alloc: Global, server: &mut Server<MemoryDevice<O
     let is_held = accepts(rt, alloc, server, &Vector::zero()) == Some(true);
     for number in 0..64_u8 {
         let is_so = is_held && checks(rt, alloc, server, number);
-        assert!(rt; is_so, "{number}");
+        must_be_so(rt, is_so, usize::from(number));
     }
 }
 

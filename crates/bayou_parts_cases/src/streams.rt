@@ -1,4 +1,5 @@
 //! Frames from streams that come in pieces.
+use crate::fixtures::{must_be_so, must_hold};
 use crate::notation::{bytes_of, parts};
 use bayou_wire::{FeedFault, Frame, Frames, encode_frame};
 use std::alloc::Global;
@@ -87,7 +88,7 @@ fn a_stream_in_any_pieces(rt: HostRuntime) {
     let bytes = bytes_of(&rt, rt.alloc(), STREAM);
     for cut in 0..71 {
         let is_whole = bytes.len() == 70 && comes_whole(&rt, rt.alloc(), &bytes, cut);
-        assert!(rt; is_whole, "{cut}");
+        must_be_so(&rt, is_whole, cut);
     }
 }
 
@@ -144,6 +145,6 @@ fn a_fault_is_told_behind_its_frames(rt: HostRuntime) {
     let alloc = rt.alloc();
     for table in FAULTY.iter() {
         let is_so = are_told(&rt, alloc, &mut begun(alloc), table, TWO);
-        assert!(rt; is_so, "{table}");
+        must_hold(&rt, is_so, table);
     }
 }
