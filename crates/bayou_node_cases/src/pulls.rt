@@ -91,7 +91,7 @@ const fn came(taken: u32, had: u32) -> Result<Pulled, PullFault> {
 }
 
 /// How many of the first server's three Writes are counted, how many are sent, and the answer.
-const ANSWERS: [(u32, u32, &str); 4] = [
+static ANSWERS: [(u32, u32, &str); 4] = [
     (0, 3, THREE),
     (1, 2, "<item-2> <item-3> 0005 16 00000002"),
     (2, 1, "<item-3> 0005 16 00000001"),
@@ -115,11 +115,11 @@ fn answers(
 fn an_offer_is_answered_byte_for_byte(rt: HostRuntime) {
     let alloc = rt.alloc();
     let mut server = full(&rt, alloc, 2, [3, 0]);
-    for (counted, items, sent) in ANSWERS {
+    for (counted, items, sent) in ANSWERS.iter() {
         let bytes = stream(&rt, alloc, sent);
-        let counts = vector(&rt, counted, 0);
-        let is_so = answers(alloc, server.as_mut(), &counts, (&bytes, items));
-        must_be_so(&rt, is_so, counted as usize);
+        let counts = vector(&rt, *counted, 0);
+        let is_so = answers(alloc, server.as_mut(), &counts, (&bytes, *items));
+        must_be_so(&rt, is_so, *counted as usize);
     }
 }
 
@@ -130,15 +130,19 @@ fn writes(alloc: Global, server: &mut Served, offer: &[u8]) -> bool {
     is_cut && channel.into_parts().1.as_slice() == offer
 }
 
+/// Whether a server that holds so many of the first server's Writes writes this.
+fn writes_offer(rt: &impl Abort, alloc: Global, counted: u8, text: &str) -> bool {
+    let offer = stream(rt, alloc, text);
+    writes(alloc, full(rt, alloc, 3, [counted, 0]).as_mut(), &offer)
+}
+
 /// An Offer of what the puller counts is written, whatever is sent.
 #[test]
 fn a_pull_writes_its_offer(rt: HostRuntime) {
     let alloc = rt.alloc();
-    for (counted, text) in [(0, "0021 05 <none>"), (1, "0021 05 00000001 <zeros>")] {
-        let offer = stream(&rt, alloc, text);
-        let mut server = full(&rt, alloc, 3, [counted, 0]);
-        must_hold(&rt, writes(alloc, server.as_mut(), &offer), text);
-    }
+    let is_so = writes_offer(&rt, alloc, 0, "0021 05 <none>")
+        && writes_offer(&rt, alloc, 1, "0021 05 00000001 <zeros>");
+    assert!(rt; is_so);
 }
 
 /// Streams, how many of the first server's Writes the second one holds after it, and its answer. Neither an Item behind the End
@@ -206,14 +210,16 @@ fn is_taken_in_any_pieces(rt: &impl Abort, alloc: Global, sent: &[u8], expected:
     is_so
 }
 
+/// The same of a row.
+fn is_taken_as_said(rt: &impl Abort, alloc: Global, row: &str) -> bool {
+    let (text, expected) = row.split_once(" => ").unwrap_or((row, row));
+    is_taken_in_any_pieces(rt, alloc, &stream(rt, alloc, text), expected)
+}
+
 #[test]
 fn a_stream_is_taken_up_to_its_end_or_fault(rt: HostRuntime) {
-    let alloc = rt.alloc();
     for row in STREAMS.lines() {
-        let (text, expected) = row.split_once(" => ").unwrap_or((row, row));
-        let sent = stream(&rt, alloc, text);
-        let is_so = is_taken_in_any_pieces(&rt, alloc, &sent, expected);
-        must_hold(&rt, is_so, row);
+        must_hold(&rt, is_taken_as_said(&rt, rt.alloc(), row), row);
     }
 }
 
@@ -445,7 +451,7 @@ fn a_stream_without_an_end_is_given_up(rt: HostRuntime) {
 }
 
 /// After how many Items an answer of three is cut, and how many of its bytes are left.
-const CUTS: [(u32, usize); 7] = [
+static CUTS: [(u32, usize); 7] = [
     (0, 0),
     (1, 60),
     (2, 120),
@@ -464,8 +470,8 @@ fn is_cut_to(whole: &[u8], items: u32, left: usize) -> bool {
 #[test]
 fn an_answer_is_cut_after_so_many_items(rt: HostRuntime) {
     let whole = stream(&rt, rt.alloc(), THREE);
-    for (items, left) in CUTS {
-        must_be_so(&rt, is_cut_to(&whole, items, left), items as usize);
+    for (items, left) in CUTS.iter() {
+        must_be_so(&rt, is_cut_to(&whole, *items, *left), *items as usize);
     }
 }
 

@@ -152,21 +152,23 @@ const TWO_STAND: [Step; 14] = [
     Has(Some(7), [1, 1]),
 ];
 
+/// The steps go so at a new server that may hold two Writes.
+fn goes_anew(rt: &impl Abort, alloc: Global, steps: &[Step]) {
+    let server = start(rt, alloc, 2, MemoryDevice::new(alloc, OpenGate));
+    all_go_to_the_end(rt, alloc, server, steps);
+}
+
 #[test]
 fn a_write_is_taken_or_refused(rt: HostRuntime) {
-    let alloc = rt.alloc();
-    let runs: [&[Step]; 2] = [&MISFITS, &TWO_STAND];
-    for steps in runs {
-        let server = start(&rt, alloc, 2, MemoryDevice::new(alloc, OpenGate));
-        all_go_to_the_end(&rt, alloc, server, steps);
-    }
+    goes_anew(&rt, rt.alloc(), &MISFITS);
+    goes_anew(&rt, rt.alloc(), &TWO_STAND);
 }
 
 /// The device call under a taken Write that fails, how much of its entry of 91 bytes is added, the Write that a reopening adopts, if
 /// any, and what `a` has then, and how many of the first server's Writes are held.
 type Failing = (u32, usize, Option<(u8, u32)>, i64, u32);
 
-const FAILING: [Failing; 6] = [
+static FAILING: [Failing; 6] = [
     (1, 0, None, 1, 1),
     (1, 50, None, 1, 1),
     (1, 91, Some((0, 2)), 2, 2),
@@ -196,8 +198,8 @@ fn fails_and_goes_on(rt: &impl Abort, alloc: Global, (call, kept, adopted, value
 
 #[test]
 fn each_device_call_of_a_take_may_fail(rt: HostRuntime) {
-    for row in FAILING {
-        fails_and_goes_on(&rt, rt.alloc(), row);
+    for row in FAILING.iter() {
+        fails_and_goes_on(&rt, rt.alloc(), *row);
     }
 }
 
@@ -240,7 +242,7 @@ fn number_of([first, second, third]: [u8; 3]) -> usize {
     usize::from(first) * 100 + usize::from(second) * 10 + usize::from(third)
 }
 
-const ORDERS: [[u8; 3]; 6] = [
+static ORDERS: [[u8; 3]; 6] = [
     [1, 2, 3],
     [1, 3, 2],
     [2, 1, 3],
@@ -289,11 +291,11 @@ fn has_all(rt: &impl Abort, alloc: Global, server: &Served) -> bool {
 #[test]
 fn every_order_of_takes_is_one(rt: HostRuntime) {
     let alloc = rt.alloc();
-    for order in ORDERS {
+    for order in ORDERS.iter() {
         let mut server = begun(&rt, alloc, (0, 4, 100)).expect(&rt, "no server");
-        let are_taken = takes_in_order(&rt, alloc, server.as_mut(), order);
+        let are_taken = takes_in_order(&rt, alloc, server.as_mut(), *order);
         let is_so = are_taken && has_all(&rt, alloc, server.as_ref());
-        must_be_so(&rt, is_so, number_of(order));
+        must_be_so(&rt, is_so, number_of(*order));
     }
 }
 

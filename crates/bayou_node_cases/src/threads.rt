@@ -126,13 +126,13 @@ fn come_together<L: Desks, M: Desks, N: Desks, R: Wait + Abort>(
     three: &Three<'_, L, M, N>,
 ) -> bool {
     let are_up = reopens(rt, alloc, three.first)
-        && reopens(rt, alloc, three.second)
-        && reopens(rt, alloc, three.third);
+        & reopens(rt, alloc, three.second)
+        & reopens(rt, alloc, three.third);
     let have_met = meets(rt, alloc, three.first, three.second)
-        && meets(rt, alloc, three.first, three.third)
-        && meets(rt, alloc, three.second, three.first)
-        && meets(rt, alloc, three.third, three.first);
-    are_up && have_met && hold_the_same(rt, alloc, three)
+        & meets(rt, alloc, three.first, three.third)
+        & meets(rt, alloc, three.second, three.first)
+        & meets(rt, alloc, three.third, three.first);
+    are_up & have_met & hold_the_same(rt, alloc, three)
 }
 
 /// Whether the two list the same Writes, with the same outcomes.
