@@ -244,13 +244,7 @@ impl List {
     }
 
     /// Grows to all of its events, for sessions that ask for these.
-    fn fill(
-        &mut self,
-        rt: &impl Abort,
-        dice: &mut Dice,
-        limit: u32,
-        asks: &[Asks; 8],
-    ) {
+    fn fill(&mut self, rt: &impl Abort, dice: &mut Dice, limit: u32, asks: &[Asks; 8]) {
         for round in 1..ROUNDS {
             self.grow(rt, dice, round * (EVENTS / ROUNDS));
             let history = run(rt, self.alloc, limit, asks, self.events.as_slice());

@@ -19,9 +19,31 @@ pub void-requires : goal.void-requires
 void-requires g c =
     let out = c.in-Ok.ensures.claimed.2 in
     let slip : c.in-Ok.slip ≡ c.claim.new.share.session = c.in-Ok.ensures.claimed.0 ∙ sym (ap (λ (share : Shared). share.session) out) in
-    let bounds = c.type_bounds in
-    (bounds.send-K-Slips, (bounds.send-K-Reads, (bounds.send-K-Writes, (bounds.send-K-Refusals, (bounds.sync-K-Slips, (bounds.sync-K-Reads, (bounds.sync-K-Writes, (bounds.sync-K-Refusals,
-    (slip, omega (arith, ap (λ (share : Shared). share.totals.slips) out))))))))))
+    let bounds = c.type_bounds in (
+      bounds.send-K-Slips,
+      (
+        bounds.send-K-Reads,
+        (
+          bounds.send-K-Writes,
+          (
+            bounds.send-K-Refusals,
+            (
+              bounds.sync-K-Slips,
+              (
+                bounds.sync-K-Reads,
+                (
+                  bounds.sync-K-Writes,
+                  (
+                    bounds.sync-K-Refusals,
+                    (slip, omega (arith, ap (λ (share : Shared). share.totals.slips) out)),
+                  ),
+                ),
+              ),
+            ),
+          ),
+        ),
+      ),
+    )
 
 pub invariant_of-self-in_default-oldest : goal.invariant_of-self-in_default-oldest
 invariant_of-self-in_default-oldest g c = (
@@ -38,9 +60,31 @@ pub void-requires-then-ne : goal.void-requires-then-ne
 void-requires-then-ne g c =
     let out = c.in-Ok.ensures.claimed.2 in
     let slip : c.in-Ok.slip ≡ c.claim.new.share.session = c.in-Ok.ensures.claimed.0 ∙ sym (ap (λ (share : Shared). share.session) out) in
-    let bounds = c.type_bounds in
-    (bounds.send-K-Slips, (bounds.send-K-Reads, (bounds.send-K-Writes, (bounds.send-K-Refusals, (bounds.sync-K-Slips, (bounds.sync-K-Reads, (bounds.sync-K-Writes, (bounds.sync-K-Refusals,
-    (slip, omega (arith, ap (λ (share : Shared). share.totals.slips) out))))))))))
+    let bounds = c.type_bounds in (
+      bounds.send-K-Slips,
+      (
+        bounds.send-K-Reads,
+        (
+          bounds.send-K-Writes,
+          (
+            bounds.send-K-Refusals,
+            (
+              bounds.sync-K-Slips,
+              (
+                bounds.sync-K-Reads,
+                (
+                  bounds.sync-K-Writes,
+                  (
+                    bounds.sync-K-Refusals,
+                    (slip, omega (arith, ap (λ (share : Shared). share.totals.slips) out)),
+                  ),
+                ),
+              ),
+            ),
+          ),
+        ),
+      ),
+    )
 
 pub invariant_of-self-then-ne : goal.invariant_of-self-then-ne
 invariant_of-self-then-ne g c = (

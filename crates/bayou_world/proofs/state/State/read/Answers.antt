@@ -78,13 +78,12 @@ returns-then-not-may_begin-clause-follows c machine good tied =
     let at : seat clients who ≡ Some c.in-Some.client =
     get_or_default clients who None c.index_mut.result.now inside ∙ ap (λ n. get_or clients n c.index_mut.result.now) (sym c.from-seat.ensures) ∙ sym c.index_mut.ensures.value ∙ c.in-Some.is in
     let seated : set clients c.from-seat.result (Some c.in-Some.client) ≡ clients =
-    ap (set clients c.from-seat.result) (sym c.in-Some.is ∙ c.index_mut.ensures.value) ∙ set-get_or clients c.from-seat.result c.index_mut.result.now in
-    (
+    ap (set clients c.from-seat.result) (sym c.in-Some.is ∙ c.index_mut.ensures.value) ∙ set-get_or clients c.from-seat.result c.index_mut.result.now in (
       machine,
       Reads.skipped
           (cannot_begin servers clients offers items served machine tied who place c.args.who.in_range (λ client there idle left known running.
-            let same = same_client client c.in-Some.client (sym there ∙ at) in
-            not_true (c.if-not-may_begin.ensures.1 (subst (λ (x : Client). x.flight ≡ None) same idle, subst (λ (x : Client). x.session.begun < MAX_PLACES) same left))))
+          let same = same_client client c.in-Some.client (sym there ∙ at) in
+          not_true (c.if-not-may_begin.ensures.1 (subst (λ (x : Client). x.flight ≡ None) same idle, subst (λ (x : Client). x.session.begun < MAX_PLACES) same left))))
           refl refl,
       subst (λ list. IsTied servers list offers items served machine) (sym seated) tied,
     )
@@ -105,7 +104,7 @@ returns-in_default-index-clause-follows c machine good tied =
       machine,
       Reads.skipped
           (cannot_begin servers clients offers items served machine tied who place c.args.who.in_range (λ client there idle left known running.
-            not_true (sym (runs_there servers clients offers items served machine tied place found stands running) ∙ ap is_stopped c.in_default-index.is)))
+          not_true (sym (runs_there servers clients offers items served machine tied place found stands running) ∙ ap is_stopped c.in_default-index.is)))
           refl refl,
       subst (λ list. IsTied servers list offers items served machine) (sym seated) tied,
     )

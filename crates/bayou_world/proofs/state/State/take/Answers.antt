@@ -63,7 +63,7 @@ returns-then-at-len-clause-follows c machine good tied =
     let items = c.args.self.now.items.items in
     let served = c.args.self.now.served.items in
     let there : (made : Made) → IsGiven machine place c.args.item made → (place < length servers) × (c.args.item < length items) = λ made given.
-        (omega (arith, given.server.there, tied.many), omega (arith, slice_get_within machine.items c.args.item made given.there, ap length tied.items_are, length-map machine.items write_of)) in
+    (omega (arith, given.server.there, tied.many), omega (arith, slice_get_within machine.items c.args.item made given.there, ap length tied.items_are, length-map machine.items write_of)) in
     let none : (made : Made) → ¬ IsGiven machine place c.args.item made = λ made given. elim c.then-at-len.branch as (λ _. ⊥) [
       | then-at-len-via-then-at-len w ↦ omega (arith, (there made given).0, w.if-at-len.true, c.from-at.ensures, c.len.ensures)
       | then-at-len-via-else-at-len+then-item-len w ↦ omega (arith, (there made given).1, w.if-item-len.true, w.len-else-at-len.ensures)
