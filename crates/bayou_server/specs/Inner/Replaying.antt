@@ -15,7 +15,7 @@ pub record IsAdmitted (id : ℕ) (log : Log) (body : List ℕ) (write : Write) :
   pub follows : MayFollow id log.count log.receipts write
   pub room : length log.receipts < log.limit
 
--- and is added to it
+-- the Write that the body spells may follow those that the log has, and is added behind them
 pub record IsAdded (id : ℕ) (log : Log) (body : List ℕ) (new : Log) : Type 0 where
   pub write : Write
   pub admitted : IsAdmitted id log body write
