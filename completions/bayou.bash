@@ -1,0 +1,21 @@
+# Completes the words of bayou in bash.
+_bayou() {
+    local word=${COMP_WORDS[COMP_CWORD]} before=${COMP_WORDS[COMP_CWORD - 1]} command='' words
+    [ "$COMP_CWORD" -lt 2 ] || command=${COMP_WORDS[1]}
+    case $command in
+        '') words='run net audit help -h --help -V --version' ;;
+        run | audit) words='-h --help' ;;
+        net) words='--dir -h --help' ;;
+        help) words='run net audit help' ;;
+        *) words='' ;;
+    esac
+    COMPREPLY=()
+    if [ "$command$before" = net--dir ]; then
+        mapfile -t COMPREPLY < <(compgen -d -- "$word")
+    elif [[ $word == -* || -z $command || $command == help ]]; then
+        mapfile -t COMPREPLY < <(compgen -W "$words" -- "$word")
+    else
+        mapfile -t COMPREPLY < <(compgen -f -- "$word")
+    fi
+}
+complete -o filenames -F _bayou bayou
