@@ -6,8 +6,9 @@ ghost use Rattle.std.specs.Thread.{IsSend};
 
 mod progress;
 
+use bayou_print::{Ended, Fault};
 use bayou_script::Script;
-use bayou_shell::{Ended, Fault, Files, Networks, refuse_words, run_main, run_taken};
+use bayou_shell::{Files, Networks, refuse_words, run_main, run_taken};
 use bayou_streams::{Channel, Output};
 use progress::{Counted, Screen, tell_progress};
 use std::alloc::Global;
@@ -47,6 +48,8 @@ impl<T: fs::Files<File = File>> Files for Host<'_, T> {
 }
 
 impl<T> Networks for Host<'_, T> {
+    ghost runs = { λ folder plan ended. Unit {0} };
+
     fn run<W: Write>(
         &mut self,
         alloc: Global,

@@ -1,8 +1,9 @@
 //! Readers and writers that do what a system may do, and count their calls.
 ghost use Rattle.std.specs.Prelude.{ℕ, List};
 
+use bayou_print::{Ended, Fault};
 use bayou_script::Script;
-use bayou_shell::{Ended, Fault, Files, Networks};
+use bayou_shell::{Files, Networks};
 use bayou_streams::Output;
 use std::alloc::Global;
 use std::io;
@@ -40,6 +41,8 @@ impl<'a> Files for FakeFiles<'a> {
 
 /// There is no network: a script that may run over one ends at once.
 impl Networks for FakeFiles<'_> {
+    ghost runs = { λ folder plan ended. Unit {0} };
+
     fn run<W: Write>(
         &mut self,
         _alloc: Global,

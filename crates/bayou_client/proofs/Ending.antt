@@ -9,9 +9,9 @@ use Rattle.bayou_client.specs.Exchange.{Asks, IsGone, Judges, LinkEnds}
 use Rattle.bayou_client.specs.Inner.Exchanging.{Exchanges, Opens}
 use Rattle.bayou_client.specs.Inner.Faults.{told_fault}
 use Rattle.bayou_client.specs.Inner.Taking.{ReplyRead}
-use Rattle.bayou_peer.specs.declared.fault.Fault.{Fault}
-use Rattle.bayou_peer.specs.declared.fault.Fault.TheVariants as faults
-use Rattle.bayou_peer.specs.Stopping.{IsSendFault, Stops}
+use Rattle.bayou_frames.specs.declared.fault.Fault.{Fault}
+use Rattle.bayou_frames.specs.declared.fault.Fault.TheVariants as faults
+use Rattle.bayou_frames.specs.Stopping.{IsSendFault, Stops}
 use Rattle.bayou_streams.specs.Written.{AppendsFront}
 
 -- the request wasn't sent whole

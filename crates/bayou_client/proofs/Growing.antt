@@ -8,17 +8,17 @@ use Rattle.bayou_client.specs.Inner.Taking.{Ends, ReplyRead, Takes}
 use Rattle.bayou_client.specs.Replies.{Begins, IsLast, IsNoReply, IsReply, IsUnfinished}
 use Rattle.bayou_lang.specs.declared.write.Write.{Write}
 use Rattle.bayou_lang.specs.Ranges.{IsWrite}
-use Rattle.bayou_peer.specs.declared.fault.Fault.{Fault}
-use Rattle.bayou_peer.specs.declared.fault.Fault.TheVariants as faults
-use Rattle.bayou_peer.specs.Framing.{IsReadFault}
-use Rattle.bayou_peer.specs.Spelled.{item_bytes}
+use Rattle.bayou_frames.specs.declared.fault.Fault.{Fault}
+use Rattle.bayou_frames.specs.declared.fault.Fault.TheVariants as faults
+use Rattle.bayou_frames.specs.Framing.{IsReadFault}
+use Rattle.bayou_frames.specs.Spelled.{item_bytes}
 use Rattle.bayou_wire.specs.declared.fault.Fault.{Fault as BadBytes}
 use Rattle.bayou_wire.specs.declared.frame.Frame.{Frame}
 use Rattle.bayou_wire.specs.declared.frame.Frame.TheVariants.{Item}
 use Rattle.std.specs.Int.{w16, to_be_bytes}
 use Rattle.bayou_wire.specs.Spelling.{IsFrame, kind_of, payload_bytes}
 use Rattle.bayou_wire.specs.Stream.{IsFaulty, IsPartial, spelling, spellings}
-use Rattle.bayou_wire.proofs.Fronts.{partial_not_faulty}
+use Rattle.bayou_frames.specs.Laws.Frames.{partial_not_faulty}
 
 -- ---- one Item more
 

@@ -1,4 +1,4 @@
-use bayou_peer::Fault;
+use bayou_frames::Fault;
 use bayou_wire::Refusal;
 use std::alloc::AllocError;
 

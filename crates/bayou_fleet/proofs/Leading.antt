@@ -1,21 +1,30 @@
--- What is said of a server of a fleet that a node leads.
-use Rattle.std.proofs.Common.{◌≡◌, ℕ, zero, suc, ◌<◌, ◌-◌, List, [], ◌∷◌, Some, subst, ap, arith, ◌∙◌}
-use Rattle.std.specs.Prelude.{slice_get}
-use Rattle.bayou_fleet.specs.Places.{InOne, Place}
-use Rattle.bayou_node.specs.Answers.{InSome}
+-- What is said of each of four servers is said of the one that is asked for.
+use Rattle.std.proofs.Common.{◌≡◌, ◌≢◌, ℕ, zero, suc, List, [], ◌∷◌, Option, refl, subst, sym}
+use Rattle.bayou_fleet.specs.Places.{InOne, InPlace, Place, SettlesAll, SettlesOne}
+use Rattle.bayou_node.specs.declared.settled.Settled.{Settled}
 use Rattle.bayou_server.specs.Server.{Core}
 
-same_place : (first place : Place) → Some first ≡ Some place → first ≡ place
-same_place first place same = cc
+pub at_first : (a b c d : Option Place) (at : ℕ) (IsSo : Core → Type 0) → at ≡ 0 → InPlace a IsSo → InOne (a ∷ b ∷ c ∷ d ∷ []) at IsSo
+at_first a b c d at IsSo is so = subst (λ (n : ℕ). InOne (a ∷ b ∷ c ∷ d ∷ []) n IsSo) (sym is) so
 
--- of the first
-pub in_first : (first : Place) (others : List Place) (at : ℕ) (IsSo : Core → Type 0) → at ≡ 0 → InSome first.server first.stored IsSo → InOne (first ∷ others) at IsSo
-in_first first others zero IsSo is_first is place found = subst (λ (p : Place). InSome p.server p.stored IsSo) (same_place first place found) is
-in_first first others (suc at) IsSo is_first is place found = absurd (omega (arith, is_first))
+pub at_second : (a b c d : Option Place) (at : ℕ) (IsSo : Core → Type 0) → at ≡ 1 → InPlace b IsSo → InOne (a ∷ b ∷ c ∷ d ∷ []) at IsSo
+at_second a b c d at IsSo is so = subst (λ (n : ℕ). InOne (a ∷ b ∷ c ∷ d ∷ []) n IsSo) (sym is) so
 
--- of one behind it
-pub in_others : (first : Place) (others : List Place) (at : ℕ) (IsSo : Core → Type 0) → 0 < at → InOne others (at - 1) IsSo → InOne (first ∷ others) at IsSo
-in_others first others zero IsSo behind is place found = absurd (omega (arith, behind))
-in_others first others (suc at) IsSo behind is place found =
-    let before : suc at - 1 ≡ at = omega arith in
-    is place (ap (slice_get others) before ∙ found)
+pub at_third : (a b c d : Option Place) (at : ℕ) (IsSo : Core → Type 0) → at ≡ 2 → InPlace c IsSo → InOne (a ∷ b ∷ c ∷ d ∷ []) at IsSo
+at_third a b c d at IsSo is so = subst (λ (n : ℕ). InOne (a ∷ b ∷ c ∷ d ∷ []) n IsSo) (sym is) so
+
+pub at_fourth : (a b c d : Option Place) (at : ℕ) (IsSo : Core → Type 0) → at ≡ 3 → InPlace d IsSo → InOne (a ∷ b ∷ c ∷ d ∷ []) at IsSo
+at_fourth a b c d at IsSo is so = subst (λ (n : ℕ). InOne (a ∷ b ∷ c ∷ d ∷ []) n IsSo) (sym is) so
+
+-- there is no fifth
+pub at_none : (a b c d : Option Place) (at : ℕ) (IsSo : Core → Type 0) → at ≢ 0 → at ≢ 1 → at ≢ 2 → at ≢ 3 → InOne (a ∷ b ∷ c ∷ d ∷ []) at IsSo
+at_none a b c d zero IsSo no_first no_second no_third no_fourth = absurd (no_first refl)
+at_none a b c d (suc zero) IsSo no_first no_second no_third no_fourth = absurd (no_second refl)
+at_none a b c d (suc (suc zero)) IsSo no_first no_second no_third no_fourth = absurd (no_third refl)
+at_none a b c d (suc (suc (suc zero))) IsSo no_first no_second no_third no_fourth = absurd (no_fourth refl)
+at_none a b c d (suc (suc (suc (suc n)))) IsSo no_first no_second no_third no_fourth = tt
+
+-- the books of one server, and those of the others behind them
+pub settles_four : (a b c d : Option Place) (none first second third fourth : List Settled) → SettlesOne a none first → SettlesOne b first second → SettlesOne c second third
+    → SettlesOne d third fourth → SettlesAll (a ∷ b ∷ c ∷ d ∷ []) none fourth
+settles_four a b c d none first second third fourth one two three four = (first, one, (second, two, (third, three, (fourth, four, refl))))

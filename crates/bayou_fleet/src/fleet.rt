@@ -1,6 +1,6 @@
 //! Many nodes as one.
-ghost use Rattle.std.specs.Prelude.{◌≡◌, ◌+◌, List, IfOk, OnOk, length, vec_len};
-ghost use Rattle.bayou_fleet.specs.Places.{InOne, Place};
+ghost use Rattle.std.specs.Prelude.{◌≡◌, IfOk, List, OnOk, Option};
+ghost use Rattle.bayou_fleet.specs.Places.{InOne, InPlace, Place, SettlesAll, SettlesOne, place_of};
 ghost use Rattle.bayou_lang.specs.Writes.{count_of};
 ghost use Rattle.bayou_log.specs.Listing.{listing_of};
 ghost use Rattle.bayou_node.specs.Books.{IsBlankOf};
@@ -9,11 +9,12 @@ ghost use Rattle.bayou_server.specs.Server.{own_count};
 use crate::fault::FleetFault;
 use bayou_base::Vector;
 use bayou_device::Device;
+use bayou_frames::Fault;
 use bayou_lang::RestingWrite;
 use bayou_log::Listed;
-use bayou_net::{NoGate, serve_connection};
+use bayou_net::{NoGate, pull, serve_connection};
 use bayou_node::{Desk, Desks, Node, Settled};
-use bayou_peer::{Fault, PullFault, Pulled, pull};
+use bayou_peer::{PullFault, Pulled};
 use bayou_server::Server;
 use bayou_streams::Channel;
 use std::alloc::{AllocError, Global};
@@ -23,8 +24,8 @@ use std::sync::{Mutex, Wait};
 
 /// Servers from 0 on, each behind its lock, which threads share.
 pub trait Fleet: Drop {
-    /// The servers, from 0 on.
-    ghost places: { List Place };
+    /// The servers, from 0 on: none where there is no such server.
+    ghost places: { Self → List (Option Place) };
 
     /// Serves one connection at this server to its end. Where no desk is left there, nothing is served.
     fn serve<T: Wait>(&self, rt: &T, alloc: Global, at: usize, stream: &TcpStream);
@@ -40,11 +41,11 @@ pub trait Fleet: Drop {
 
     /// The Writes that this server holds, in stamp order, each with its outcome.
     fn listing<T: Wait>(&self, rt: &T, alloc: Global, at: usize) -> Result<Vec<Listed>, AllocError>
-        ensures { InOne places at (λ core. IfOk result (λ list. list.items ≡ listing_of core.held)) };
+        ensures { InOne (places self.now) at (λ core. IfOk result (λ list. list.items ≡ listing_of core.held)) };
 
     /// How many Writes of each server this one holds.
     fn vector<T: Wait>(&self, rt: &T, at: usize) -> Vector
-        ensures { InOne places at (λ core. result ≡ count_of core.held) };
+        ensures { InOne (places self.now) at (λ core. result ≡ count_of core.held) };
 
     /// Copies of the Writes that this server holds, in order of receipt.
     fn dump<T: Wait>(
@@ -53,88 +54,37 @@ pub trait Fleet: Drop {
         alloc: Global,
         at: usize,
     ) -> Result<Vec<RestingWrite>, AllocError>
-        ensures { InOne places at (λ core. IfOk result (λ writes. writes.items ≡ core.held)) };
+        ensures { InOne (places self.now) at (λ core. IfOk result (λ writes. writes.items ≡ core.held)) };
 
     /// What the books of each server come to, from 0 on, put behind what is there; nothing of a server of which a desk is missing, nor of
     /// those behind it.
     fn settle(self, settled: &mut Vec<Settled>) -> Result<(), FleetFault>
-        ensures { OnOk result (vec_len settled.new ≡ vec_len settled.old + length places) };
+        ensures { OnOk result (SettlesAll (places self) settled.old.items settled.new.items) };
 }
 
-/// No server.
-#[derive(Clone, Copy, Debug)]
-pub struct Nothing;
-
-/// A node with its desks, and a fleet behind it.
+/// A server behind its lock, with its desks.
 #[derive(Drop)]
-pub struct Led<D, L: Desks, F: Fleet> {
+pub struct Seat<D, L: Desks> {
     node: Node<D, L>,
     /// The desks at which nobody is served now.
     idle: Mutex<Vec<Desk<L>>>,
-    others: F,
 }
 
-impl Fleet for Nothing {
-    ghost use Rattle.std.specs.Prelude.{[]};
-
-    ghost places = { [] };
-
-    fn serve<T: Wait>(&self, _rt: &T, _alloc: Global, _at: usize, _stream: &TcpStream) {}
-
-    fn pull<T: Wait>(
-        &self,
-        _rt: &T,
-        _alloc: Global,
-        _at: usize,
-        _stream: &TcpStream,
-    ) -> Result<Pulled, PullFault> {
-        Err(PullFault::Stream(Fault::Cut))
-    }
-
-    fn listing<T: Wait>(
-        &self,
-        _rt: &T,
-        alloc: Global,
-        _at: usize,
-    ) -> Result<Vec<Listed>, AllocError> {
-        Ok(Vec::new(alloc))
-    }
-
-    fn vector<T: Wait>(&self, _rt: &T, _at: usize) -> Vector {
-        Vector::zero()
-    }
-
-    fn dump<T: Wait>(
-        &self,
-        _rt: &T,
-        alloc: Global,
-        _at: usize,
-    ) -> Result<Vec<RestingWrite>, AllocError> {
-        Ok(Vec::new(alloc))
-    }
-
-    fn settle(self, _settled: &mut Vec<Settled>) -> Result<(), FleetFault> {
-        Ok(())
-    }
-}
-
-impl<D: Device, L: Desks, F: Fleet> Led<D, L, F> {
-    /// The server behind a lock, with so many desks, in front of these.
+impl<D: Device, L: Desks> Seat<D, L> {
+    /// The server behind a lock, with so many desks.
     pub fn new(
         alloc: Global,
         blank: Blank,
         server: Server<D>,
         desks: u32,
-        others: F,
     ) -> Result<Self, FleetFault>
         requires blank { IsBlankOf blank L.name L.parts desks }
         requires whose { (server.core.id ≡ L.server) × (own_count server.core ≡ L.stored) }
     {
         match Node::new(alloc, blank, server, desks) {
-            Ok((node, desks)) => Ok(Led {
+            Ok((node, desks)) => Ok(Seat {
                 node,
                 idle: Mutex::new(desks),
-                others,
             }),
             Err(_) => Err(FleetFault::Memory),
         }
@@ -148,21 +98,114 @@ fn put_back<L: Desks>(desks: &mut Vec<Desk<L>>, desk: Desk<L>) {
     }
 }
 
-impl<D: Device, L: Desks, F: Fleet> Fleet for Led<D, L, F> {
-    ghost use Rattle.std.specs.Prelude.{◌∷◌};
+// Serves one connection at the server that is there.
+fn serve_at<D: Device, L: Desks, T: Wait>(
+    rt: &T,
+    alloc: Global,
+    seat: &Option<Seat<D, L>>,
+    stream: &TcpStream,
+) {
+    let Some(seat) = seat else {
+        return;
+    };
+    let found = seat.idle.lock(rt).pop();
+    let Some(desk) = found else {
+        return;
+    };
+    let desk = serve_connection(rt, alloc, &seat.node, desk, &NoGate, stream);
+    put_back(&mut seat.idle.lock(rt), desk);
+}
 
-    ghost places = { record { server = L.server; stored = L.stored } ∷ F.places };
+// Has the server that is there take what it lacks. Where there is none, no answer comes.
+fn pull_at<D: Device, L: Desks, T: Wait>(
+    rt: &T,
+    alloc: Global,
+    seat: &Option<Seat<D, L>>,
+    stream: &TcpStream,
+) -> Result<Pulled, PullFault> {
+    match seat {
+        Some(seat) => pull(rt, alloc, &seat.node, &mut Channel::new(stream, stream)),
+        None => Err(PullFault::Stream(Fault::Cut)),
+    }
+}
+
+// What the server that is there holds.
+fn listing_at<D: Device, L: Desks, T: Wait>(
+    rt: &T,
+    alloc: Global,
+    seat: &Option<Seat<D, L>>,
+) -> Result<Vec<Listed>, AllocError>
+    ensures { InPlace (place_of L.server L.stored seat.now) (λ core. IfOk result (λ list. list.items ≡ listing_of core.held)) }
+{
+    match seat {
+        Some(seat) => seat.node.listing(rt, alloc),
+        None => Ok(Vec::new(alloc)),
+    }
+}
+
+fn vector_at<D: Device, L: Desks, T: Wait>(rt: &T, seat: &Option<Seat<D, L>>) -> Vector
+    ensures { InPlace (place_of L.server L.stored seat.now) (λ core. result ≡ count_of core.held) }
+{
+    match seat {
+        Some(seat) => seat.node.offer(rt),
+        None => Vector::zero(),
+    }
+}
+
+fn dump_at<D: Device, L: Desks, T: Wait>(
+    rt: &T,
+    alloc: Global,
+    seat: &Option<Seat<D, L>>,
+) -> Result<Vec<RestingWrite>, AllocError>
+    ensures { InPlace (place_of L.server L.stored seat.now) (λ core. IfOk result (λ writes. writes.items ≡ core.held)) }
+{
+    match seat {
+        Some(seat) => seat.node.dump(rt, alloc),
+        None => Ok(Vec::new(alloc)),
+    }
+}
+
+// What the books of the server that is there come to.
+fn settle_at<D: Device, L: Desks>(
+    seat: Option<Seat<D, L>>,
+    settled: &mut Vec<Settled>,
+) -> Result<(), FleetFault>
+    ensures { OnOk result (SettlesOne (place_of L.server L.stored seat) settled.old.items settled.new.items) }
+{
+    let Some(Seat { node, idle }) = seat else {
+        return Ok(());
+    };
+    match node.settle(idle.into_inner()) {
+        Ok(one) => settled.push(one)?,
+        // A connection ended without its desk.
+        Err(_) => return Err(FleetFault::Network),
+    }
+    Ok(())
+}
+
+/// Up to four servers, from server 0 on. Each has a ledger of its own, which ties what is behind its lock to its desks, so each is of a type
+/// of its own.
+#[derive(Drop)]
+pub struct FourServers<D, A: Desks, B: Desks, C: Desks, E: Desks> {
+    pub first: Option<Seat<D, A>>,
+    pub second: Option<Seat<D, B>>,
+    pub third: Option<Seat<D, C>>,
+    pub fourth: Option<Seat<D, E>>,
+}
+
+impl<D: Device, A: Desks, B: Desks, C: Desks, E: Desks> Fleet for FourServers<D, A, B, C, E> {
+    ghost use Rattle.std.specs.Prelude.{◌∷◌, []};
+
+    ghost places = { λ fleet. place_of A.server A.stored fleet.first ∷ place_of B.server B.stored fleet.second ∷ place_of C.server C.stored fleet.third ∷ place_of E.server E.stored fleet.fourth ∷ [] };
 
     fn serve<T: Wait>(&self, rt: &T, alloc: Global, at: usize, stream: &TcpStream) {
-        if at > 0 {
-            return self.others.serve(rt, alloc, at - 1, stream);
+        match at {
+            0 => serve_at(rt, alloc, &self.first, stream),
+            1 => serve_at(rt, alloc, &self.second, stream),
+            2 => serve_at(rt, alloc, &self.third, stream),
+            3 => serve_at(rt, alloc, &self.fourth, stream),
+            _ => {}
         }
-        let found = self.idle.lock(rt).pop();
-        let Some(desk) = found else {
-            return;
-        };
-        let desk = serve_connection(rt, alloc, &self.node, desk, &NoGate, stream);
-        put_back(&mut self.idle.lock(rt), desk);
     }
 
     fn pull<T: Wait>(
@@ -172,53 +215,69 @@ impl<D: Device, L: Desks, F: Fleet> Fleet for Led<D, L, F> {
         at: usize,
         stream: &TcpStream,
     ) -> Result<Pulled, PullFault> {
-        if at > 0 {
-            return self.others.pull(rt, alloc, at - 1, stream);
+        match at {
+            0 => pull_at(rt, alloc, &self.first, stream),
+            1 => pull_at(rt, alloc, &self.second, stream),
+            2 => pull_at(rt, alloc, &self.third, stream),
+            3 => pull_at(rt, alloc, &self.fourth, stream),
+            _ => Err(PullFault::Stream(Fault::Cut)),
         }
-        pull(rt, alloc, &self.node, &mut Channel::new(stream, stream))
     }
 
-    #[tactic(auto, using(crate::proofs::Leading::in_first, crate::proofs::Leading::in_others))]
+    #[tactic(auto, using(crate::proofs::Leading::at_first, crate::proofs::Leading::at_second, crate::proofs::Leading::at_third, crate::proofs::Leading::at_fourth, crate::proofs::Leading::at_none))]
     fn listing<T: Wait>(
         &self,
         rt: &T,
         alloc: Global,
         at: usize,
     ) -> Result<Vec<Listed>, AllocError> {
-        if at > 0 {
-            return self.others.listing(rt, alloc, at - 1);
+        match at {
+            0 => listing_at(rt, alloc, &self.first),
+            1 => listing_at(rt, alloc, &self.second),
+            2 => listing_at(rt, alloc, &self.third),
+            3 => listing_at(rt, alloc, &self.fourth),
+            _ => Ok(Vec::new(alloc)),
         }
-        self.node.listing(rt, alloc)
     }
 
-    #[tactic(auto, using(crate::proofs::Leading::in_first, crate::proofs::Leading::in_others))]
+    #[tactic(auto, using(crate::proofs::Leading::at_first, crate::proofs::Leading::at_second, crate::proofs::Leading::at_third, crate::proofs::Leading::at_fourth, crate::proofs::Leading::at_none))]
     fn vector<T: Wait>(&self, rt: &T, at: usize) -> Vector {
-        if at > 0 {
-            return self.others.vector(rt, at - 1);
+        match at {
+            0 => vector_at(rt, &self.first),
+            1 => vector_at(rt, &self.second),
+            2 => vector_at(rt, &self.third),
+            3 => vector_at(rt, &self.fourth),
+            _ => Vector::zero(),
         }
-        self.node.offer(rt)
     }
 
-    #[tactic(auto, using(crate::proofs::Leading::in_first, crate::proofs::Leading::in_others))]
+    #[tactic(auto, using(crate::proofs::Leading::at_first, crate::proofs::Leading::at_second, crate::proofs::Leading::at_third, crate::proofs::Leading::at_fourth, crate::proofs::Leading::at_none))]
     fn dump<T: Wait>(
         &self,
         rt: &T,
         alloc: Global,
         at: usize,
     ) -> Result<Vec<RestingWrite>, AllocError> {
-        if at > 0 {
-            return self.others.dump(rt, alloc, at - 1);
+        match at {
+            0 => dump_at(rt, alloc, &self.first),
+            1 => dump_at(rt, alloc, &self.second),
+            2 => dump_at(rt, alloc, &self.third),
+            3 => dump_at(rt, alloc, &self.fourth),
+            _ => Ok(Vec::new(alloc)),
         }
-        self.node.dump(rt, alloc)
     }
 
+    #[tactic(auto, using(crate::proofs::Leading::settles_four))]
     fn settle(self, settled: &mut Vec<Settled>) -> Result<(), FleetFault> {
-        let Led { node, idle, others } = self;
-        match node.settle(idle.into_inner()) {
-            Ok(one) => settled.push(one)?,
-            // A connection ended without its desk.
-            Err(_) => return Err(FleetFault::Network),
-        }
-        others.settle(settled)
+        let FourServers {
+            first,
+            second,
+            third,
+            fourth,
+        } = self;
+        settle_at(first, settled)?;
+        settle_at(second, settled)?;
+        settle_at(third, settled)?;
+        settle_at(fourth, settled)
     }
 }

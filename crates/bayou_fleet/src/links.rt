@@ -3,17 +3,15 @@ ghost use Rattle.std.specs.Prelude.{◌≡◌, IfOk, length, vec_len};
 
 use crate::fault::FleetFault;
 use bayou_client::Link;
+use bayou_net::Sockets;
 use std::alloc::Global;
-use std::net::{Net, SocketAddr, TcpListener, TcpStream};
+use std::net::{SocketAddr, TcpStream};
 
 /// A link over a socket.
 pub type SocketLink = Link<TcpStream, TcpStream>;
 
 /// A connection to whoever listens there, by which small requests go at once.
-pub(crate) fn reach<T: Net<Stream = TcpStream, Listener = TcpListener>>(
-    rt: &T,
-    address: SocketAddr,
-) -> Option<TcpStream> {
+pub(crate) fn reach<T: Sockets>(rt: &T, address: SocketAddr) -> Option<TcpStream> {
     let Ok(stream) = TcpStream::connect(rt, address) else {
         return None;
     };
@@ -23,10 +21,7 @@ pub(crate) fn reach<T: Net<Stream = TcpStream, Listener = TcpListener>>(
 }
 
 // A link to whoever listens there.
-fn link_to<T: Net<Stream = TcpStream, Listener = TcpListener>>(
-    rt: &T,
-    address: SocketAddr,
-) -> Result<SocketLink, FleetFault> {
+fn link_to<T: Sockets>(rt: &T, address: SocketAddr) -> Result<SocketLink, FleetFault> {
     let Some(writer) = reach(rt, address) else {
         return Err(FleetFault::Network);
     };
@@ -37,7 +32,7 @@ fn link_to<T: Net<Stream = TcpStream, Listener = TcpListener>>(
 }
 
 /// A link to each server.
-pub(crate) fn links_to<T: Net<Stream = TcpStream, Listener = TcpListener>>(
+pub(crate) fn links_to<T: Sockets>(
     rt: &T,
     alloc: Global,
     addresses: &[SocketAddr],

@@ -6,9 +6,9 @@ use crate::fault::FleetFault;
 use crate::fleet::Fleet;
 use crate::links::reach;
 use bayou_audit::{AuditBook, Ledgers};
-use bayou_net::{Host, listen_on};
+use bayou_net::{Host, Sockets, listen_on};
 use std::alloc::Global;
-use std::net::{Net, SocketAddr, TcpListener, TcpStream};
+use std::net::{SocketAddr, TcpListener, TcpStream};
 use std::sync::Wait;
 use std::sync::atomic::{AtomicBool, Ordering};
 use std::thread::{JoinHandle, Scope, Threads};
@@ -48,7 +48,7 @@ impl<F: Fleet> Host for At<'_, F> {
 
 impl<F: Fleet, K: Ledgers> Network<F, K> {
     /// The fleet of so many servers, each with a socket of the loopback address, at a port that the system picks.
-    pub fn bind<T: Net<Stream = TcpStream, Listener = TcpListener>>(
+    pub fn bind<T: Sockets>(
         rt: &T,
         alloc: Global,
         fleet: F,
@@ -76,7 +76,7 @@ impl<F: Fleet, K: Ledgers> Network<F, K> {
     }
 
     /// Has each listener end at its next connection, and connects to each.
-    pub fn stop<T: Net<Stream = TcpStream, Listener = TcpListener>>(&self, rt: &T) {
+    pub fn stop<T: Sockets>(&self, rt: &T) {
         self.stop.store(true, Ordering::SeqCst);
         for address in &self.addresses {
             let _ = reach(rt, *address);
@@ -92,9 +92,7 @@ impl<F: Fleet, K: Ledgers> Network<F, K> {
 }
 
 // A socket of the loopback address.
-fn bound<T: Net<Stream = TcpStream, Listener = TcpListener>>(
-    rt: &T,
-) -> Result<(TcpListener, SocketAddr), FleetFault> {
+fn bound<T: Sockets>(rt: &T) -> Result<(TcpListener, SocketAddr), FleetFault> {
     let Ok(listener) = TcpListener::bind(rt, "127.0.0.1:0") else {
         return Err(FleetFault::Network);
     };
@@ -125,7 +123,7 @@ fn start_listener<'s, E, F, K, T>(
 where
     F: Fleet + Send + Sync,
     K: Ledgers + Send + Sync,
-    T: Threads + Wait + Net<Stream = TcpStream, Listener = TcpListener> + Send + Sync,
+    T: Threads + Wait + Sockets + Send + Sync,
 {
     let leaves = leaves(alloc, connections)?;
     let told = scope.spawn(move || listens(rt, alloc, network, at, leaves));
@@ -177,7 +175,7 @@ pub fn start_listeners<'s, E, F, K, T>(
 where
     F: Fleet + Send + Sync,
     K: Ledgers + Send + Sync,
-    T: Threads + Wait + Net<Stream = TcpStream, Listener = TcpListener> + Send + Sync,
+    T: Threads + Wait + Sockets + Send + Sync,
 {
     let mut threads = Vec::new(alloc);
     for at in 0..network.listeners.len() {

@@ -5,13 +5,14 @@ use crate::fleet::Fleet;
 use crate::links::reach;
 use bayou_base::ServerId;
 use bayou_machine::{Answer, Exchange};
+use bayou_net::Sockets;
 use bayou_text::Command;
 use std::alloc::{AllocError, Global};
-use std::net::{Net, SocketAddr, TcpListener, TcpStream};
+use std::net::SocketAddr;
 use std::sync::Wait;
 
 /// Has one server take from another, over a connection of its own. One that isn't reached is told as stopped.
-fn pull_one<F: Fleet, T: Net<Stream = TcpStream, Listener = TcpListener> + Wait>(
+fn pull_one<F: Fleet, T: Sockets + Wait>(
     rt: &T,
     alloc: Global,
     fleet: &F,
@@ -30,7 +31,7 @@ fn pull_one<F: Fleet, T: Net<Stream = TcpStream, Listener = TcpListener> + Wait>
 }
 
 // Does a pull. What is none is told as done.
-fn answer_pull<F: Fleet, T: Net<Stream = TcpStream, Listener = TcpListener> + Wait>(
+fn answer_pull<F: Fleet, T: Sockets + Wait>(
     rt: &T,
     alloc: Global,
     fleet: &F,
@@ -46,7 +47,7 @@ fn answer_pull<F: Fleet, T: Net<Stream = TcpStream, Listener = TcpListener> + Wa
 }
 
 /// Does these pulls in order, and tells what each is answered.
-pub(crate) fn pull_each<F: Fleet, T: Net<Stream = TcpStream, Listener = TcpListener> + Wait>(
+pub(crate) fn pull_each<F: Fleet, T: Sockets + Wait>(
     rt: &T,
     alloc: Global,
     fleet: &F,

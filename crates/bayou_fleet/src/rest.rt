@@ -1,6 +1,10 @@
 //! What is asked of a run when sessions and pulls have ended.
-ghost use Rattle.std.specs.Prelude.{◌≡◌, ◌<◌, ◌≤◌, IfOk, vec_len};
+ghost use Rattle.std.specs.Prelude.{◌≡◌, ◌<◌, ◌≤◌, IfOk, List, vec_len};
 ghost use Rattle.bayou_base.specs.declared.limits.TheConstants.{SERVERS};
+ghost use Rattle.bayou_base.specs.declared.entry.Entry.{Entry as Filed};
+ghost use Rattle.bayou_fleet.specs.Refusals.{NotReopenedAs};
+ghost use Rattle.bayou_lang.specs.declared.write.Write.{Write as Held};
+ghost use Rattle.bayou_machine.specs.Verdicts.{IsSurveyOn, IsVerdictOn};
 
 use crate::fault::FleetFault;
 use crate::fleet::Fleet;
@@ -9,15 +13,13 @@ use crate::network::Network;
 use bayou_audit::Ledgers;
 use bayou_base::{Entry, ServerId};
 use bayou_client::LinkFault;
-use bayou_judge::{judge, survey};
 use bayou_lang::RestingWrite;
-use bayou_machine::{Answer, Recovery};
+use bayou_machine::{Answer, Recovery, judged, surveyed};
+use bayou_net::{Sockets, reopen_fault_of};
 use bayou_script::AuditFile;
-use bayou_server::{JournalFault, ReopenFault};
 use bayou_text::Command;
 use bayou_wire::Refusal;
 use std::alloc::{AllocError, Global};
-use std::net::{Net, TcpListener, TcpStream};
 use std::sync::Wait;
 
 /// Whoever asks the rest, with a link to each server.
@@ -30,14 +32,12 @@ pub struct Rest {
 }
 
 // What a refused reopening is answered; none where the refusal answers no reopening.
-fn unopened(refusal: Refusal) -> Option<Recovery> {
-    match refusal {
-        Refusal::NotDown => Some(Recovery::NotReopened(ReopenFault::NotDown)),
-        Refusal::Journal => Some(Recovery::NotReopened(ReopenFault::Journal(JournalFault::Device))),
-        Refusal::Lost => Some(Recovery::NotReopened(ReopenFault::Lost)),
-        Refusal::BadRecord(at) => Some(Recovery::NotReopened(ReopenFault::BadRecord(at))),
-        Refusal::OutOfMemory => Some(Recovery::NotReopened(ReopenFault::OutOfMemory)),
-        Refusal::Down | Refusal::Behind(_) | Refusal::LogFull => None,
+fn unopened(refusal: Refusal) -> Option<Recovery>
+    ensures { NotReopenedAs refusal result }
+{
+    match reopen_fault_of(refusal) {
+        Some(fault) => Some(Recovery::NotReopened(fault)),
+        None => None,
     }
 }
 
@@ -54,7 +54,7 @@ fn sent_over(alloc: Global, link: &mut SocketLink) -> Result<Vec<RestingWrite>, 
 
 impl Rest {
     /// A link to each server.
-    pub fn new<F: Fleet, K: Ledgers, T: Net<Stream = TcpStream, Listener = TcpListener>>(
+    pub fn new<F: Fleet, K: Ledgers, T: Sockets>(
         rt: &T,
         alloc: Global,
         network: &Network<F, K>,
@@ -123,8 +123,8 @@ impl Rest {
             Command::Reopen { server } => self.reopen(alloc, server),
             Command::Log { server } => Ok(logged(rt, alloc, &network.fleet, server)?),
             Command::Totals => Ok(Answer::Counted(network.book.totals(rt))),
-            Command::Judge => Ok(judged(rt, alloc, network, self.count)?),
-            Command::Survey => Ok(surveyed(rt, alloc, network, self.count)?),
+            Command::Judge => Ok(verdict(rt, alloc, network, self.count)?),
+            Command::Survey => Ok(survey(rt, alloc, network, self.count)?),
             Command::Book => self.book(rt, alloc, network),
             _ => Ok(Answer::Done),
         }
@@ -164,36 +164,49 @@ fn dumps<F: Fleet, T: Wait>(
     Ok(dumps)
 }
 
-// The verdict on what was filed so far and what the servers hold.
-fn judged<F: Fleet, K: Ledgers, T: Wait>(
+// What was filed so far, and what the servers hold.
+fn evidence<F: Fleet, K: Ledgers, T: Wait>(
     rt: &T,
     alloc: Global,
     network: &Network<F, K>,
     count: u8,
-) -> Result<Answer, AllocError>
+) -> Result<AuditFile, AllocError>
     requires { (0 < count) × (count ≤ SERVERS) }
+    ensures { IfOk result (λ file. file.count ≡ count) }
 {
     let entries = network.book.entries(rt, alloc)?;
-    let held = dumps(rt, alloc, &network.fleet, count)?;
-    match judge(alloc, count, entries.as_slice(), held.as_slice()) {
-        Err(bayou_judge::Refusal::OutOfMemory) => Err(AllocError),
-        told => Ok(Answer::Judged(told)),
-    }
+    let dumps = dumps(rt, alloc, &network.fleet, count)?;
+    Ok(AuditFile {
+        count,
+        entries,
+        dumps,
+    })
 }
 
-// The survey of what was filed so far and what the servers hold.
-fn surveyed<F: Fleet, K: Ledgers, T: Wait>(
+// The verdict on that.
+fn verdict<F: Fleet, K: Ledgers, T: Wait>(
     rt: &T,
     alloc: Global,
     network: &Network<F, K>,
     count: u8,
 ) -> Result<Answer, AllocError>
     requires { (0 < count) × (count ≤ SERVERS) }
+    ensures { IfOk result (λ answer. (entries : List Filed) × (dumps : List (List Held)) × IsVerdictOn count entries dumps answer) }
 {
-    let entries = network.book.entries(rt, alloc)?;
-    let held = dumps(rt, alloc, &network.fleet, count)?;
-    match survey(alloc, count, entries.as_slice(), held.as_slice()) {
-        Err(bayou_judge::Refusal::OutOfMemory) => Err(AllocError),
-        told => Ok(Answer::Surveyed(told)),
-    }
+    let file = evidence(rt, alloc, network, count)?;
+    judged(alloc, &file)
+}
+
+// The survey of that.
+fn survey<F: Fleet, K: Ledgers, T: Wait>(
+    rt: &T,
+    alloc: Global,
+    network: &Network<F, K>,
+    count: u8,
+) -> Result<Answer, AllocError>
+    requires { (0 < count) × (count ≤ SERVERS) }
+    ensures { IfOk result (λ answer. (entries : List Filed) × (dumps : List (List Held)) × IsSurveyOn count entries dumps answer) }
+{
+    let file = evidence(rt, alloc, network, count)?;
+    surveyed(alloc, &file)
 }

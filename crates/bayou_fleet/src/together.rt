@@ -10,10 +10,10 @@ use crate::pulls::pull_each;
 use crate::visitor::{Member, Visitor};
 use bayou_audit::{AuditBook, Ledgers};
 use bayou_machine::Answer;
+use bayou_net::Sockets;
 use bayou_text::Command;
 use std::alloc::{AllocError, Global};
 use std::collections::VecDeque;
-use std::net::{Net, TcpListener, TcpStream};
 use std::sync::Wait;
 use std::thread;
 use std::thread::{JoinHandle, Scope, Threads};
@@ -61,7 +61,7 @@ fn begin<'s, E, F, K, T>(
 where
     F: Fleet + Send + Sync,
     K: Ledgers + Send + Sync,
-    T: Threads + Wait + Net<Stream = TcpStream, Listener = TcpListener> + Send + Sync,
+    T: Threads + Wait + Sockets + Send + Sync,
 {
     if operations.is_empty() {
         return Ok(Going::Idle(member));
@@ -94,7 +94,7 @@ fn begin_all<'s, E, F, K, T>(
 where
     F: Fleet + Send + Sync,
     K: Ledgers + Send + Sync,
-    T: Threads + Wait + Net<Stream = TcpStream, Listener = TcpListener> + Send + Sync,
+    T: Threads + Wait + Sockets + Send + Sync,
     ensures { IfOk result (λ going. vec_len going ≡ vec_len members) }
 {
     let mut operations = operations;
@@ -117,7 +117,7 @@ fn begin_pulls<'s, E, F, K, T>(
 where
     F: Fleet + Send + Sync,
     K: Ledgers + Send + Sync,
-    T: Threads + Wait + Net<Stream = TcpStream, Listener = TcpListener> + Send + Sync,
+    T: Threads + Wait + Sockets + Send + Sync,
 {
     match scope.spawn(move || pull_each(
         rt,
@@ -174,7 +174,7 @@ fn end_all<K: Ledgers + Send + Sync, T: Threads>(
 }
 
 // Opens the sessions that a phase opens.
-fn open_one<F: Fleet, K: Ledgers, T: Net<Stream = TcpStream, Listener = TcpListener>>(
+fn open_one<F: Fleet, K: Ledgers, T: Sockets>(
     rt: &T,
     alloc: Global,
     network: &Network<F, K>,
@@ -236,7 +236,7 @@ fn go<'s, E, F, K, T>(
 where
     F: Fleet + Send + Sync,
     K: Ledgers + Send + Sync,
-    T: Threads + Wait + Net<Stream = TcpStream, Listener = TcpListener> + Send + Sync,
+    T: Threads + Wait + Sockets + Send + Sync,
     ensures { IfOk result (λ together. vec_len together.members ≡ vec_len members) }
 {
     let going = begin_all(scope, rt, alloc, network, members, operations)?;
@@ -258,7 +258,7 @@ pub fn run_together<F, K, T>(
 where
     F: Fleet + Send + Sync,
     K: Ledgers + Send + Sync,
-    T: Threads + Wait + Net<Stream = TcpStream, Listener = TcpListener> + Send + Sync,
+    T: Threads + Wait + Sockets + Send + Sync,
     ensures { IfOk result (λ together. vec_len together.members ≡ vec_len members) }
 {
     let mut members = members;

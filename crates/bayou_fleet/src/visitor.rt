@@ -1,5 +1,6 @@
 //! Sessions that reach the servers of a run over links.
 ghost use Rattle.std.specs.Prelude.{◌≡◌, ◌+◌, ◌≤◌, IfOk, length, vec_capacity, vec_len};
+ghost use Rattle.bayou_fleet.specs.Refusals.{RefusedAs, UnservedAs};
 
 use crate::fault::FleetFault;
 use crate::links::{SocketLink, links_to};
@@ -8,12 +9,13 @@ use bayou_base::{Asks, Key, ServerId, SessionId};
 use bayou_client::{Client, ClientFault, LinkFault};
 use bayou_lang::RestingProgram;
 use bayou_machine::Answer;
+use bayou_net::{Sockets, write_fault_of};
 use bayou_server::WriteFault;
 use bayou_session::Session;
 use bayou_text::Command;
 use bayou_wire::Refusal;
 use std::alloc::{AllocError, Global};
-use std::net::{Net, SocketAddr, TcpListener, TcpStream};
+use std::net::SocketAddr;
 use std::sync::Wait;
 
 /// A session that was opened: with its share of the book, and with a link to each server, which it keeps.
@@ -34,25 +36,22 @@ pub enum Member<K: Ledgers> {
 }
 
 // What a refused operation is answered. A refusal that answers none is as no reply.
-fn refused(who: SessionId, refusal: Refusal) -> Answer {
-    let refusal = match refusal {
-        Refusal::Behind(vector) => WriteFault::Behind(vector),
-        Refusal::Down => WriteFault::Down,
-        Refusal::LogFull => WriteFault::LogFull,
-        Refusal::Journal => WriteFault::Journal,
-        Refusal::OutOfMemory => WriteFault::OutOfMemory,
-        Refusal::NotDown | Refusal::BadRecord(_) | Refusal::Lost => {
-            return Answer::Lost { session: who };
-        }
-    };
-    Answer::Refused {
-        session: who,
-        refusal,
+fn refused(who: SessionId, refusal: Refusal) -> Answer
+    ensures { RefusedAs who refusal result }
+{
+    match write_fault_of(refusal) {
+        Some(refusal) => Answer::Refused {
+            session: who,
+            refusal,
+        },
+        None => Answer::Lost { session: who },
     }
 }
 
 // What an operation is answered that wasn't served.
-fn unserved(who: SessionId, fault: ClientFault) -> Answer {
+fn unserved(who: SessionId, fault: ClientFault) -> Answer
+    ensures { UnservedAs who fault result }
+{
     match fault {
         ClientFault::Link(LinkFault::Refused(refusal)) => refused(who, refusal),
         ClientFault::Link(LinkFault::OutOfMemory) => Answer::Refused {
@@ -67,7 +66,7 @@ fn unserved(who: SessionId, fault: ClientFault) -> Answer {
 
 impl<K: Ledgers> Visitor<K> {
     // Opens the session whose share this is.
-    fn open<T: Net<Stream = TcpStream, Listener = TcpListener>>(
+    fn open<T: Sockets>(
         rt: &T,
         alloc: Global,
         share: Share<K>,
@@ -171,7 +170,7 @@ impl<K: Ledgers> Visitor<K> {
 
 impl<K: Ledgers> Member<K> {
     /// Opens the session, where it wasn't yet.
-    pub(crate) fn open<T: Net<Stream = TcpStream, Listener = TcpListener>>(
+    pub(crate) fn open<T: Sockets>(
         self,
         rt: &T,
         alloc: Global,
@@ -183,14 +182,6 @@ impl<K: Ledgers> Member<K> {
                 rt, alloc, share, asks, addresses,
             )?)),
             Member::Present(visitor) => Ok(Member::Present(visitor)),
-        }
-    }
-
-    /// Its share of the book. Its links, if it has any, are closed.
-    pub fn share(self) -> Share<K> {
-        match self {
-            Member::Absent(share) => share,
-            Member::Present(visitor) => visitor.client.parts().1,
         }
     }
 }

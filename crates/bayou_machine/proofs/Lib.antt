@@ -3,3 +3,4 @@ pub mod Exchanged
 pub mod Kept
 pub mod Standing
 pub mod Turned
+pub mod Evidence

@@ -5,3 +5,4 @@ pub mod Laws
 pub mod Machine
 pub mod Replica
 pub mod Run
+pub mod Verdicts

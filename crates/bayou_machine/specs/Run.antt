@@ -1,27 +1,22 @@
 -- What a script may be answered: a run of a machine over its servers, its sessions and the book of what they were served.
-use Rattle.std.specs.Prelude.{◌≡◌, ◌≢◌, ℕ, Bool, true, false, List, [], ◌∷◌, ◌++◌, Option, None, Some, Result, Err}
-use Rattle.std.specs.Global.{Vec}
+use Rattle.std.specs.Prelude.{◌≡◌, ℕ, Bool, true, false, List, [], ◌∷◌, ◌++◌, Option, None, Some}
 use Rattle.bayou_base.specs.declared.asks.Asks.{Asks}
 use Rattle.bayou_base.specs.declared.entry.Entry.{Entry}
 use Rattle.bayou_base.specs.declared.server.ServerId.{ServerId}
 use Rattle.bayou_base.specs.declared.session.SessionId.{SessionId}
-use Rattle.bayou_judge.specs.declared.verdict.Refusal.{Refusal}
-use Rattle.bayou_judge.specs.declared.verdict.Refusal.TheVariants.{OutOfMemory}
-use Rattle.bayou_judge.specs.declared.verdict.Surveyed.{Surveyed as SurveyedSession}
-use Rattle.bayou_judge.specs.declared.verdict.Verdict.{Verdict}
-use Rattle.bayou_judge.specs.Answers.{Judges, SurveyAnswer}
 use Rattle.bayou_judge.specs.History.{lists_of}
 use Rattle.bayou_session.specs.Needs.{Told, new_session}
 use Rattle.bayou_text.specs.Said.{Said, servers, session, write, read, log, fuse, lose, reopen, restart, pull, resend, totals, judge, survey, book, phase, entry, held}
 use Rattle.bayou_script.specs.declared.audit.AuditFile.{AuditFile}
 use Rattle.bayou_script.specs.Script.{Plan}
 use Rattle.bayou_machine.specs.declared.answer.Answer.{Answer}
-use Rattle.bayou_machine.specs.declared.answer.Answer.TheVariants.{Booked, Counted, Done, Judged, Recovered, Surveyed}
+use Rattle.bayou_machine.specs.declared.answer.Answer.TheVariants.{Booked, Counted, Done, Recovered}
 use Rattle.bayou_machine.specs.declared.answer.Recovery.{Recovery}
 use Rattle.bayou_machine.specs.declared.replica.Replica.{Replica}
 use Rattle.bayou_machine.specs.Exchange.{Exchanges, own_counts, zero_counts}
 use Rattle.bayou_machine.specs.Filed.{Files, Filings, operation_of, places_for, totals_filed, what_told}
 use Rattle.bayou_machine.specs.Machine.{HasBegun, Machine, StandsAt, dumps_of, session_of, with_server, with_session}
+use Rattle.bayou_machine.specs.Verdicts.{IsSurveyOn, IsVerdictOn}
 use Rattle.bayou_machine.specs.Replica.{IsFused, IsListed, IsRead, IsReopened, IsRestarted, IsShortened, IsWritten}
 
 -- the session is opened
@@ -159,18 +154,12 @@ Does None old said answer new = Leaves old said answer new
 Does (Some (who, place)) old said answer new = Tries old who place said answer new
 
 -- the verdict on what was filed so far and what the servers hold
-pub record IsJudged (audited : Audited) (answer : Answer) : Type 0 where
-  pub result : Result Verdict Refusal
-  pub answered : answer ≡ Judged result
-  pub told : result ≢ Err OutOfMemory
-  pub judges : Judges audited.machine.count audited.book.entries (dumps_of audited.machine) result
+abbrev pub IsJudged : Audited → Answer → Type 0
+IsJudged audited answer = IsVerdictOn audited.machine.count audited.book.entries (dumps_of audited.machine) answer
 
 -- the survey of what was filed so far and what the servers hold
-pub record IsSurveyed (audited : Audited) (answer : Answer) : Type 0 where
-  pub result : Result (Vec SurveyedSession) Refusal
-  pub answered : answer ≡ Surveyed result
-  pub told : result ≢ Err OutOfMemory
-  pub surveys : SurveyAnswer audited.machine.count audited.book.entries (dumps_of audited.machine) result
+abbrev pub IsSurveyed : Audited → Answer → Type 0
+IsSurveyed audited answer = IsSurveyOn audited.machine.count audited.book.entries (dumps_of audited.machine) answer
 
 -- what was filed so far and what the servers hold, as it is
 pub record IsBooked (audited : Audited) (answer : Answer) : Type 0 where

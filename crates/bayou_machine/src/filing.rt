@@ -12,10 +12,10 @@ ghost use Rattle.bayou_machine.specs.Run.{IsBooked, IsJudged, IsSurveyed, TakesM
 ghost use Rattle.bayou_text.specs.Said.{command_said};
 
 use crate::answer::Answer;
+use crate::judging::{judged, surveyed};
 use crate::store::Store;
 use bayou_audit::{Blanks, Book, Ledgers, Share, Slip, Totals};
 use bayou_base::{Entry, MAX_PLACES, SESSIONS, ServerId, SessionId, What};
-use bayou_judge::{Refusal, judge, survey};
 use bayou_script::AuditFile;
 use bayou_session::Session;
 use bayou_text::Command;
@@ -228,35 +228,21 @@ impl<K: Ledgers> Filing<K> {
     }
 
     /// The verdict on what was filed so far and what the servers hold.
+    #[tactic(auto, using(crate::proofs::Evidence::judged_of))]
     fn judge(&self, alloc: Global, store: &Store) -> Result<Answer, AllocError>
         ensures { IfOk result (IsJudged (audited store.now self.now)) }
     {
         let file = self.book(alloc, store)?;
-        match judge(
-            alloc,
-            file.count,
-            file.entries.as_slice(),
-            file.dumps.as_slice(),
-        ) {
-            Err(Refusal::OutOfMemory) => Err(AllocError),
-            told => Ok(Answer::Judged(told)),
-        }
+        judged(alloc, &file)
     }
 
     /// The survey of what was filed so far and what the servers hold.
+    #[tactic(auto, using(crate::proofs::Evidence::surveyed_of))]
     fn survey(&self, alloc: Global, store: &Store) -> Result<Answer, AllocError>
         ensures { IfOk result (IsSurveyed (audited store.now self.now)) }
     {
         let file = self.book(alloc, store)?;
-        match survey(
-            alloc,
-            file.count,
-            file.entries.as_slice(),
-            file.dumps.as_slice(),
-        ) {
-            Err(Refusal::OutOfMemory) => Err(AllocError),
-            told => Ok(Answer::Surveyed(told)),
-        }
+        surveyed(alloc, &file)
     }
 
     /// What the command is answered, and files what sessions are told. Only where much is told may memory be wanted for which there is

@@ -17,11 +17,13 @@ pub mod answer;
 mod exchange;
 pub mod fault;
 pub mod filing;
+pub mod judging;
 pub mod replica;
 pub mod store;
 
 pub use answer::{Answer, Exchange, Recovery};
 pub use fault::BeginFault;
 pub use filing::{Filing, places_for};
+pub use judging::{judged, surveyed};
 pub use replica::Replica;
 pub use store::Store;

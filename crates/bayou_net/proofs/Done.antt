@@ -6,14 +6,14 @@ use Rattle.std.specs.List.{AllByRecursion}
 use Rattle.std.proofs.lemmas.List.{append-nil, length-append}
 use Rattle.bayou_net.specs.Inner.Steps.{DoesOne, Waiting}
 use Rattle.bayou_net.specs.Serving.{HasBroken, HasDone, HasServed, ServeEnds, Serves, ServesAll, Steps}
-use Rattle.bayou_peer.proofs.Items.{front_behind}
-use Rattle.bayou_peer.proofs.Received.{frames_size}
-use Rattle.bayou_peer.specs.declared.fault.Fault.{Fault}
-use Rattle.bayou_peer.specs.declared.fault.Fault.TheVariants as faults
-use Rattle.bayou_peer.specs.Framing.{IsReadFault}
+use Rattle.bayou_frames.specs.Laws.Bytes.{front_behind}
+use Rattle.bayou_frames.specs.Laws.Frames.{frames_size}
+use Rattle.bayou_frames.specs.declared.fault.Fault.{Fault}
+use Rattle.bayou_frames.specs.declared.fault.Fault.TheVariants as faults
+use Rattle.bayou_frames.specs.Framing.{IsReadFault}
 use Rattle.bayou_peer.specs.Offers.{Answers}
-use Rattle.bayou_peer.specs.Spelled.{answer_bytes}
-use Rattle.bayou_peer.specs.Stopping.{IsSendFault}
+use Rattle.bayou_frames.specs.Spelled.{answer_bytes}
+use Rattle.bayou_frames.specs.Stopping.{IsSendFault}
 use Rattle.bayou_streams.specs.Written.{AppendsFront}
 use Rattle.bayou_wire.specs.declared.frame.Frame.{Frame}
 use Rattle.bayou_wire.specs.declared.frame.Frame.TheVariants.{Offer}

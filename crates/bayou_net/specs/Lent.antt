@@ -1,5 +1,5 @@
 -- What becomes of a server that is lent to serve, and of a node with a desk.
-use Rattle.std.specs.Prelude.{◌≡◌, ℕ, List, None, Some, Result, IfOk, OnOk}
+use Rattle.std.specs.Prelude.{◌≡◌, ℕ, List, None, Result, IfOk, OnOk}
 use Rattle.bayou_base.specs.declared.answer.Accepted.{Accepted}
 use Rattle.bayou_device.specs.declared.device.Device.{Ghosts}
 use Rattle.bayou_journal.specs.Opening.{KeepsChains}
@@ -7,6 +7,7 @@ use Rattle.bayou_lang.specs.declared.program.Program.{Program}
 use Rattle.bayou_lang.specs.declared.write.Write.{Write}
 use Rattle.bayou_net.specs.Serving.{Steps}
 use Rattle.bayou_node.specs.Answers.{BySome, InSome, IsAccepted, Pays}
+use Rattle.bayou_peer.specs.Pulls.{Ways}
 use Rattle.bayou_server.specs.declared.answer.Reopened.{Reopened}
 use Rattle.bayou_server.specs.declared.answer.Took.{Took}
 use Rattle.bayou_server.specs.declared.fault.ReopenFault.{ReopenFault}
@@ -37,15 +38,6 @@ pub record ReopensAt {D : Type 0} (d : Ghosts D) (old : ServerState D) (answer :
   pub safe : d.is_modelled → KeepsChains (d.kept old.device) (d.kept new.device)
   pub calls : OpensInCalls d old.core.id old.device new.device
 
--- how a server serves
-abbrev pub server_steps : {D : Type 0} → Ghosts D → Steps (ServerState D)
-server_steps d = record {
-  list = λ server. Some server.core.held;
-  reads = λ server need key answer. Reads server.core need key answer;
-  writes = λ old need program answer new. WritesAt d old need program answer new;
-  reopens = λ old answer new. ReopensAt d old answer new;
-}
-
 -- a program at a node, by one who has a desk that was paid so much
 pub record DeskWrites (server stored : ℕ) (paid : ℕ) (need : List ℕ) (program : Program) (answer : Result Accepted WriteFault) (then : ℕ) : Type 0 where
   pub writes : BySome server stored (λ old new. Writes old need program answer new)
@@ -62,5 +54,11 @@ desk_steps server stored = record {
   reopens = λ paid answer then. BySome server stored (λ old new. Reopens old answer new) × (then ≡ paid);
 }
 
-abbrev pub DeskTakes : (server stored : ℕ) → ℕ → Write → Result Took TakeFault → ℕ → Type 0
-DeskTakes server stored paid given answer then = BySome server stored (λ old new. Takes old given answer new) × (then ≡ paid)
+-- A node is given a Write (anti-entropy, Petersen et al. 1997), and answers as something does that may be behind its lock. Of what stands beside
+-- the node, a desk or nothing, no call changes anything; what is held between two calls isn't told, as others may change it.
+abbrev pub NodeTakes : {S : Type 0} → (server stored : ℕ) → S → Write → Result Took TakeFault → S → Type 0
+NodeTakes server stored before given answer after = BySome server stored (λ old new. Takes old given answer new) × (after ≡ before)
+
+-- how a node takes Writes
+abbrev pub node_ways : (server stored : ℕ) → Ways (Unit {0})
+node_ways server stored = record { list = λ node. None; takes = NodeTakes server stored }

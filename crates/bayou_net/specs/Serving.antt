@@ -8,9 +8,9 @@ use Rattle.bayou_lang.specs.declared.program.Program.{Program}
 use Rattle.bayou_lang.specs.declared.write.Write.{Write}
 use Rattle.bayou_lang.specs.Writes.{lacking_of}
 use Rattle.bayou_net.specs.Replies.{read_reply, reopen_reply, write_reply}
-use Rattle.bayou_peer.specs.declared.fault.Fault.{Fault}
-use Rattle.bayou_peer.specs.declared.fault.Fault.TheVariants as faults
-use Rattle.bayou_peer.specs.Spelled.{answer_bytes}
+use Rattle.bayou_frames.specs.declared.fault.Fault.{Fault}
+use Rattle.bayou_frames.specs.declared.fault.Fault.TheVariants as faults
+use Rattle.bayou_frames.specs.Spelled.{answer_bytes}
 use Rattle.bayou_server.specs.declared.answer.Reopened.{Reopened}
 use Rattle.bayou_server.specs.declared.fault.Behind.{Behind}
 use Rattle.bayou_server.specs.declared.fault.ReopenFault.{ReopenFault}

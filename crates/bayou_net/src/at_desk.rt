@@ -1,78 +1,29 @@
-//! A node that is lent to serve, for whoever has a desk there.
+//! A node that serves whoever has a desk there.
 ghost use Rattle.std.specs.Prelude.{◌≡◌, ◌≤◌, ℕ, List, IfErr};
 ghost use Rattle.std.specs.Io.KnownBytes.{Consumes, IsAtEnd};
-ghost use Rattle.bayou_net.specs.Lent.{DeskTakes, DeskWrites, desk_steps};
+ghost use Rattle.bayou_net.specs.Lent.{DeskWrites, desk_steps};
 ghost use Rattle.bayou_net.specs.Serving.{ServeEnds};
 ghost use Rattle.bayou_node.specs.Answers.{BySome, InSome};
-ghost use Rattle.bayou_peer.specs.Stopping.{Stops};
+ghost use Rattle.bayou_frames.specs.Stopping.{Stops};
 ghost use Rattle.bayou_server.specs.Reads.{Reads};
 ghost use Rattle.bayou_server.specs.Reopens.{Reopens};
 
+use crate::at_node::AtNode;
 use crate::gate::RequestGate;
 use crate::served::Served;
 use crate::serving::serve_on;
 use bayou_base::{Accepted, Key, Seen, Vector};
 use bayou_device::Device;
+use bayou_frames::Fault;
 use bayou_lang::{RestingProgram, RestingWrite};
 use bayou_node::{Desk, Desks, Node};
-use bayou_peer::{Fault, Replica};
-use bayou_server::{Behind, ReopenFault, Reopened, TakeFault, Took, WriteFault};
+use bayou_server::{Behind, ReopenFault, Reopened, WriteFault};
 use bayou_streams::Channel;
 use std::alloc::{AllocError, Global};
 use std::io::{Read, Write};
-use std::marker::Model;
 use std::sync::Wait;
 
-/// A node, a desk at it, and the runtime by which each call waits for its lock. Between two calls the lock is free.
-#[derive(Drop)]
-pub(crate) struct AtDesk<'a, D, L: Desks, T> {
-    node: &'a Node<D, L>,
-    desk: Desk<L>,
-    rt: &'a T,
-}
-
-impl<'a, D, L: Desks, T> Model for AtDesk<'a, D, L, T> {
-    ghost use Rattle.std.specs.Prelude.{ℕ};
-
-    ghost Value = { ℕ };
-
-    ghost view = { λ a. a.desk };
-}
-
-impl<D: Device, L: Desks, T: Wait> Replica for AtDesk<'_, D, L, T> {
-    ghost use Rattle.std.specs.Prelude.{None, IfOk, length, take};
-    ghost use Rattle.bayou_lang.specs.Writes.{count_of, lacking_of};
-
-    ghost list = { λ _. None };
-
-    ghost takes = { DeskTakes L.server L.stored };
-
-    fn offer(&mut self) -> Vector
-        ensures same { self.new ≡ self.old }
-        ensures held { InSome L.server L.stored (λ core. result ≡ count_of core.held) }
-    {
-        self.node.offer(self.rt)
-    }
-
-    fn lacking(
-        &mut self,
-        alloc: Global,
-        counts: &Vector,
-        most: usize,
-    ) -> Result<Vec<RestingWrite>, AllocError>
-        ensures same { self.new ≡ self.old }
-        ensures few { IfOk result (λ writes. length writes.items ≤ most) }
-        ensures held { InSome L.server L.stored (λ core. IfOk result (λ writes. writes.items ≡ take most (lacking_of counts.now core.held))) }
-    {
-        self.node.lacking(self.rt, alloc, counts, most)
-    }
-
-    fn take(&mut self, alloc: Global, write: RestingWrite) -> Result<Took, TakeFault> {
-        self.node.take(self.rt, alloc, write)
-    }
-}
-
-impl<D: Device, L: Desks, T: Wait> Served for AtDesk<'_, D, L, T> {
+impl<D: Device, L: Desks, T: Wait> Served for AtNode<'_, D, L, Desk<L>, T> {
     ghost use Rattle.std.specs.Prelude.{IfOk, length};
     ghost use Rattle.bayou_base.specs.declared.limits.TheConstants.{MAX_WRITES};
 
@@ -123,7 +74,7 @@ pub fn serve<D: Device, L: Desks, G: RequestGate, R: Read, W: Write, T: Wait>(
     ensures stopped { IfErr result.0 (Stops channel.new.read_failed channel.new.write_failed channel.new.turns_left) }
     ensures turns { channel.new.turns_left ≤ channel.old.turns_left }
 {
-    let mut at_desk = AtDesk { node, desk, rt };
+    let mut at_desk = AtNode { node, desk, rt };
     let answer = serve_on(alloc, &mut at_desk, gate, channel);
     (answer, at_desk.desk)
 }

@@ -1,9 +1,11 @@
 //! What is done of one request, and the bytes of its reply.
-ghost use Rattle.std.specs.Prelude.{◌≡◌, ◌≢◌, ◌≤◌, ◌↔◌, ℕ, List, Err, IfOk, IfSome, IsTrue, length};
+ghost use Rattle.std.specs.Prelude.{◌≡◌, ◌≢◌, ◌≤◌, ◌↔◌, ℕ, List, Err, IfOk, IfSome, IsTrue, None, Some, length};
 ghost use Rattle.bayou_base.specs.declared.limits.TheConstants.{MAX_WRITES};
-ghost use Rattle.bayou_net.specs.Replies.{read_reply, reopen_reply, write_reply};
+ghost use Rattle.bayou_net.specs.Replies.{read_reply, reopen_refusal, reopen_reply, write_refusal, write_reply};
 ghost use Rattle.bayou_net.specs.Serving.{IsRequest, Serves};
-ghost use Rattle.bayou_peer.specs.Spelled.{answer_bytes};
+ghost use Rattle.bayou_frames.specs.Spelled.{answer_bytes};
+ghost use Rattle.bayou_server.specs.declared.fault.ReopenFault.{ReopenFault as ReopenRefused};
+ghost use Rattle.bayou_server.specs.declared.fault.WriteFault.{WriteFault as WriteRefused};
 ghost use Rattle.bayou_wire.specs.declared.frame.Frame.TheVariants as frames;
 ghost use Rattle.bayou_wire.specs.declared.frame.Refusal.TheVariants as refusals;
 ghost use Rattle.bayou_wire.specs.Stream.{spelling};
@@ -12,7 +14,7 @@ use crate::served::Served;
 use bayou_base::{Accepted, Key, Seen, Vector};
 use bayou_lang::{Program, RestingWrite};
 use bayou_peer::gather;
-use bayou_server::{Behind, ReopenFault, Reopened, WriteFault};
+use bayou_server::{Behind, JournalFault, ReopenFault, Reopened, WriteFault};
 use bayou_wire::{Frame, Refusal, encode_frame};
 use std::alloc::{AllocError, Global};
 
@@ -53,6 +55,21 @@ fn write_refused(fault: WriteFault) -> Frame
     Frame::Refused(refusal)
 }
 
+/// The fault of a Write that a refusal tells. None where it answers no Write.
+pub fn write_fault_of(refusal: Refusal) -> Option<WriteFault>
+    ensures told { (fault : WriteRefused) → refusal ≡ write_refusal fault → result ≡ Some fault }
+    ensures is { IfSome result (λ fault. refusal ≡ write_refusal fault) }
+{
+    match refusal {
+        Refusal::Down => Some(WriteFault::Down),
+        Refusal::Behind(vector) => Some(WriteFault::Behind(vector)),
+        Refusal::LogFull => Some(WriteFault::LogFull),
+        Refusal::OutOfMemory => Some(WriteFault::OutOfMemory),
+        Refusal::Journal => Some(WriteFault::Journal),
+        Refusal::NotDown | Refusal::Lost | Refusal::BadRecord(_) => None,
+    }
+}
+
 fn told_write(answer: Result<Accepted, WriteFault>) -> Frame
     ensures { result ≡ write_reply answer }
 {
@@ -73,6 +90,22 @@ fn reopen_refused(fault: ReopenFault) -> Frame
         ReopenFault::OutOfMemory => Refusal::OutOfMemory,
     };
     Frame::Refused(refusal)
+}
+
+/// A fault of a reopening that a refusal tells: of a journal's faults, which are told as one, that of its device. None where it answers no
+/// reopening.
+pub fn reopen_fault_of(refusal: Refusal) -> Option<ReopenFault>
+    ensures told { (fault : ReopenRefused) → refusal ≡ reopen_refusal fault → result ≢ None }
+    ensures is { IfSome result (λ fault. refusal ≡ reopen_refusal fault) }
+{
+    match refusal {
+        Refusal::NotDown => Some(ReopenFault::NotDown),
+        Refusal::Journal => Some(ReopenFault::Journal(JournalFault::Device)),
+        Refusal::Lost => Some(ReopenFault::Lost),
+        Refusal::BadRecord(at) => Some(ReopenFault::BadRecord(at)),
+        Refusal::OutOfMemory => Some(ReopenFault::OutOfMemory),
+        Refusal::Down | Refusal::Behind(_) | Refusal::LogFull => None,
+    }
 }
 
 fn told_reopen(answer: Result<Reopened, ReopenFault>) -> Frame

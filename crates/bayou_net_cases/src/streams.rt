@@ -1,8 +1,8 @@
 //! A server that is asked over a stream: what it answers, byte for byte, whatever pieces the requests come in.
 use crate::fixtures::{Memory, begun, must_be_so, must_hold};
 use crate::words::{bytes, is_said};
+use bayou_frames::Fault;
 use bayou_net::{NoGate, serve_on};
-use bayou_peer::Fault;
 use bayou_server::Server;
 use bayou_streams::Channel;
 use std::alloc::Global;

@@ -1,8 +1,10 @@
 //! One node that pulls from another, over memory.
 use crate::fixtures::Memory;
 use bayou_base::Vector;
+use bayou_frames::Fault;
+use bayou_net::{answer_offer, pull_from};
 use bayou_node::{Desks, Node};
-use bayou_peer::{Fault, PullFault, answer_offer, pull_from};
+use bayou_peer::PullFault;
 use bayou_server::TakeFault;
 use bayou_streams::Channel;
 use std::alloc::Global;

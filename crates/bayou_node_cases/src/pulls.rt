@@ -5,8 +5,9 @@ use crate::fixtures::{Served, begun, holds, must_be_so, must_hold, vector};
 use crate::items::{Given, item, stream, write};
 use crate::takes;
 use bayou_base::Vector;
+use bayou_frames::Fault;
 use bayou_peer::{
-    Fault, PullFault, Pulled, answer_offer_on, cut_after, pull_from_on, pull_on, serve_offer_on,
+    PullFault, Pulled, answer_offer_on, cut_after, pull_from_on, pull_on, serve_offer_on,
 };
 use bayou_server::{StartFault, TakeFault};
 use bayou_streams::Channel;

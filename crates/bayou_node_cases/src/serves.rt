@@ -4,7 +4,7 @@ use crate::fakes::{EndlessReader, FakeReader};
 use crate::fixtures::{Served, holds, must_be_so, must_hold};
 use crate::items::{is_stream, stream};
 use crate::pulls::{failing, full, served_over, tens_before};
-use bayou_peer::Fault;
+use bayou_frames::Fault;
 use bayou_streams::Channel;
 use std::alloc::Global;
 use std::io;

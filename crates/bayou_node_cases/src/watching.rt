@@ -1,8 +1,9 @@
 //! A pull that is watched from both sides: the reader that gives Items sees how many were taken.
 use crate::items::item;
 use bayou_base::Vector;
+use bayou_frames::Fault;
 use bayou_lang::RestingWrite;
-use bayou_peer::{Fault, PullFault, Replica, pull_from_on};
+use bayou_peer::{PullFault, Replica, pull_from_on};
 use bayou_server::{TakeFault, Took};
 use bayou_streams::Channel;
 use std::alloc::{AllocError, Global};

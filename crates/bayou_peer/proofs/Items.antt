@@ -1,6 +1,6 @@
 -- The Items that are sent, and how they grow by a few at a time.
 use Rattle.std.proofs.Common.{arith, ◌≡◌, ◌<◌, ℕ, ◌+◌, List, [], ◌∷◌, ◌++◌, Option, None, Some, Ok, Err, IfSome, refl, sym, ap, subst, get_or, add-one, ◌∙◌, append_assoc, length, length-append, take, drop}
-use Rattle.std.proofs.KnownBytes.{Appends-nil, Appends-trans}
+use Rattle.std.proofs.KnownBytes.{Appends-trans}
 use Rattle.std.proofs.lemmas.Grind.{flat_map-append}
 use Rattle.std.proofs.lemmas.List.{append-nil, map-append, take-append-drop}
 use Rattle.std.proofs.Math.Seq.{take-suc}
@@ -11,10 +11,12 @@ use Rattle.bayou_base.specs.Vector.{raised}
 use Rattle.bayou_lang.specs.declared.write.Write.{Write}
 use Rattle.bayou_lang.specs.Ranges.{IsWrite}
 use Rattle.bayou_lang.specs.Writes.{lacking_of, raised_by}
-use Rattle.bayou_peer.specs.declared.fault.Fault.{Fault}
+use Rattle.bayou_frames.specs.declared.fault.Fault.{Fault}
 use Rattle.bayou_peer.specs.Offers.{Answers, Sends}
 use Rattle.bayou_peer.specs.Inner.Sending.{HasSent, SendsBatch, SendsItems}
-use Rattle.bayou_peer.specs.Spelled.{answer_bytes, item_bytes, items_of}
+use Rattle.bayou_frames.specs.Laws.Bytes.{front_behind, front_of_more, front_of_whole}
+use Rattle.bayou_frames.specs.Laws.Frames.{spelling_of}
+use Rattle.bayou_frames.specs.Spelled.{answer_bytes, item_bytes, items_of}
 use Rattle.bayou_streams.specs.Written.{AppendsFront}
 use Rattle.bayou_wire.specs.declared.frame.Frame.{Frame}
 use Rattle.bayou_wire.specs.declared.frame.Frame.TheVariants.{End, Item}
@@ -22,10 +24,6 @@ use Rattle.bayou_wire.specs.Spelling.{SpellsFrame, kind_of, payload_bytes}
 use Rattle.bayou_wire.specs.Stream.{spelling, spellings}
 
 -- ---- their bytes
-
-pub spelling_of : (frame : Frame) (bytes : List ℕ) → SpellsFrame bytes frame → bytes ≡ spelling frame
-unfolding spelling
-spelling_of frame bytes spells = spells.spelled
 
 spelling_some : (frame : Frame) → 0 < length (spelling frame)
 unfolding spelling
@@ -62,22 +60,6 @@ raised_by-push counts (first ∷ writes) write = raised_by-push (raised counts f
 
 pub raised_to : (told now : List ℕ) (batch writes : List Write) → now ≡ raised_by told batch → batch ≡ writes → now ≡ raised_by told writes
 raised_to told now batch writes is same = is ∙ ap (raised_by told) same
-
--- ---- what was written
-
-pub front_of_nothing : (contents : Option (List ℕ)) (text : List ℕ) → AppendsFront contents contents text
-front_of_nothing contents text = ([], text, refl, Appends-nil contents)
-
-pub front_of_more : (before after : Option (List ℕ)) (text more : List ℕ) → AppendsFront before after text → AppendsFront before after (text ++ more)
-front_of_more before after text more (front, rest, split, wrote) =
-    (front, rest ++ more, ap (λ text. text ++ more) split ∙ append_assoc front rest more, wrote)
-
-pub front_behind : (before mid after : Option (List ℕ)) (text more : List ℕ) → Appends before mid text → AppendsFront mid after more → AppendsFront before after (text ++ more)
-front_behind before mid after text more wrote (front, rest, split, then) =
-    (text ++ front, rest, ap (λ more. text ++ more) split ∙ sym (append_assoc text front rest), Appends-trans before mid after text front wrote then)
-
-pub front_of_whole : (before after : Option (List ℕ)) (text : List ℕ) → Appends before after text → AppendsFront before after text
-front_of_whole before after text wrote = (text, [], sym (append-nil text), wrote)
 
 -- ---- a batch
 

@@ -4,33 +4,17 @@ use Rattle.std.proofs.lemmas.List.{append-nil}
 use Rattle.std.specs.List.{AllByRecursion}
 use Rattle.bayou_lang.specs.declared.write.Write.{Write}
 use Rattle.bayou_lang.specs.Ranges.{IsWrite}
-use Rattle.bayou_peer.specs.declared.fault.Fault.TheVariants.{BadFrame, Cut}
+use Rattle.bayou_frames.specs.declared.fault.Fault.TheVariants.{BadFrame, Cut}
 use Rattle.bayou_peer.specs.declared.fault.PullFault.TheVariants.{Stream}
 use Rattle.bayou_peer.specs.declared.pulling.Pulled.{Pulled}
 use Rattle.bayou_peer.specs.Pulls.{EndsOf, HasNoPlace, IsBad, Received, Ways}
-use Rattle.bayou_peer.specs.Spelled.{items_of}
-use Rattle.bayou_wire.specs.declared.fault.Fault.{Fault}
-use Rattle.bayou_wire.specs.declared.frame.Frame.{Frame}
+use Rattle.bayou_frames.specs.Laws.Frames.{begins_one, faulty_on, not_faulty, not_partial, partial_not_faulty}
+use Rattle.bayou_frames.specs.Spelled.{items_of}
 use Rattle.bayou_wire.specs.declared.frame.Frame.TheVariants.{End, Item}
 use Rattle.bayou_wire.specs.declared.layout.TheConstants as layout
-use Rattle.bayou_wire.specs.Spelling.{IsFrame}
 use Rattle.bayou_wire.specs.Stream.{IsFaulty, IsPartial, spelling, spellings}
-use Rattle.bayou_wire.proofs.Feeding.{faulty_on}
-use Rattle.bayou_wire.proofs.Fronts.{frame_begins_one, partial_not_faulty, whole_not_faulty, whole_not_partial}
 
 -- ---- frames in their spelling
-
-pub begins_one : (a b : Frame) (x y : List ℕ) → IsFrame a → IsFrame b → spelling a ++ x ≡ spelling b ++ y → (a ≡ b) × (x ≡ y)
-unfolding spelling
-begins_one a b x y is_a is_b same = frame_begins_one a b x y is_a is_b same
-
-pub not_faulty : (bytes : List ℕ) (frame : Frame) (rest : List ℕ) (fault : Fault) → IsFrame frame → bytes ≡ spelling frame ++ rest → IsFaulty bytes fault → ⊥
-unfolding spelling
-not_faulty bytes frame rest fault is same faulty = whole_not_faulty bytes frame rest fault is same faulty
-
-pub not_partial : (bytes : List ℕ) (frame : Frame) (rest : List ℕ) → IsFrame frame → bytes ≡ spelling frame ++ rest → IsPartial bytes → ⊥
-unfolding spelling
-not_partial bytes frame rest is same partial = whole_not_partial bytes frame rest is same partial
 
 -- the kinds differ, whatever the number
 end_is_no_item : (number : ℕ) (write : Write) (x y : List ℕ) → spelling (End number) ++ x ≡ spelling (Item write) ++ y → ⊥

@@ -6,16 +6,12 @@ use Rattle.std.specs.List.{AllByRecursion}
 use Rattle.bayou_lang.specs.declared.write.Write.{Write}
 use Rattle.bayou_lang.specs.Ranges.{IsWrite}
 use Rattle.bayou_peer.specs.Meeting.{cut_answer}
-use Rattle.bayou_peer.specs.Spelled.{answer_bytes, items_of}
+use Rattle.bayou_frames.specs.Laws.Frames.{spelling_length}
+use Rattle.bayou_frames.specs.Spelled.{answer_bytes, items_of}
 use Rattle.bayou_wire.specs.declared.frame.Frame.{Frame}
 use Rattle.bayou_wire.specs.declared.frame.Frame.TheVariants.{Item, End}
 use Rattle.bayou_wire.specs.Spelling.{IsFrame, frame_bytes}
 use Rattle.bayou_wire.specs.Stream.{HasLength, spelling, spellings}
-use Rattle.bayou_wire.proofs.Fronts.{frame_length}
-
-spelling_length : (frame : Frame) (behind : List ℕ) (len : ℕ) → IsFrame frame → HasLength (spelling frame ++ behind) len → length (spelling frame) ≡ 2 + len
-unfolding spelling
-spelling_length frame behind len is h = frame_length frame behind len is h
 
 -- what a frame's length leaves
 passes : (frame : Frame) (rest behind : List ℕ) (len size : ℕ) → IsFrame frame → rest ≡ spelling frame ++ behind → HasLength rest len → size ≡ 2 + len → drop size rest ≡ behind

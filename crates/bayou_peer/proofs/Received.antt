@@ -1,22 +1,21 @@
 -- What a pull has received so far, and how it grows by an Item.
-use Rattle.std.proofs.Common.{arith, inr, ◌≡◌, ◌≢◌, Bool, true, ℕ, ◌+◌, ◌*◌, ◌<◌, ◌≤◌, length, take, List, [], ◌∷◌, ◌++◌, Option, None, Some, Result, Ok, Err, IfSome, IfOk, IfErr, refl, sym, ap, subst, ◌∙◌, append_assoc}
+use Rattle.std.proofs.Common.{arith, inr, ◌≡◌, ◌≢◌, Bool, true, ℕ, ◌+◌, ◌*◌, ◌<◌, ◌≤◌, length, List, [], ◌∷◌, ◌++◌, Option, None, Some, Result, Ok, Err, IfSome, IfOk, IfErr, refl, sym, ap, subst, ◌∙◌, append_assoc}
 use Rattle.std.specs.List.{AllByRecursion}
-use Rattle.std.proofs.KnownBytes.{Consumes-trans}
-use Rattle.std.specs.Io.KnownBytes.{Consumes}
 use Rattle.std.proofs.lemmas.List.{append-nil, length-append, length-map}
 use Rattle.bayou_lang.specs.declared.write.Write.{Write}
 use Rattle.bayou_lang.specs.Ranges.{IsWrite}
 use Rattle.bayou_base.specs.declared.limits.TheConstants.{MAX_TURNS, READ_BYTES}
-use Rattle.bayou_peer.specs.declared.fault.Fault.{Fault}
-use Rattle.bayou_peer.specs.declared.fault.Fault.TheVariants as faults
-use Rattle.bayou_peer.specs.declared.fault.Fault.TheVariants.{BadFrame}
-use Rattle.bayou_peer.specs.Framing.{IsReadFault}
+use Rattle.bayou_frames.specs.declared.fault.Fault.{Fault}
+use Rattle.bayou_frames.specs.declared.fault.Fault.TheVariants as faults
+use Rattle.bayou_frames.specs.declared.fault.Fault.TheVariants.{BadFrame}
+use Rattle.bayou_frames.specs.Framing.{IsReadFault}
 use Rattle.bayou_peer.specs.declared.fault.PullFault.{PullFault}
 use Rattle.bayou_peer.specs.declared.fault.PullFault.TheVariants.{Stream, Refused}
 use Rattle.bayou_peer.specs.declared.pulling.Pulled.{Pulled}
 use Rattle.bayou_peer.specs.Pulls.{HasNoPlace, PullEnds, Received, Stands, Ways}
-use Rattle.bayou_peer.specs.Spelled.{items_of}
-use Rattle.bayou_peer.specs.Stopping.{IsSendFault}
+use Rattle.bayou_frames.specs.Laws.Frames.{frames_size}
+use Rattle.bayou_frames.specs.Spelled.{items_of}
+use Rattle.bayou_frames.specs.Stopping.{IsSendFault}
 use Rattle.bayou_peer.specs.Inner.Steps.{Goes, Standing}
 use Rattle.bayou_peer.specs.Taking.{Lists, TakesEach, hads, new_ones, news}
 use Rattle.bayou_server.specs.declared.answer.Took.{Took}
@@ -153,14 +152,6 @@ received_more {S} ways start now read held piece taken had r = record {
 
 -- ---- how many
 
-frame_size : (frame : Frame) → 3 ≤ length (spelling frame)
-unfolding spelling
-frame_size frame = omega arith
-
-pub frames_size : (frames : List Frame) → 3 * length frames ≤ length (spellings frames)
-frames_size [] = omega arith
-frames_size (frame ∷ frames) = omega (arith, frame_size frame, frames_size frames, length-append (spelling frame) (spellings frames))
-
 -- so many bytes have no more frames than a third
 pub few_frames : (held piece rest : List ℕ) (frames : List Frame) (taken had limit : ℕ) → held ++ piece ≡ spellings frames ++ rest → 3 * (taken + had) + (length held + length piece) ≤ limit
     → 3 * (taken + had + length frames) ≤ limit
@@ -232,11 +223,6 @@ pub standing_room : {S : Type 0} (ways : Ways S) (start now : S) (read : List �
 standing_room {S} ways start now read frames pulled s piece turns later first short room spent budget =
     let few = few_received ways start now read s.held pulled.taken pulled.had s.received in
     omega (arith, few, short, room, spent, budget)
-
--- a read that gives nothing takes nothing
-pub consumes_none : (a b c : Option (List ℕ)) (read piece : List ℕ) (count : ℕ) → count ≡ 0 → Consumes a b read → Consumes b c (take count piece) → Consumes a c read
-consumes_none a b c read piece count none p q =
-    subst (Consumes a c) (append-nil read) (Consumes-trans a b c read [] p (subst (λ (n : ℕ). Consumes b c (take n piece)) none q))
 
 -- ---- before anything was read
 

@@ -5,36 +5,24 @@ use Rattle.std.proofs.lemmas.List.{length-take, take_all}
 use Rattle.std.specs.List.{AllByRecursion}
 use Rattle.bayou_lang.specs.declared.write.Write.{Write}
 use Rattle.bayou_lang.specs.Ranges.{IsWrite}
-use Rattle.bayou_peer.specs.declared.fault.Fault.TheVariants as faults
+use Rattle.bayou_frames.specs.declared.fault.Fault.TheVariants as faults
 use Rattle.bayou_peer.specs.declared.fault.PullFault.{PullFault}
 use Rattle.bayou_peer.specs.declared.fault.PullFault.TheVariants.{Stream, Refused}
 use Rattle.bayou_peer.specs.declared.pulling.Pulled.{Pulled}
 use Rattle.bayou_peer.specs.Meeting.{IsCutOff, Meets, TakesFirst, coming, cut_answer}
 use Rattle.bayou_peer.specs.Pulls.{HasNoPlace, PullEnds, Received, Ways}
-use Rattle.bayou_peer.specs.Spelled.{answer_bytes, items_of}
+use Rattle.bayou_frames.specs.Laws.Frames.{begins_one, faulty_on, not_faulty, not_partial, partial_not_faulty}
+use Rattle.bayou_frames.specs.Spelled.{answer_bytes, items_of}
 use Rattle.bayou_wire.specs.declared.fault.Fault.{Fault}
 use Rattle.bayou_wire.specs.declared.frame.Frame.{Frame}
 use Rattle.bayou_wire.specs.declared.frame.Frame.TheVariants.{Item, End}
 use Rattle.bayou_wire.specs.Spelling.{IsFrame}
 use Rattle.bayou_wire.specs.Stream.{IsFaulty, IsPartial, spelling, spellings}
-use Rattle.bayou_wire.proofs.Fronts.{faulty_more, frame_begins_one, partial_not_faulty, whole_not_faulty, whole_not_partial}
 
 -- ---- frames
 
-begins_one : (a b : Frame) (x y : List ℕ) → IsFrame a → IsFrame b → spelling a ++ x ≡ spelling b ++ y → (a ≡ b) × (x ≡ y)
-unfolding spelling
-begins_one a b x y is also same = frame_begins_one a b x y is also same
-
-whole_is_not_partial : (frame : Frame) (bytes behind : List ℕ) → IsFrame frame → bytes ≡ spelling frame ++ behind → IsPartial bytes → ⊥
-unfolding spelling
-whole_is_not_partial frame bytes behind is same partial = whole_not_partial bytes frame behind is same partial
-
-whole_is_not_faulty : (frame : Frame) (bytes behind : List ℕ) (fault : Fault) → IsFrame frame → bytes ≡ spelling frame ++ behind → IsFaulty bytes fault → ⊥
-unfolding spelling
-whole_is_not_faulty frame bytes behind fault is same faulty = whole_not_faulty bytes frame behind fault is same faulty
-
 whole_is_some : (frame : Frame) (behind : List ℕ) → IsFrame frame → spelling frame ++ behind ≡ [] → ⊥
-whole_is_some frame behind is none = whole_is_not_partial frame [] behind is (sym none) tt
+whole_is_some frame behind is none = not_partial [] frame behind is (sym none) tt
 
 item_is_no_end : (write : Write) (number : ℕ) → Item write ≡ End number → ⊥
 item_is_no_end write number same = cc
@@ -163,11 +151,11 @@ module _ {S : Type 0} (ways : Ways S) (cut : Option ℕ) (sent : List Write) (fe
         let none : rest ≡ tail = f.behind ∙ ap (λ (l : List Write). spellings (items_of l) ++ tail) is in
         elim t.which [
           | inl cut_off ↦ (cut_off.0, subst (λ (l : List Write). TakesFirst ways (coming cut sent) start now taken had l) is f.first)
-          | inr ends ↦ absurd (whole_is_not_partial (End (length sent)) rest [] few (none ∙ ends.2 ∙ sym (append-nil (spelling (End (length sent))))) partial)
+          | inr ends ↦ absurd (not_partial rest (End (length sent)) [] few (none ∙ ends.2 ∙ sym (append-nil (spelling (End (length sent))))) partial)
         ]
     | write ∷ left ↦ λ is.
         let valid = subst (AllByRecursion IsWrite) is f.valid in
-        absurd (whole_is_not_partial (Item write) rest (spellings (items_of left) ++ tail) valid.0
+        absurd (not_partial rest (Item write) (spellings (items_of left) ++ tail) valid.0
         (f.behind ∙ ap (λ (l : List Write). spellings (items_of l) ++ tail) is ∙ append_assoc (spelling (Item write)) (spellings (items_of left)) tail) partial)
   ] refl
 
@@ -215,11 +203,11 @@ module _ {S : Type 0} (ways : Ways S) (cut : Option ℕ) (sent : List Write) (fe
         let at_tail : rest ≡ tail = f.behind ∙ ap (λ (l : List Write). spellings (items_of l) ++ tail) none in
         elim t.which [
           | inl cut_off ↦ partial_not_faulty [] fault tt (subst (λ (l : List ℕ). IsFaulty l fault) (at_tail ∙ cut_off.1) faulty)
-          | inr ends ↦ whole_is_not_faulty (End (length sent)) rest [] fault few (at_tail ∙ ends.2 ∙ sym (append-nil (spelling (End (length sent))))) faulty
+          | inr ends ↦ not_faulty rest (End (length sent)) [] fault few (at_tail ∙ ends.2 ∙ sym (append-nil (spelling (End (length sent))))) faulty
         ]
     | next ∷ left ↦ λ some.
         let valid = subst (AllByRecursion IsWrite) some f.valid in
-        whole_is_not_faulty (Item next) rest (spellings (items_of left) ++ tail) fault valid.0
+        not_faulty rest (Item next) (spellings (items_of left) ++ tail) fault valid.0
         (f.behind ∙ ap (λ (l : List Write). spellings (items_of l) ++ tail) some ∙ append_assoc (spelling (Item next)) (spellings (items_of left)) tail) faulty
   ] refl
 
@@ -269,7 +257,7 @@ module _ {S : Type 0} (ways : Ways S) (cut : Option ℕ) (sent : List Write) (fe
   meets_now now read after (Err (Stream faults.Write)) whole ends = ends.1
   meets_now now read after (Err (Stream faults.BadFrame)) whole (rest, taken, had, inl bad, r) =
       let f = front now read rest after taken had whole r in
-      no_fault now (rest ++ after) bad.0 taken had (faulty_more rest after bad.0 bad.1) f
+      no_fault now (rest ++ after) bad.0 taken had (faulty_on rest after bad.0 bad.1) f
   meets_now now read after (Err (Stream faults.BadFrame)) whole (rest, taken, had, inr bad, r) =
       let f = front now read rest after taken had whole r in
       let same : rest ++ after ≡ spelling bad.0 ++ (bad.1 ++ after) = ap (λ l. l ++ after) bad.3 ∙ append_assoc (spelling bad.0) bad.1 after in

@@ -1,11 +1,7 @@
-pub mod AtNode
-pub mod First
-pub mod Framing
 pub mod Inner
 pub mod Lent
 pub mod Meeting
 pub mod Offers
 pub mod Pulls
-pub mod Spelled
 pub mod Stopping
 pub mod Taking

@@ -5,10 +5,10 @@ use Rattle.std.specs.List.{AllByRecursion}
 use Rattle.bayou_lang.specs.declared.write.Write.{Write}
 use Rattle.bayou_lang.specs.Ranges.{IsWrite}
 use Rattle.bayou_lang.specs.Writes.{lacking_of}
-use Rattle.bayou_peer.specs.declared.fault.Fault.{Fault}
-use Rattle.bayou_peer.specs.First.{BeginsWith, OfferRead}
-use Rattle.bayou_peer.specs.Spelled.{answer_bytes}
-use Rattle.bayou_peer.specs.Stopping.{IsSendFault}
+use Rattle.bayou_frames.specs.declared.fault.Fault.{Fault}
+use Rattle.bayou_frames.specs.First.{BeginsWith, OfferRead}
+use Rattle.bayou_frames.specs.Spelled.{answer_bytes}
+use Rattle.bayou_frames.specs.Stopping.{IsSendFault}
 use Rattle.bayou_streams.specs.Written.{AppendsFront}
 use Rattle.bayou_wire.specs.declared.frame.Frame.TheVariants.{Offer}
 

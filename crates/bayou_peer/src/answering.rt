@@ -1,16 +1,14 @@
 ghost use Rattle.std.specs.Prelude.{◌≡◌, ◌≤◌, ℕ, List, IfErr};
 ghost use Rattle.std.specs.Io.KnownBytes.{Consumes, IsAtEnd};
-ghost use Rattle.bayou_peer.specs.First.{StopsInTime};
+ghost use Rattle.bayou_frames.specs.First.{StopsInTime};
 ghost use Rattle.bayou_peer.specs.Offers.{Answers, OfferServed};
 ghost use Rattle.bayou_peer.specs.Inner.Sending.{SendsItems};
-ghost use Rattle.bayou_peer.specs.Stopping.{IsSendFault, Stops};
+ghost use Rattle.bayou_frames.specs.Stopping.{IsSendFault, Stops};
 
-use crate::fault::Fault;
-use crate::first::read_offer;
-use crate::framing::send;
 use crate::replica::Replica;
 use crate::sending::send_batch;
 use bayou_base::Vector;
+use bayou_frames::{Fault, read_offer, send};
 use bayou_streams::Channel;
 use bayou_wire::{Frame, encode_frame};
 use std::alloc::Global;

@@ -1,9 +1,8 @@
-//! What the clauses of a pull and of an Offer come to: each law is the contract of a function that does nothing.
+//! What the clauses of a pull come to: a law is the contract of a function that does nothing.
 ghost use Rattle.std.specs.Prelude.{◌≡◌, ◌+◌, ◌<◌, ◌^◌, ℕ, List, Ok, Err};
-ghost use Rattle.bayou_peer.specs.declared.fault.Fault.TheVariants.{BadFrame, Cut};
+ghost use Rattle.bayou_frames.specs.declared.fault.Fault.TheVariants.{BadFrame, Cut};
 ghost use Rattle.bayou_peer.specs.declared.fault.PullFault.TheVariants.{Stream};
 ghost use Rattle.bayou_peer.specs.declared.pulling.Pulled.{Pulled as Told};
-ghost use Rattle.bayou_peer.specs.First.{OfferOf};
 ghost use Rattle.bayou_peer.specs.Pulls.{EndsOf};
 
 use crate::replica::Replica;
@@ -25,12 +24,4 @@ pub fn the_input_decides<P: Replica, Q: Replica>()
     ensures cut_not_bad { (start now : P) (other after : Q) (input : List ℕ)
         → EndsOf (record { list = P.list; takes = P.takes }) start now input (Err (Stream Cut))
         → ¬ (EndsOf (record { list = Q.list; takes = Q.takes }) other after input (Err (Stream BadFrame))) }
-{}
-
-/// What the input holds decides whether an Offer is read, and which, whoever reads it.
-pub fn the_input_decides_the_offer()
-    ensures one { (input counts others : List ℕ) → OfferOf input (Ok counts) → OfferOf input (Ok others) → counts ≡ others }
-    ensures not_cut { (input counts : List ℕ) → OfferOf input (Ok counts) → ¬ (OfferOf input (Err Cut)) }
-    ensures not_bad { (input counts : List ℕ) → OfferOf input (Ok counts) → ¬ (OfferOf input (Err BadFrame)) }
-    ensures cut_not_bad { (input : List ℕ) → OfferOf input (Err Cut) → ¬ (OfferOf input (Err BadFrame)) }
 {}

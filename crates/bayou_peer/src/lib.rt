@@ -3,32 +3,24 @@
 //!
 //! Callers see a [`Replica`] as the list of the Writes that it holds, where it tells it, and as the relation by which it takes
 //! one. An engine is lent a replica and a channel (`bayou_streams`), spends the channel's turns, and ends with an answer or the
-//! fault that ended it. [`answer_offer_on`] and [`serve_offer_on`] send, [`pull_on`] and [`pull_from_on`] take. By [`answer_offer`],
-//! [`serve_offer`], [`pull`] and [`pull_from`] a node (`bayou_node`) takes part, whose lock is free between two batches and between two
-//! Items, so that others are served meanwhile; of what it holds no more is told than that it may be behind its lock.
+//! fault that ended it. [`answer_offer_on`] and [`serve_offer_on`] send, [`pull_on`] and [`pull_from_on`] take.
 //!
 //! Callers owe nothing: strangers may send any bytes. Want of memory is an answer only where a growth was refused. It isn't
 //! promised that a stream gives or takes anything, nor, of a replica that doesn't tell its list, what was sent.
 #![tactic(auto)]
 
 pub mod answering;
-mod at_node;
 pub mod fault;
-mod first;
-pub mod framing;
 pub mod laws;
 mod lent;
 pub mod meeting;
-pub mod node;
 pub mod pulling;
 pub mod replica;
 pub mod sending;
 
 pub use answering::{answer_offer_on, serve_offer_on};
-pub use fault::{Fault, PullFault};
-pub use framing::{Came, feed_piece, read_piece, send};
+pub use fault::PullFault;
 pub use meeting::cut_after;
-pub use node::{answer_offer, pull, pull_from, serve_offer};
 pub use pulling::{Pulled, pull_from_on, pull_on};
 pub use replica::Replica;
 pub use sending::gather;

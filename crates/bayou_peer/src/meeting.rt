@@ -6,7 +6,7 @@ ghost use Rattle.bayou_peer.specs.Meeting.{Meets, cut_answer};
 ghost use Rattle.bayou_peer.specs.Pulls.{PullEnds};
 ghost use Rattle.bayou_peer.specs.declared.fault.PullFault.{PullFault};
 ghost use Rattle.bayou_peer.specs.declared.pulling.Pulled.{Pulled};
-ghost use Rattle.bayou_peer.specs.Spelled.{answer_bytes};
+ghost use Rattle.bayou_frames.specs.Spelled.{answer_bytes};
 
 use crate::replica::Replica;
 use bayou_wire::frame_len;

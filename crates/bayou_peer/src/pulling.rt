@@ -4,7 +4,7 @@ ghost use Rattle.std.specs.Io.KnownBytes.{Appends, Consumes, IsAtEnd};
 ghost use Rattle.bayou_base.specs.declared.limits.TheConstants.{MAX_TURNS, READ_BYTES};
 ghost use Rattle.bayou_lang.specs.Ranges.{IsWrite};
 ghost use Rattle.bayou_lang.specs.Writes.{count_of};
-ghost use Rattle.bayou_peer.specs.declared.fault.Fault.TheVariants.{BadFrame};
+ghost use Rattle.bayou_frames.specs.declared.fault.Fault.TheVariants.{BadFrame};
 ghost use Rattle.bayou_peer.specs.declared.fault.PullFault.TheVariants.{Stream};
 ghost use Rattle.bayou_peer.specs.Pulls.{PullEnds, Received};
 ghost use Rattle.bayou_peer.specs.Inner.Steps.{Goes, GoesOn, IsTakeFault};
@@ -14,11 +14,11 @@ ghost use Rattle.bayou_wire.specs.declared.frame.Frame.TheVariants.{Item, Offer}
 ghost use Rattle.bayou_wire.specs.Spelling.{IsFrame};
 ghost use Rattle.bayou_wire.specs.Stream.{IsPartial, spelling, spellings};
 
-use crate::fault::{Fault, PullFault};
-use crate::framing::{feed_piece, read_piece, send};
+use crate::fault::PullFault;
 use crate::replica::Replica;
 use bayou_base::Vector;
 use bayou_base::limits::READ_BYTES;
+use bayou_frames::{Fault, feed_piece, read_piece, send};
 use bayou_lang::Write as Held;
 use bayou_server::Took;
 use bayou_streams::Channel;

@@ -5,14 +5,13 @@ ghost use Rattle.bayou_base.specs.declared.limits.TheConstants.{ITEMS_AT_ONCE};
 ghost use Rattle.bayou_lang.specs.Ranges.{IsWrite};
 ghost use Rattle.bayou_lang.specs.Writes.{lacking_of, raised_by};
 ghost use Rattle.bayou_peer.specs.Inner.Sending.{SendsBatch};
-ghost use Rattle.bayou_peer.specs.Spelled.{item_bytes};
-ghost use Rattle.bayou_peer.specs.Stopping.{IsSendFault, Stops};
+ghost use Rattle.bayou_frames.specs.Spelled.{item_bytes};
+ghost use Rattle.bayou_frames.specs.Stopping.{IsSendFault, Stops};
 
-use crate::fault::Fault;
-use crate::framing::send;
 use crate::replica::Replica;
 use bayou_base::Vector;
 use bayou_base::limits::ITEMS_AT_ONCE;
+use bayou_frames::{Fault, send};
 use bayou_lang::RestingWrite;
 use bayou_streams::Channel;
 use bayou_wire::encode_item;

@@ -1,7 +1,5 @@
 -- What is printed for a verdict and for a survey: this project's own lines.
-use Rattle.std.specs.Prelude.{ℕ, List, [], ◌++◌, Option, None, Some, Result, Ok, Err, codes, decimal, flat_map}
-use Rattle.std.specs.Global.{Vec}
-use Rattle.bayou_base.specs.declared.wid.Wid.{Wid}
+use Rattle.std.specs.Prelude.{ℕ, List, [], ◌++◌, Option, None, Some, Result, Ok, Err, codes, decimal}
 use Rattle.bayou_judge.specs.declared.breach.Breach.{Breach}
 use Rattle.bayou_judge.specs.declared.breach.Guarantee.{Guarantee}
 use Rattle.bayou_judge.specs.declared.breach.Guarantee.TheVariants.{ReadYourWrites, MonotonicReads, WritesFollowReads, MonotonicWrites}
@@ -49,8 +47,3 @@ abbrev pub surveyed_text : Surveyed → List ℕ
 surveyed_text surveyed =
     codes "survey " ++ (decimal surveyed.session.index ++ (codes " ryw " ++ (found_text surveyed.ryw ++ (codes " mr " ++ (found_text surveyed.mr
     ++ (codes " wfr " ++ (found_text surveyed.wfr ++ (codes " mw " ++ (found_text surveyed.mw ++ codes "\n")))))))))
-
--- a line for each session
-abbrev pub survey_text : Result (Vec Surveyed) Refusal → List ℕ
-survey_text (Ok list) = flat_map surveyed_text list.items
-survey_text (Err refusal) = refused_text refusal

@@ -8,11 +8,12 @@ ghost use Rattle.bayou_print.specs.Printed.{adopted_text, counts_text, exchange_
 use crate::verdict::{refused_line, verdict_line};
 use bayou_audit::Totals;
 use bayou_base::{Accepted, Key, Seen, ServerId, SessionId, Value, Vector, Wid};
+use bayou_frames::Fault as Stream;
 use bayou_lang::Outcome;
 use bayou_log::Listed;
 use bayou_machine::{Answer, Exchange, Recovery};
 use bayou_node::Settled;
-use bayou_peer::{Fault as Stream, PullFault, Pulled};
+use bayou_peer::{PullFault, Pulled};
 use bayou_server::{ReopenFault, StartFault, TakeFault, WriteFault};
 use serde_json::Value as Json;
 use std::alloc::{AllocError, Global};

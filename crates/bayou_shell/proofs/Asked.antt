@@ -1,7 +1,7 @@
 -- Texts that were asked for.
 use Rattle.std.proofs.Common.{◌≡◌, ℕ, List, Result, Ok, Err, IfErr, OnOk, sym, subst}
-use Rattle.bayou_shell.specs.declared.fault.Fault.{Fault}
-use Rattle.bayou_shell.specs.declared.fault.Fault.TheVariants.{Output}
+use Rattle.bayou_print.specs.declared.fault.Fault.{Fault}
+use Rattle.bayou_print.specs.declared.fault.Fault.TheVariants.{Output}
 use Rattle.bayou_shell.specs.Program.{WritesText}
 use Rattle.bayou_streams.specs.Account.{Account, Takes, TakesFront}
 

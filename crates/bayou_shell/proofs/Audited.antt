@@ -7,23 +7,24 @@ use Rattle.bayou_judge.specs.declared.verdict.Verdict.{Verdict}
 use Rattle.bayou_print.specs.Verdicts.{verdict_text}
 use Rattle.bayou_script.specs.AuditFile.{Evidence, IsAuditFile, audit_order}
 use Rattle.bayou_script.specs.Order.{lines_of}
-use Rattle.bayou_streams.specs.Account.{Account, Pays, Takes, TakesFront}
+use Rattle.bayou_streams.specs.Account.{Account, Pays, Takes}
 use Rattle.bayou_base.specs.declared.limits.TheConstants.{MAX_TURNS}
 use Rattle.bayou_streams.proofs.Taken.{Pays-part, Pays-whole}
-use Rattle.bayou_shell.specs.Turns.{cut_lines}
+use Rattle.bayou_print.specs.Turns.{cut_lines}
 use Rattle.std.specs.Prelude.{is_ok}
-use Rattle.bayou_shell.specs.Fault.{ended_status, verdict_status}
+use Rattle.bayou_print.specs.Fault.{ended_status, verdict_status}
 use Rattle.bayou_shell.specs.Audit.{AuditsAs, IsAudit, IsAuditPart, IsBehind, IsSurveyOf, IsVerdictOf, nothing, of_both, of_verdict}
-use Rattle.bayou_shell.specs.declared.ended.Ended.{Ended}
-use Rattle.bayou_shell.specs.declared.fault.Fault.{Fault}
-use Rattle.bayou_shell.specs.declared.fault.Fault.TheVariants.{Line, Device, Network, Input, Output}
-use Rattle.bayou_shell.specs.declared.fault.Fault.TheVariants as faults
-use Rattle.bayou_shell.specs.Inner.Faults.{IsReadFault, IsRunFault}
-use Rattle.bayou_shell.specs.Inner.Waiting.{Gathers, Stage}
-use Rattle.bayou_shell.proofs.Gathered.{Gathers-nil, Gathers-trans, Takes-all, Takes-front, Takes-rest}
+use Rattle.bayou_print.specs.declared.ended.Ended.{Ended}
+use Rattle.bayou_print.specs.declared.fault.Fault.{Fault}
+use Rattle.bayou_print.specs.declared.fault.Fault.TheVariants.{Line, Device, Network, Input, Output}
+use Rattle.bayou_print.specs.declared.fault.Fault.TheVariants as faults
+use Rattle.bayou_print.specs.Faults.{IsRunFault}
+use Rattle.bayou_shell.specs.Inner.Faults.{IsReadFault}
+use Rattle.bayou_print.specs.Waiting.{Gathers, Stage}
+use Rattle.bayou_print.specs.Laws.Gathered.{Gathers-nil, Gathers-trans}
 
 -- a front of a front is one
-part_front : (evidence : Evidence) (text front rest : List ℕ) → text ≡ front ++ rest → IsAuditPart evidence text → IsAuditPart evidence front
+pub part_front : (evidence : Evidence) (text front rest : List ℕ) → text ≡ front ++ rest → IsAuditPart evidence text → IsAuditPart evidence front
 part_front evidence text [] rest split part = nothing refl
 part_front evidence text front rest split (nothing none) = nothing (front_none front rest (sym split ∙ none))
   where
@@ -38,23 +39,6 @@ part_front evidence text front rest split (of_both verdict behind missing is sur
 -- the whole is a front
 pub part_whole : (evidence : Evidence) (ended : Ended) (text : List ℕ) → IsAudit evidence ended text → IsAuditPart evidence text
 part_whole evidence ended text all = of_both all.verdict all.rest [] all.is all.behind (sym all.lines ∙ sym (append-nil text))
-
--- what waited at the end was written too
-pub audit_written : (evidence : Evidence) (ended : Ended) (a b : Stage) (c : Account) → a.waiting ≡ [] → (text : List ℕ) × IsAudit evidence ended text × Gathers a b text []
-    → Takes b.output c b.waiting → (text : List ℕ) × IsAudit evidence ended text × Takes a.output c text
-audit_written evidence ended a b c none (text, is, gathered) took = (text, is, Takes-all a b c text none gathered took)
-
--- or a part of it
-pub audit_part : (evidence : Evidence) (a b : Stage) (c : Account) (text missing : List ℕ) → a.waiting ≡ [] → IsAuditPart evidence text → Gathers a b text missing
-    → TakesFront b.output c b.waiting → (text : List ℕ) × IsAuditPart evidence text × Takes a.output c text
-audit_part evidence a b c text missing none is gathered more =
-    let (front, rest, split, took) = Takes-rest a b c text missing none gathered more in (front, part_front evidence text front rest split is, took)
-
--- or nothing of it
-pub audit_taken : (evidence : Evidence) (a b : Stage) (text missing : List ℕ) → a.waiting ≡ [] → IsAuditPart evidence text → Gathers a b text missing
-    → (text : List ℕ) × IsAuditPart evidence text × Takes a.output b.output text
-audit_taken evidence a b text missing none is gathered =
-    let (front, rest, split, took) = Takes-front a b text missing none gathered in (front, part_front evidence text front rest split is, took)
 
 -- nothing was printed
 pub no_part : (evidence : Evidence) (a : Stage) → (text missing : List ℕ) × IsAuditPart evidence text × Gathers a a text missing

@@ -1,9 +1,6 @@
 pub mod Asked
 pub mod Audited
-pub mod Gathered
 pub mod Nets
 pub mod Read
 pub mod Runs
-pub mod Sequence
 pub mod Tasks
-pub mod Told

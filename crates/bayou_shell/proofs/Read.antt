@@ -5,7 +5,7 @@ use Rattle.bayou_script.specs.declared.fault.Refusal.{Refusal}
 use Rattle.bayou_script.specs.declared.fault.Refusal.TheVariants.{Line, OutOfMemory}
 use Rattle.bayou_script.specs.Reading.{IsRefusedSoFar}
 use Rattle.bayou_script.specs.Order.{IsRefusedBy, Order, RefusedBy, lines_of}
-use Rattle.bayou_shell.specs.Fault.{fault_of}
+use Rattle.bayou_print.specs.Fault.{fault_of}
 use Rattle.bayou_shell.specs.Inner.Faults.{IsReadFault}
 
 -- what holds of the bytes that came, where none is left, holds of the input

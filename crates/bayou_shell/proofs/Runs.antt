@@ -14,22 +14,23 @@ use Rattle.bayou_machine.specs.Machine.{FailsToBegin}
 use Rattle.bayou_machine.specs.Run.{Audited, IsNewRun, Run, Turn}
 use Rattle.bayou_script.specs.Script.{IsScript, Plan, is_served, lines_of, script_order}
 use Rattle.bayou_base.specs.declared.limits.TheConstants.{MAX_TURNS}
-use Rattle.bayou_streams.specs.Account.{Account, Pays, Takes, TakesFront}
+use Rattle.bayou_streams.specs.Account.{Account, Pays, Takes}
 use Rattle.bayou_streams.proofs.Taken.{Pays-part, Pays-whole}
 use Rattle.bayou_text.specs.declared.command.Command.{Command}
 use Rattle.bayou_text.specs.Said.{Said, command_said}
-use Rattle.bayou_shell.specs.declared.fault.Fault.{Fault}
-use Rattle.bayou_shell.specs.declared.fault.Fault.TheVariants.{Line, Device, Network, Input, Output}
-use Rattle.bayou_shell.specs.declared.fault.Fault.TheVariants as faults
+use Rattle.bayou_print.specs.declared.fault.Fault.{Fault}
+use Rattle.bayou_print.specs.declared.fault.Fault.TheVariants.{Line, Device, Network, Input, Output}
+use Rattle.bayou_print.specs.declared.fault.Fault.TheVariants as faults
 use Rattle.std.proofs.Math.Nat.{max-zero, suc-max-suc, zero-max}
-use Rattle.bayou_shell.specs.declared.ended.Ended.{Ended}
-use Rattle.bayou_shell.specs.Fault.{answer_status, answers_status, ended_status, exit_status, fault_of_begin, status_of}
-use Rattle.bayou_shell.specs.Inner.Faults.{IsReadFault, IsRunFault}
-use Rattle.bayou_shell.specs.Inner.Waiting.{Gathers, Stage}
+use Rattle.bayou_print.specs.declared.ended.Ended.{Ended}
+use Rattle.bayou_print.specs.Fault.{answer_status, answers_status, ended_status, exit_status, fault_of_begin, status_of}
+use Rattle.bayou_print.specs.Faults.{IsRunFault}
+use Rattle.bayou_shell.specs.Inner.Faults.{IsReadFault}
+use Rattle.bayou_print.specs.Waiting.{Gathers, Stage}
 use Rattle.bayou_print.specs.Printed.{answer_text}
 use Rattle.bayou_shell.specs.Run.{Prints, PrintsPart, RunsAs, answers_text}
-use Rattle.bayou_shell.specs.Turns.{EndsReading, EndsWriting, cut_lines}
-use Rattle.bayou_shell.proofs.Gathered.{Gathers-trans, Takes-all, Takes-front, Takes-rest}
+use Rattle.bayou_print.specs.Turns.{EndsReading, EndsWriting, cut_lines}
+use Rattle.bayou_print.specs.Laws.Gathered.{Gathers-trans}
 
 and_right : (a b : Bool) → IsTrue (a && b) → IsTrue b
 and_right true b both = both
@@ -181,25 +182,6 @@ PrintsPart-whole plan ended text all = record {
   missing = [];
   lines = sym all.lines ∙ sym (append-nil text);
 }
-
--- what waited at the end was written too
-pub all_written : (plan : Plan) (ended : Ended) (a b : Stage) (c : Account) → a.waiting ≡ [] → (text : List ℕ) × Prints plan ended text × Gathers a b text []
-    → Takes b.output c b.waiting → (text : List ℕ) × Prints plan ended text × Takes a.output c text
-all_written plan ended a b c none (text, prints, gathered) took = (text, prints, Takes-all a b c text none gathered took)
-
--- or a part of it
-pub part_written : (plan : Plan) (a b : Stage) (c : Account) (text missing : List ℕ) → a.waiting ≡ [] → PrintsPart plan text → Gathers a b text missing
-    → TakesFront b.output c b.waiting → (text : List ℕ) × PrintsPart plan text × Takes a.output c text
-part_written plan a b c text missing none prints gathered more =
-    let (front, rest, split, took) = Takes-rest a b c text missing none gathered more in
-    (front, PrintsPart-front plan text front rest split prints, took)
-
--- or nothing of it
-pub part_taken : (plan : Plan) (a b : Stage) (text missing : List ℕ) → a.waiting ≡ [] → PrintsPart plan text → Gathers a b text missing
-    → (text : List ℕ) × PrintsPart plan text × Takes a.output b.output text
-part_taken plan a b text missing none prints gathered =
-    let (front, rest, split, took) = Takes-front a b text missing none gathered in
-    (front, PrintsPart-front plan text front rest split prints, took)
 
 -- where the input isn't taken as a script, nothing is answered
 pub RunsAs-unread : (known contents : Option (List ℕ)) (fault : Fault) → IsReadFault script_order known fault → IfSome known (λ input. RunsAs input (Err fault) contents contents)

@@ -10,11 +10,11 @@ use Rattle.bayou_judge.specs.declared.verdict.Verdict.{Verdict}
 use Rattle.bayou_print.specs.Verdicts.{surveyed_text, verdict_text}
 use Rattle.bayou_script.specs.AuditFile.{Evidence, IsAuditFile, IsAuditRefused}
 use Rattle.bayou_script.specs.Script.{lines_of}
-use Rattle.bayou_shell.specs.declared.ended.Ended.{Ended}
-use Rattle.bayou_shell.specs.declared.fault.Fault.{Fault}
-use Rattle.bayou_shell.specs.declared.fault.Fault.TheVariants.{Line, Device, Network, Input, Output}
-use Rattle.bayou_shell.specs.declared.fault.Fault.TheVariants as fault
-use Rattle.bayou_shell.specs.Fault.{ended_status, verdict_status}
+use Rattle.bayou_print.specs.declared.ended.Ended.{Ended}
+use Rattle.bayou_print.specs.declared.fault.Fault.{Fault}
+use Rattle.bayou_print.specs.declared.fault.Fault.TheVariants.{Line, Device, Network, Input, Output}
+use Rattle.bayou_print.specs.declared.fault.Fault.TheVariants as fault
+use Rattle.bayou_print.specs.Fault.{ended_status, verdict_status}
 
 -- the verdict on the evidence; want of memory is none
 pub record IsVerdictOf (evidence : Evidence) (verdict : Result Verdict Refusal) : Type 0 where

@@ -2,14 +2,15 @@
 use Rattle.std.specs.Prelude.{◌≡◌, ℕ, List, Option, IfSome, Result, Ok, Err}
 use Rattle.std.specs.Io.KnownBytes.{Appends, Keeps}
 use Rattle.bayou_command.specs.Words.{AreMistaken, AskForText, Asked, Input, a_net, a_run, an_audit}
-use Rattle.bayou_shell.specs.declared.ended.Ended.{Ended}
-use Rattle.bayou_shell.specs.declared.fault.Fault.{Fault}
-use Rattle.bayou_shell.specs.declared.fault.Fault.TheVariants.{Line, Memory, Device, Network, Output}
-use Rattle.bayou_shell.specs.declared.fault.Fault.TheVariants.{Input as InputFault}
-use Rattle.bayou_shell.specs.Fault.{status_of}
+use Rattle.bayou_print.specs.declared.ended.Ended.{Ended}
+use Rattle.bayou_print.specs.declared.fault.Fault.{Fault}
+use Rattle.bayou_print.specs.declared.fault.Fault.TheVariants.{Line, Memory, Device, Network, Output}
+use Rattle.bayou_print.specs.declared.fault.Fault.TheVariants.{Input as InputFault}
+use Rattle.bayou_print.specs.Fault.{status_of}
 use Rattle.bayou_shell.specs.Audit.{AuditsAs}
-use Rattle.bayou_shell.specs.Net.{NetsAs}
+use Rattle.bayou_shell.specs.Net.{NetsAs, Runs}
 use Rattle.bayou_shell.specs.Run.{RunsAs}
+use Rattle.bayou_script.specs.Script.{Plan}
 use Rattle.bayou_streams.specs.Written.{AppendsFront}
 
 -- the exit status of a command line that is refused
@@ -39,10 +40,10 @@ pub data TellsOf (words : List (List ℕ)) (status : ℕ) (old new : Option (Lis
   no_memory : status ≡ status_of Memory → Keeps old new → TellsOf words status old new
 
 -- what is asked for is done on an input of these bytes
-abbrev pub Works : Asked → List ℕ → Result Ended Fault → Option (List ℕ) → Option (List ℕ) → Type 0
-Works (a_run source) input ended old new = RunsAs input ended old new
-Works (an_audit source) input ended old new = AuditsAs input ended old new
-Works (a_net folder source) input ended old new = NetsAs input ended old new
+abbrev pub Works : (runs : List ℕ → Runs) → Asked → List ℕ → Result Ended Fault → Option (List ℕ) → Option (List ℕ) → Type 0
+Works runs (a_run source) input ended old new = RunsAs input ended old new
+Works runs (an_audit source) input ended old new = AuditsAs input ended old new
+Works runs (a_net folder source) input ended old new = NetsAs (runs folder) input ended old new
 
 abbrev pub input_of_asked : Asked → Input
 input_of_asked (a_run source) = source
@@ -51,8 +52,8 @@ input_of_asked (a_net folder source) = source
 
 -- What becomes of what is asked for on a file: the file may be refused, or memory may run out before it is opened, and nothing is printed;
 -- else it is done on what a reader of it gives.
-pub data WorksOn {R : Type 0} (opens : R → Type 0) (refuses : Type 0) (remaining : R → Option (List ℕ)) (asked : Asked) (ended : Result Ended Fault)
+pub data WorksOn {R : Type 0} (opens : R → Type 0) (refuses : Type 0) (runs : List ℕ → Plan → Result Ended Fault → Type 0) (remaining : R → Option (List ℕ)) (asked : Asked) (ended : Result Ended Fault)
     (old new : Option (List ℕ)) : Type 0 where
-  not_opened : refuses → ended ≡ Err InputFault → Keeps old new → WorksOn opens refuses remaining asked ended old new
-  no_memory : ended ≡ Err Memory → Keeps old new → WorksOn opens refuses remaining asked ended old new
-  opened : (reader : R) → opens reader → IfSome (remaining reader) (λ text. Works asked text ended old new) → WorksOn opens refuses remaining asked ended old new
+  not_opened : refuses → ended ≡ Err InputFault → Keeps old new → WorksOn opens refuses runs remaining asked ended old new
+  no_memory : ended ≡ Err Memory → Keeps old new → WorksOn opens refuses runs remaining asked ended old new
+  opened : (reader : R) → opens reader → IfSome (remaining reader) (λ text. Works runs asked text ended old new) → WorksOn opens refuses runs remaining asked ended old new

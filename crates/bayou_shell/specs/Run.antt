@@ -6,12 +6,12 @@ use Rattle.bayou_machine.specs.declared.fault.BeginFault.TheVariants as beginnin
 use Rattle.bayou_machine.specs.Machine.{FailsToBegin}
 use Rattle.bayou_machine.specs.Run.{Audited, IsNewRun, Run}
 use Rattle.bayou_script.specs.Script.{IsRefused, IsScript, Plan, lines_of}
-use Rattle.bayou_shell.specs.declared.ended.Ended.{Ended}
-use Rattle.bayou_shell.specs.declared.fault.Fault.{Fault}
-use Rattle.bayou_shell.specs.declared.fault.Fault.TheVariants.{Line, Device, Network, Input, Output}
-use Rattle.bayou_shell.specs.declared.fault.Fault.TheVariants as fault
+use Rattle.bayou_print.specs.declared.ended.Ended.{Ended}
+use Rattle.bayou_print.specs.declared.fault.Fault.{Fault}
+use Rattle.bayou_print.specs.declared.fault.Fault.TheVariants.{Line, Device, Network, Input, Output}
+use Rattle.bayou_print.specs.declared.fault.Fault.TheVariants as fault
 use Rattle.bayou_print.specs.Printed.{answer_text}
-use Rattle.bayou_shell.specs.Fault.{answers_status, ended_status}
+use Rattle.bayou_print.specs.Fault.{answers_status, ended_status}
 
 -- what is printed for answers where there are so many servers
 abbrev pub answers_text : ℕ → List Answer → List ℕ

@@ -2,18 +2,14 @@
 ghost use Rattle.std.specs.Prelude.{◌≡◌, ◌≤◌, [], List, ℕ, IfErr, IfOk, IfSome, OnOk, ◌⊎◌};
 ghost use Rattle.bayou_script.specs.AuditFile.{evidence_of};
 ghost use Rattle.bayou_shell.specs.Audit.{AuditsAs, IsAudit, IsAuditPart, IsSurveyOf, IsVerdictOf};
-ghost use Rattle.bayou_shell.specs.Inner.Faults.{IsRunFault};
-ghost use Rattle.bayou_shell.specs.Inner.Waiting.{Gathers, stage};
-ghost use Rattle.bayou_shell.specs.Turns.{EndsReading, EndsWriting, cut_lines};
+ghost use Rattle.bayou_print.specs.Faults.{IsRunFault};
+ghost use Rattle.bayou_print.specs.Waiting.{Gathers, stage};
+ghost use Rattle.bayou_print.specs.Turns.{EndsReading, EndsWriting, cut_lines};
 ghost use Rattle.bayou_streams.specs.Account.{Pays, Takes, account};
 
-use crate::ended::Ended;
-use crate::fault::Fault;
 use crate::reading::read_audit;
-use crate::telling::write_each;
-use crate::waiting::Waiting;
 use bayou_judge::{Refusal, Verdict, judge, survey};
-use bayou_print::{Survey, verdict_line};
+use bayou_print::{Ended, Fault, Survey, Waiting, verdict_line, write_each};
 use bayou_script::AuditFile;
 use bayou_streams::{Channel, Output};
 use std::alloc::Global;
@@ -105,18 +101,8 @@ fn audit<W: Write>(
     ensures ready { OnOk result (output.old.channel.turns_left ≤ output.new.channel.turns_left) }
 {
     let mut waiting = waiting;
-    match write_audit(alloc, file, output, &mut waiting) {
-        Ok(ended) => {
-            waiting.write(output)?;
-            Ok(ended)
-        }
-        Err(Fault::Memory) => {
-            // What was printed before is written. Where that fails, want of memory still came first.
-            let _ = waiting.write(output);
-            Err(Fault::Memory)
-        }
-        Err(fault) => Err(fault),
-    }
+    let ended = write_audit(alloc, file, output, &mut waiting);
+    waiting.end(ended, output)
 }
 
 /// Reads an audit file to its end, or to its least line with a fault, and writes the verdict on what it says, and the survey.

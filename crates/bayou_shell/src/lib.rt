@@ -13,32 +13,20 @@
 //!
 //! A caller owes nothing. The theorem on what is printed is about readers and writers that tell their bytes, as those over
 //! memory do; of others only safety and the turns are promised. It isn't promised that memory suffices, or that a stream
-//! gives or takes anything. A run over sockets may wait for locks and connections, and all else for its streams alone.
+//! gives or takes anything. A run over sockets (`bayou_socket_run`) may wait for locks and connections, and all else for its streams alone.
 #![tactic(auto)]
 
 pub mod audit;
-pub mod ended;
-pub mod fault;
 pub mod files;
-mod journals;
 pub mod net;
 pub mod networks;
-mod phases;
 pub mod program;
 mod reading;
 pub mod run;
-mod settling;
-pub mod sockets;
-mod telling;
-mod waiting;
-mod writing;
 
 pub use audit::run_audit;
-pub use ended::Ended;
-pub use fault::Fault;
 pub use files::Files;
 pub use net::run_net;
 pub use networks::Networks;
 pub use program::{refuse_words, run_main, run_taken};
 pub use run::run_script;
-pub use sockets::run_on_sockets;

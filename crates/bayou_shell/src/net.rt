@@ -1,13 +1,12 @@
 //! Scripts over a network to printed lines.
 ghost use Rattle.std.specs.Prelude.{◌≤◌, IfErr, IfSome};
 ghost use Rattle.bayou_shell.specs.Net.{NetsAs};
-ghost use Rattle.bayou_shell.specs.Turns.{EndsReading, EndsWriting, cut_lines};
+ghost use Rattle.bayou_print.specs.Turns.{EndsReading, EndsWriting, cut_lines};
 ghost use Rattle.bayou_streams.specs.Account.{Pays, account};
 
-use crate::ended::Ended;
-use crate::fault::Fault;
 use crate::networks::Networks;
 use crate::reading::read_network_script;
+use bayou_print::{Ended, Fault};
 use bayou_streams::{Channel, Output};
 use std::alloc::Global;
 use std::io::{Read, Write};
@@ -21,7 +20,7 @@ pub fn run_net<N: Networks, R: Read, W: Write>(
     input: &mut Channel<R, ()>,
     output: &mut Output<W>,
 ) -> Result<Ended, Fault>
-    ensures nets { IfSome (R.remaining input.old.reader) (λ text. NetsAs text result (W.contents output.old.channel.writer) (W.contents output.new.channel.writer)) }
+    ensures nets { IfSome (R.remaining input.old.reader) (λ text. NetsAs (N.runs folder.now) text result (W.contents output.old.channel.writer) (W.contents output.new.channel.writer)) }
     ensures read { IfErr result (EndsReading input.new.read_failed input.new.turns_left) }
     ensures written { IfErr result (EndsWriting output.new.channel.write_failed output.new.channel.turns_left) }
     ensures turns { input.new.turns_left ≤ input.old.turns_left }

@@ -1,13 +1,15 @@
 //! Networks that scripts are run over.
-ghost use Rattle.std.specs.Prelude.{◌≤◌, IfErr, List, OnOk, ℕ};
+ghost use Rattle.std.specs.Prelude.{◌≤◌, IfErr, List, OnOk, Result, ℕ};
 ghost use Rattle.bayou_script.specs.Network.{RunsOverNetwork};
+ghost use Rattle.bayou_print.specs.declared.ended.Ended.{Ended as Told};
+ghost use Rattle.bayou_print.specs.declared.fault.Fault.{Fault as Cause};
 ghost use Rattle.bayou_script.specs.Plan.{plan_of};
-ghost use Rattle.bayou_shell.specs.Net.{IsNetFault, KeepsUnstarted};
-ghost use Rattle.bayou_shell.specs.Turns.{EndsWriting};
+ghost use Rattle.bayou_script.specs.Script.{Plan};
+ghost use Rattle.bayou_socket_run.specs.Faults.{IsNetFault, KeepsUnstarted};
+ghost use Rattle.bayou_print.specs.Turns.{EndsWriting};
 ghost use Rattle.bayou_streams.specs.Account.{Takes, account};
 
-use crate::ended::Ended;
-use crate::fault::Fault;
+use bayou_print::{Ended, Fault};
 use bayou_script::Script;
 use bayou_streams::Output;
 use std::alloc::Global;
@@ -15,6 +17,9 @@ use std::io::Write;
 
 /// Where a script is run whose servers have journals in a folder and answer over connections.
 pub trait Networks {
+    /// Whether running this script, with the servers' journals in the folder of this name, may end so.
+    ghost runs: { List ℕ → Plan → Result Told Cause → Type 0 };
+
     /// Runs the script, with the servers' journals in the folder of this name, and writes what is printed for it; or takes it, to be run so
     /// once the words were read, and prints nothing yet. The program's own takes it: a method of a trait can't start threads.
     fn run<W: Write>(
@@ -25,6 +30,7 @@ pub trait Networks {
         output: &mut Output<W>,
     ) -> Result<Ended, Fault>
         requires { RunsOverNetwork (plan_of script) }
+        ensures runs { runs folder.now (plan_of script) result }
         // Lines are put behind what the output holds, and nothing else is done there.
         ensures took { (text : List ℕ) × Takes (account W.contents output.old) (account W.contents output.new) text }
         ensures fault { IfErr result IsNetFault }

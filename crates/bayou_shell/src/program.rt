@@ -1,32 +1,30 @@
 ghost use Rattle.std.specs.IoError.{error_kind};
 ghost use Rattle.std.specs.Prelude.{◌≡◌, ◌≢◌, ◌<◌, ◌≤◌, ℕ, IfErr, IfSome, List, Result, map, true};
 ghost use Rattle.bayou_command.specs.Words.{AskFor, Asked, file, input_seen, standard, task_seen};
-ghost use Rattle.bayou_shell.specs.declared.ended.Ended.{Ended};
-ghost use Rattle.bayou_shell.specs.declared.fault.Fault.{Fault};
-ghost use Rattle.bayou_shell.specs.declared.fault.Fault.TheVariants.{Memory};
-ghost use Rattle.bayou_shell.specs.Fault.{exit_status, status_of};
+ghost use Rattle.bayou_print.specs.declared.ended.Ended.{Ended};
+ghost use Rattle.bayou_print.specs.declared.fault.Fault.{Fault};
+ghost use Rattle.bayou_print.specs.declared.fault.Fault.TheVariants.{Memory};
+ghost use Rattle.bayou_print.specs.Fault.{exit_status, status_of};
 ghost use Rattle.bayou_shell.specs.Program.{TellsOf, Works, WorksOn, WritesText, input_of_asked, refused_status, text_status};
-ghost use Rattle.bayou_shell.specs.Net.{IsNetFault, KeepsUnstarted};
+ghost use Rattle.bayou_socket_run.specs.Faults.{IsNetFault, KeepsUnstarted};
 ghost use Rattle.bayou_streams.specs.Account.{Pays, Takes, account};
-ghost use Rattle.bayou_shell.specs.Turns.{EndsReading, EndsWriting, cut_lines};
+ghost use Rattle.bayou_print.specs.Turns.{EndsReading, EndsWriting, cut_lines};
 
 use crate::audit::run_audit;
-use crate::ended::Ended;
-use crate::fault::Fault;
 use crate::files::Files;
 use crate::net::run_net;
 use crate::networks::Networks;
 use crate::run::run_script;
-use crate::sockets::run_on_sockets;
-use crate::writing::write_text;
 use bayou_command::{Source, Stop, Task, read_words};
+use bayou_net::Sockets;
+use bayou_print::{Ended, Fault, write_text};
 use bayou_script::Script;
+use bayou_socket_run::run_on_sockets;
 use bayou_streams::{Channel, Output};
 use std::alloc::Global;
 use std::convert::AsStr;
 use std::fs::File;
 use std::io::{ErrorKind, Read, Write};
-use std::net::{Net, TcpListener, TcpStream};
 use std::sync::Wait;
 use std::thread::Threads;
 use std::{fs, io};
@@ -99,7 +97,7 @@ fn work<N: Networks, R: Read, W: Write>(
     input: &mut Channel<R, ()>,
     output: &mut Output<W>,
 ) -> Result<Ended, Fault>
-    ensures works { IfSome (R.remaining input.old.reader) (λ text. Works (task_seen task.entry) text result (W.contents output.old.channel.writer) (W.contents output.new.channel.writer)) }
+    ensures works { IfSome (R.remaining input.old.reader) (λ text. Works N.runs (task_seen task.entry) text result (W.contents output.old.channel.writer) (W.contents output.new.channel.writer)) }
     ensures read { IfErr result (EndsReading input.new.read_failed input.new.turns_left) }
     ensures written { IfErr result (EndsWriting output.new.channel.write_failed output.new.channel.turns_left) }
     ensures turns { input.new.turns_left ≤ input.old.turns_left }
@@ -120,7 +118,7 @@ fn work_on<F: Files + Networks, W: Write>(
     files: &mut F,
     output: &mut Output<W>,
 ) -> Result<Ended, Fault>
-    ensures works { WorksOn (F.opens name.now) (F.refuses name.now) ⟦<F::Reader as Read>⟧.remaining (task_seen task.entry) result (W.contents output.old.channel.writer) (W.contents output.new.channel.writer) }
+    ensures works { WorksOn (F.opens name.now) (F.refuses name.now) F.runs ⟦<F::Reader as Read>⟧.remaining (task_seen task.entry) result (W.contents output.old.channel.writer) (W.contents output.new.channel.writer) }
     ensures written { IfErr result (EndsWriting output.new.channel.write_failed output.new.channel.turns_left) }
     ensures paid { Pays (account W.contents output.old) (account W.contents output.new) (cut_lines result) }
 {
@@ -139,9 +137,9 @@ fn do_task<F: Files + Networks, R: Read, W: Write>(
     output: &mut Output<W>,
 ) -> Result<Ended, Fault>
     ensures standard { input_of_asked (task_seen task.entry) ≡ standard → IfSome (R.remaining input.old.reader) (λ text.
-        Works (task_seen task.entry) text result (W.contents output.old.channel.writer) (W.contents output.new.channel.writer)) }
+        Works F.runs (task_seen task.entry) text result (W.contents output.old.channel.writer) (W.contents output.new.channel.writer)) }
     ensures named { (name : List ℕ) → input_of_asked (task_seen task.entry) ≡ file name
-        → WorksOn (F.opens name) (F.refuses name) ⟦<F::Reader as Read>⟧.remaining (task_seen task.entry) result (W.contents output.old.channel.writer) (W.contents output.new.channel.writer) }
+        → WorksOn (F.opens name) (F.refuses name) F.runs ⟦<F::Reader as Read>⟧.remaining (task_seen task.entry) result (W.contents output.old.channel.writer) (W.contents output.new.channel.writer) }
     ensures unread { ¬ (input_of_asked (task_seen task.entry) ≡ standard) → input.new ≡ input.old }
     ensures read { input_of_asked (task_seen task.entry) ≡ standard → IfErr result (EndsReading input.new.read_failed input.new.turns_left) }
     ensures written { IfErr result (EndsWriting output.new.channel.write_failed output.new.channel.turns_left) }
@@ -165,11 +163,11 @@ pub fn run_main<'a, S: AsStr, F: Files + Networks, R: Read, W: Write, E: Write>(
 ) -> u8
     // A task on the standard input.
     ensures standard { (asked : Asked) → AskFor (map S.text words.entry.now) asked → input_of_asked asked ≡ standard → IfSome (R.remaining input.old.reader) (λ text. (ended : Result Ended Fault)
-        × Works asked text ended (W.contents output.old.channel.writer) (W.contents output.new.channel.writer) × (result ≡ exit_status ended)
+        × Works F.runs asked text ended (W.contents output.old.channel.writer) (W.contents output.new.channel.writer) × (result ≡ exit_status ended)
         × IfErr ended (EndsReading input.new.read_failed input.new.turns_left) × IfErr ended (EndsWriting output.new.channel.write_failed output.new.channel.turns_left)) }
     // A task on a file.
     ensures named { (asked : Asked) (name : List ℕ) → AskFor (map S.text words.entry.now) asked → input_of_asked asked ≡ file name → (ended : Result Ended Fault)
-        × WorksOn (F.opens name) (F.refuses name) ⟦<F::Reader as Read>⟧.remaining asked ended (W.contents output.old.channel.writer) (W.contents output.new.channel.writer)
+        × WorksOn (F.opens name) (F.refuses name) F.runs ⟦<F::Reader as Read>⟧.remaining asked ended (W.contents output.old.channel.writer) (W.contents output.new.channel.writer)
         × (result ≡ exit_status ended) × IfErr ended (EndsWriting output.new.channel.write_failed output.new.channel.turns_left) }
     // The standard input isn't read where nothing is asked for of it.
     ensures unread { ¬ ((asked : Asked) × AskFor (map S.text words.entry.now) asked × (input_of_asked asked ≡ standard)) → input.new ≡ input.old }
@@ -205,12 +203,7 @@ pub fn run_taken<T, W, E>(
     errors: &mut Output<E>,
 ) -> u8
 where
-    T: Threads
-        + Wait
-        + fs::Files<File = File>
-        + Net<Stream = TcpStream, Listener = TcpListener>
-        + Send
-        + Sync,
+    T: Threads + Wait + fs::Files<File = File> + Sockets + Send + Sync,
     W: Write,
     E: Write,
     ensures took { (text : List ℕ) × Takes (account W.contents output.old) (account W.contents output.new) text }

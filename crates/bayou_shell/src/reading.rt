@@ -7,10 +7,10 @@ ghost use Rattle.bayou_script.specs.Plan.{plan_of};
 ghost use Rattle.bayou_script.specs.Reading.{HasRead, HasReadAudit, HasReadNetwork, IsRefusedSoFar};
 ghost use Rattle.bayou_script.specs.Script.{IsScript, script_order};
 ghost use Rattle.bayou_shell.specs.Inner.Faults.{IsReadFault};
-ghost use Rattle.bayou_shell.specs.Turns.{EndsReading};
+ghost use Rattle.bayou_print.specs.Turns.{EndsReading};
 
-use crate::fault::Fault;
 use bayou_base::limits::READ_BYTES;
+use bayou_print::Fault;
 use bayou_script::{AuditFile, AuditReader, NetworkScriptReader, Refusal, Script, ScriptReader};
 use bayou_streams::{Channel, Turn};
 use std::alloc::Global;

@@ -9,20 +9,17 @@ ghost use Rattle.bayou_machine.specs.Filed.{operation_of};
 ghost use Rattle.bayou_print.specs.Printed.{answer_text};
 ghost use Rattle.bayou_machine.specs.Run.{IsNewRun, Turn, audited};
 ghost use Rattle.bayou_shell.specs.Run.{Prints, PrintsPart, RunsAs};
-ghost use Rattle.bayou_shell.specs.Fault.{answer_status, ended_status};
-ghost use Rattle.bayou_shell.specs.Inner.Faults.{IsRunFault};
+ghost use Rattle.bayou_print.specs.Fault.{answer_status, ended_status};
+ghost use Rattle.bayou_print.specs.Faults.{IsRunFault};
 ghost use Rattle.bayou_streams.specs.Account.{Pays, Takes, account};
-ghost use Rattle.bayou_shell.specs.Inner.Waiting.{Gathers, stage};
-ghost use Rattle.bayou_shell.specs.Turns.{EndsReading, EndsWriting, cut_lines};
+ghost use Rattle.bayou_print.specs.Waiting.{Gathers, stage};
+ghost use Rattle.bayou_print.specs.Turns.{EndsReading, EndsWriting, cut_lines};
 
-use crate::ended::Ended;
-use crate::fault::Fault;
 use crate::reading::read_script;
-use crate::telling::write_answer;
-use crate::waiting::Waiting;
 use bayou_audit::{Blanks, Four, Ledgers};
 use bayou_base::SESSIONS;
 use bayou_machine::{Filing, Store, places_for};
+use bayou_print::{Ended, Fault, Waiting, write_answer};
 use bayou_script::{Script, Servers};
 use bayou_streams::{Channel, Output};
 use bayou_text::Command;
@@ -105,18 +102,8 @@ fn answer_all<K: Ledgers, W: Write>(
     ensures ready { OnOk result (output.old.channel.turns_left ≤ output.new.channel.turns_left) }
 {
     let mut waiting = waiting;
-    match answer_each(alloc, script, store, filing, output, &mut waiting) {
-        Ok(ended) => {
-            waiting.write(output)?;
-            Ok(ended)
-        }
-        Err(Fault::Memory) => {
-            // What was printed before is written. Where that fails, want of memory still came first.
-            let _ = waiting.write(output);
-            Err(Fault::Memory)
-        }
-        Err(fault) => Err(fault),
-    }
+    let ended = answer_each(alloc, script, store, filing, output, &mut waiting);
+    waiting.end(ended, output)
 }
 
 /// Reads a script to its end, or to its least line with a fault, and writes the lines of its answers. The book counts in these

@@ -1,8 +1,8 @@
 -- Which fault of a link a fault of its streams is. No public clause cites it.
 use Rattle.bayou_client.specs.declared.fault.LinkFault.{LinkFault}
 use Rattle.bayou_client.specs.declared.fault.LinkFault.TheVariants as told
-use Rattle.bayou_peer.specs.declared.fault.Fault.{Fault}
-use Rattle.bayou_peer.specs.declared.fault.Fault.TheVariants as faults
+use Rattle.bayou_frames.specs.declared.fault.Fault.{Fault}
+use Rattle.bayou_frames.specs.declared.fault.Fault.TheVariants as faults
 
 abbrev pub told_fault : Fault → LinkFault
 told_fault faults.Read = told.Lost

@@ -3,8 +3,8 @@ use Rattle.std.specs.Prelude.{◌≡◌, ℕ, Bool, List, ◌++◌, Option, None
 use Rattle.bayou_client.specs.declared.reading.Reply.{Reply}
 use Rattle.bayou_client.specs.Replies.{Begins, IsLast, IsNoReply, IsReply, IsUnfinished}
 use Rattle.bayou_lang.specs.declared.write.Write.{Write}
-use Rattle.bayou_peer.specs.declared.fault.Fault.{Fault}
-use Rattle.bayou_peer.specs.declared.fault.Fault.TheVariants.{Read, Write as WriteFault, Cut, BadFrame, TooManyTurns, OutOfMemory}
+use Rattle.bayou_frames.specs.declared.fault.Fault.{Fault}
+use Rattle.bayou_frames.specs.declared.fault.Fault.TheVariants.{Read, Write as WriteFault, Cut, BadFrame, TooManyTurns, OutOfMemory}
 use Rattle.bayou_wire.specs.declared.frame.Frame.{Frame}
 use Rattle.bayou_wire.specs.Stream.{IsPartial, spelling}
 

@@ -3,10 +3,10 @@ use Rattle.std.specs.Prelude.{◌≡◌, ℕ, ◌<◌, ◌^◌, List, Option, Er
 use Rattle.bayou_lang.specs.declared.write.Write.{Write}
 use Rattle.bayou_lang.specs.Ranges.{IsWrite}
 use Rattle.bayou_lang.specs.Writes.{lacking_of}
-use Rattle.bayou_peer.specs.declared.fault.Fault.TheVariants.{OutOfMemory}
+use Rattle.bayou_frames.specs.declared.fault.Fault.TheVariants.{OutOfMemory}
 use Rattle.bayou_peer.specs.declared.fault.PullFault.TheVariants.{Stream}
 use Rattle.bayou_peer.specs.Meeting.{Meets}
-use Rattle.bayou_peer.specs.Spelled.{answer_bytes}
+use Rattle.bayou_frames.specs.Spelled.{answer_bytes}
 use Rattle.bayou_machine.specs.declared.answer.Exchange.{Exchange}
 use Rattle.bayou_machine.specs.declared.answer.Exchange.TheVariants.{NotRunning, Ended}
 use Rattle.bayou_machine.specs.declared.replica.Replica.{Replica}

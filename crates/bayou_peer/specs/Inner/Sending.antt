@@ -5,9 +5,9 @@ use Rattle.std.specs.List.{AllByRecursion}
 use Rattle.bayou_lang.specs.declared.write.Write.{Write}
 use Rattle.bayou_lang.specs.Ranges.{IsWrite}
 use Rattle.bayou_lang.specs.Writes.{lacking_of}
-use Rattle.bayou_peer.specs.declared.fault.Fault.{Fault}
+use Rattle.bayou_frames.specs.declared.fault.Fault.{Fault}
 use Rattle.bayou_peer.specs.Offers.{Sends}
-use Rattle.bayou_peer.specs.Spelled.{item_bytes}
+use Rattle.bayou_frames.specs.Spelled.{item_bytes}
 
 -- Items of the first Writes that these counts lack were sent; the counts then lack the others.
 abbrev pub SendsBatch : Option (List Write) → (told now : List ℕ) → (before after : Option (List ℕ)) → Result ℕ Fault → Type 0

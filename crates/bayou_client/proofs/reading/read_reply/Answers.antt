@@ -4,7 +4,7 @@ use Rattle.std.proofs.lemmas.Result.{err_from_is_err_and}
 use Rattle.std.specs.Io.KnownBytes.{IsAtEnd}
 use Rattle.bayou_client.specs.Inner.Taking.{TakesPiece}
 use Rattle.bayou_client.proofs.Growing.{ends_anywhere, fails_reading}
-use Rattle.bayou_peer.proofs.Received.{consumes_none}
+use Rattle.bayou_frames.specs.Laws.Bytes.{consumes_none}
 use Rattle.bayou_client.proofs.reading.read_reply.Goals as goal
 use Rattle.bayou_wire.specs.declared.frame.Frame.{Frame}
 

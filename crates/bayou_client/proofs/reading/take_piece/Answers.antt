@@ -1,6 +1,6 @@
 use Rattle.std.proofs.Common.{◌++◌}
 use Rattle.std.proofs.lemmas.Result.{err_from_is_err_and}
-use Rattle.bayou_peer.specs.Framing.{Comes}
+use Rattle.bayou_frames.specs.Framing.{Comes}
 use Rattle.bayou_client.proofs.Growing.{bad_behind, more, none_yet, not_between, rest_is, whole_at}
 use Rattle.bayou_client.proofs.reading.take_piece.Goals as goal
 

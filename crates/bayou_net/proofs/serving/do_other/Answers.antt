@@ -1,5 +1,5 @@
 use Rattle.std.proofs.lemmas.Result.{err_from_is_err_and}
-use Rattle.bayou_peer.proofs.Items.{front_of_nothing}
+use Rattle.bayou_frames.specs.Laws.Bytes.{front_of_nothing}
 use Rattle.bayou_net.proofs.serving.do_other.Goals as goal
 
 pub returns-in_err-text-clause-does : goal.returns-in_err-text-clause-does

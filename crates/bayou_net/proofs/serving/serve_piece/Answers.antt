@@ -1,7 +1,7 @@
 use Rattle.std.proofs.Common.{arith, ◌++◌, inl}
 use Rattle.std.proofs.lemmas.Result.{err_from_is_err_and}
 use Rattle.bayou_net.proofs.Done.{ends_wanting, few_requests, served_more, served_rest}
-use Rattle.bayou_peer.specs.Framing.{Comes}
+use Rattle.bayou_frames.specs.Framing.{Comes}
 use Rattle.bayou_net.proofs.serving.serve_piece.Goals as goal
 
 pub returns-in_err-came-clause-goes : goal.returns-in_err-came-clause-goes

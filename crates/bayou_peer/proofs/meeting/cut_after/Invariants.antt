@@ -2,7 +2,7 @@
 use Rattle.std.proofs.Common.{◌≡◌, ◌≤◌, ◌<◌, ◌^◌, List, All, length}
 use Rattle.bayou_lang.specs.declared.write.Write.{Write}
 use Rattle.bayou_lang.specs.Ranges.{IsWrite}
-use Rattle.bayou_peer.specs.Spelled.{answer_bytes}
+use Rattle.bayou_frames.specs.Spelled.{answer_bytes}
 use Rattle.bayou_peer.proofs.Passing.{Passed}
 use Rattle.bayou_peer.proofs.meeting.cut_after.Given as goal
 

@@ -3,7 +3,7 @@ use Rattle.std.proofs.KnownBytes.{Consumes-nil}
 use Rattle.std.specs.Io.KnownBytes.{Appends, IsAtEnd}
 use Rattle.std.proofs.lemmas.Result.{err_from_is_err_and}
 use Rattle.bayou_streams.specs.Written.{AppendsFront}
-use Rattle.bayou_peer.proofs.Pieces.{spelled_one}
+use Rattle.bayou_frames.specs.Laws.Frames.{spelling_of}
 use Rattle.bayou_peer.proofs.Received.{ends_sending, received_start}
 use Rattle.bayou_peer.proofs.pulling.pull_from_on.Goals as goal
 
@@ -19,7 +19,7 @@ returns-in_default-clause-ends g c = ([], Consumes-nil _, ([], 0, 0, received_st
 
 pub returns-in_err-send-clause-part : goal.returns-in_err-send-clause-part
 returns-in_err-send-clause-part g c =
-    let text = c.deref.ensures.value ∙ spelled_one _ _ c.in-Ok.ensures.spelling in
+    let text = c.deref.ensures.value ∙ spelling_of _ _ c.in-Ok.ensures.spelling in
     front_of _ _ _ _ text c.in_err-send.ensures.part
 
 pub returns-in_err-send-clause-ends : goal.returns-in_err-send-clause-ends
@@ -31,11 +31,11 @@ returns-in_err-send-clause-ends g c =
 
 pub returns-clause-offered : goal.returns-clause-offered
 returns-clause-offered g c =
-    let text = c.deref.ensures.value ∙ spelled_one _ _ c.in-Ok.ensures.spelling in
+    let text = c.deref.ensures.value ∙ spelling_of _ _ c.in-Ok.ensures.spelling in
     let whole = subst (Appends (g.W.Write.contents c.args.channel.now.writer) (g.W.Write.contents c.send.new.channel.writer)) text c.in_ok-send.ensures.whole in
     any_ok c.receive.result _ (rw c.receive.ensures.other.0 whole)
 
 pub returns-clause-part : goal.returns-clause-part
 returns-clause-part g c =
-    let text = c.deref.ensures.value ∙ spelled_one _ _ c.in-Ok.ensures.spelling in
+    let text = c.deref.ensures.value ∙ spelling_of _ _ c.in-Ok.ensures.spelling in
     rw c.receive.ensures.other.0 (front_of _ _ _ _ text c.in_ok-send.ensures.part)

@@ -3,7 +3,8 @@ use Rattle.std.proofs.KnownBytes.{Consumes-kept, Consumes-nil, Consumes-trans}
 use Rattle.std.specs.Io.KnownBytes.{IsAtEnd}
 use Rattle.std.proofs.lemmas.Result.{err_from_is_err_and}
 use Rattle.bayou_base.specs.declared.limits.TheConstants.{READ_BYTES}
-use Rattle.bayou_peer.proofs.Received.{few_ended, consumes_none, ends_anywhere, ends_reading, standing_room, standing_start, stands}
+use Rattle.bayou_frames.specs.Laws.Bytes.{consumes_none}
+use Rattle.bayou_peer.proofs.Received.{few_ended, ends_anywhere, ends_reading, standing_room, standing_start, stands}
 use Rattle.bayou_peer.proofs.pulling.receive.Goals as goal
 
 pub loop-frames-init : goal.loop-frames-init

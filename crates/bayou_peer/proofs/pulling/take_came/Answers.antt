@@ -1,5 +1,5 @@
 use Rattle.std.proofs.lemmas.Result.{err_from_is_err_and}
-use Rattle.bayou_peer.proofs.Pieces.{frame_at, next_frame}
+use Rattle.bayou_frames.specs.Laws.Frames.{frame_at, next_frame}
 use Rattle.bayou_peer.proofs.Received.{received_rest}
 use Rattle.bayou_peer.proofs.pulling.take_came.Goals as goal
 

@@ -1,6 +1,6 @@
 use Rattle.std.proofs.Common.{arith, ◌++◌, inl}
 use Rattle.std.proofs.lemmas.Result.{err_from_is_err_and}
-use Rattle.bayou_peer.specs.Framing.{Comes}
+use Rattle.bayou_frames.specs.Framing.{Comes}
 use Rattle.bayou_peer.proofs.Received.{few_frames, received_more, received_rest}
 use Rattle.bayou_peer.proofs.pulling.take_piece.Goals as goal
 

@@ -1,7 +1,7 @@
 use Rattle.std.proofs.Common.{◌∙◌, ap, subst, sym, [], ◌∷◌, ◌++◌, take}
 use Rattle.std.specs.List.{AllByRecursion}
 use Rattle.bayou_lang.specs.Ranges.{IsWrite}
-use Rattle.bayou_peer.specs.Spelled.{item_bytes}
+use Rattle.bayou_frames.specs.Spelled.{item_bytes}
 use Rattle.bayou_peer.proofs.Items.{all-append, item_bytes-push, take-one_more}
 use Rattle.bayou_peer.proofs.sending.gather.Goals as goal
 

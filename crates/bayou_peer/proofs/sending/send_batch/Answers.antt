@@ -4,8 +4,9 @@ use Rattle.std.specs.Io.KnownBytes.{Appends}
 use Rattle.std.specs.List.{AllByRecursion}
 use Rattle.bayou_base.specs.declared.limits.TheConstants.{ITEMS_AT_ONCE}
 use Rattle.bayou_lang.specs.Ranges.{IsWrite}
-use Rattle.bayou_peer.specs.Spelled.{item_bytes}
-use Rattle.bayou_peer.proofs.Items.{front_of_nothing, item_bytes-of, item_bytes-some, lacks_on, raised_to, sends_fault}
+use Rattle.bayou_frames.specs.Spelled.{item_bytes}
+use Rattle.bayou_frames.specs.Laws.Bytes.{front_of_nothing}
+use Rattle.bayou_peer.proofs.Items.{item_bytes-of, item_bytes-some, lacks_on, raised_to, sends_fault}
 use Rattle.bayou_peer.proofs.sending.send_batch.Goals as goal
 use Rattle.bayou_streams.specs.Written.{AppendsFront}
 

@@ -9,7 +9,7 @@ use Rattle.bayou_lang.specs.declared.write.Write.{Write}
 use Rattle.bayou_print.specs.Verdicts.{surveyed_text}
 use Rattle.bayou_script.specs.AuditFile.{evidence_of}
 use Rattle.bayou_shell.specs.Audit.{IsSurveyOf}
-use Rattle.bayou_shell.specs.Inner.Faults.{IsRunFault}
+use Rattle.bayou_print.specs.Faults.{IsRunFault}
 use Rattle.bayou_shell.proofs.audit.write_survey.Goals as goal
 
 pub returns-in-Ok-clause-whole : goal.returns-in-Ok-clause-whole

@@ -3,9 +3,9 @@ use Rattle.std.specs.Io.{IsEmptyOrEndsWith}
 use Rattle.std.proofs.lemmas.Result.{err_from_is_err_and}
 use Rattle.bayou_print.specs.Laws.Ends.{verdict_ends}
 use Rattle.bayou_script.specs.AuditFile.{evidence_of}
-use Rattle.bayou_shell.specs.Inner.Waiting.{Gathers, stage}
+use Rattle.bayou_print.specs.Waiting.{Gathers, stage}
 use Rattle.bayou_shell.proofs.Audited.{audit_of, has_survey, nothing_behind, survey_behind, survey_part, verdict_part}
-use Rattle.bayou_shell.proofs.Gathered.{Gathers-nil}
+use Rattle.bayou_print.specs.Laws.Gathered.{Gathers-nil}
 use Rattle.bayou_shell.proofs.audit.write_verdict.Goals.{then-is_ok+in_ok-write_survey, else-is_ok}
 use Rattle.bayou_shell.proofs.audit.write_verdict.Goals as goal
 

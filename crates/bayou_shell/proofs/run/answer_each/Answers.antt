@@ -5,9 +5,9 @@ use Rattle.bayou_script.specs.Plan.{plan_of}
 use Rattle.std.proofs.Math.Nat.{le-max_left}
 use Rattle.bayou_machine.specs.Filed.{operations}
 use Rattle.bayou_machine.specs.Run.{audited}
-use Rattle.bayou_shell.specs.declared.ended.Ended.TheVariants.{Clean}
-use Rattle.bayou_shell.specs.Inner.Waiting.{stage}
-use Rattle.bayou_shell.proofs.Gathered.{Gathers-nil}
+use Rattle.bayou_print.specs.declared.ended.Ended.TheVariants.{Clean}
+use Rattle.bayou_print.specs.Waiting.{stage}
+use Rattle.bayou_print.specs.Laws.Gathered.{Gathers-nil}
 use Rattle.bayou_shell.proofs.Runs.{SoFar, SoFar-more, SoFar-part, SoFar-stopped}
 use Rattle.bayou_shell.proofs.run.answer_each.Goals as goal
 

@@ -2,7 +2,7 @@
 use Rattle.std.proofs.Common.{◌≤◌, length}
 use Rattle.bayou_script.specs.Plan.{plan_of}
 use Rattle.bayou_machine.specs.Run.{audited}
-use Rattle.bayou_shell.specs.Inner.Waiting.{stage}
+use Rattle.bayou_print.specs.Waiting.{stage}
 use Rattle.bayou_shell.proofs.Runs.{SoFar}
 use Rattle.bayou_shell.proofs.run.answer_each.Given as goal
 

@@ -1,0 +1,3 @@
+mod OneFrame
+mod OneOffer
+mod Pieces

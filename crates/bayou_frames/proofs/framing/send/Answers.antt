@@ -1,0 +1,22 @@
+use Rattle.std.proofs.Common.{arith, ◌++◌, ◌∙◌, Ok, subst, take}
+use Rattle.std.proofs.KnownBytes.{Appends-trans}
+use Rattle.std.specs.Io.KnownBytes.{WriteAppends}
+use Rattle.bayou_streams.specs.declared.channel.Turn.{Turn}
+use Rattle.bayou_streams.specs.Turns.{count_of}
+use Rattle.bayou_streams.proofs.Turned.{moves_front}
+use Rattle.bayou_frames.proofs.framing.send.Goals as goal
+
+pub loop-rest-preserved-in-Ok-Moved : goal.loop-rest-preserved-in-Ok-Moved
+loop-rest-preserved-in-Ok-Moved g c =
+    let held = g.W.Write.contents in
+    let (front, split, wrote) = c.loop-rest.invariant.split in
+    let rest = c.loop-rest.rest.now in
+    let turn = c.in-Ok-Moved.ensures in
+    let count = c.in-Ok-Moved.count in
+    let more = subst (λ (moved : Turn). WriteAppends (held c.loop-rest.channel.writer) (held c.write_turn.new.self.writer) (count_of (Ok moved)) rest) c.in-Ok-Moved.field-0-is turn.bytes in
+    record {
+      split = (front ++ take count rest, moves_front _ front _ count split, Appends-trans _ _ _ front _ wrote more);
+      fewer = omega (arith, c.loop-rest.invariant.fewer, turn.left);
+      spent = λ less. omega (arith, c.loop-rest.invariant.fewer, turn.left);
+      other = (turn.other.0 ∙ c.loop-rest.invariant.other.0, turn.other.1 ∙ c.loop-rest.invariant.other.1);
+    }

@@ -1,0 +1,5 @@
+pub mod First
+pub mod Framing
+pub mod Laws
+pub mod Spelled
+pub mod Stopping

@@ -1,0 +1,12 @@
+-- Which faults may come as lines are written.
+use Rattle.bayou_print.specs.declared.fault.Fault.{Fault}
+use Rattle.bayou_print.specs.declared.fault.Fault.TheVariants.{Line, Memory, Device, Network, Input, Output}
+
+-- what may end a run of a script that was accepted
+abbrev pub IsRunFault : Fault → Type 0
+IsRunFault (Line number fault) = ⊥
+IsRunFault Memory = Unit {0}
+IsRunFault Device = ⊥
+IsRunFault Network = ⊥
+IsRunFault Input = ⊥
+IsRunFault Output = Unit {0}

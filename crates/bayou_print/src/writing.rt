@@ -1,0 +1,26 @@
+ghost use Rattle.std.specs.Prelude.{◌≡◌, ◌≤◌, true, OnOk, IfErr};
+ghost use Rattle.std.specs.Io.{IsEmptyOrEndsWith};
+ghost use Rattle.bayou_streams.specs.Account.{Takes, TakesFront, account};
+ghost use Rattle.bayou_print.specs.declared.fault.Fault.TheVariants.{Output as OutputFault};
+ghost use Rattle.bayou_print.specs.Turns.{HasEnded};
+
+use crate::fault::Fault;
+use bayou_streams::{Output, StreamFault};
+use std::io::Write;
+
+/// Writes the whole text. It ends with `Output` only where a call of the writer failed or all turns of a line were taken.
+pub fn write_text<W: Write>(output: &mut Output<W>, text: &[u8]) -> Result<(), Fault>
+    ensures whole { OnOk result (Takes (account W.contents output.old) (account W.contents output.new) text.now) }
+    ensures fault { IfErr result (λ fault. fault ≡ OutputFault) }
+    ensures ended { IfErr result (λ fault. HasEnded output.new.channel.write_failed output.new.channel.turns_left) }
+    // No call of it failed where the whole was written.
+    ensures clean { OnOk result (output.new.channel.write_failed ≡ true → output.old.channel.write_failed ≡ true) }
+    ensures part { TakesFront (account W.contents output.old) (account W.contents output.new) text.now }
+    // Behind a whole line there are as many turns left as there may be.
+    ensures ready { OnOk result (IsEmptyOrEndsWith text.now 10 → output.old.channel.turns_left ≤ output.new.channel.turns_left) }
+{
+    match output.write_lines(text) {
+        Ok(()) => Ok(()),
+        Err(StreamFault::Failed | StreamFault::TooManyTurns) => Err(Fault::Output),
+    }
+}

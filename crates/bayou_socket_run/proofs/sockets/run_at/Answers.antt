@@ -1,0 +1,13 @@
+use Rattle.bayou_socket_run.proofs.Told.{took_both}
+use Rattle.bayou_streams.specs.Account.{account}
+use Rattle.bayou_socket_run.proofs.sockets.run_at.Goals as goal
+
+pub returns-in_err-told-clause-took : goal.returns-in_err-told-clause-took
+returns-in_err-told-clause-took g c =
+    let at = account g.W.Write.contents in
+    took_both (at c.args.output.now) (at c.pass.new.output) (at c.conclude.new.output) c.in_ok-passed.ensures.took c.conclude.ensures.took
+
+pub returns-clause-took : goal.returns-clause-took
+returns-clause-took g c =
+    let at = account g.W.Write.contents in
+    took_both (at c.args.output.now) (at c.pass.new.output) (at c.conclude.new.output) c.in_ok-passed.ensures.took c.conclude.ensures.took

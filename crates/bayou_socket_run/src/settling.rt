@@ -1,0 +1,129 @@
+//! The end of a run over a network: what its books come to, and the verdict.
+ghost use Rattle.std.specs.Prelude.{◌≡◌, ◌≤◌, IfErr, IfOk, OnOk, vec_len};
+ghost use Rattle.bayou_print.specs.Waiting.{stage};
+ghost use Rattle.bayou_socket_run.specs.Inner.Telling.{Tells};
+ghost use Rattle.bayou_print.specs.Turns.{EndsWriting};
+
+use bayou_audit::{Ledgers, Totals};
+use bayou_base::ServerId;
+use bayou_fleet::{Fleet, FleetFault, Network};
+use bayou_judge::{Refusal, Verdict, judge};
+use bayou_lang::RestingWrite;
+use bayou_machine::Answer;
+use bayou_node::Settled;
+use bayou_print::{Ended, Fault, Waiting, settled_line, write_answer};
+use bayou_script::Servers;
+use bayou_streams::Output;
+use std::alloc::{AllocError, Global};
+use std::io::Write;
+use std::sync::Wait;
+
+/// What is left of a run once nobody is served any more.
+#[derive(Drop)]
+pub(crate) struct Books {
+    totals: Totals,
+    /// What the books of each server come to, from server 0 on.
+    nodes: Vec<Settled>,
+    verdict: Result<Verdict, Refusal>,
+}
+
+/// What each server holds, in order of receipt.
+fn dumps_of<F: Fleet, T: Wait>(
+    rt: &T,
+    alloc: Global,
+    fleet: &F,
+    servers: Servers,
+) -> Result<Vec<Vec<RestingWrite>>, AllocError>
+    ensures { IfOk result (λ dumps. vec_len dumps ≡ servers.count) }
+{
+    let mut dumps = Vec::new(alloc);
+    for at in 0..servers.count {
+        dumps.push(fleet.dump(rt, alloc, usize::from(at))?)?;
+    }
+    Ok(dumps)
+}
+
+/// Settles the books of all servers, and judges what was filed by what the servers hold.
+pub(crate) fn settle<F: Fleet, K: Ledgers, T: Wait>(
+    rt: &T,
+    alloc: Global,
+    network: Network<F, K>,
+    servers: Servers,
+) -> Result<Books, FleetFault> {
+    let (fleet, book) = network.parts();
+    let dumps = dumps_of(rt, alloc, &fleet, servers)?;
+    let mut nodes = Vec::new(alloc);
+    fleet.settle(&mut nodes)?;
+    let totals = book.totals(rt);
+    let entries = book.entries(rt, alloc)?;
+    match judge(alloc, servers.count, entries.as_slice(), dumps.as_slice()) {
+        Err(Refusal::OutOfMemory) => Err(FleetFault::Memory),
+        verdict => Ok(Books {
+            totals,
+            nodes,
+            verdict,
+        }),
+    }
+}
+
+/// Writes what the books of one server come to.
+fn write_one<W: Write>(
+    alloc: Global,
+    server: ServerId,
+    nodes: &[Settled],
+    output: &mut Output<W>,
+    waiting: &mut Waiting,
+) -> Result<(), Fault>
+    ensures told { Tells result (stage W.contents output.old waiting.old) (stage W.contents output.new waiting.new) }
+    ensures ended { IfErr result (EndsWriting output.new.channel.write_failed output.new.channel.turns_left) }
+    ensures ready { OnOk result (output.old.channel.turns_left ≤ output.new.channel.turns_left) }
+{
+    let Some(settled) = nodes.get(usize::from(server.index)) else {
+        return Ok(());
+    };
+    let line = settled_line(alloc, server, settled)?;
+    waiting.print(output, line.as_bytes())
+}
+
+/// Writes what the books of each server come to.
+fn write_nodes<W: Write>(
+    alloc: Global,
+    servers: Servers,
+    nodes: &[Settled],
+    output: &mut Output<W>,
+    waiting: &mut Waiting,
+) -> Result<(), Fault>
+    ensures told { Tells result (stage W.contents output.old waiting.old) (stage W.contents output.new waiting.new) }
+    ensures ended { IfErr result (EndsWriting output.new.channel.write_failed output.new.channel.turns_left) }
+    ensures ready { OnOk result (output.old.channel.turns_left ≤ output.new.channel.turns_left) }
+{
+    for index in 0..servers.count {
+        write_one(alloc, ServerId { index }, nodes, output, waiting)?;
+    }
+    Ok(())
+}
+
+/// Writes the totals, what the books of each server come to, and the verdict.
+pub(crate) fn write_books<W: Write>(
+    alloc: Global,
+    servers: Servers,
+    books: Books,
+    output: &mut Output<W>,
+    waiting: &mut Waiting,
+) -> Result<Ended, Fault>
+    ensures told { Tells result (stage W.contents output.old waiting.old) (stage W.contents output.new waiting.new) }
+    ensures ended { IfErr result (EndsWriting output.new.channel.write_failed output.new.channel.turns_left) }
+    ensures ready { OnOk result (output.old.channel.turns_left ≤ output.new.channel.turns_left) }
+{
+    let Books {
+        totals,
+        nodes,
+        verdict,
+    } = books;
+    let counted = Answer::Counted(totals);
+    write_answer(alloc, servers.count, &counted, output, waiting)?;
+    write_nodes(alloc, servers, nodes.as_slice(), output, waiting)?;
+    let judged = Answer::Judged(verdict);
+    write_answer(alloc, servers.count, &judged, output, waiting)?;
+    Ok(Ended::of(&judged))
+}

@@ -1,0 +1,438 @@
+//! Scripts over sockets: servers with journals in files, each at a port of the loopback address.
+ghost use Rattle.std.specs.Thread.{IsSend};
+ghost use Rattle.std.specs.Prelude.{◌≡◌, ◌≤◌, IfErr, IfOk, IfSome, List, Ok, OnOk, ℕ};
+ghost use Rattle.bayou_audit.specs.Blanks.{AreBlanksOf, named};
+ghost use Rattle.bayou_base.specs.declared.limits.TheConstants.{SESSIONS as SESSIONS_NUMBER};
+ghost use Rattle.bayou_node.specs.Books.{IsBlankOf};
+ghost use Rattle.bayou_server.specs.Server.{own_count};
+ghost use Rattle.bayou_socket_run.specs.Inner.Faults.{IsPhaseFault};
+ghost use Rattle.bayou_print.specs.Waiting.{stage};
+ghost use Rattle.bayou_socket_run.specs.Inner.Telling.{Tells};
+ghost use Rattle.bayou_socket_run.specs.Faults.{IsNetFault, KeepsUnstarted};
+ghost use Rattle.bayou_print.specs.Turns.{EndsWriting};
+ghost use Rattle.bayou_streams.specs.Account.{Takes, account};
+
+use crate::faults::in_run;
+use crate::journals::{Journaled, start_all};
+use crate::phases::{Course, run_phases};
+use crate::settling::{settle, write_books};
+use bayou_audit::{AuditBook, Blanks, Four, Ledgers, Share};
+use bayou_base::SESSIONS;
+use bayou_device::FileDevice;
+use bayou_fleet::{Fleet, FleetFault, FourServers, Member, Network, Seat, start_listeners};
+use bayou_machine::places_for;
+use bayou_net::Sockets;
+use bayou_node::Desks;
+use bayou_print::{Ended, Fault, Waiting};
+use bayou_script::{Part, Script, Servers};
+use bayou_streams::Output;
+use bayou_text::Command;
+use std::alloc::{AllocError, Global};
+use std::collections::VecDeque;
+use std::fs::{File, Files};
+use std::io::Write;
+use std::marker::Brand;
+use std::sync::Wait;
+use std::sync::ledger::{Blank, Ledger};
+use std::thread;
+use std::thread::{Scope, Threads};
+
+/// A server, and the ledger that its accepted Writes are to be counted in.
+#[derive(Drop)]
+struct Ready {
+    blank: Blank,
+    server: Box<Journaled>,
+}
+
+/// A run whose servers are put behind locks, from server 0 on.
+#[derive(Drop)]
+struct Setting<K: Ledgers> {
+    book: AuditBook<K>,
+    course: Course<K>,
+    /// The servers that aren't put there yet.
+    servers: VecDeque<Box<Journaled>>,
+}
+
+/// Has each server listen in a thread of its own, runs the phases, and has each listener end. The output comes back with what waits to be
+/// written.
+fn run_listened<'s, 'o, E, F, K, T, W>(
+    scope: &'s Scope<'s, E>,
+    rt: &'s T,
+    alloc: Global,
+    network: &'s Network<F, K>,
+    course: Course<K>,
+    output: &'o mut Output<W>,
+    waiting: Waiting,
+) -> (Result<Ended, Fault>, &'o mut Output<W>, Waiting)
+where
+    F: Fleet + Send + Sync,
+    K: Ledgers + Send + Sync,
+    T: Threads + Wait + Sockets + Send + Sync,
+    W: Write,
+    ensures name { result.1.ghost_name ≡ output.entry.ghost_name }
+    ensures told { Tells result.0 (stage W.contents output.entry.now waiting) (stage W.contents result.1.now result.2) }
+    ensures ended { IfErr result.0 (EndsWriting result.1.now.channel.write_failed result.1.now.channel.turns_left) }
+    ensures ready { OnOk result.0 (output.entry.now.channel.turns_left ≤ result.1.now.channel.turns_left) }
+{
+    let mut waiting = waiting;
+    let connections = course.connections as usize;
+    match start_listeners(scope, rt, alloc, network, connections) {
+        Ok(_) => {
+            let passed = run_phases(rt, alloc, network, course, output, &mut waiting);
+            network.stop(rt);
+            (passed, output, waiting)
+        }
+        Err(FleetFault::Memory) => {
+            network.stop(rt);
+            (Err(Fault::Memory), output, waiting)
+        }
+        Err(FleetFault::Network) => {
+            network.stop(rt);
+            (Err(Fault::Network), output, waiting)
+        }
+    }
+}
+
+/// Runs the phases while the servers listen, and no longer. The output comes back with what waits to be written.
+fn run_meanwhile<'o, F, K, T, W>(
+    rt: &T,
+    alloc: Global,
+    network: &Network<F, K>,
+    course: Course<K>,
+    output: &'o mut Output<W>,
+    waiting: Waiting,
+) -> (Result<Ended, Fault>, &'o mut Output<W>, Waiting)
+where
+    F: Fleet + Send + Sync,
+    K: Ledgers + Send + Sync,
+    T: Threads + Wait + Sockets + Send + Sync,
+    W: Write,
+    ensures name { result.1.ghost_name ≡ output.entry.ghost_name }
+    ensures told { Tells result.0 (stage W.contents output.entry.now waiting) (stage W.contents result.1.now result.2) }
+    ensures ended { IfErr result.0 (EndsWriting result.1.now.channel.write_failed result.1.now.channel.turns_left) }
+    ensures ready { OnOk result.0 (output.entry.now.channel.turns_left ≤ result.1.now.channel.turns_left) }
+{
+    thread::scope(
+        thread::scope_env(),
+        rt,
+        move |scope| -> (Result<Ended, Fault>, &mut Output<W>, Waiting)
+            requires { IsSend F.row × IsSend K.row × IsSend T.row × IsSend K.Slips.row × IsSend K.Reads.row × IsSend K.Writes.row × IsSend K.Refusals.row }
+            ensures name { result.1.ghost_name ≡ output.entry.ghost_name }
+            ensures told { Tells result.0 (stage W.contents output.entry.now waiting) (stage W.contents result.1.now result.2) }
+            ensures ended { IfErr result.0 (EndsWriting result.1.now.channel.write_failed result.1.now.channel.turns_left) }
+            ensures ready { OnOk result.0 (output.entry.now.channel.turns_left ≤ result.1.now.channel.turns_left) }
+        { run_listened(scope, rt, alloc, network, course, output, waiting) },
+    )
+}
+
+/// Runs the phases, and writes what still waits behind them: what was printed before a fault is written too.
+fn pass<F, K, T, W>(
+    rt: &T,
+    alloc: Global,
+    network: &Network<F, K>,
+    course: Course<K>,
+    output: &mut Output<W>,
+) -> Result<Ended, Fault>
+where
+    F: Fleet + Send + Sync,
+    K: Ledgers + Send + Sync,
+    T: Threads + Wait + Sockets + Send + Sync,
+    W: Write,
+    ensures took { (text : List ℕ) × Takes (account W.contents output.old) (account W.contents output.new) text }
+    ensures fault { IfErr result IsPhaseFault }
+    ensures ended { IfErr result (EndsWriting output.new.channel.write_failed output.new.channel.turns_left) }
+    ensures ready { OnOk result (output.old.channel.turns_left ≤ output.new.channel.turns_left) }
+{
+    let waiting = Waiting::new(alloc)?;
+    let (passed, lent, waiting) = run_meanwhile(rt, alloc, network, course, output, waiting);
+    waiting.end(passed, lent)
+}
+
+/// Settles all books once nobody is served any more, and writes what they come to.
+fn conclude<F: Fleet, K: Ledgers, T: Wait, W: Write>(
+    rt: &T,
+    alloc: Global,
+    network: Network<F, K>,
+    servers: Servers,
+    output: &mut Output<W>,
+) -> Result<Ended, Fault>
+    ensures took { (text : List ℕ) × Takes (account W.contents output.old) (account W.contents output.new) text }
+    ensures fault { IfErr result IsPhaseFault }
+    ensures ended { IfErr result (EndsWriting output.new.channel.write_failed output.new.channel.turns_left) }
+    ensures ready { OnOk result (output.old.channel.turns_left ≤ output.new.channel.turns_left) }
+{
+    let mut waiting = Waiting::new(alloc)?;
+    let books = in_run(settle(rt, alloc, network, servers))?;
+    let told = write_books(alloc, servers, books, output, &mut waiting);
+    waiting.end(told, output)
+}
+
+/// Runs the phases at a network, and then settles all books.
+fn run_at<F, K, T, W>(
+    rt: &T,
+    alloc: Global,
+    network: Network<F, K>,
+    course: Course<K>,
+    output: &mut Output<W>,
+) -> Result<Ended, Fault>
+where
+    F: Fleet + Send + Sync,
+    K: Ledgers + Send + Sync,
+    T: Threads + Wait + Sockets + Send + Sync,
+    W: Write,
+    ensures took { (text : List ℕ) × Takes (account W.contents output.old) (account W.contents output.new) text }
+    ensures fault { IfErr result IsPhaseFault }
+    ensures ended { IfErr result (EndsWriting output.new.channel.write_failed output.new.channel.turns_left) }
+    ensures ready { OnOk result (output.old.channel.turns_left ≤ output.new.channel.turns_left) }
+{
+    let servers = course.servers;
+    let passed = pass(rt, alloc, &network, course, output)?;
+    let told = conclude(rt, alloc, network, servers, output)?;
+    Ok(passed.and(told))
+}
+
+/// Runs the phases over a fleet, and writes what is printed.
+#[tactic(auto, using(crate::proofs::Told::took_nothing))]
+fn run_fleet<F, K, T, W>(
+    rt: &T,
+    alloc: Global,
+    fleet: F,
+    setting: Setting<K>,
+    output: &mut Output<W>,
+) -> Result<Ended, Fault>
+where
+    F: Fleet + Send + Sync,
+    K: Ledgers + Send + Sync,
+    T: Threads + Wait + Sockets + Send + Sync,
+    W: Write,
+    ensures took { (text : List ℕ) × Takes (account W.contents output.old) (account W.contents output.new) text }
+    ensures fault { IfErr result IsPhaseFault }
+    ensures ended { IfErr result (EndsWriting output.new.channel.write_failed output.new.channel.turns_left) }
+    ensures ready { OnOk result (output.old.channel.turns_left ≤ output.new.channel.turns_left) }
+{
+    let Setting { book, course, .. } = setting;
+    let network = in_run(Network::bind(rt, alloc, fleet, course.servers.count, book))?;
+    run_at(rt, alloc, network, course, output)
+}
+
+/// The server behind a lock, with a desk for each connection.
+fn seat<L: Desks>(
+    alloc: Global,
+    connections: u32,
+    ready: Ready,
+) -> Result<Seat<FileDevice<File>, L>, FleetFault>
+    requires { IsBlankOf ready.blank L.name L.parts connections × (ready.server.value.core.id ≡ L.server) × (own_count ready.server.value.core ≡ L.stored) }
+{
+    let Ready { blank, server } = ready;
+    Seat::new(alloc, blank, Box::into_inner(server), connections)
+}
+
+/// The same, if there is a server.
+fn seat_of<L: Desks>(
+    alloc: Global,
+    connections: u32,
+    ready: Option<Ready>,
+) -> Result<Option<Seat<FileDevice<File>, L>>, FleetFault>
+    requires { IfSome ready (λ ready. IsBlankOf ready.blank L.name L.parts connections × (ready.server.value.core.id ≡ L.server) × (own_count ready.server.value.core ≡ L.stored)) }
+{
+    match ready {
+        Some(ready) => Ok(Some(seat(alloc, connections, ready)?)),
+        None => Ok(None),
+    }
+}
+
+/// Puts the servers behind locks, and runs the phases over them. Each has a ledger of its own, which ties what is behind its lock to its desks:
+/// so there is a type for each.
+#[tactic(auto, using(crate::proofs::Told::took_nothing))]
+fn run_seated<A, B, C, E, K, T, W>(
+    rt: &T,
+    alloc: Global,
+    setting: Setting<K>,
+    first: Option<Ready>,
+    second: Option<Ready>,
+    third: Option<Ready>,
+    fourth: Option<Ready>,
+    output: &mut Output<W>,
+) -> Result<Ended, Fault>
+where
+    A: Desks + Send + Sync,
+    B: Desks + Send + Sync,
+    C: Desks + Send + Sync,
+    E: Desks + Send + Sync,
+    K: Ledgers + Send + Sync,
+    T: Threads + Wait + Sockets + Send + Sync,
+    W: Write,
+    requires first { IfSome first (λ ready. IsBlankOf ready.blank A.name A.parts setting.course.connections × (ready.server.value.core.id ≡ A.server) × (own_count ready.server.value.core ≡ A.stored)) }
+    requires second { IfSome second (λ ready. IsBlankOf ready.blank B.name B.parts setting.course.connections × (ready.server.value.core.id ≡ B.server) × (own_count ready.server.value.core ≡ B.stored)) }
+    requires third { IfSome third (λ ready. IsBlankOf ready.blank C.name C.parts setting.course.connections × (ready.server.value.core.id ≡ C.server) × (own_count ready.server.value.core ≡ C.stored)) }
+    requires fourth { IfSome fourth (λ ready. IsBlankOf ready.blank E.name E.parts setting.course.connections × (ready.server.value.core.id ≡ E.server) × (own_count ready.server.value.core ≡ E.stored)) }
+    ensures took { (text : List ℕ) × Takes (account W.contents output.old) (account W.contents output.new) text }
+    ensures fault { IfErr result IsPhaseFault }
+    ensures ended { IfErr result (EndsWriting output.new.channel.write_failed output.new.channel.turns_left) }
+    ensures ready { OnOk result (output.old.channel.turns_left ≤ output.new.channel.turns_left) }
+{
+    let connections = setting.course.connections;
+    let Ok(first) = seat_of::<A>(alloc, connections, first) else {
+        return Err(Fault::Memory);
+    };
+    let Ok(second) = seat_of::<B>(alloc, connections, second) else {
+        return Err(Fault::Memory);
+    };
+    let Ok(third) = seat_of::<C>(alloc, connections, third) else {
+        return Err(Fault::Memory);
+    };
+    let Ok(fourth) = seat_of::<E>(alloc, connections, fourth) else {
+        return Err(Fault::Memory);
+    };
+    let fleet = FourServers {
+        first,
+        second,
+        third,
+        fourth,
+    };
+    run_fleet(rt, alloc, fleet, setting, output)
+}
+
+/// The next of these servers, with a ledger of so many parts.
+fn next_ready(servers: &mut VecDeque<Box<Journaled>>, desks: u32) -> Option<Ready>
+    ensures { IfSome result (λ ready. ready.blank.parts ≡ desks) }
+{
+    let server = servers.pop_front()?;
+    Some(Ready {
+        blank: Blank::new(u64::from(desks)),
+        server,
+    })
+}
+
+/// Runs the phases over these servers, which are one to four.
+#[tactic(auto, using(crate::proofs::Seated::is_ready))]
+fn run_servers<K, T, W>(
+    rt: &T,
+    alloc: Global,
+    setting: Setting<K>,
+    output: &mut Output<W>,
+) -> Result<Ended, Fault>
+where
+    K: Ledgers + Send + Sync,
+    T: Threads + Wait + Sockets + Send + Sync,
+    W: Write,
+    ensures took { (text : List ℕ) × Takes (account W.contents output.old) (account W.contents output.new) text }
+    ensures fault { IfErr result IsPhaseFault }
+    ensures ended { IfErr result (EndsWriting output.new.channel.write_failed output.new.channel.turns_left) }
+    ensures ready { OnOk result (output.old.channel.turns_left ≤ output.new.channel.turns_left) }
+{
+    let mut setting = setting;
+    let desks = setting.course.connections;
+    let first = next_ready(&mut setting.servers, desks);
+    let second = next_ready(&mut setting.servers, desks);
+    let third = next_ready(&mut setting.servers, desks);
+    let fourth = next_ready(&mut setting.servers, desks);
+    run_seated::<Brand, Brand, Brand, Brand, K, T, W>(
+        rt, alloc, setting, first, second, third, fourth, output,
+    )
+}
+
+/// How many connections each server is reached by at the most: one by each session, one by each pull, and one for the rest.
+fn connections_for(commands: &VecDeque<Command>) -> u32 {
+    let mut connections: u32 = 1;
+    for at in 0..commands.len() {
+        if let Part::Opens | Part::Pull = Part::of(&commands[at]) {
+            connections = connections.saturating_add(1);
+        }
+    }
+    connections
+}
+
+/// The sessions whose shares these are, none of which is open.
+fn members_of<K: Ledgers>(
+    alloc: Global,
+    shares: Vec<Share<K>>,
+) -> Result<Vec<Member<K>>, AllocError> {
+    let mut members = Vec::with_capacity(alloc, shares.len())?;
+    for share in shares {
+        members.push(Member::Absent(share))?;
+    }
+    Ok(members)
+}
+
+/// Runs the script over these servers, with a book of what is served, and a ledger for each of its four totals.
+#[tactic(auto, using(crate::proofs::Told::took_nothing))]
+fn run_booked<S, R, U, V, T, W>(
+    rt: &T,
+    alloc: Global,
+    blanks: Blanks,
+    servers: VecDeque<Box<Journaled>>,
+    script: Script,
+    output: &mut Output<W>,
+) -> Result<Ended, Fault>
+where
+    S: Ledger + Send + Sync,
+    R: Ledger + Send + Sync,
+    U: Ledger + Send + Sync,
+    V: Ledger + Send + Sync,
+    T: Threads + Wait + Sockets + Send + Sync,
+    W: Write,
+    requires blanks { AreBlanksOf blanks (named S.name S.parts) (named R.name R.parts) (named U.name U.parts) (named V.name V.parts) SESSIONS_NUMBER }
+    ensures took { (text : List ℕ) × Takes (account W.contents output.old) (account W.contents output.new) text }
+    ensures fault { IfErr result IsPhaseFault }
+    ensures ended { IfErr result (EndsWriting output.new.channel.write_failed output.new.channel.turns_left) }
+    ensures ready { OnOk result (output.old.channel.turns_left ≤ output.new.channel.turns_left) }
+{
+    let places = places_for(&script.commands);
+    let Ok((book, shares)) = AuditBook::<Four<S, R, U, V>>::new(
+        alloc,
+        blanks,
+        SESSIONS as u8,
+        places,
+    ) else {
+        return Err(Fault::Memory);
+    };
+    let Ok(members) = members_of(alloc, shares) else {
+        return Err(Fault::Memory);
+    };
+    let course = Course {
+        servers: script.servers,
+        connections: connections_for(&script.commands),
+        commands: script.commands,
+        members,
+    };
+    let setting = Setting {
+        book,
+        course,
+        servers,
+    };
+    run_servers(rt, alloc, setting, output)
+}
+
+/// Runs a script over sockets: each of its servers has its journal in the folder of this name, and listens at a port of the loopback address
+/// that the system picks; each session has a thread of its own. The lines of a phase are written at its end.
+#[tactic(auto, using(crate::proofs::Told::took_nothing, crate::proofs::Told::start_net, crate::proofs::Told::start_unstarted, crate::proofs::Told::start_writes, crate::proofs::Told::phase_net, crate::proofs::Told::phase_unstarted))]
+pub fn run_on_sockets<T, W>(
+    rt: &T,
+    alloc: Global,
+    folder: &str,
+    script: Script,
+    output: &mut Output<W>,
+) -> Result<Ended, Fault>
+where
+    T: Threads + Wait + Files<File = File> + Sockets + Send + Sync,
+    W: Write,
+    ensures took { (text : List ℕ) × Takes (account W.contents output.old) (account W.contents output.new) text }
+    ensures fault { IfErr result IsNetFault }
+    ensures unstarted { KeepsUnstarted result (account W.contents output.old) (account W.contents output.new) }
+    ensures ended { IfErr result (EndsWriting output.new.channel.write_failed output.new.channel.turns_left) }
+    ensures ready { OnOk result (output.old.channel.turns_left ≤ output.new.channel.turns_left) }
+{
+    let blanks = Blanks {
+        slips: Blank::new(SESSIONS as u64),
+        reads: Blank::new(SESSIONS as u64),
+        writes: Blank::new(SESSIONS as u64),
+        refusals: Blank::new(SESSIONS as u64),
+    };
+    match start_all(rt, alloc, folder, script.servers) {
+        Ok(servers) => run_booked::<Brand, Brand, Brand, Brand, T, W>(
+            rt, alloc, blanks, servers, script, output,
+        ),
+        Err(fault) => Err(fault),
+    }
+}
