@@ -6,8 +6,8 @@ ghost use Rattle.std.specs.Thread.{IsSend};
 
 mod progress;
 
-use bayou_print::{Ended, Fault};
-use bayou_script::Script;
+use bayou_print::{Ended, RunFault};
+use bayou_script::NetworkScript;
 use bayou_shell::{Files, Networks, refuse_words, run_main, run_taken};
 use bayou_streams::{Channel, Output};
 use progress::{Counted, Screen, tell_progress};
@@ -25,7 +25,7 @@ use std::{env, fs, io, thread};
 #[derive(Drop)]
 struct Taken {
     folder: String,
-    script: Script,
+    script: NetworkScript,
 }
 
 /// The files of this machine, of whose content nothing is known, and the script that its sockets are wanted for.
@@ -54,9 +54,9 @@ impl<T> Networks for Host<'_, T> {
         &mut self,
         alloc: Global,
         folder: &str,
-        script: Script,
+        script: NetworkScript,
         _output: &mut Output<W>,
-    ) -> Result<Ended, Fault> {
+    ) -> Result<Ended, RunFault> {
         let folder = folder.to_string(alloc)?;
         self.taken = Some(Taken { folder, script });
         Ok(Ended::Clean)

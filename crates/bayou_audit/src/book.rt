@@ -4,8 +4,8 @@ ghost use Rattle.bayou_audit.specs.Blanks.{AreBlanksOf, named};
 ghost use Rattle.bayou_audit.specs.Settles.{IsSettled, IsUnsettled};
 ghost use Rattle.bayou_audit.specs.Totals.{AreNewShares, IsExact, new_book, no_totals, sums_of, with_claim, with_entry, with_filed, with_slip_out, with_slip_spent, with_void};
 
+use crate::book_settled::{BookSettled, SettleFault, Unsettled};
 use crate::ledgers::{Blanks, Ledgers};
-use crate::settled::{SettleFault, Settled, Unsettled};
 use crate::share::{Parts, Share, Slip};
 use crate::tally::Tallies;
 use crate::totals::Totals;
@@ -173,6 +173,13 @@ impl<K: Ledgers> Book<K> {
         self.totals.totals()
     }
 
+    /// Its entries, in the order in which they were filed.
+    pub fn filed(&self) -> &[Entry]
+        ensures { result.now ≡ self.now.entries }
+    {
+        self.entries.as_slice()
+    }
+
     /// A copy of its entries, in the order in which they were filed.
     pub fn entries(&self, alloc: Global) -> Result<Vec<Entry>, AllocError>
         ensures value { IfOk result (λ entries. entries.items ≡ self.now.entries) }
@@ -186,7 +193,7 @@ impl<K: Ledgers> Book<K> {
     }
 
     /// The totals and the entries, where all shares are back and no slip is out. Else book and shares come back.
-    pub fn settle(self, shares: Vec<Share<K>>) -> Result<Settled, Unsettled<Self, K>>
+    pub fn settle(self, shares: Vec<Share<K>>) -> Result<BookSettled, Unsettled<Self, K>>
         ensures settled { MatchResult result
             (λ settled. IsSettled self shares.items settled)
             (λ left. IsUnsettled self shares.items left.fault × (left.book ≡ self) × (left.shares.items ≡ shares.items)) }
@@ -215,6 +222,6 @@ impl<K: Ledgers> Book<K> {
         } = self;
         let mut all = gather(rest, shares);
         tallies.audit(&mut all);
-        Ok(Settled { totals, entries })
+        Ok(BookSettled { totals, entries })
     }
 }

@@ -14,16 +14,16 @@
 #![tactic(auto)]
 
 pub mod book;
+pub mod book_settled;
 pub mod ledgers;
 pub mod locked;
-pub mod settled;
 pub mod share;
 mod tally;
 pub mod totals;
 
 pub use book::{Book, Full};
+pub use book_settled::{BookSettled, SettleFault, Unsettled};
 pub use ledgers::{Blanks, Four, Ledgers};
 pub use locked::AuditBook;
-pub use settled::{SettleFault, Settled, Unsettled};
 pub use share::{Share, Slip};
 pub use totals::Totals;

@@ -5,8 +5,8 @@ ghost use Rattle.bayou_audit.specs.Settles.{IsLockedSettled, IsLockedUnsettled};
 ghost use Rattle.bayou_audit.specs.Totals.{AreNewShares, with_filed, with_slip_out, with_slip_spent};
 
 use crate::book::{Book, Full};
+use crate::book_settled::{BookSettled, Unsettled};
 use crate::ledgers::{Blanks, Ledgers};
-use crate::settled::{Settled, Unsettled};
 use crate::share::{Share, Slip};
 use crate::totals::Totals;
 use bayou_base::Entry;
@@ -78,7 +78,7 @@ impl<K: Ledgers> AuditBook<K> {
     }
 
     /// The totals and the entries, where all shares are back and no slip is out. Else book and shares come back.
-    pub fn settle(self, shares: Vec<Share<K>>) -> Result<Settled, Unsettled<Self, K>>
+    pub fn settle(self, shares: Vec<Share<K>>) -> Result<BookSettled, Unsettled<Self, K>>
         ensures { MatchResult result
             (λ settled. IsLockedSettled K.Slips.parts shares.items settled)
             (λ left. IsLockedUnsettled K.Slips.parts shares.items left.fault × (left.shares.items ≡ shares.items)) }

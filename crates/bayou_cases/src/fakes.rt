@@ -1,8 +1,8 @@
 //! Readers and writers that do what a system may do, and count their calls.
 ghost use Rattle.std.specs.Prelude.{ℕ, List};
 
-use bayou_print::{Ended, Fault};
-use bayou_script::Script;
+use bayou_print::{Ended, RunFault};
+use bayou_script::NetworkScript;
 use bayou_shell::{Files, Networks};
 use bayou_streams::Output;
 use std::alloc::Global;
@@ -47,10 +47,10 @@ impl Networks for FakeFiles<'_> {
         &mut self,
         _alloc: Global,
         _folder: &str,
-        _script: Script,
+        _script: NetworkScript,
         _output: &mut Output<W>,
-    ) -> Result<Ended, Fault> {
-        Err(Fault::Network)
+    ) -> Result<Ended, RunFault> {
+        Err(RunFault::Network)
     }
 }
 

@@ -1,7 +1,7 @@
 -- What is said of each of four servers is said of the one that is asked for.
 use Rattle.std.proofs.Common.{◌≡◌, ◌≢◌, ℕ, zero, suc, List, [], ◌∷◌, Option, refl, subst, sym}
 use Rattle.bayou_fleet.specs.Places.{InOne, InPlace, Place, SettlesAll, SettlesOne}
-use Rattle.bayou_node.specs.declared.settled.Settled.{Settled}
+use Rattle.bayou_node.specs.declared.node_settled.NodeSettled.{NodeSettled}
 use Rattle.bayou_server.specs.Server.{Core}
 
 pub at_first : (a b c d : Option Place) (at : ℕ) (IsSo : Core → Type 0) → at ≡ 0 → InPlace a IsSo → InOne (a ∷ b ∷ c ∷ d ∷ []) at IsSo
@@ -25,6 +25,6 @@ at_none a b c d (suc (suc (suc zero))) IsSo no_first no_second no_third no_fourt
 at_none a b c d (suc (suc (suc (suc n)))) IsSo no_first no_second no_third no_fourth = tt
 
 -- the books of one server, and those of the others behind them
-pub settles_four : (a b c d : Option Place) (none first second third fourth : List Settled) → SettlesOne a none first → SettlesOne b first second → SettlesOne c second third
+pub settles_four : (a b c d : Option Place) (none first second third fourth : List NodeSettled) → SettlesOne a none first → SettlesOne b first second → SettlesOne c second third
     → SettlesOne d third fourth → SettlesAll (a ∷ b ∷ c ∷ d ∷ []) none fourth
 settles_four a b c d none first second third fourth one two three four = (first, one, (second, two, (third, three, (fourth, four, refl))))

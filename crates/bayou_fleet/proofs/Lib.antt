@@ -1,2 +1,3 @@
 mod Arranging
 mod Leading
+pub mod Answering

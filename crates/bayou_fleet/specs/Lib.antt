@@ -1,3 +1,4 @@
 pub mod Places
 pub mod Phases
 pub mod Refusals
+pub mod Operating

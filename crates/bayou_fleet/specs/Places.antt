@@ -1,6 +1,6 @@
 -- Which servers a fleet has, and what is said of one of them.
 use Rattle.std.specs.Prelude.{◌≡◌, ℕ, Option, None, Some, List, [], ◌∷◌, ◌++◌, get_or}
-use Rattle.bayou_node.specs.declared.settled.Settled.{Settled}
+use Rattle.bayou_node.specs.declared.node_settled.NodeSettled.{NodeSettled}
 use Rattle.bayou_node.specs.Answers.{InSome}
 use Rattle.bayou_node.specs.Settles.{IsNodeSettled}
 use Rattle.bayou_server.specs.Server.{Core}
@@ -25,15 +25,15 @@ abbrev pub InOne : List (Option Place) → (at : ℕ) → (Core → Type 0) → 
 InOne places at IsSo = InPlace (get_or places at None) IsSo
 
 -- what the books of the server at a place come to, with some desks, all of which are back
-abbrev pub IsPlaceSettled : Place → Settled → Type 0
+abbrev pub IsPlaceSettled : Place → NodeSettled → Type 0
 IsPlaceSettled place settled = (made : ℕ) × (desks : List ℕ) × IsNodeSettled place.server place.stored made desks settled
 
 -- what the books of the server there come to, if there is one, was put behind what was there
-abbrev pub SettlesOne : Option Place → List Settled → List Settled → Type 0
+abbrev pub SettlesOne : Option Place → List NodeSettled → List NodeSettled → Type 0
 SettlesOne None before after = after ≡ before
-SettlesOne (Some place) before after = (one : Settled) × IsPlaceSettled place one × (after ≡ before ++ one ∷ [])
+SettlesOne (Some place) before after = (one : NodeSettled) × IsPlaceSettled place one × (after ≡ before ++ one ∷ [])
 
 -- the same of each place, in order
-abbrev pub SettlesAll : List (Option Place) → List Settled → List Settled → Type 0
+abbrev pub SettlesAll : List (Option Place) → List NodeSettled → List NodeSettled → Type 0
 SettlesAll [] before after = after ≡ before
-SettlesAll (place ∷ places) before after = (mid : List Settled) × SettlesOne place before mid × SettlesAll places mid after
+SettlesAll (place ∷ places) before after = (mid : List NodeSettled) × SettlesOne place before mid × SettlesAll places mid after

@@ -4,10 +4,10 @@ use Rattle.bayou_base.specs.declared.session.SessionId.{SessionId}
 use Rattle.bayou_client.specs.declared.fault.ClientFault.{ClientFault}
 use Rattle.bayou_client.specs.declared.fault.ClientFault.TheVariants.{AuditFull, Link}
 use Rattle.bayou_client.specs.declared.fault.LinkFault.TheVariants as links
-use Rattle.bayou_machine.specs.declared.answer.Answer.{Answer}
-use Rattle.bayou_machine.specs.declared.answer.Answer.TheVariants.{Lost, Refused}
-use Rattle.bayou_machine.specs.declared.answer.Recovery.{Recovery}
-use Rattle.bayou_machine.specs.declared.answer.Recovery.TheVariants.{NotReopened}
+use Rattle.bayou_answers.specs.declared.answer.Answer.{Answer}
+use Rattle.bayou_answers.specs.declared.answer.Answer.TheVariants.{Lost, Refused}
+use Rattle.bayou_answers.specs.declared.answer.Recovery.{Recovery}
+use Rattle.bayou_answers.specs.declared.answer.Recovery.TheVariants.{NotReopened}
 use Rattle.bayou_net.specs.Replies.{reopen_refusal, write_refusal}
 use Rattle.bayou_server.specs.declared.fault.ReopenFault.{ReopenFault}
 use Rattle.bayou_server.specs.declared.fault.WriteFault.{WriteFault}

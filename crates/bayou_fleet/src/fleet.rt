@@ -13,7 +13,7 @@ use bayou_frames::Fault;
 use bayou_lang::RestingWrite;
 use bayou_log::Listed;
 use bayou_net::{NoGate, pull, serve_connection};
-use bayou_node::{Desk, Desks, Node, Settled};
+use bayou_node::{Desk, Desks, Node, NodeSettled};
 use bayou_peer::{PullFault, Pulled};
 use bayou_server::Server;
 use bayou_streams::Channel;
@@ -58,7 +58,7 @@ pub trait Fleet: Drop {
 
     /// What the books of each server come to, from 0 on, put behind what is there; nothing of a server of which a desk is missing, nor of
     /// those behind it.
-    fn settle(self, settled: &mut Vec<Settled>) -> Result<(), FleetFault>
+    fn settle(self, settled: &mut Vec<NodeSettled>) -> Result<(), FleetFault>
         ensures { OnOk result (SettlesAll (places self) settled.old.items settled.new.items) };
 }
 
@@ -168,7 +168,7 @@ fn dump_at<D: Device, L: Desks, T: Wait>(
 // What the books of the server that is there come to.
 fn settle_at<D: Device, L: Desks>(
     seat: Option<Seat<D, L>>,
-    settled: &mut Vec<Settled>,
+    settled: &mut Vec<NodeSettled>,
 ) -> Result<(), FleetFault>
     ensures { OnOk result (SettlesOne (place_of L.server L.stored seat) settled.old.items settled.new.items) }
 {
@@ -268,7 +268,7 @@ impl<D: Device, A: Desks, B: Desks, C: Desks, E: Desks> Fleet for FourServers<D,
     }
 
     #[tactic(auto, using(crate::proofs::Leading::settles_four))]
-    fn settle(self, settled: &mut Vec<Settled>) -> Result<(), FleetFault> {
+    fn settle(self, settled: &mut Vec<NodeSettled>) -> Result<(), FleetFault> {
         let FourServers {
             first,
             second,

@@ -26,10 +26,6 @@ pub struct Network<F: Fleet, K: Ledgers> {
     ghost one_each: { vec_len addresses ≡ count },
 }
 
-/// Leave to have one connection served.
-#[derive(Clone, Copy, Debug)]
-pub struct Leave;
-
 /// One server of a fleet.
 #[derive(Drop)]
 struct At<'a, F> {
@@ -38,11 +34,11 @@ struct At<'a, F> {
 }
 
 impl<F: Fleet> Host for At<'_, F> {
-    type Desk = Leave;
+    // A seat has its desks itself: a listener counts the connections that may be.
+    type Desk = ();
 
-    fn serve<T: Wait>(&self, rt: &T, alloc: Global, desk: Leave, stream: TcpStream) -> Leave {
+    fn serve<T: Wait>(&self, rt: &T, alloc: Global, _desk: (), stream: TcpStream) {
         self.fleet.serve(rt, alloc, self.at, &stream);
-        desk
     }
 }
 
@@ -102,13 +98,13 @@ fn bound<T: Sockets>(rt: &T) -> Result<(TcpListener, SocketAddr), FleetFault> {
     Ok((listener, address))
 }
 
-// So many times leave to have a connection served.
-fn leaves(alloc: Global, connections: usize) -> Result<Vec<Leave>, FleetFault>
-    ensures { IfOk result (λ leaves. vec_len leaves ≡ connections) }
+// One for each connection that may be served.
+fn turns(alloc: Global, connections: usize) -> Result<Vec<()>, FleetFault>
+    ensures { IfOk result (λ turns. vec_len turns ≡ connections) }
 {
-    let mut leaves = Vec::new(alloc);
-    leaves.resize(connections, Leave)?;
-    Ok(leaves)
+    let mut turns = Vec::new(alloc);
+    turns.resize(connections, ())?;
+    Ok(turns)
 }
 
 // Has a thread listen for so many connections at the server. Whether it listened to its end is what the thread tells.
@@ -125,8 +121,8 @@ where
     K: Ledgers + Send + Sync,
     T: Threads + Wait + Sockets + Send + Sync,
 {
-    let leaves = leaves(alloc, connections)?;
-    let told = scope.spawn(move || listens(rt, alloc, network, at, leaves));
+    let turns = turns(alloc, connections)?;
+    let told = scope.spawn(move || listens(rt, alloc, network, at, turns));
     match told {
         Ok(thread) => Ok(thread),
         Err(_) => Err(FleetFault::Memory),
@@ -139,7 +135,7 @@ fn listens<F, K, T>(
     alloc: Global,
     network: &Network<F, K>,
     at: usize,
-    leaves: Vec<Leave>,
+    turns: Vec<()>,
 ) -> bool
 where
     F: Fleet + Send + Sync,
@@ -158,7 +154,7 @@ where
         alloc,
         &host,
         &network.listeners[at],
-        leaves,
+        turns,
         &network.stop,
     )
     .is_ok()

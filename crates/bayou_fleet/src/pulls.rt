@@ -1,12 +1,13 @@
 //! Servers that take Writes from one another, over sockets.
-ghost use Rattle.std.specs.Prelude.{◌≡◌, ◌+◌, ◌≤◌, IfOk, length, vec_capacity, vec_len};
+ghost use Rattle.std.specs.Prelude.{◌≡◌, ◌+◌, ◌≤◌, All, IfOk, length, vec_capacity, vec_len};
+ghost use Rattle.bayou_answers.specs.declared.answer.Answer.TheVariants.{Exchanged};
+ghost use Rattle.bayou_answers.specs.declared.answer.Transfer.{Transfer as Told};
 
 use crate::fleet::Fleet;
 use crate::links::reach;
-use bayou_base::ServerId;
-use bayou_machine::{Answer, Exchange};
+use crate::phase::Pull;
+use bayou_answers::{Answer, Transfer};
 use bayou_net::Sockets;
-use bayou_text::Command;
 use std::alloc::{AllocError, Global};
 use std::net::SocketAddr;
 use std::sync::Wait;
@@ -17,32 +18,15 @@ fn pull_one<F: Fleet, T: Sockets + Wait>(
     alloc: Global,
     fleet: &F,
     addresses: &[SocketAddr],
-    to: ServerId,
-    from: ServerId,
-) -> Exchange {
-    let at = usize::from(from.index);
+    pull: Pull,
+) -> Transfer {
+    let at = usize::from(pull.from.index);
     if at >= addresses.len() {
-        return Exchange::NotRunning;
+        return Transfer::NotRunning;
     }
     match reach(rt, addresses[at]) {
-        Some(stream) => Exchange::Ended(fleet.pull(rt, alloc, usize::from(to.index), &stream)),
-        None => Exchange::NotRunning,
-    }
-}
-
-// Does a pull. What is none is told as done.
-fn answer_pull<F: Fleet, T: Sockets + Wait>(
-    rt: &T,
-    alloc: Global,
-    fleet: &F,
-    addresses: &[SocketAddr],
-    command: Command,
-) -> Answer {
-    match command {
-        Command::Pull { to, from, .. } => {
-            Answer::Exchanged(pull_one(rt, alloc, fleet, addresses, to, from))
-        }
-        _ => Answer::Done,
+        Some(stream) => Transfer::Ended(fleet.pull(rt, alloc, usize::from(pull.to.index), &stream)),
+        None => Transfer::NotRunning,
     }
 }
 
@@ -52,13 +36,15 @@ pub(crate) fn pull_each<F: Fleet, T: Sockets + Wait>(
     alloc: Global,
     fleet: &F,
     addresses: &[SocketAddr],
-    pulls: Vec<Command>,
+    pulls: Vec<Pull>,
 ) -> Result<Vec<Answer>, AllocError>
-    ensures { IfOk result (λ answers. vec_len answers ≡ vec_len pulls) }
+    ensures one_each { IfOk result (λ answers. vec_len answers ≡ vec_len pulls) }
+    ensures told { IfOk result (λ answers. All (λ answer. (transfer : Told) × (answer ≡ Exchanged transfer)) answers.items) }
 {
     let mut answers = Vec::with_capacity(alloc, pulls.len())?;
-    for command in pulls {
-        answers.push_reserved(answer_pull(rt, alloc, fleet, addresses, command));
+    for pull in pulls {
+        let transfer = pull_one(rt, alloc, fleet, addresses, pull);
+        answers.push_reserved(Answer::Exchanged(transfer));
     }
     Ok(answers)
 }

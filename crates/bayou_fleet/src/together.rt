@@ -5,13 +5,13 @@ ghost use Rattle.std.specs.Thread.{IsSend};
 use crate::fault::FleetFault;
 use crate::fleet::Fleet;
 use crate::network::Network;
-use crate::phase::Phase;
+use crate::phase::{Opening, Phase, Pull};
 use crate::pulls::pull_each;
-use crate::visitor::{Member, Visitor};
+use crate::run_session::{OpenSession, RunSession};
+use bayou_answers::Answer;
 use bayou_audit::{AuditBook, Ledgers};
-use bayou_machine::Answer;
 use bayou_net::Sockets;
-use bayou_text::Command;
+use bayou_text::Operation;
 use std::alloc::{AllocError, Global};
 use std::collections::VecDeque;
 use std::sync::Wait;
@@ -20,8 +20,8 @@ use std::thread::{JoinHandle, Scope, Threads};
 
 /// A session that did its operations, with what each was answered.
 #[derive(Drop)]
-struct Visited<K: Ledgers> {
-    visitor: Visitor<K>,
+struct Done<K: Ledgers> {
+    session: OpenSession<K>,
     answers: Result<Vec<Answer>, AllocError>,
 }
 
@@ -29,24 +29,24 @@ struct Visited<K: Ledgers> {
 #[derive(Drop)]
 enum Going<K: Ledgers> {
     /// It does nothing.
-    Idle(Member<K>),
+    Idle(RunSession<K>),
     /// It does its operations, in a thread of its own.
-    Visits(JoinHandle<Visited<K>>),
+    Operates(JoinHandle<Done<K>>),
 }
 
 type Pulling = JoinHandle<Result<Vec<Answer>, AllocError>>;
 
 // The session does its operations.
-fn made_visit<K: Ledgers, T: Wait>(
+fn operated<K: Ledgers, T: Wait>(
     rt: &T,
     alloc: Global,
     book: &AuditBook<K>,
-    visitor: Visitor<K>,
-    operations: Vec<Command>,
-) -> Visited<K> {
-    let mut visitor = visitor;
-    let answers = visitor.visit(rt, alloc, book, operations);
-    Visited { visitor, answers }
+    session: OpenSession<K>,
+    operations: Vec<Operation>,
+) -> Done<K> {
+    let mut session = session;
+    let answers = session.operate_all(rt, alloc, book, operations);
+    Done { session, answers }
 }
 
 // Begins what the session does in this phase.
@@ -55,8 +55,8 @@ fn begin<'s, E, F, K, T>(
     rt: &'s T,
     alloc: Global,
     network: &'s Network<F, K>,
-    member: Member<K>,
-    operations: Vec<Command>,
+    session: RunSession<K>,
+    operations: Vec<Operation>,
 ) -> Result<Going<K>, FleetFault>
 where
     F: Fleet + Send + Sync,
@@ -64,17 +64,17 @@ where
     T: Threads + Wait + Sockets + Send + Sync,
 {
     if operations.is_empty() {
-        return Ok(Going::Idle(member));
+        return Ok(Going::Idle(session));
     }
-    match member {
-        Member::Present(visitor) => {
+    match session {
+        RunSession::Open(open) => {
             let started = scope.spawn(
-                move || -> Visited<K>
+                move || -> Done<K>
                     requires { IsSend K.Slips.row × IsSend K.Reads.row × IsSend K.Writes.row × IsSend K.Refusals.row }
-                { made_visit(rt, alloc, &network.book, visitor, operations) },
+                { operated(rt, alloc, &network.book, open, operations) },
             );
             match started {
-                Ok(thread) => Ok(Going::Visits(thread)),
+                Ok(thread) => Ok(Going::Operates(thread)),
                 Err(_) => Err(FleetFault::Memory),
             }
         }
@@ -88,20 +88,20 @@ fn begin_all<'s, E, F, K, T>(
     rt: &'s T,
     alloc: Global,
     network: &'s Network<F, K>,
-    members: Vec<Member<K>>,
-    operations: VecDeque<Vec<Command>>,
+    sessions: Vec<RunSession<K>>,
+    operations: VecDeque<Vec<Operation>>,
 ) -> Result<Vec<Going<K>>, FleetFault>
 where
     F: Fleet + Send + Sync,
     K: Ledgers + Send + Sync,
     T: Threads + Wait + Sockets + Send + Sync,
-    ensures { IfOk result (λ going. vec_len going ≡ vec_len members) }
+    ensures { IfOk result (λ going. vec_len going ≡ vec_len sessions) }
 {
     let mut operations = operations;
-    let mut going = Vec::with_capacity(alloc, members.len())?;
-    for member in members {
+    let mut going = Vec::with_capacity(alloc, sessions.len())?;
+    for session in sessions {
         let own = operations.pop_front().unwrap_or(Vec::new(alloc));
-        going.push_reserved(begin(scope, rt, alloc, network, member, own)?);
+        going.push_reserved(begin(scope, rt, alloc, network, session, own)?);
     }
     Ok(going)
 }
@@ -112,7 +112,7 @@ fn begin_pulls<'s, E, F, K, T>(
     rt: &'s T,
     alloc: Global,
     network: &'s Network<F, K>,
-    pulls: Vec<Command>,
+    pulls: Vec<Pull>,
 ) -> Result<Pulling, FleetFault>
 where
     F: Fleet + Send + Sync,
@@ -136,16 +136,16 @@ fn end_one<K: Ledgers + Send + Sync, T: Threads>(
     rt: &T,
     going: Going<K>,
     answers: &mut Vec<Answer>,
-) -> Result<Member<K>, FleetFault> {
+) -> Result<RunSession<K>, FleetFault> {
     match going {
-        Going::Idle(member) => Ok(member),
-        Going::Visits(thread) => {
-            let Visited {
-                visitor,
+        Going::Idle(session) => Ok(session),
+        Going::Operates(thread) => {
+            let Done {
+                session,
                 answers: own,
             } = thread.join(rt);
             put_all(own?, answers)?;
-            Ok(Member::Present(visitor))
+            Ok(RunSession::Open(session))
         }
     }
 }
@@ -163,47 +163,44 @@ fn end_all<K: Ledgers + Send + Sync, T: Threads>(
     alloc: Global,
     going: Vec<Going<K>>,
     answers: &mut Vec<Answer>,
-) -> Result<Vec<Member<K>>, FleetFault>
-    ensures { IfOk result (λ members. vec_len members ≡ vec_len going) }
+) -> Result<Vec<RunSession<K>>, FleetFault>
+    ensures { IfOk result (λ sessions. vec_len sessions ≡ vec_len going) }
 {
-    let mut members = Vec::with_capacity(alloc, going.len())?;
+    let mut sessions = Vec::with_capacity(alloc, going.len())?;
     for one in going {
-        members.push_reserved(end_one(rt, one, answers)?);
+        sessions.push_reserved(end_one(rt, one, answers)?);
     }
-    Ok(members)
+    Ok(sessions)
 }
 
-// Opens the sessions that a phase opens.
+// Opens a session that a phase opens.
 fn open_one<F: Fleet, K: Ledgers, T: Sockets>(
     rt: &T,
     alloc: Global,
     network: &Network<F, K>,
-    members: Vec<Member<K>>,
-    command: &Command,
-) -> Result<Vec<Member<K>>, FleetFault>
-    ensures { IfOk result (λ all. vec_len all ≡ vec_len members) }
+    sessions: Vec<RunSession<K>>,
+    opening: Opening,
+) -> Result<Vec<RunSession<K>>, FleetFault>
+    ensures { IfOk result (λ all. vec_len all ≡ vec_len sessions) }
 {
-    let Command::Session { session, asks } = command else {
-        return Ok(members);
-    };
-    let at = usize::from(session.index);
-    let mut members = members;
-    if at >= members.len() {
-        return Ok(members);
+    let at = usize::from(opening.session.index);
+    let mut sessions = sessions;
+    if at >= sessions.len() {
+        return Ok(sessions);
     }
-    let member = members.swap_remove(at);
-    let opened = member.open(rt, alloc, *asks, network.addresses.as_slice())?;
-    members.push(opened)?;
-    let last = members.len() - 1;
-    members.swap(at, last);
-    Ok(members)
+    let session = sessions.swap_remove(at);
+    let opened = session.open(rt, alloc, opening.asks, network.addresses.as_slice())?;
+    sessions.push(opened)?;
+    let last = sessions.len() - 1;
+    sessions.swap(at, last);
+    Ok(sessions)
 }
 
 /// What became of all sessions in a phase.
 #[derive(Drop)]
 pub struct Together<K: Ledgers> {
     /// The sessions, in order.
-    pub members: Vec<Member<K>>,
+    pub sessions: Vec<RunSession<K>>,
     /// The answers to the operations of each session in order, by the sessions' numbers, and behind them those to the pulls in order.
     pub answers: Vec<Answer>,
 }
@@ -215,12 +212,12 @@ fn end<K: Ledgers + Send + Sync, T: Threads>(
     going: Vec<Going<K>>,
     pulling: Pulling,
 ) -> Result<Together<K>, FleetFault>
-    ensures { IfOk result (λ together. vec_len together.members ≡ vec_len going) }
+    ensures { IfOk result (λ together. vec_len together.sessions ≡ vec_len going) }
 {
     let mut answers = Vec::new(alloc);
-    let members = end_all(rt, alloc, going, &mut answers)?;
+    let sessions = end_all(rt, alloc, going, &mut answers)?;
     put_all(pulling.join(rt)?, &mut answers)?;
-    Ok(Together { members, answers })
+    Ok(Together { sessions, answers })
 }
 
 // The sessions and the pulls, side by side.
@@ -229,17 +226,17 @@ fn go<'s, E, F, K, T>(
     rt: &'s T,
     alloc: Global,
     network: &'s Network<F, K>,
-    members: Vec<Member<K>>,
-    operations: VecDeque<Vec<Command>>,
-    pulls: Vec<Command>,
+    sessions: Vec<RunSession<K>>,
+    operations: VecDeque<Vec<Operation>>,
+    pulls: Vec<Pull>,
 ) -> Result<Together<K>, FleetFault>
 where
     F: Fleet + Send + Sync,
     K: Ledgers + Send + Sync,
     T: Threads + Wait + Sockets + Send + Sync,
-    ensures { IfOk result (λ together. vec_len together.members ≡ vec_len members) }
+    ensures { IfOk result (λ together. vec_len together.sessions ≡ vec_len sessions) }
 {
-    let going = begin_all(scope, rt, alloc, network, members, operations)?;
+    let going = begin_all(scope, rt, alloc, network, sessions, operations)?;
     let pulling = begin_pulls(scope, rt, alloc, network, pulls)?;
     end(rt, alloc, going, pulling)
 }
@@ -250,27 +247,27 @@ pub fn run_together<F, K, T>(
     rt: &T,
     alloc: Global,
     network: &Network<F, K>,
-    members: Vec<Member<K>>,
-    opens: Vec<Command>,
-    operations: VecDeque<Vec<Command>>,
-    pulls: Vec<Command>,
+    sessions: Vec<RunSession<K>>,
+    openings: Vec<Opening>,
+    operations: VecDeque<Vec<Operation>>,
+    pulls: Vec<Pull>,
 ) -> Result<Together<K>, FleetFault>
 where
     F: Fleet + Send + Sync,
     K: Ledgers + Send + Sync,
     T: Threads + Wait + Sockets + Send + Sync,
-    ensures { IfOk result (λ together. vec_len together.members ≡ vec_len members) }
+    ensures { IfOk result (λ together. vec_len together.sessions ≡ vec_len sessions) }
 {
-    let mut members = members;
-    for command in &opens {
-        members = open_one(rt, alloc, network, members, command)?;
+    let mut sessions = sessions;
+    for opening in &openings {
+        sessions = open_one(rt, alloc, network, sessions, *opening)?;
     }
     thread::scope(
         thread::scope_env(),
         rt,
         move |scope| -> Result<Together<K>, FleetFault>
             requires { IsSend F.row × IsSend K.row × IsSend T.row × IsSend K.Slips.row × IsSend K.Reads.row × IsSend K.Writes.row × IsSend K.Refusals.row }
-            ensures { IfOk result (λ together. vec_len together.members ≡ vec_len members) }
-        { go(scope, rt, alloc, network, members, operations, pulls) },
+            ensures { IfOk result (λ together. vec_len together.sessions ≡ vec_len sessions) }
+        { go(scope, rt, alloc, network, sessions, operations, pulls) },
     )
 }

@@ -29,6 +29,10 @@ served_entry count entries dumps indexes checked at entry got =
 pub known_server : (count : ℕ) (entries : List Entry) (dumps : List (List Write)) (indexes : List Tables) → IsChecked count entries dumps indexes → (at : ℕ) (entry : Entry) → slice_get entries at ≡ Some entry → entry.server.index < count
 known_server count entries dumps indexes checked at entry got = (checked.evidence.entries_are at entry got).server
 
+-- a place has one entry
+pub one_entry : (entries : List Entry) (at : ℕ) (entry other : Entry) → slice_get entries at ≡ Some entry → slice_get entries at ≡ Some other → entry ≡ other
+one_entry entries at entry other here there = cc
+
 -- with one more entry before it the later operation lacks nothing, if nothing of that one
 pub IsKept-more : (dumps : List (List Write)) (guarantee : Guarantee) (session : ℕ) (entries : List Entry) (at : ℕ) (first second : Entry) → slice_get entries at ≡ Some first → IsKept dumps guarantee session (take at entries) second
     → (IsFirst guarantee session first → (server : ℕ) (wid : Wid) → Fails dumps first second server wid → ⊥) → IsKept dumps guarantee session (take (at + 1) entries) second

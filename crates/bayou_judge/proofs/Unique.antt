@@ -1,5 +1,5 @@
 -- Of entries and dumps there is one verdict.
-use Rattle.std.proofs.Common.{◌≡◌, ◌≢◌, inl, inr, ℕ, Bool, true, false, nat_lt, ◌==◌, ◌&&◌, ◌||◌, List, [], ◌∷◌, Result, Ok, Err, ap, sym, ◌∙◌, refl, subst, arith}
+use Rattle.std.proofs.Common.{◌≡◌, inl, inr, ℕ, Bool, true, false, nat_lt, ◌==◌, ◌&&◌, ◌||◌, List, [], ◌∷◌, Result, Ok, Err, ap, sym, ◌∙◌, refl, subst, arith}
 use Rattle.std.proofs.lemmas.Bool.{cases_lt}
 use Rattle.std.proofs.lemmas.Bool.Decides.{nat_tests}
 use Rattle.bayou_base.specs.declared.asks.Asks.{Asks}
@@ -12,8 +12,8 @@ use Rattle.bayou_lang.specs.declared.write.Write.{Write}
 use Rattle.bayou_judge.specs.declared.breach.Breach.{Breach}
 use Rattle.bayou_judge.specs.declared.breach.Guarantee.{Guarantee}
 use Rattle.bayou_judge.specs.declared.breach.Guarantee.TheVariants as guarantees
-use Rattle.bayou_judge.specs.declared.verdict.Refusal.{Refusal}
-use Rattle.bayou_judge.specs.declared.verdict.Refusal.TheVariants.{BadDump, Forged, OutOfMemory}
+use Rattle.bayou_judge.specs.declared.verdict.BadEvidence.{BadEvidence}
+use Rattle.bayou_judge.specs.declared.verdict.BadEvidence.TheVariants.{BadDump, Forged}
 use Rattle.bayou_judge.specs.declared.verdict.Verdict.{Verdict}
 use Rattle.bayou_judge.specs.declared.verdict.Verdict.TheVariants.{Clean, Broken}
 use Rattle.bayou_judge.specs.Answers.{AreKept, IsLeastBreach, Judges}
@@ -105,28 +105,23 @@ one_forged count dumps entries a b here there = elim (cases_lt a b) as (λ _. a 
   ]
 ]
 
-pub one_verdict : (count : ℕ) (entries : List Entry) (dumps : List (List Write)) (one other : Result Verdict Refusal) → Judges count entries dumps one → Judges count entries dumps other → one ≢ Err OutOfMemory → other ≢ Err OutOfMemory → one ≡ other
-one_verdict count entries dumps (Ok Clean) (Ok Clean) here there known_one known_other = refl
-one_verdict count entries dumps (Ok Clean) (Ok (Broken breach)) here there known_one known_other = absurd (kept_unbroken (history_of entries dumps) entries breach here.1 there.1)
-one_verdict count entries dumps (Ok Clean) (Err (BadDump server at)) here there known_one known_other = absurd (there.bad (here.0.dumps_are server.index at))
-one_verdict count entries dumps (Ok Clean) (Err (Forged at)) here there known_one known_other = absurd (there.1.forged (here.0.entries_are at))
-one_verdict count entries dumps (Ok Clean) (Err OutOfMemory) here there known_one known_other = absurd (known_other refl)
-one_verdict count entries dumps (Ok (Broken breach)) (Ok Clean) here there known_one known_other = absurd (kept_unbroken (history_of entries dumps) entries breach there.1 here.1)
-one_verdict count entries dumps (Ok (Broken breach)) (Ok (Broken other)) here there known_one known_other =
+pub one_verdict : (count : ℕ) (entries : List Entry) (dumps : List (List Write)) (one other : Result Verdict BadEvidence) → Judges count entries dumps one → Judges count entries dumps other → one ≡ other
+one_verdict count entries dumps (Ok Clean) (Ok Clean) here there = refl
+one_verdict count entries dumps (Ok Clean) (Ok (Broken breach)) here there = absurd (kept_unbroken (history_of entries dumps) entries breach here.1 there.1)
+one_verdict count entries dumps (Ok Clean) (Err (BadDump server at)) here there = absurd (there.bad (here.0.dumps_are server.index at))
+one_verdict count entries dumps (Ok Clean) (Err (Forged at)) here there = absurd (there.1.forged (here.0.entries_are at))
+one_verdict count entries dumps (Ok (Broken breach)) (Ok Clean) here there = absurd (kept_unbroken (history_of entries dumps) entries breach there.1 here.1)
+one_verdict count entries dumps (Ok (Broken breach)) (Ok (Broken other)) here there =
     ap (λ b. Ok (Broken b)) (same_key breach other (there.1.least breach here.1.is here.1.asked) (here.1.least other there.1.is there.1.asked))
-one_verdict count entries dumps (Ok (Broken breach)) (Err (BadDump server at)) here there known_one known_other = absurd (there.bad (here.0.dumps_are server.index at))
-one_verdict count entries dumps (Ok (Broken breach)) (Err (Forged at)) here there known_one known_other = absurd (there.1.forged (here.0.entries_are at))
-one_verdict count entries dumps (Ok (Broken breach)) (Err OutOfMemory) here there known_one known_other = absurd (known_other refl)
-one_verdict count entries dumps (Err (BadDump server at)) (Ok Clean) here there known_one known_other = absurd (here.bad (there.0.dumps_are server.index at))
-one_verdict count entries dumps (Err (BadDump server at)) (Ok (Broken breach)) here there known_one known_other = absurd (here.bad (there.0.dumps_are server.index at))
-one_verdict count entries dumps (Err (BadDump server at)) (Err (BadDump other place)) here there known_one known_other =
+one_verdict count entries dumps (Ok (Broken breach)) (Err (BadDump server at)) here there = absurd (there.bad (here.0.dumps_are server.index at))
+one_verdict count entries dumps (Ok (Broken breach)) (Err (Forged at)) here there = absurd (there.1.forged (here.0.entries_are at))
+one_verdict count entries dumps (Err (BadDump server at)) (Ok Clean) here there = absurd (here.bad (there.0.dumps_are server.index at))
+one_verdict count entries dumps (Err (BadDump server at)) (Ok (Broken breach)) here there = absurd (here.bad (there.0.dumps_are server.index at))
+one_verdict count entries dumps (Err (BadDump server at)) (Err (BadDump other place)) here there =
     let both = one_bad count dumps server other at place here there in
     ap (λ s. Err (BadDump s at)) both.0 ∙ ap (λ n. Err (BadDump other n)) both.1
-one_verdict count entries dumps (Err (BadDump server at)) (Err (Forged place)) here there known_one known_other = absurd (here.bad (there.0 server.index at))
-one_verdict count entries dumps (Err (BadDump server at)) (Err OutOfMemory) here there known_one known_other = absurd (known_other refl)
-one_verdict count entries dumps (Err (Forged at)) (Ok Clean) here there known_one known_other = absurd (here.1.forged (there.0.entries_are at))
-one_verdict count entries dumps (Err (Forged at)) (Ok (Broken breach)) here there known_one known_other = absurd (here.1.forged (there.0.entries_are at))
-one_verdict count entries dumps (Err (Forged at)) (Err (BadDump server place)) here there known_one known_other = absurd (there.bad (here.0 server.index place))
-one_verdict count entries dumps (Err (Forged at)) (Err (Forged place)) here there known_one known_other = ap (λ n. Err (Forged n)) (one_forged count dumps entries at place here.1 there.1)
-one_verdict count entries dumps (Err (Forged at)) (Err OutOfMemory) here there known_one known_other = absurd (known_other refl)
-one_verdict count entries dumps (Err OutOfMemory) other here there known_one known_other = absurd (known_one refl)
+one_verdict count entries dumps (Err (BadDump server at)) (Err (Forged place)) here there = absurd (here.bad (there.0 server.index at))
+one_verdict count entries dumps (Err (Forged at)) (Ok Clean) here there = absurd (here.1.forged (there.0.entries_are at))
+one_verdict count entries dumps (Err (Forged at)) (Ok (Broken breach)) here there = absurd (here.1.forged (there.0.entries_are at))
+one_verdict count entries dumps (Err (Forged at)) (Err (BadDump server place)) here there = absurd (there.bad (here.0 server.index place))
+one_verdict count entries dumps (Err (Forged at)) (Err (Forged place)) here there = ap (λ n. Err (Forged n)) (one_forged count dumps entries at place here.1 there.1)

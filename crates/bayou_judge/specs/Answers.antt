@@ -1,13 +1,13 @@
 -- What a judge answers, and exactly where.
-use Rattle.std.specs.Prelude.{◌≡◌, ℕ, ◌<◌, ⊤, true, false, List, Option, Some, None, Result, Ok, Err, All, AllPairs, Any}
+use Rattle.std.specs.Prelude.{◌≡◌, ℕ, ◌<◌, true, false, List, Option, Some, None, Result, Ok, Err, All, AllPairs, Any}
 use Rattle.std.specs.Global.{Vec}
 use Rattle.bayou_base.specs.declared.entry.Entry.{Entry}
 use Rattle.bayou_lang.specs.declared.write.Write.{Write}
 use Rattle.bayou_judge.specs.declared.breach.Guarantee.{Guarantee}
 use Rattle.bayou_judge.specs.declared.breach.Guarantee.TheVariants as guarantees
 use Rattle.bayou_judge.specs.declared.breach.Breach.{Breach}
-use Rattle.bayou_judge.specs.declared.verdict.Refusal.{Refusal}
-use Rattle.bayou_judge.specs.declared.verdict.Refusal.TheVariants.{BadDump, Forged, OutOfMemory}
+use Rattle.bayou_judge.specs.declared.verdict.BadEvidence.{BadEvidence}
+use Rattle.bayou_judge.specs.declared.verdict.BadEvidence.TheVariants.{BadDump, Forged}
 use Rattle.bayou_judge.specs.declared.verdict.Surveyed.{Surveyed}
 use Rattle.bayou_judge.specs.declared.verdict.Verdict.{Verdict}
 use Rattle.bayou_judge.specs.declared.verdict.Verdict.TheVariants.{Clean, Broken}
@@ -36,16 +36,15 @@ pub record IsLeastBreach (history : History) (entries : List Entry) (breach : Br
   pub least : (other : Breach) → IsBreach history other → IsAskedFor entries other → is_less (key_of other) (key_of breach) ≡ false
 
 -- why they stand for none: a bad dump is told before a forged entry
-abbrev pub Refuses : ℕ → List Entry → List (List Write) → Refusal → Type 0
+abbrev pub Refuses : ℕ → List Entry → List (List Write) → BadEvidence → Type 0
 Refuses count entries dumps (BadDump server at) = IsFirstBad count dumps server.index at
 Refuses count entries dumps (Forged at) = AreGood count dumps × IsFirstForged count dumps entries at
-Refuses count entries dumps OutOfMemory = ⊤
 
 -- the verdict on entries and dumps of so many servers
-abbrev pub Judges : ℕ → List Entry → List (List Write) → Result Verdict Refusal → Type 0
+abbrev pub Judges : ℕ → List Entry → List (List Write) → Result Verdict BadEvidence → Type 0
 Judges count entries dumps (Ok Clean) = IsEvidence count entries dumps × AreKept (history_of entries dumps) entries
 Judges count entries dumps (Ok (Broken breach)) = IsEvidence count entries dumps × IsLeastBreach (history_of entries dumps) entries breach
-Judges count entries dumps (Err refusal) = Refuses count entries dumps refusal
+Judges count entries dumps (Err bad) = Refuses count entries dumps bad
 
 -- a breach that is the least of the guarantee in the session, or none where the guarantee holds
 abbrev pub Surveys : History → Guarantee → ℕ → Option Breach → Type 0
@@ -67,6 +66,6 @@ pub record IsSurvey (history : History) (entries : List Entry) (list : List Surv
   pub each : All (IsSurveyed history) list
 
 -- the survey of entries and dumps of so many servers
-abbrev pub SurveyAnswer : ℕ → List Entry → List (List Write) → Result (Vec Surveyed) Refusal → Type 0
+abbrev pub SurveyAnswer : ℕ → List Entry → List (List Write) → Result (Vec Surveyed) BadEvidence → Type 0
 SurveyAnswer count entries dumps (Ok list) = IsEvidence count entries dumps × IsSurvey (history_of entries dumps) entries list.items
-SurveyAnswer count entries dumps (Err refusal) = Refuses count entries dumps refusal
+SurveyAnswer count entries dumps (Err bad) = Refuses count entries dumps bad

@@ -1,5 +1,6 @@
 -- What sessions did and what servers held (Terry et al. 1994), and the history that entries and dumps stand for.
 use Rattle.std.specs.Prelude.{◌≡◌, ℕ, List, [], ◌++◌, Contains, map, slice_index_or}
+use Rattle.std.specs.Borrow.{Bor}
 use Rattle.std.specs.Global.{Vec}
 use Rattle.bayou_base.specs.declared.entry.Entry.{Entry}
 use Rattle.bayou_base.specs.declared.entry.What.{What}
@@ -17,9 +18,13 @@ pub record History : Type 1 where
 abbrev pub IsFrontOf : List Write → List Write → Type 0
 IsFrontOf writes database = (rest : List Write) × (writes ≡ database ++ rest)
 
--- each dump as the list of its Writes
+-- each dump that a server keeps, as the list of its Writes
 abbrev pub lists_of : List (Vec Write) → List (List Write)
 lists_of dumps = map (λ dump. dump.items) dumps
+
+-- each dump that is lent, as the list of its Writes
+abbrev pub lent_lists : List (Bor (List Write)) → List (List Write)
+lent_lists dumps = map (λ dump. dump.now) dumps
 
 -- the server's dump; beyond the last it is empty
 abbrev pub dump_of : List (List Write) → ℕ → List Write

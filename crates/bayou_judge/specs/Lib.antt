@@ -4,4 +4,3 @@ pub mod Breaches
 pub mod Evidence
 pub mod Answers
 pub mod Inner
-pub mod Laws

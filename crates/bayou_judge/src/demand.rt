@@ -3,10 +3,10 @@ ghost use Rattle.std.specs.Prelude.{◌≡◌, ◌<◌, ◌↔◌, ℕ, List, Is
 ghost use Rattle.std.specs.Bool.{OnTrue};
 ghost use Rattle.bayou_lang.specs.declared.write.Write.{Write};
 ghost use Rattle.bayou_lang.specs.Writes.{AreFitting};
-ghost use Rattle.bayou_judge.specs.History.{dump_of, lists_of};
+ghost use Rattle.bayou_judge.specs.History.{dump_of};
 ghost use Rattle.bayou_judge.specs.Inner.Index.{IsIndexOf, IsUpTo};
 ghost use Rattle.bayou_base.specs.declared.stamp.Stamp.{Stamp};
-ghost use Rattle.bayou_judge.specs.Inner.Needs.{IsBeforeAll, IsChecked, IsDemandOf, IsHeld, IsMet, IsNeeded, IsServed, IsWriteDemand, Lacks};
+ghost use Rattle.bayou_judge.specs.Inner.Needs.{IsBeforeAll, IsDemandOf, IsHeld, IsMet, IsNeeded, IsServed, IsWriteDemand, Lacks};
 
 use crate::evidence::Evidence;
 use crate::index::Index;
@@ -73,10 +73,10 @@ fn demand_in(index: &Index, wid: Wid, stamp: Stamp) -> Option<Demand>
 impl<'a> Evidence<'a> {
     /// What a Write demands at the server.
     fn write_demand(&self, wid: Wid, stamp: Stamp, server: usize) -> Option<Demand>
-        requires checked { IsChecked self.now.count self.now.entries.now (lists_of self.now.dumps.now) self.now.indexes.now }
-        ensures { IsWriteDemand (dump_of (lists_of self.now.dumps.now) server) wid stamp result }
+        ensures { IsWriteDemand (dump_of self.now.dumps server) wid stamp result }
     {
-        match self.indexes.get(server) {
+        self.recall();
+        match self.index(server) {
             Some(index) => demand_in(index, wid, stamp),
             None => None,
         }
@@ -84,10 +84,10 @@ impl<'a> Evidence<'a> {
 
     /// What an operation demands at the server, if anything.
     pub(crate) fn demand_at(&self, home: ServerId, what: &What, server: usize) -> Option<Demand>
-        requires checked { IsChecked self.now.count self.now.entries.now (lists_of self.now.dumps.now) self.now.indexes.now }
-        requires served { IsServed (dump_of (lists_of self.now.dumps.now) home.index) what.now }
-        ensures { IsDemandOf (lists_of self.now.dumps.now) home.index what.now server result }
+        requires served { IsServed (dump_of self.now.dumps home.index) what.now }
+        ensures { IsDemandOf self.now.dumps home.index what.now server result }
     {
+        self.recall();
         match what {
             What::Read(_, vector) if usize::from(home.index) == server => Some(Demand {
                 counts: *vector,
@@ -100,13 +100,12 @@ impl<'a> Evidence<'a> {
 
     /// Whether the operation lacks nothing of what is needed, at any server.
     pub(crate) fn is_content(&self, home: ServerId, what: &What, need: &Need) -> bool
-        requires checked { IsChecked self.now.count self.now.entries.now (lists_of self.now.dumps.now) self.now.indexes.now }
-        requires served { IsServed (dump_of (lists_of self.now.dumps.now) home.index) what.now }
-        requires home { home.index < length self.now.dumps.now }
-        ensures { OnTrue result ((write : Write) (server : ℕ) → IsHeld (lists_of self.now.dumps.now) write → IsNeeded need.now write
-            → ¬ Lacks (lists_of self.now.dumps.now) home.index what.now server write) }
+        requires served { IsServed (dump_of self.now.dumps home.index) what.now }
+        requires home { home.index < length self.now.dumps }
+        ensures { OnTrue result ((write : Write) (server : ℕ) → IsHeld self.now.dumps write → IsNeeded need.now write
+            → ¬ Lacks self.now.dumps home.index what.now server write) }
     {
-        for server in 0..self.dumps.len() {
+        for server in 0..usize::from(self.servers()) {
             if let Some(demand) = self.demand_at(home, what, server)
                 && !demand.is_met_by_all(need)
             {

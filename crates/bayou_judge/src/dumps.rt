@@ -3,7 +3,7 @@ ghost use Rattle.std.specs.Prelude.{◌≡◌, ℕ, ◌<◌, ◌≤◌, ◌↔�
 ghost use Rattle.bayou_base.specs.declared.limits.TheConstants.{SERVERS};
 ghost use Rattle.bayou_lang.specs.Writes.{count_of, AreFitting};
 ghost use Rattle.bayou_judge.specs.Evidence.{IsGood};
-ghost use Rattle.bayou_judge.specs.History.{dump_of, lists_of};
+ghost use Rattle.bayou_judge.specs.History.{dump_of, lent_lists};
 ghost use Rattle.bayou_judge.specs.Inner.Checks.{AreRead, DumpAnswer, IndexAnswer};
 ghost use Rattle.bayou_judge.specs.Inner.Index.{IsIndexOf};
 
@@ -11,10 +11,10 @@ use crate::evidence::dump_at;
 use crate::finding::find;
 use crate::fitting::fits;
 use crate::index::Index;
-use crate::verdict::Refusal;
+use crate::verdict::BadEvidence;
 use bayou_base::{SERVERS, ServerId, Vector};
 use bayou_lang::RestingWrite;
-use std::alloc::Global;
+use std::alloc::{AllocError, Global};
 
 /// Whether the Write, if it is the server's own, says that what the vector counts was held.
 fn says_all(server: usize, held: &Vector, write: &RestingWrite) -> bool
@@ -38,13 +38,13 @@ fn is_same_in(dump: &[RestingWrite], index: &Index, write: &RestingWrite) -> boo
 /// Whether none of the smaller servers' dumps, which are indexed, has another Write of its name.
 fn is_same_before(
     count: u8,
-    dumps: &[Vec<RestingWrite>],
+    dumps: &[&[RestingWrite]],
     indexes: &[Index],
     write: &RestingWrite,
 ) -> bool
-    requires { AreRead count (lists_of dumps.now) (length indexes.now) indexes.now }
+    requires { AreRead count (lent_lists dumps.now) (length indexes.now) indexes.now }
     ensures { IsTrue result ↔ ((other : ℕ) → other < length indexes.now
-        → All (λ held. held.wid ≡ write.now.wid → held ≡ write.now) (dump_of (lists_of dumps.now) other)) }
+        → All (λ held. held.wid ≡ write.now.wid → held ≡ write.now) (dump_of (lent_lists dumps.now) other)) }
 {
     for (other, index) in indexes.iter().enumerate() {
         if !is_same_in(dump_at(dumps, other), index, write) {
@@ -57,16 +57,16 @@ fn is_same_before(
 /// Whether the Write at this place of the server's dump, of which those before it are indexed, is good.
 fn is_good(
     count: u8,
-    dumps: &[Vec<RestingWrite>],
+    dumps: &[&[RestingWrite]],
     indexes: &[Index],
     held: &[RestingWrite],
     index: &Index,
     write: &RestingWrite,
 ) -> bool
-    requires read { AreRead count (lists_of dumps.now) (length indexes.now) indexes.now }
+    requires read { AreRead count (lent_lists dumps.now) (length indexes.now) indexes.now }
     requires fitting { AreFitting count held.now }
     requires indexed { IsIndexOf held.now index.now }
-    ensures { IsTrue result ↔ IsGood count (lists_of dumps.now) (length indexes.now) held.now write.now }
+    ensures { IsTrue result ↔ IsGood count (lent_lists dumps.now) (length indexes.now) held.now write.now }
 {
     fits(count, held, index, write)
         && says_all(indexes.len(), &index.vector(), write)
@@ -77,46 +77,42 @@ fn is_good(
 fn index_of(
     alloc: Global,
     count: u8,
-    dumps: &[Vec<RestingWrite>],
+    dumps: &[&[RestingWrite]],
     indexes: &[Index],
     server: ServerId,
-) -> Result<Index, Refusal>
-    requires read { AreRead count (lists_of dumps.now) (length indexes.now) indexes.now }
+) -> Result<Result<Index, BadEvidence>, AllocError>
+    requires read { AreRead count (lent_lists dumps.now) (length indexes.now) indexes.now }
     requires next { server.index ≡ length indexes.now }
-    ensures { DumpAnswer count (lists_of dumps.now) server.index result }
+    ensures { IfOk result (DumpAnswer count (lent_lists dumps.now) server.index) }
 {
     let dump = dump_at(dumps, indexes.len());
     let mut index = Index::new(alloc);
     for (at, write) in dump.iter().enumerate() {
         if !is_good(count, dumps, indexes, &dump[..at], &index, write) {
-            return Err(Refusal::BadDump(server, at));
+            return Ok(Err(BadEvidence::BadDump(server, at)));
         }
-        let Ok(()) = index.add(write) else {
-            return Err(Refusal::OutOfMemory);
-        };
+        index.add(write)?;
     }
-    Ok(index)
+    Ok(Ok(index))
 }
 
 /// The index of each dump, where each Write of each of them is good; else the least place at which one isn't.
 pub(crate) fn indexes_of(
     alloc: Global,
     count: u8,
-    dumps: &[Vec<RestingWrite>],
-) -> Result<Vec<Index>, Refusal>
+    dumps: &[&[RestingWrite]],
+) -> Result<Result<Vec<Index>, BadEvidence>, AllocError>
     requires servers { count ≤ SERVERS }
     requires dumps { length dumps.now ≡ count }
-    ensures { IndexAnswer count (lists_of dumps.now) result }
+    ensures { IfOk result (IndexAnswer count (lent_lists dumps.now)) }
 {
     let mut indexes = Vec::new(alloc);
     for server in 0..count {
-        let Some(id) = ServerId::new(server) else {
-            unreachable!();
-        };
-        let index = index_of(alloc, count, dumps, indexes.as_slice(), id)?;
-        let Ok(()) = indexes.push(index) else {
-            return Err(Refusal::OutOfMemory);
-        };
+        let id = ServerId { index: server };
+        match index_of(alloc, count, dumps, indexes.as_slice(), id)? {
+            Ok(index) => indexes.push(index)?,
+            Err(bad) => return Ok(Err(bad)),
+        }
     }
-    Ok(indexes)
+    Ok(Ok(indexes))
 }

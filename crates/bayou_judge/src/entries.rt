@@ -5,7 +5,7 @@ ghost use Rattle.bayou_base.specs.declared.entry.Entry.{Entry};
 ghost use Rattle.bayou_lang.specs.declared.write.Write.{Write};
 ghost use Rattle.bayou_lang.specs.Writes.{count_of, AreFitting};
 ghost use Rattle.bayou_judge.specs.Evidence.{AreGood, IsGenuine, IsTrueOf};
-ghost use Rattle.bayou_judge.specs.History.{lists_of, IsFrontOf};
+ghost use Rattle.bayou_judge.specs.History.{lent_lists, IsFrontOf};
 ghost use Rattle.bayou_judge.specs.Inner.Checks.{ForgedAnswer};
 ghost use Rattle.bayou_judge.specs.Inner.Heard.{AreTold, Follows, IsLatest};
 ghost use Rattle.bayou_judge.specs.Inner.Index.{AreIndexed, IsIndexOf};
@@ -98,17 +98,17 @@ fn is_true(dump: &[RestingWrite], index: &Index, told: &Told, server: ServerId, 
 /// Whether the entry is genuine.
 fn is_genuine(
     count: u8,
-    dumps: &[Vec<RestingWrite>],
+    dumps: &[&[RestingWrite]],
     indexes: &[Index],
     latest: Option<Latest>,
     told: &Told,
     entry: &Entry,
 ) -> bool
     requires dumps { length dumps.now ≡ count }
-    requires good { AreGood count (lists_of dumps.now) }
-    requires indexed { AreIndexed (lists_of dumps.now) indexes.now }
+    requires good { AreGood count (lent_lists dumps.now) }
+    requires indexed { AreIndexed (lent_lists dumps.now) indexes.now }
     ensures { (earlier : List Entry) → AreTold earlier told.now → IsLatest earlier entry.now.session.index latest
-        → IsTrue result ↔ IsGenuine count (lists_of dumps.now) earlier entry.now }
+        → IsTrue result ↔ IsGenuine count (lent_lists dumps.now) earlier entry.now }
 {
     let server = usize::from(entry.server.index);
     match indexes.get(server) {
@@ -131,14 +131,14 @@ pub(crate) fn first_forged(
     alloc: Global,
     count: u8,
     entries: &[Entry],
-    dumps: &[Vec<RestingWrite>],
+    dumps: &[&[RestingWrite]],
     indexes: &[Index],
 ) -> Result<Option<usize>, AllocError>
     requires servers { count ≤ SERVERS }
     requires dumps { length dumps.now ≡ count }
-    requires good { AreGood count (lists_of dumps.now) }
-    requires indexed { AreIndexed (lists_of dumps.now) indexes.now }
-    ensures { IfOk result (ForgedAnswer count (lists_of dumps.now) entries.now) }
+    requires good { AreGood count (lent_lists dumps.now) }
+    requires indexed { AreIndexed (lent_lists dumps.now) indexes.now }
+    ensures { IfOk result (ForgedAnswer count (lent_lists dumps.now) entries.now) }
 {
     let mut latest = [None; SESSIONS];
     let mut told = Told::new(alloc);

@@ -1,16 +1,17 @@
-ghost use Rattle.std.specs.Prelude.{◌≡◌, ◌<◌, ◌≤◌, ◌↔◌, IsTrue, length, true};
+ghost use Rattle.std.specs.Prelude.{◌≡◌, ◌<◌, ◌≤◌, ◌↔◌, ℕ, IfOk, IsTrue, List, Ok, length, true};
 ghost use Rattle.bayou_base.specs.declared.limits.TheConstants.{SERVERS};
-ghost use Rattle.bayou_judge.specs.Answers.{Judges};
+ghost use Rattle.bayou_judge.specs.Answers.{IsEvidence, IsSurvey, Judges};
 ghost use Rattle.bayou_judge.specs.Breaches.{is_asked};
-ghost use Rattle.bayou_judge.specs.History.{lists_of};
+ghost use Rattle.bayou_judge.specs.History.{history_of, lent_lists};
+ghost use Rattle.bayou_lang.specs.declared.write.Write.{Write};
 ghost use Rattle.bayou_judge.specs.Inner.Verdicts.{IsAsked, IsAskedAt, IsFirstAsked, IsFirstOf};
 
 use crate::breach::{Breach, Guarantee};
 use crate::survey_all::survey;
-use crate::verdict::{Refusal, Surveyed, Verdict};
+use crate::verdict::{BadEvidence, Surveyed, Verdict};
 use bayou_base::{Asks, Entry, SERVERS};
 use bayou_lang::RestingWrite;
-use std::alloc::Global;
+use std::alloc::{AllocError, Global};
 
 /// Whether the guarantee is asked for.
 fn asks_for(asks: Asks, guarantee: Guarantee) -> bool
@@ -83,6 +84,20 @@ fn first_of(entries: &[Entry], list: &[Surveyed]) -> Option<Breach>
     None
 }
 
+/// The verdict on entries that were surveyed: what [`judge`] answers, of one pass over the entries that was made already.
+///
+/// It allocates nothing. For each breach that was surveyed, of which there are four a session at most, it goes over the entries once
+/// at most.
+pub fn verdict_of(entries: &[Entry], surveyed: &[Surveyed]) -> Verdict
+    ensures { (count : ℕ) (dumps : List (List Write)) → IsEvidence count entries.now dumps → IsSurvey (history_of entries.now dumps) entries.now surveyed.now
+        → Judges count entries.now dumps (Ok result) }
+{
+    match first_of(entries, surveyed) {
+        Some(breach) => Verdict::Broken(breach),
+        None => Verdict::Clean,
+    }
+}
+
 /// Whether each session had each of the four session guarantees (Terry et al. 1994) that it asked for, or the least breach of
 /// what was asked for: by session, guarantee, later place, earlier place, server, and name.
 ///
@@ -93,15 +108,14 @@ pub fn judge(
     alloc: Global,
     count: u8,
     entries: &[Entry],
-    dumps: &[Vec<RestingWrite>],
-) -> Result<Verdict, Refusal>
+    dumps: &[&[RestingWrite]],
+) -> Result<Result<Verdict, BadEvidence>, AllocError>
     requires servers { (0 < count) × (count ≤ SERVERS) }
     requires dumps { length dumps.now ≡ count }
-    ensures { Judges count entries.now (lists_of dumps.now) result }
+    ensures { IfOk result (Judges count entries.now (lent_lists dumps.now)) }
 {
-    let list = survey(alloc, count, entries, dumps)?;
-    match first_of(entries, &list) {
-        Some(breach) => Ok(Verdict::Broken(breach)),
-        None => Ok(Verdict::Clean),
+    match survey(alloc, count, entries, dumps)? {
+        Ok(surveyed) => Ok(Ok(verdict_of(entries, &surveyed))),
+        Err(bad) => Ok(Err(bad)),
     }
 }

@@ -1,5 +1,5 @@
 //! What the definitions come to: each law is the contract of a function that does nothing.
-ghost use Rattle.std.specs.Prelude.{◌≡◌, ◌↔◌, ◌≢◌, ℕ, List, Contains, Result, Err};
+ghost use Rattle.std.specs.Prelude.{◌≡◌, ◌↔◌, ℕ, List, Contains, Result};
 ghost use Rattle.bayou_base.specs.Vector.{Covers};
 ghost use Rattle.bayou_base.specs.declared.entry.Entry.{Entry};
 ghost use Rattle.bayou_lang.specs.Writes.{count_of, IsSound};
@@ -9,8 +9,7 @@ ghost use Rattle.bayou_judge.specs.Breaches.{Holds, IsBreach};
 ghost use Rattle.bayou_judge.specs.Evidence.{AreGood};
 ghost use Rattle.bayou_judge.specs.History.{dump_of, history_of, IsFrontOf};
 ghost use Rattle.bayou_judge.specs.declared.breach.Breach.{Breach};
-ghost use Rattle.bayou_judge.specs.declared.verdict.Refusal.{Refusal};
-ghost use Rattle.bayou_judge.specs.declared.verdict.Refusal.TheVariants.{OutOfMemory};
+ghost use Rattle.bayou_judge.specs.declared.verdict.BadEvidence.{BadEvidence};
 ghost use Rattle.bayou_judge.specs.declared.verdict.Verdict.{Verdict};
 
 /// A breach violates its guarantee in its session.
@@ -43,8 +42,8 @@ pub fn a_vector_is_of_one_database()
     ensures { (dump database other : List Write) → IsFrontOf dump database → IsFrontOf dump other → count_of database ≡ count_of other → database ≡ other }
 {}
 
-/// Of entries and dumps there is one verdict, or one reason why there is none: two answers that aren't want of memory are equal.
+/// Of entries and dumps there is one verdict, or one reason why there is none.
 pub fn a_verdict_is_one()
-    ensures { (count : ℕ) (entries : List Entry) (dumps : List (List Write)) (one other : Result Verdict Refusal) → Judges count entries dumps one
-        → Judges count entries dumps other → one ≢ Err OutOfMemory → other ≢ Err OutOfMemory → one ≡ other }
+    ensures { (count : ℕ) (entries : List Entry) (dumps : List (List Write)) (one other : Result Verdict BadEvidence) → Judges count entries dumps one
+        → Judges count entries dumps other → one ≡ other }
 {}

@@ -5,10 +5,12 @@
 //! are the databases that its server had, a read was served from the front that its vector counts, and a Write is the one of its
 //! name. Where they can't be of servers that keep to the rules they are refused, the least bad place of a dump first, then
 //! the first forged entry. Otherwise the verdict is whether that history keeps the four session guarantees (Terry et al. 1994),
-//! and a breach names the least pair of operations that violates one. [`survey`] tells of each guarantee in each session.
+//! and a breach names the least pair of operations that violates one. [`survey`] tells of each guarantee in each session, and
+//! [`verdict_of`] makes the verdict of what it told, so that one pass over the entries gives both.
 //!
-//! Callers owe so many dumps as there are servers. It isn't promised that the value which a read gave was right, nor that
-//! entries and dumps are all that there was. Want of memory is an answer only where a growth was refused.
+//! Callers owe so many dumps as there are servers, and only lend them: [`lend_dumps`] makes such slices. It isn't promised
+//! that the value which a read gave was right, nor that entries and dumps are all that there was. Want of memory is an answer only
+//! where a growth was refused.
 #![tactic(auto)]
 
 pub mod breach;
@@ -22,6 +24,7 @@ mod index;
 mod judge_all;
 mod kinds;
 pub mod laws;
+mod lending;
 mod locate;
 mod needs;
 mod passes;
@@ -30,6 +33,7 @@ mod told;
 pub mod verdict;
 
 pub use breach::{Breach, Guarantee};
-pub use judge_all::judge;
+pub use judge_all::{judge, verdict_of};
+pub use lending::lend_dumps;
 pub use survey_all::survey;
-pub use verdict::{Refusal, Surveyed, Verdict};
+pub use verdict::{BadEvidence, Surveyed, Verdict};

@@ -4,12 +4,12 @@ ghost use Rattle.std.specs.Bool.{OnTrue, OnFalse};
 ghost use Rattle.bayou_base.specs.declared.entry.Entry.{Entry};
 ghost use Rattle.bayou_lang.specs.declared.write.Write.{Write};
 ghost use Rattle.bayou_judge.specs.Breaches.{is_less};
-ghost use Rattle.bayou_judge.specs.History.{dump_of, lists_of};
-ghost use Rattle.bayou_judge.specs.Inner.Needs.{wid_key, IsBreachOf, IsBreachWith, IsChecked, IsLeastAt, IsLeastFault, IsLeastUnmet, IsLesser, IsMet, IsSecond, IsServed, IsTold};
+ghost use Rattle.bayou_judge.specs.History.{dump_of};
+ghost use Rattle.bayou_judge.specs.Inner.Needs.{wid_key, IsBreachOf, IsBreachWith, IsLeastAt, IsLeastFault, IsLeastUnmet, IsLesser, IsMet, IsSecond, IsServed, IsTold};
 
 use crate::breach::{Breach, Guarantee};
 use crate::demand::Demand;
-use crate::evidence::{Evidence, dump_at};
+use crate::evidence::Evidence;
 use crate::kinds::is_first_of;
 use bayou_base::{Entry, ServerId, SessionId, What, Wid};
 use bayou_lang::RestingWrite;
@@ -97,33 +97,29 @@ impl<'a> Evidence<'a> {
     /// The least name with which the two operations have a fault at the server. The Writes are looked at only where the
     /// vectors don't show that there is none.
     fn fault_at(&self, first: &Entry, second: &Entry, server: usize) -> Option<Wid>
-        requires checked { IsChecked self.now.count self.now.entries.now (lists_of self.now.dumps.now) self.now.indexes.now }
-        requires first { IsServed (dump_of (lists_of self.now.dumps.now) first.now.server.index) first.now.what }
-        requires second { IsServed (dump_of (lists_of self.now.dumps.now) second.now.server.index) second.now.what }
-        ensures { IsLeastAt (lists_of self.now.dumps.now) first.now second.now server result }
+        requires first { IsServed (dump_of self.now.dumps first.now.server.index) first.now.what }
+        requires second { IsServed (dump_of self.now.dumps second.now.server.index) second.now.what }
+        ensures { IsLeastAt self.now.dumps first.now second.now server result }
     {
+        self.recall();
         let Some(demand) = self.demand_at(second.server, &second.what, server) else {
             return None;
         };
         if demand.is_met_by_all(&self.need_of(first.server, &first.what)) {
             return None;
         }
-        least_unmet(
-            dump_at(self.dumps, usize::from(first.server.index)),
-            &first.what,
-            &demand,
-        )
+        let dump = self.dump(usize::from(first.server.index));
+        least_unmet(dump, &first.what, &demand)
     }
 
     /// The least fault of the two operations.
     fn fault_between(&self, first: &Entry, second: &Entry) -> Option<Fault>
-        requires checked { IsChecked self.now.count self.now.entries.now (lists_of self.now.dumps.now) self.now.indexes.now }
-        requires first { IsServed (dump_of (lists_of self.now.dumps.now) first.now.server.index) first.now.what }
-        requires second { IsServed (dump_of (lists_of self.now.dumps.now) second.now.server.index) second.now.what }
-        requires home { second.now.server.index < self.now.count }
-        ensures { IsLeastFault (lists_of self.now.dumps.now) first.now second.now result }
+        requires first { IsServed (dump_of self.now.dumps first.now.server.index) first.now.what }
+        requires second { IsServed (dump_of self.now.dumps second.now.server.index) second.now.what }
+        requires home { second.now.server.index < length self.now.dumps }
+        ensures { IsLeastFault self.now.dumps first.now second.now result }
     {
-        for server in 0..self.count {
+        for server in 0..self.servers() {
             if let Some(wid) = self.fault_at(first, second, usize::from(server)) {
                 let server = ServerId { index: server };
                 return Some(Fault { server, wid });
@@ -140,11 +136,10 @@ impl<'a> Evidence<'a> {
         first: &Entry,
         second: &Entry,
     ) -> Option<Breach>
-        requires checked { IsChecked self.now.count self.now.entries.now (lists_of self.now.dumps.now) self.now.indexes.now }
-        requires first { IsServed (dump_of (lists_of self.now.dumps.now) first.now.server.index) first.now.what }
-        requires second { IsServed (dump_of (lists_of self.now.dumps.now) second.now.server.index) second.now.what }
-        requires home { second.now.server.index < self.now.count }
-        ensures { IsBreachWith (lists_of self.now.dumps.now) guarantee session.index first.now second.now result }
+        requires first { IsServed (dump_of self.now.dumps first.now.server.index) first.now.what }
+        requires second { IsServed (dump_of self.now.dumps second.now.server.index) second.now.what }
+        requires home { second.now.server.index < length self.now.dumps }
+        ensures { IsBreachWith self.now.dumps guarantee session.index first.now second.now result }
     {
         if !is_first_of(guarantee, session, first) {
             return None;
@@ -169,14 +164,13 @@ impl<'a> Evidence<'a> {
         session: SessionId,
         at: usize,
     ) -> Option<Breach>
-        requires checked { IsChecked self.now.count self.now.entries.now (lists_of self.now.dumps.now) self.now.indexes.now }
-        requires at { at < length self.now.entries.now }
-        ensures { (second : Entry) → slice_get self.now.entries.now at ≡ Some second → IsSecond guarantee session.index second
-            → IsBreachOf (lists_of self.now.dumps.now) self.now.entries.now guarantee session.index at second result }
+        requires at { at < length self.now.entries }
+        ensures { (second : Entry) → slice_get self.now.entries at ≡ Some second → IsSecond guarantee session.index second
+            → IsBreachOf self.now.dumps self.now.entries guarantee session.index at second result }
     {
-        let second = &self.entries[at];
+        let second = self.entry(at);
         for place in 0..at {
-            let first = &self.entries[place];
+            let first = self.entry(place);
             if let Some(breach) = self.breach_with(guarantee, session, first, second) {
                 return Some(breach);
             }

@@ -3,10 +3,10 @@ ghost use Rattle.std.specs.Prelude.{◌≡◌, ◌⊎◌, List, ℕ, Some, sum, 
 ghost use Rattle.bayou_base.specs.Vector.{Covers};
 ghost use Rattle.bayou_base.specs.declared.entry.What.TheVariants as whats;
 ghost use Rattle.bayou_lang.specs.declared.write.Write.{Write};
-ghost use Rattle.bayou_judge.specs.History.{dump_of, lists_of};
+ghost use Rattle.bayou_judge.specs.History.{dump_of};
 ghost use Rattle.bayou_judge.specs.Inner.Index.{IsUpTo};
 ghost use Rattle.bayou_base.specs.declared.stamp.Stamp.{Stamp};
-ghost use Rattle.bayou_judge.specs.Inner.Needs.{is_first, IsChecked, IsNeeded, IsServed, Tells};
+ghost use Rattle.bayou_judge.specs.Inner.Needs.{is_first, IsNeeded, IsServed, Tells};
 ghost use Rattle.bayou_judge.specs.Inner.Known.{need_for};
 ghost use Rattle.bayou_judge.specs.declared.breach.Guarantee.{Guarantee};
 
@@ -124,10 +124,10 @@ impl Needs {
 impl<'a> Evidence<'a> {
     /// What a read tells of.
     fn need_of_read(&self, home: ServerId, vector: &Vector) -> Need
-        requires checked { IsChecked self.now.count self.now.entries.now (lists_of self.now.dumps.now) self.now.indexes.now }
-        ensures { (key : List ℕ) (write : Write) → Tells (dump_of (lists_of self.now.dumps.now) home.index) (whats.Read key vector.now) write → IsNeeded result write }
+        ensures { (key : List ℕ) (write : Write) → Tells (dump_of self.now.dumps home.index) (whats.Read key vector.now) write → IsNeeded result write }
     {
-        match self.indexes.get(usize::from(home.index)) {
+        self.recall();
+        match self.index(usize::from(home.index)) {
             Some(index) => Need {
                 counts: *vector,
                 last: index.last_of(size_of(vector)),
@@ -138,10 +138,10 @@ impl<'a> Evidence<'a> {
 
     /// What an operation tells its session of.
     pub(crate) fn need_of(&self, home: ServerId, what: &What) -> Need
-        requires checked { IsChecked self.now.count self.now.entries.now (lists_of self.now.dumps.now) self.now.indexes.now }
-        requires served { IsServed (dump_of (lists_of self.now.dumps.now) home.index) what.now }
-        ensures { (write : Write) → Tells (dump_of (lists_of self.now.dumps.now) home.index) what.now write → IsNeeded result write }
+        requires served { IsServed (dump_of self.now.dumps home.index) what.now }
+        ensures { (write : Write) → Tells (dump_of self.now.dumps home.index) what.now write → IsNeeded result write }
     {
+        self.recall();
         match what {
             What::Read(_, vector) => self.need_of_read(home, vector),
             What::Write(wid, stamp, _) => Need::of_write(*wid, *stamp),

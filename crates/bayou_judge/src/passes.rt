@@ -4,8 +4,7 @@ ghost use Rattle.bayou_base.specs.declared.entry.Entry.{Entry};
 ghost use Rattle.bayou_base.specs.declared.limits.TheConstants.{SESSIONS};
 ghost use Rattle.bayou_lang.specs.declared.write.Write.{Write};
 ghost use Rattle.bayou_judge.specs.declared.breach.Guarantee.{Guarantee};
-ghost use Rattle.bayou_judge.specs.History.{lists_of};
-ghost use Rattle.bayou_judge.specs.Inner.Needs.{IsBreachFor, IsChecked, IsFirstBreach, IsNeedOf};
+ghost use Rattle.bayou_judge.specs.Inner.Needs.{IsBreachFor, IsFirstBreach, IsNeedOf};
 ghost use Rattle.bayou_judge.specs.Inner.Known.{found_of, need_for, IsKnown, IsProgress};
 
 use crate::breach::{Breach, Guarantee};
@@ -67,12 +66,11 @@ impl Progress {
 impl<'a> Evidence<'a> {
     /// What is needed by the session of this entry once it was told of it too.
     fn needs_with(&self, at: usize, needs: &Needs) -> Needs
-        requires checked { IsChecked self.now.count self.now.entries.now (lists_of self.now.dumps.now) self.now.indexes.now }
-        requires at { at < length self.now.entries.now }
-        ensures { (session : ℕ) (guarantee : Guarantee) → IsNeedOf (lists_of self.now.dumps.now) guarantee session (take at self.now.entries.now) (need_for needs.now guarantee)
-            → IsNeedOf (lists_of self.now.dumps.now) guarantee session (take (at + 1) self.now.entries.now) (need_for result guarantee) }
+        requires at { at < length self.now.entries }
+        ensures { (session : ℕ) (guarantee : Guarantee) → IsNeedOf self.now.dumps guarantee session (take at self.now.entries) (need_for needs.now guarantee)
+            → IsNeedOf self.now.dumps guarantee session (take (at + 1) self.now.entries) (need_for result guarantee) }
     {
-        let entry = &self.entries[at];
+        let entry = self.entry(at);
         needs.with(&entry.what, &self.need_of(entry.server, &entry.what))
     }
 
@@ -85,12 +83,12 @@ impl<'a> Evidence<'a> {
         at: usize,
         need: &Need,
     ) -> Option<Breach>
-        requires checked { IsChecked self.now.count self.now.entries.now (lists_of self.now.dumps.now) self.now.indexes.now }
-        requires at { at < length self.now.entries.now }
-        requires need { IsNeedOf (lists_of self.now.dumps.now) guarantee session.index (take at self.now.entries.now) need.now }
-        ensures { (second : Entry) → slice_get self.now.entries.now at ≡ Some second → IsBreachFor (lists_of self.now.dumps.now) self.now.entries.now guarantee session.index at second result }
+        requires at { at < length self.now.entries }
+        requires need { IsNeedOf self.now.dumps guarantee session.index (take at self.now.entries) need.now }
+        ensures { (second : Entry) → slice_get self.now.entries at ≡ Some second → IsBreachFor self.now.dumps self.now.entries guarantee session.index at second result }
     {
-        let entry = &self.entries[at];
+        let entry = self.entry(at);
+        self.recall();
         if !is_second_of(guarantee, session, entry) {
             return None;
         }
@@ -108,10 +106,9 @@ impl<'a> Evidence<'a> {
         at: usize,
         progress: &Progress,
     ) -> Option<Breach>
-        requires checked { IsChecked self.now.count self.now.entries.now (lists_of self.now.dumps.now) self.now.indexes.now }
-        requires at { at < length self.now.entries.now }
-        requires progress { IsProgress (lists_of self.now.dumps.now) self.now.entries.now session.index at progress.now }
-        ensures { IsFirstBreach (lists_of self.now.dumps.now) self.now.entries.now guarantee session.index (at + 1) result }
+        requires at { at < length self.now.entries }
+        requires progress { IsProgress self.now.dumps self.now.entries session.index at progress.now }
+        ensures { IsFirstBreach self.now.dumps self.now.entries guarantee session.index (at + 1) result }
     {
         match found_of(&progress.surveyed, guarantee) {
             Some(breach) => Some(breach),
@@ -121,10 +118,9 @@ impl<'a> Evidence<'a> {
 
     /// The progress of the session with this entry, which is its own.
     fn progress_with(&self, session: SessionId, at: usize, progress: &Progress) -> Progress
-        requires checked { IsChecked self.now.count self.now.entries.now (lists_of self.now.dumps.now) self.now.indexes.now }
-        requires at { at < length self.now.entries.now }
-        requires progress { IsProgress (lists_of self.now.dumps.now) self.now.entries.now session.index at progress.now }
-        ensures { IsProgress (lists_of self.now.dumps.now) self.now.entries.now session.index (at + 1) result }
+        requires at { at < length self.now.entries }
+        requires progress { IsProgress self.now.dumps self.now.entries session.index at progress.now }
+        ensures { IsProgress self.now.dumps self.now.entries session.index (at + 1) result }
     {
         Progress {
             needs: self.needs_with(at, &progress.needs),
@@ -140,12 +136,12 @@ impl<'a> Evidence<'a> {
 
     /// What became of each session that has an entry, by one pass over the entries.
     pub(crate) fn pass(&self) -> [Option<Progress>; SESSIONS]
-        requires checked { IsChecked self.now.count self.now.entries.now (lists_of self.now.dumps.now) self.now.indexes.now }
         ensures sized { length result ≡ SESSIONS }
-        ensures known { (session : ℕ) → session < SESSIONS → IsKnown (lists_of self.now.dumps.now) self.now.entries.now session (length self.now.entries.now) (slice_index_or result session None) }
+        ensures known { (session : ℕ) → session < SESSIONS → IsKnown self.now.dumps self.now.entries session (length self.now.entries) (slice_index_or result session None) }
     {
         let mut known = [None; SESSIONS];
-        for (at, entry) in self.entries.iter().enumerate() {
+        for at in 0..self.size() {
+            let entry = self.entry(at);
             let session = usize::from(entry.session.index);
             let progress = Progress::of_known(known[session], entry.session);
             known[session] = Some(self.progress_with(entry.session, at, &progress));

@@ -1,22 +1,21 @@
 ghost use Rattle.std.specs.Prelude.{◌≡◌, ◌<◌, ◌≤◌, IfOk, length};
 ghost use Rattle.bayou_base.specs.declared.limits.TheConstants.{SERVERS};
 ghost use Rattle.bayou_judge.specs.Answers.{IsSurvey, SurveyAnswer};
-ghost use Rattle.bayou_judge.specs.History.{history_of, lists_of};
-ghost use Rattle.bayou_judge.specs.Inner.Needs.{IsChecked};
+ghost use Rattle.bayou_judge.specs.History.{history_of, lent_lists};
 
 use crate::dumps::indexes_of;
 use crate::entries::first_forged;
 use crate::evidence::Evidence;
-use crate::verdict::{Refusal, Surveyed};
+use crate::verdict::{BadEvidence, Surveyed};
 use bayou_base::{Entry, SERVERS, SESSIONS};
 use bayou_lang::RestingWrite;
 use std::alloc::{AllocError, Global};
 
 /// What became of each guarantee in each session that has an entry.
 fn survey_sessions(alloc: Global, evidence: &Evidence) -> Result<Vec<Surveyed>, AllocError>
-    requires checked { IsChecked evidence.now.count evidence.now.entries.now (lists_of evidence.now.dumps.now) evidence.now.indexes.now }
-    ensures { IfOk result (λ list. IsSurvey (history_of evidence.now.entries.now (lists_of evidence.now.dumps.now)) evidence.now.entries.now list.items) }
+    ensures { IfOk result (λ list. IsSurvey (history_of evidence.now.entries evidence.now.dumps) evidence.now.entries list.items) }
 {
+    evidence.recall();
     let known = evidence.pass();
     let mut list = Vec::new(alloc);
     for session in 0..SESSIONS {
@@ -35,24 +34,20 @@ pub fn survey(
     alloc: Global,
     count: u8,
     entries: &[Entry],
-    dumps: &[Vec<RestingWrite>],
-) -> Result<Vec<Surveyed>, Refusal>
+    dumps: &[&[RestingWrite]],
+) -> Result<Result<Vec<Surveyed>, BadEvidence>, AllocError>
     requires servers { (0 < count) × (count ≤ SERVERS) }
     requires dumps { length dumps.now ≡ count }
-    ensures { SurveyAnswer count entries.now (lists_of dumps.now) result }
+    ensures { IfOk result (SurveyAnswer count entries.now (lent_lists dumps.now)) }
 {
-    let indexes = indexes_of(alloc, count, dumps)?;
-    let Ok(forged) = first_forged(alloc, count, entries, dumps, &indexes) else {
-        return Err(Refusal::OutOfMemory);
+    let indexes = match indexes_of(alloc, count, dumps)? {
+        Ok(indexes) => indexes,
+        Err(bad) => return Ok(Err(bad)),
     };
-    if let Some(at) = forged {
-        return Err(Refusal::Forged(at));
+    if let Some(at) = first_forged(alloc, count, entries, dumps, &indexes)? {
+        return Ok(Err(BadEvidence::Forged(at)));
     }
-    let evidence = Evidence {
-        count,
-        entries,
-        dumps,
-        indexes: &indexes,
-    };
-    survey_sessions(alloc, &evidence).map_err(|_| Refusal::OutOfMemory)
+    let evidence = Evidence::new(count, entries, dumps, &indexes);
+    let list = survey_sessions(alloc, &evidence)?;
+    Ok(Ok(list))
 }

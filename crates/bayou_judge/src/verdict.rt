@@ -10,15 +10,13 @@ pub enum Verdict {
     Broken(Breach),
 }
 
-/// Why there is no verdict.
+/// Why entries and dumps stand for no history.
 #[derive(Clone, Copy, Debug, PartialEq, Eq)]
-pub enum Refusal {
+pub enum BadEvidence {
     /// The server can't have held what its dump has at this place, from 0 on.
     BadDump(ServerId, usize),
     /// The entry at this place, from 0 on, tells of what can't have been.
     Forged(usize),
-    /// Memory was refused.
-    OutOfMemory,
 }
 
 /// What became of each guarantee in a session, asked for or not: its least breach, or `None` where the session had it.

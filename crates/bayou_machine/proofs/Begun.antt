@@ -4,21 +4,21 @@ use Rattle.std.proofs.lemmas.Bool.{cases_lt}
 use Rattle.std.proofs.lemmas.List.{length_push, get_or_append_left, get_or_push}
 use Rattle.std.proofs.lemmas.Option.{slice_get-get_or, get_or_from_slice_get, slice_get_within}
 use Rattle.std.specs.List.{slice_get}
-use Rattle.bayou_machine.specs.declared.replica.Replica.{Replica}
-use Rattle.bayou_machine.specs.Replica.{IsBegun}
+use Rattle.bayou_machine.specs.declared.script_server.ScriptServer.{ScriptServer}
+use Rattle.bayou_machine.specs.ScriptServer.{IsBegun}
 
 -- so many servers were started
-pub record BegunSoFar (count limit done : ℕ) (replicas : List Replica) : Type 0 where
+pub record BegunSoFar (count limit done : ℕ) (replicas : List ScriptServer) : Type 0 where
   pub one_each : length replicas ≡ done
-  pub started : (place : ℕ) → place < done → (replica : Replica) × (slice_get replicas place ≡ Some replica) × IsBegun count limit place replica
+  pub started : (place : ℕ) → place < done → (replica : ScriptServer) × (slice_get replicas place ≡ Some replica) × IsBegun count limit place replica
 
-slice_get-front : (replicas : List Replica) (last replica : Replica) (i : ℕ) → slice_get replicas i ≡ Some replica → slice_get (replicas ++ last ∷ []) i ≡ Some replica
+slice_get-front : (replicas : List ScriptServer) (last replica : ScriptServer) (i : ℕ) → slice_get replicas i ≡ Some replica → slice_get (replicas ++ last ∷ []) i ≡ Some replica
 slice_get-front replicas last replica i is =
     let within : i < length replicas = slice_get_within replicas i replica is in
     slice_get-get_or (replicas ++ last ∷ []) i replica (omega (arith, length_push replicas last))
     ∙ ap Some (get_or_append_left replicas (last ∷ []) replica i within ∙ get_or_from_slice_get replicas i replica replica is)
 
-pub BegunSoFar-push : (count limit done : ℕ) (replicas : List Replica) (replica : Replica) → BegunSoFar count limit done replicas
+pub BegunSoFar-push : (count limit done : ℕ) (replicas : List ScriptServer) (replica : ScriptServer) → BegunSoFar count limit done replicas
     → IsBegun count limit done replica → BegunSoFar count limit (done + 1) (replicas ++ replica ∷ [])
 BegunSoFar-push count limit done replicas replica so_far begun =
     let more = replicas ++ replica ∷ [] in
@@ -27,7 +27,7 @@ BegunSoFar-push count limit done replicas replica so_far begun =
     ∙ ap Some (get_or_push replicas replica replica done so_far.one_each) in
     record {
       one_each = length_push replicas replica ∙ ap (λ n. n + 1) so_far.one_each;
-      started = λ place within. elim (cases_lt place done) as (λ _. (started : Replica) × (slice_get more place ≡ Some started) × IsBegun count limit place started) [
+      started = λ place within. elim (cases_lt place done) as (λ _. (started : ScriptServer) × (slice_get more place ≡ Some started) × IsBegun count limit place started) [
         | inl before ↦
             let (started, is, was) = so_far.started place before in (started, slice_get-front replicas replica started place is, was)
         | inr past ↦

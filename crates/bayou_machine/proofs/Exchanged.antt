@@ -5,26 +5,26 @@ use Rattle.bayou_lang.specs.Writes.{lacking_of}
 use Rattle.bayou_frames.specs.declared.fault.Fault.TheVariants.{OutOfMemory}
 use Rattle.bayou_peer.specs.declared.fault.PullFault.TheVariants.{Stream}
 use Rattle.bayou_peer.specs.Meeting.{Meets, coming}
-use Rattle.bayou_machine.specs.declared.answer.Exchange.{Exchange}
-use Rattle.bayou_machine.specs.declared.answer.Exchange.TheVariants.{NotRunning, Ended}
-use Rattle.bayou_machine.specs.declared.replica.Replica.{Replica}
-use Rattle.bayou_machine.specs.declared.replica.Replica.TheVariants.{Running}
+use Rattle.bayou_answers.specs.declared.answer.Transfer.{Transfer}
+use Rattle.bayou_answers.specs.declared.answer.Transfer.TheVariants.{NotRunning, Ended}
+use Rattle.bayou_machine.specs.declared.script_server.ScriptServer.{ScriptServer}
+use Rattle.bayou_machine.specs.declared.script_server.ScriptServer.TheVariants.{Running}
 use Rattle.bayou_machine.specs.Exchange.{IsExchanged, serving_ways}
 use Rattle.bayou_machine.specs.Inner.Sent.{IsGiven, IsNoAnswer}
-use Rattle.bayou_machine.specs.Replica.{Serving}
+use Rattle.bayou_machine.specs.ScriptServer.{Serving}
 
 none_for_memory : (sent : List Write) (cut : Option ℕ) (server : Serving) → Meets serving_ways sent cut server (Err (Stream OutOfMemory)) server
 none_for_memory sent cut server = (coming cut sent, 0, 0, record { given = []; tooks = []; split = refl; took = refl; new = refl; held = refl })
 
 -- where there is no answer nothing was taken
-pub no_answer : (counts : List ℕ) (cut : Option ℕ) (before sender : Replica) (exchange : Exchange) (server : Serving) → before ≡ Running server → IsNoAnswer sender exchange
+pub no_answer : (counts : List ℕ) (cut : Option ℕ) (before sender : ScriptServer) (exchange : Transfer) (server : Serving) → before ≡ Running server → IsNoAnswer sender exchange
     → IsExchanged counts cut before sender exchange before
 no_answer counts cut before sender NotRunning server runs stopped = (inr stopped, refl)
 no_answer counts cut before sender (Ended result) server runs (other, is, memory) =
     (server, server, other, runs, is, runs, subst (λ r. Meets serving_ways (lacking_of counts other.core.held) cut server r server) (sym memory) (none_for_memory (lacking_of counts other.core.held) cut server))
 
 -- what was given is what was sent
-pub given : (counts : List ℕ) (cut : Option ℕ) (before sender after : Replica) (exchange : Exchange) (other : Serving) → sender ≡ Running other
+pub given : (counts : List ℕ) (cut : Option ℕ) (before sender after : ScriptServer) (exchange : Transfer) (other : Serving) → sender ≡ Running other
     → IsGiven (lacking_of counts other.core.held) cut before exchange after → IsExchanged counts cut before sender exchange after
 given counts cut before sender after NotRunning other is (stopped, same) = (inl stopped, same)
 given counts cut before sender after (Ended result) other is (old, new, was, now, meets) = (old, new, other, was, is, now, meets)

@@ -1,20 +1,18 @@
 -- What is filed, and the shares that it is filed on.
-use Rattle.std.proofs.Common.{◌≡◌, ◌⊎◌, inl, inr, ℕ, ◌<◌, ◌≤◌, List, [], ◌∷◌, ◌++◌, Option, Some, set, length, get_or, refl, sym, ap, subst, ◌∙◌, arith, length-set, Bool, true, false, filter, map, take, suc}
-use Rattle.std.specs.Option.{is_some}
-use Rattle.std.proofs.Math.Bool.{cond}
+use Rattle.std.proofs.Common.{◌≡◌, ◌⊎◌, inl, inr, ℕ, ◌<◌, ◌≤◌, List, [], ◌∷◌, ◌++◌, Option, Some, set, length, get_or, refl, sym, ap, subst, ◌∙◌, arith, length-set}
 use Rattle.std.proofs.lemmas.Bool.{cases_lt}
-use Rattle.std.proofs.lemmas.List.{get_or-set_other, get_or-set_same, take_all}
+use Rattle.std.proofs.lemmas.List.{get_or-set_other, get_or-set_same}
 use Rattle.std.proofs.lemmas.Option.{get_or_from_slice_get, slice_get-get_or, slice_get_within}
 use Rattle.std.specs.List.{slice_get}
-use Rattle.bayou_audit.specs.Totals.{Booked, Shared, with_claim, with_entry}
+use Rattle.bayou_audit.specs.declared.totals.Totals.{Totals}
+use Rattle.bayou_audit.specs.Totals.{Booked, Shared, counted, with_claim, with_entry, without_slip}
 use Rattle.bayou_base.specs.declared.entry.Entry.{Entry}
 use Rattle.bayou_base.specs.declared.entry.What.{What}
+use Rattle.bayou_base.specs.declared.entry.What.TheVariants as whats
 use Rattle.bayou_base.specs.declared.limits.TheConstants.{SESSIONS}
 use Rattle.bayou_session.specs.Needs.{Told}
-use Rattle.bayou_text.specs.declared.command.Command.{Command}
-use Rattle.bayou_text.specs.Said.{Said, command_said}
-use Rattle.bayou_machine.specs.Filed.{Files, Filings, IsEntryOf, operation_of, operations}
-use Rattle.bayou_machine.specs.Inner.Filing.{AreOfSessions}
+use Rattle.bayou_machine.specs.Filed.{Files, Filings, IsEntryOf}
+use Rattle.bayou_machine.specs.Inner.Shares.{AreOfSessions}
 
 -- the entry is what is filed
 pub filed_entry : (who place : ℕ) (told : Told) (what : What) (known : Option What) (entry : Entry) (before after : Booked) → after ≡ with_entry before entry
@@ -58,6 +56,18 @@ put_back_share shares at old new are within found same = record {
       (cases_lt i at) (cases_lt at i);
 }
 
+slips_counted : (what : What) (totals : Totals) → (counted what totals).slips ≡ totals.slips
+slips_counted (whats.Read key vector) totals = refl
+slips_counted (whats.Write wid stamp deps) totals = refl
+slips_counted whats.Refused totals = refl
+
+-- a slip that was claimed and spent on an entry is out no more
+pub no_slip_out : (inside claimed spent : Booked) (entry : Entry) → inside.totals.slips ≡ 0 → claimed ≡ with_claim inside → spent ≡ with_entry claimed entry
+    → spent.totals.slips ≡ 0
+no_slip_out inside claimed spent entry none claim filed =
+    let slips = ap (λ (book : Booked). book.totals.slips) filed ∙ slips_counted entry.what (without_slip claimed.totals) in
+    omega (arith, none, slips, ap (λ (book : Booked). book.totals.slips) claim)
+
 -- the entries are all that changed
 pub same_book : (old : Filings) (inside claimed spent : Booked) (filed : List Entry) → record { places = inside.places; entries = inside.entries } ≡ old
     → claimed ≡ with_claim inside → spent.places ≡ claimed.places → spent.entries ≡ claimed.entries ++ filed
@@ -68,23 +78,3 @@ same_book old inside claimed spent filed view claim places entries =
     ap (λ n. record { places = n; entries = spent.entries }) p
     ∙ ap (λ list. record { places = inside.places; entries = list }) e
     ∙ ap (λ (book : Filings). record book { entries = book.entries ++ filed }) view
-
--- whether a command is one of a session's operations
-abbrev pub is_tried : Command → Bool
-is_tried command = is_some (operation_of (command_said command))
-
-filtered : (command : Command) (commands : List Command) (b : Bool) (said others : List Said) → length others ≡ length commands
-    → length (cond b (command_said command ∷ others) others) ≡ length (cond b (command ∷ commands) commands)
-filtered command commands true said others same = ap (λ n. suc n) same
-filtered command commands false said others same = same
-
--- counted as commands or as what they say
-pub operations_of : (commands : List Command) → operations (map command_said commands) ≡ length (filter is_tried commands)
-operations_of [] = refl
-operations_of (command ∷ commands) =
-    filtered command (filter is_tried commands) (is_tried command) [] (filter (λ (said : Said). is_some (operation_of said)) (map command_said commands)) (operations_of commands)
-
--- all commands were looked at
-pub all_tried : (commands : List Command) (at number : ℕ) → number ≡ length (filter is_tried (take at commands)) → length commands ≤ at
-    → number ≡ operations (map command_said commands)
-all_tried commands at number so_far all = so_far ∙ ap (λ (list : List Command). length (filter is_tried list)) (take_all at commands all) ∙ sym (operations_of commands)

@@ -3,4 +3,4 @@ pub mod Exchanged
 pub mod Kept
 pub mod Standing
 pub mod Turned
-pub mod Evidence
+pub mod Operations

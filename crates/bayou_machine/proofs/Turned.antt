@@ -1,13 +1,12 @@
 -- What a turn is made of.
-use Rattle.std.proofs.Common.{◌≡◌, ℕ, Option, None, Some, MatchResult, Result, Ok, Err, refl, sym, subst}
+use Rattle.std.proofs.Common.{◌≡◌, ℕ, Option, None, Some, sym, subst}
 use Rattle.bayou_text.specs.Said.{Said, servers, session, write, read, log, fuse, lose, reopen, restart, pull, resend, totals, judge, survey, book, phase, entry, held}
-use Rattle.bayou_machine.specs.declared.answer.Answer.{Answer}
-use Rattle.bayou_machine.specs.Filed.{Filings, operation_of}
-use Rattle.bayou_machine.specs.Machine.{Machine}
-use Rattle.bayou_machine.specs.Run.{Audited, Does, Leaves, Step, TakesMemory, Tries, Turn, audited}
+use Rattle.bayou_answers.specs.declared.answer.Answer.{Answer}
+use Rattle.bayou_script.specs.Places.{operation_of}
+use Rattle.bayou_machine.specs.Run.{Does, Leaves, ScriptState, Step, Tries, Turn}
 
 -- what a turn is made of: a session's operation, or what leaves the book
-pub tries_turn : (old new : Audited) (who place : ℕ) (said : Said) (answer : Answer) → operation_of said ≡ Some (who, place)
+pub tries_turn : (old new : ScriptState) (who place : ℕ) (said : Said) (answer : Answer) → operation_of said ≡ Some (who, place)
     → Tries old who place said answer new → Turn old said answer new
 tries_turn old new who place (servers count limit) answer is tries = absurd (cc)
 tries_turn old new who place (session other asks) answer is tries = absurd (cc)
@@ -28,7 +27,7 @@ tries_turn old new who place phase answer is tries = absurd (cc)
 tries_turn old new who place (entry what counts) answer is tries = absurd (cc)
 tries_turn old new who place (held at written counts) answer is tries = absurd (cc)
 
-pub leaves_turn : (old new : Audited) (said : Said) (answer : Answer) → operation_of said ≡ None → Leaves old said answer new → Turn old said answer new
+pub leaves_turn : (old new : ScriptState) (said : Said) (answer : Answer) → operation_of said ≡ None → Leaves old said answer new → Turn old said answer new
 leaves_turn old new (servers count limit) answer is leaves = leaves
 leaves_turn old new (session other asks) answer is leaves = leaves
 leaves_turn old new (write other at program) answer is leaves = absurd (cc)
@@ -48,9 +47,7 @@ leaves_turn old new phase answer is leaves = leaves
 leaves_turn old new (entry what counts) answer is leaves = absurd leaves.step
 leaves_turn old new (held at written counts) answer is leaves = absurd leaves.step
 
--- what servers and sessions do alone, or want memory for, leaves the book
-pub left_turn : {E : Type 0} (before after : Machine) (filings : Filings) (said : Said) (result : Result Answer E) → operation_of said ≡ None
-    → MatchResult result (λ answer. Step before said answer after) (λ _. TakesMemory said × (after ≡ before))
-    → MatchResult result (λ answer. Turn (audited before filings) said answer (audited after filings)) (λ _. TakesMemory said × (after ≡ before) × (filings ≡ filings))
-left_turn before after filings said (Ok answer) is step = leaves_turn (audited before filings) (audited after filings) said answer is (record { step = step; same = refl })
-left_turn before after filings said (Err lack) is (takes, same) = (takes, same, refl)
+-- what servers and sessions do alone leaves the book
+pub left_turn : (old new : ScriptState) (said : Said) (answer : Answer) → operation_of said ≡ None → Step old.standing said answer new.standing → new.book ≡ old.book
+    → Turn old said answer new
+left_turn old new said answer is step same = leaves_turn old new said answer is (record { step = step; same = same })

@@ -1,15 +1,13 @@
 -- What is filed of the operations of a script.
-use Rattle.std.specs.Prelude.{◌≡◌, ℕ, ◌+◌, List, [], ◌∷◌, Option, None, Some, length, filter, max}
-use Rattle.std.specs.Option.{is_some}
+use Rattle.std.specs.Prelude.{◌≡◌, ℕ, ◌+◌, List, [], ◌∷◌, Option, None, Some}
 use Rattle.bayou_audit.specs.declared.totals.Totals.{Totals}
 use Rattle.bayou_audit.specs.Totals.{is_read, is_refusal, is_write, number_of, totals_of}
 use Rattle.bayou_base.specs.declared.entry.Entry.{Entry}
 use Rattle.bayou_base.specs.declared.entry.What.{What}
 use Rattle.bayou_base.specs.declared.entry.What.TheVariants as whats
 use Rattle.bayou_session.specs.Needs.{Told}
-use Rattle.bayou_text.specs.Said.{Said, write, read}
-use Rattle.bayou_machine.specs.declared.answer.Answer.{Answer}
-use Rattle.bayou_machine.specs.declared.answer.Answer.TheVariants.{Wrote, Read, Refused, NotServed}
+use Rattle.bayou_answers.specs.declared.answer.Answer.{Answer}
+use Rattle.bayou_answers.specs.declared.answer.Answer.TheVariants.{Wrote, Read, Refused}
 
 -- the book of a script: how many places it has, and what was filed, in that order
 pub record Filings : Type 0 where
@@ -21,7 +19,6 @@ abbrev pub what_told : Answer → Option What
 what_told (Wrote who accepted) = Some (whats.Write accepted.wid accepted.stamp accepted.deps)
 what_told (Read who key seen) = Some (whats.Read key seen.vector)
 what_told (Refused who refusal) = Some whats.Refused
-what_told (NotServed who vector) = Some whats.Refused
 what_told _ = None
 
 -- an entry of an operation that this session tried at this server, as its next place
@@ -40,17 +37,3 @@ Files who place told (Some what) filed = (entry : Entry) × (filed ≡ entry ∷
 -- the totals of what was filed, where no slip is out
 abbrev pub totals_filed : List Entry → Totals
 totals_filed filed = totals_of 0 (number_of is_read filed) (number_of is_write filed) (number_of is_refusal filed)
-
--- the session that tries an operation, and the server at which it does
-abbrev pub operation_of : Said → Option (ℕ × ℕ)
-operation_of (write who place program) = Some (who, place)
-operation_of (read who place key) = Some (who, place)
-operation_of _ = None
-
--- how many operations are tried
-abbrev pub operations : List Said → ℕ
-operations commands = length (filter (λ said. is_some (operation_of said)) commands)
-
--- how many places the book of a script has: one for each operation, and one at least
-abbrev pub places_for : List Said → ℕ
-places_for commands = max (operations commands) 1

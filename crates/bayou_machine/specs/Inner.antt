@@ -1,2 +1,2 @@
-pub mod Filing
+pub mod Shares
 pub mod Sent

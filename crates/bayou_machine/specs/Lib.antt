@@ -2,7 +2,6 @@ pub mod Exchange
 pub mod Filed
 pub mod Inner
 pub mod Laws
-pub mod Machine
-pub mod Replica
+pub mod Standing
+pub mod ScriptServer
 pub mod Run
-pub mod Verdicts

@@ -1,4 +1,4 @@
--- What a script may be answered: a run of a machine over its servers, its sessions and the book of what they were served.
+-- What a script may be answered: a run over its servers, its sessions and the book of what they were served.
 use Rattle.std.specs.Prelude.{◌≡◌, ℕ, Bool, true, false, List, [], ◌∷◌, ◌++◌, Option, None, Some}
 use Rattle.bayou_base.specs.declared.asks.Asks.{Asks}
 use Rattle.bayou_base.specs.declared.entry.Entry.{Entry}
@@ -9,69 +9,70 @@ use Rattle.bayou_session.specs.Needs.{Told, new_session}
 use Rattle.bayou_text.specs.Said.{Said, servers, session, write, read, log, fuse, lose, reopen, restart, pull, resend, totals, judge, survey, book, phase, entry, held}
 use Rattle.bayou_script.specs.declared.audit.AuditFile.{AuditFile}
 use Rattle.bayou_script.specs.Script.{Plan}
-use Rattle.bayou_machine.specs.declared.answer.Answer.{Answer}
-use Rattle.bayou_machine.specs.declared.answer.Answer.TheVariants.{Booked, Counted, Done, Recovered}
-use Rattle.bayou_machine.specs.declared.answer.Recovery.{Recovery}
-use Rattle.bayou_machine.specs.declared.replica.Replica.{Replica}
+use Rattle.bayou_answers.specs.declared.answer.Answer.{Answer}
+use Rattle.bayou_answers.specs.declared.answer.Answer.TheVariants.{Booked, Counted, Done, Recovered}
+use Rattle.bayou_answers.specs.declared.answer.Recovery.{Recovery}
+use Rattle.bayou_machine.specs.declared.script_server.ScriptServer.{ScriptServer}
 use Rattle.bayou_machine.specs.Exchange.{Exchanges, own_counts, zero_counts}
-use Rattle.bayou_machine.specs.Filed.{Files, Filings, operation_of, places_for, totals_filed, what_told}
-use Rattle.bayou_machine.specs.Machine.{HasBegun, Machine, StandsAt, dumps_of, session_of, with_server, with_session}
-use Rattle.bayou_machine.specs.Verdicts.{IsSurveyOn, IsVerdictOn}
-use Rattle.bayou_machine.specs.Replica.{IsFused, IsListed, IsRead, IsReopened, IsRestarted, IsShortened, IsWritten}
+use Rattle.bayou_machine.specs.Filed.{Files, Filings, totals_filed, what_told}
+use Rattle.bayou_script.specs.Places.{operation_of, places_for}
+use Rattle.bayou_machine.specs.Standing.{HasBegun, Standing, StandsAt, dumps_of, session_of, with_server, with_session}
+use Rattle.bayou_answers.specs.Verdicts.{IsSurveyOn, IsVerdictOn}
+use Rattle.bayou_machine.specs.ScriptServer.{IsFused, IsListed, IsRead, IsReopened, IsRestarted, IsShortened, IsWritten}
 
 -- the session is opened
-pub record Opens (old : Machine) (who : ℕ) (asks : Asks) (answer : Answer) (new : Machine) : Type 0 where
+pub record Opens (old : Standing) (who : ℕ) (asks : Asks) (answer : Answer) (new : Standing) : Type 0 where
   pub name : SessionId
   pub is_named : name.index ≡ who
   pub answered : answer ≡ Done
   pub only : new ≡ with_session old name (new_session name asks)
 
--- The session tries an operation at the server: what that does to the two of them, it does in the machine, and nothing else.
-pub record Operates (Does : SessionId → Replica → Told → Answer → Replica → Told → Type 0) (old : Machine) (who place : ℕ) (answer : Answer) (new : Machine) : Type 0 where
+-- The session tries an operation at the server: what that does to the two of them, it does to how the script stands, and nothing else.
+pub record Operates (Does : SessionId → ScriptServer → Told → Answer → ScriptServer → Told → Type 0) (old : Standing) (who place : ℕ) (answer : Answer) (new : Standing) : Type 0 where
   pub name : SessionId
   pub is_named : name.index ≡ who
-  pub before : Replica
-  pub after : Replica
+  pub before : ScriptServer
+  pub after : ScriptServer
   pub told : Told
   pub stands : StandsAt old place before
   pub does : Does name before (session_of old name) answer after told
   pub only : new ≡ with_session (with_server old place after) name told
 
 -- The session asks something of the server, which stays as it is: only the session changes.
-pub record Queries (Does : SessionId → Replica → Told → Answer → Told → Type 0) (old : Machine) (who place : ℕ) (answer : Answer) (new : Machine) : Type 0 where
+pub record Queries (Does : SessionId → ScriptServer → Told → Answer → Told → Type 0) (old : Standing) (who place : ℕ) (answer : Answer) (new : Standing) : Type 0 where
   pub name : SessionId
   pub is_named : name.index ≡ who
-  pub replica : Replica
+  pub replica : ScriptServer
   pub told : Told
   pub stands : StandsAt old place replica
   pub does : Does name replica (session_of old name) answer told
   pub only : new ≡ with_session old name told
 
--- What is done to the server is done in the machine, and nothing else.
-pub record Changes (Does : ServerId → Replica → Replica → Type 0) (old : Machine) (place : ℕ) (new : Machine) : Type 0 where
+-- What is done to the server changes how the script stands, and nothing else.
+pub record Changes (Does : ServerId → ScriptServer → ScriptServer → Type 0) (old : Standing) (place : ℕ) (new : Standing) : Type 0 where
   pub name : ServerId
   pub is_named : name.index ≡ place
-  pub before : Replica
-  pub after : Replica
+  pub before : ScriptServer
+  pub after : ScriptServer
   pub stands : StandsAt old place before
   pub does : Does name before after
   pub only : new ≡ with_server old place after
 
 -- what is asked of the server is answered so
-pub record Sees (Is : ServerId → Replica → Type 0) (machine : Machine) (place : ℕ) : Type 0 where
+pub record Sees (Is : ServerId → ScriptServer → Type 0) (standing : Standing) (place : ℕ) : Type 0 where
   pub name : ServerId
   pub is_named : name.index ≡ place
-  pub replica : Replica
-  pub stands : StandsAt machine place replica
+  pub replica : ScriptServer
+  pub stands : StandsAt standing place replica
   pub is : Is name replica
 
 -- the server is to be reopened or restarted
-abbrev pub Recovers : (ServerId → Replica → Recovery → Replica → Type 0) → Machine → ℕ → Answer → Machine → Type 0
+abbrev pub Recovers : (ServerId → ScriptServer → Recovery → ScriptServer → Type 0) → Standing → ℕ → Answer → Standing → Type 0
 Recovers Does old place answer new =
     (recovery : Recovery) × (answer ≡ Recovered recovery) × Changes (λ name before after. Does name before recovery after) old place new
 
 -- From old, what a line says may get this answer and leave new. A log has no answer for want of memory, which ends the run.
-abbrev pub Step : Machine → Said → Answer → Machine → Type 0
+abbrev pub Step : Standing → Said → Answer → Standing → Type 0
 Step old (servers count limit) answer new = ⊥
 Step old (session who asks) answer new = Opens old who asks answer new
 Step old (write who place program) answer new = Operates (λ name. IsWritten name program) old who place answer new
@@ -120,58 +121,55 @@ TakesMemory phase = ⊥
 TakesMemory (entry what counts) = ⊥
 TakesMemory (held place written counts) = ⊥
 
--- The machine of a script: its servers and sessions, and the book of what was served.
-pub record Audited : Type 0 where
-  pub machine : Machine
+-- The machine of a script: how its servers and sessions stand, and the book of what was served.
+pub record ScriptState : Type 0 where
+  pub standing : Standing
   pub book : Filings
 
-abbrev pub audited : Machine → Filings → Audited
-audited machine filings = record { machine = machine; book = filings }
-
 -- as a script begins, nothing was filed
-pub record IsNewRun (plan : Plan) (audited : Audited) : Type 0 where
-  pub machine : HasBegun plan.count plan.limit audited.machine
-  pub places : audited.book.places ≡ places_for plan.commands
-  pub none_filed : audited.book.entries ≡ []
+pub record IsNewRun (plan : Plan) (state : ScriptState) : Type 0 where
+  pub standing : HasBegun plan.count plan.limit state.standing
+  pub places : state.book.places ≡ places_for plan.commands
+  pub none_filed : state.book.entries ≡ []
 
 -- The session tries an operation at the server, and what it was told is filed, and nothing else.
-pub record Tries (old : Audited) (who place : ℕ) (said : Said) (answer : Answer) (new : Audited) : Type 0 where
-  pub step : Step old.machine said answer new.machine
+pub record Tries (old : ScriptState) (who place : ℕ) (said : Said) (answer : Answer) (new : ScriptState) : Type 0 where
+  pub step : Step old.standing said answer new.standing
   pub name : SessionId
   pub is_named : name.index ≡ who
   pub filed : List Entry
-  pub files : Files who place (session_of old.machine name) (what_told answer) filed
+  pub files : Files who place (session_of old.standing name) (what_told answer) filed
   pub only : new.book ≡ record old.book { entries = old.book.entries ++ filed }
 
 -- nothing is filed
-pub record Leaves (old : Audited) (said : Said) (answer : Answer) (new : Audited) : Type 0 where
-  pub step : Step old.machine said answer new.machine
+pub record Leaves (old : ScriptState) (said : Said) (answer : Answer) (new : ScriptState) : Type 0 where
+  pub step : Step old.standing said answer new.standing
   pub same : new.book ≡ old.book
 
 -- what a session does is filed, and what is done to servers alone isn't
-abbrev pub Does : Option (ℕ × ℕ) → Audited → Said → Answer → Audited → Type 0
+abbrev pub Does : Option (ℕ × ℕ) → ScriptState → Said → Answer → ScriptState → Type 0
 Does None old said answer new = Leaves old said answer new
 Does (Some (who, place)) old said answer new = Tries old who place said answer new
 
 -- the verdict on what was filed so far and what the servers hold
-abbrev pub IsJudged : Audited → Answer → Type 0
-IsJudged audited answer = IsVerdictOn audited.machine.count audited.book.entries (dumps_of audited.machine) answer
+abbrev pub IsJudged : ScriptState → Answer → Type 0
+IsJudged state answer = IsVerdictOn state.standing.count state.book.entries (dumps_of state.standing) answer
 
 -- the survey of what was filed so far and what the servers hold
-abbrev pub IsSurveyed : Audited → Answer → Type 0
-IsSurveyed audited answer = IsSurveyOn audited.machine.count audited.book.entries (dumps_of audited.machine) answer
+abbrev pub IsSurveyed : ScriptState → Answer → Type 0
+IsSurveyed state answer = IsSurveyOn state.standing.count state.book.entries (dumps_of state.standing) answer
 
 -- what was filed so far and what the servers hold, as it is
-pub record IsBooked (audited : Audited) (answer : Answer) : Type 0 where
+pub record IsBooked (state : ScriptState) (answer : Answer) : Type 0 where
   pub file : AuditFile
   pub answered : answer ≡ Booked file
-  pub count : file.count ≡ audited.machine.count
-  pub entries : file.entries.items ≡ audited.book.entries
-  pub dumps : lists_of file.dumps.items ≡ dumps_of audited.machine
+  pub count : file.count ≡ state.standing.count
+  pub entries : file.entries.items ≡ state.book.entries
+  pub dumps : lists_of file.dumps.items ≡ dumps_of state.standing
 
 -- From old, what a line says may get this answer and leave new: what sessions are told is filed, and the totals, the verdict, the survey
 -- and the book are those of what was filed so far.
-abbrev pub Turn : Audited → Said → Answer → Audited → Type 0
+abbrev pub Turn : ScriptState → Said → Answer → ScriptState → Type 0
 Turn old totals answer new = (new ≡ old) × (answer ≡ Counted (totals_filed old.book.entries))
 Turn old judge answer new = (new ≡ old) × IsJudged old answer
 Turn old survey answer new = (new ≡ old) × IsSurveyed old answer
@@ -179,8 +177,8 @@ Turn old book answer new = (new ≡ old) × IsBooked old answer
 Turn old said answer new = Does (operation_of said) old said answer new
 
 -- what is said one after another may get these answers
-abbrev pub Run : Audited → List Said → List Answer → Audited → Type 0
-Run old [] [] new = new ≡ old
-Run old (said ∷ others) (answer ∷ answers) new = (mid : Audited) × Turn old said answer mid × Run mid others answers new
-Run old [] (answer ∷ answers) new = ⊥
-Run old (said ∷ others) [] new = ⊥
+abbrev pub ScriptRun : ScriptState → List Said → List Answer → ScriptState → Type 0
+ScriptRun old [] [] new = new ≡ old
+ScriptRun old (said ∷ others) (answer ∷ answers) new = (mid : ScriptState) × Turn old said answer mid × ScriptRun mid others answers new
+ScriptRun old [] (answer ∷ answers) new = ⊥
+ScriptRun old (said ∷ others) [] new = ⊥

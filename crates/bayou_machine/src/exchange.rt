@@ -7,8 +7,8 @@ ghost use Rattle.bayou_peer.specs.Meeting.{Meets, cut_answer};
 ghost use Rattle.bayou_machine.specs.Exchange.{own_counts, serving_ways};
 ghost use Rattle.bayou_machine.specs.Inner.Sent.{IsAnswer, IsGiven, IsNoAnswer, Sends};
 
-use crate::answer::Exchange;
-use crate::replica::Replica;
+use crate::script_server::ScriptServer;
+use bayou_answers::Transfer;
 use bayou_base::Vector;
 use bayou_device::{MemoryDevice, OpenGate};
 use bayou_frames::Fault;
@@ -49,40 +49,42 @@ fn take_from(
     pull_from_on(alloc, server, counts, &mut channel)
 }
 
-impl Replica {
+impl ScriptServer {
     /// For each server the number of its Writes that are held.
     pub(crate) fn counts(&self) -> Vector
         ensures { result ≡ own_counts self.now }
     {
         match self {
-            Replica::Running(server) => server.vector(),
-            Replica::Stopped(stopped) => stopped.log.vector(),
+            ScriptServer::Running(server) => server.vector(),
+            ScriptServer::Stopped(stopped) => stopped.log.vector(),
         }
     }
 
     /// Its answer to an Offer of these counts.
-    pub(crate) fn answer(&mut self, alloc: Global, counts: &Vector) -> Result<Vec<u8>, Exchange>
+    pub(crate) fn answer(&mut self, alloc: Global, counts: &Vector) -> Result<Vec<u8>, Transfer>
         ensures same { self.new ≡ self.old }
         ensures sent { IfOk result (λ answer. IsAnswer counts.now self.old answer.items) }
         ensures none { IfErr result (IsNoAnswer self.old) }
     {
-        let Replica::Running(server) = self else {
-            return Err(Exchange::NotRunning);
+        let ScriptServer::Running(server) = self else {
+            return Err(Transfer::NotRunning);
         };
         match answer_of(alloc, server, counts) {
             Ok(answer) => Ok(answer),
-            Err(_) => Err(Exchange::Ended(Err(PullFault::Stream(Fault::OutOfMemory)))),
+            Err(_) => Err(Transfer::Ended(Err(PullFault::Stream(Fault::OutOfMemory)))),
         }
     }
 
     /// What it makes of an input, where it offered these counts.
-    pub(crate) fn take_from(&mut self, alloc: Global, counts: &Vector, input: &[u8]) -> Exchange
+    pub(crate) fn take_from(&mut self, alloc: Global, counts: &Vector, input: &[u8]) -> Transfer
         ensures { (sent : List Write) (cut : Option ℕ) → All IsWrite sent → length sent < 2 ^ 32 → input.now ≡ cut_answer cut sent
             → IsGiven sent cut self.old result self.new }
     {
         match self {
-            Replica::Running(server) => Exchange::Ended(take_from(alloc, server, counts, input)),
-            Replica::Stopped(_) => Exchange::NotRunning,
+            ScriptServer::Running(server) => Transfer::Ended(take_from(
+                alloc, server, counts, input,
+            )),
+            ScriptServer::Stopped(_) => Transfer::NotRunning,
         }
     }
 }

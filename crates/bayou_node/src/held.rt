@@ -13,7 +13,7 @@ ghost use Rattle.bayou_server.specs.Takes.{Takes};
 ghost use Rattle.bayou_server.specs.Writes.{Writes};
 
 use crate::desk::{Desk, Desks};
-use crate::settled::{DeskMissing, NotMade, Settled};
+use crate::node_settled::{DeskMissing, NodeSettled, NotMade};
 use bayou_base::{Accepted, Key, Seen, Vector};
 use bayou_device::Device;
 use bayou_lang::{RestingProgram, RestingWrite};
@@ -222,7 +222,7 @@ impl<D: Device, L: Desks> Held<D, L> {
     }
 
     /// What the books come to, where all desks are back. Else books and desks come back.
-    pub fn settle(self, desks: Vec<Desk<L>>) -> Result<Settled, DeskMissing<Self, L>>
+    pub fn settle(self, desks: Vec<Desk<L>>) -> Result<NodeSettled, DeskMissing<Self, L>>
         ensures settled { MatchResult result
             (λ settled. IsSettled self L.parts desks.items settled)
             (λ left. (length desks.items < L.parts) × (left.node ≡ self) × (left.desks.items ≡ desks.items)) }
@@ -243,7 +243,7 @@ impl<D: Device, L: Desks> Held<D, L> {
         } = self;
         let mut all = gather(rest, desks);
         accepted.audit(&mut all);
-        Ok(Settled {
+        Ok(NodeSettled {
             accepted: own - stored - adopted,
             adopted,
             vector,

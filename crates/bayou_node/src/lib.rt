@@ -18,9 +18,9 @@
 pub mod desk;
 pub mod held;
 pub mod node;
-pub mod settled;
+pub mod node_settled;
 
 pub use desk::{Desk, Desks};
 pub use held::Held;
 pub use node::Node;
-pub use settled::{DeskMissing, NotMade, Settled};
+pub use node_settled::{DeskMissing, NodeSettled, NotMade};

@@ -14,7 +14,7 @@ ghost use Rattle.bayou_server.specs.Writes.{Writes};
 
 use crate::desk::{Desk, Desks};
 use crate::held::Held;
-use crate::settled::{DeskMissing, NotMade, Settled};
+use crate::node_settled::{DeskMissing, NodeSettled, NotMade};
 use bayou_base::{Accepted, Key, Seen, ServerId, Vector};
 use bayou_device::Device;
 use bayou_lang::{RestingProgram, RestingWrite};
@@ -155,7 +155,7 @@ impl<D: Device, L: Desks> Node<D, L> {
     }
 
     /// What the books come to, where all desks are back; the server is dropped, and its device with it. Else node and desks come back.
-    pub fn settle(self, desks: Vec<Desk<L>>) -> Result<Settled, DeskMissing<Self, L>>
+    pub fn settle(self, desks: Vec<Desk<L>>) -> Result<NodeSettled, DeskMissing<Self, L>>
         ensures { MatchResult result
             (IsNodeSettled L.server L.stored L.parts desks.items)
             (λ left. (length desks.items < L.parts) × (left.node ≡ self) × (left.desks.items ≡ desks.items)) }

@@ -9,7 +9,7 @@ use crate::fixtures::{
 };
 use bayou_base::{Value, Vector};
 use bayou_lang::Program;
-use bayou_node::{DeskMissing, Desks, Node, Settled};
+use bayou_node::{DeskMissing, Desks, Node, NodeSettled};
 use bayou_server::{ReopenFault, WriteFault};
 use std::alloc::Global;
 use std::marker::Brand;
@@ -30,7 +30,7 @@ fn writes<L: Desks, R: Wait + Abort>(
 }
 
 /// What a node comes to with both desks, which isn't settled with one kept back.
-fn settles<L: Desks>(rt: &impl Abort, site: Box<Site<Memory, L>>) -> Settled {
+fn settles<L: Desks>(rt: &impl Abort, site: Box<Site<Memory, L>>) -> NodeSettled {
     let Site { node, mut desks } = Box::into_inner(site);
     let desk = desks.pop().expect(rt, "no desk");
     let Err(left) = node.settle(desks) else {
@@ -76,9 +76,9 @@ fn two_programs<L: Desks, R: Wait + Abort>(
 }
 
 /// Whether a node came to so many accepted and adopted Writes, and so many of the first server.
-fn is_settled(rt: &impl Abort, settled: Settled, counts: [u32; 2], held: u32) -> bool {
+fn is_settled(rt: &impl Abort, settled: NodeSettled, counts: [u32; 2], held: u32) -> bool {
     let [accepted, adopted] = counts;
-    let expected = Settled {
+    let expected = NodeSettled {
         accepted,
         adopted,
         vector: vector(rt, held, 0),

@@ -6,7 +6,7 @@ ghost use Rattle.bayou_server.specs.Server.{own_count};
 use bayou_base::{Key, MAX_WRITES, SERVERS, ServerId, Value, Vector};
 use bayou_device::{Device, Gate, MemoryDevice, OpenGate};
 use bayou_lang::{Op, Program, RestingProgram, RestingWrite, Term};
-use bayou_node::{Desk, Desks, Node, Settled};
+use bayou_node::{Desk, Desks, Node, NodeSettled};
 use bayou_server::{NotStarted, ReopenFault, Server, StartFault, WriteFault};
 use std::alloc::Global;
 use std::process::Abort;
@@ -23,12 +23,17 @@ pub fn key(rt: &impl Abort, name: &str) -> Key {
 
 /// Stops the test where it isn't so, and says at which number: the one assert of all loops over numbers, since each costs.
 pub fn must_be_so(rt: &impl Abort, is_so: bool, number: usize) {
-    assert!(rt; is_so, "{number}");
+    assert!(rt; is_so, "not so at {number}");
+}
+
+/// The same at a step of a row.
+pub fn must_go_so(rt: &impl Abort, is_so: bool, (row, step): (usize, usize)) {
+    assert!(rt; is_so, "not so in row {row}, at step {step}");
 }
 
 /// Stops the test where it isn't so, and says in which row.
 pub fn must_hold(rt: &impl Abort, is_so: bool, row: &str) {
-    assert!(rt; is_so, "{row}");
+    assert!(rt; is_so, "not so in the row: {row}");
 }
 
 /// So many Writes of the first two servers, and none of the others.
@@ -145,7 +150,7 @@ pub fn new_site<D: Device, L: Desks>(
 }
 
 /// What a node comes to, all of whose desks are back.
-pub fn settled<L: Desks>(node: Node<Memory, L>, desks: Vec<Desk<L>>) -> Option<Settled> {
+pub fn settled<L: Desks>(node: Node<Memory, L>, desks: Vec<Desk<L>>) -> Option<NodeSettled> {
     node.settle(desks).ok()
 }
 

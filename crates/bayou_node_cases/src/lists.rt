@@ -5,8 +5,8 @@ ghost use Rattle.bayou_server.specs.Server.{own_count};
 
 use crate::dice::Dice;
 use crate::fixtures::{
-    Memory, Served, Site, are_same, begun, dumped, fuse, key, must_be_so, new_site, plus, put,
-    resting, settled, vector,
+    Memory, Served, Site, are_same, begun, dumped, fuse, key, must_be_so, must_go_so, new_site,
+    plus, put, resting, settled, vector,
 };
 use bayou_base::{Accepted, ServerId, Stamp, Vector, Wid};
 use bayou_lang::{Program, RestingProgram, RestingWrite, Write};
@@ -206,7 +206,7 @@ fn settles_alike<L: Desks>(site: Box<Site<Memory, L>>, accepted: u32, vector: Ve
     }
 }
 
-/// Whether both answer alike over the list that begins with this number, and have the same in the end; and how many Writes are accepted.
+/// Both answer alike over the list that begins with this number. How many Writes are accepted, and whether both have the same in the end.
 fn all_alike<L: Desks, R: Wait + Abort>(
     rt: &R,
     alloc: Global,
@@ -215,16 +215,14 @@ fn all_alike<L: Desks, R: Wait + Abort>(
     number: u32,
 ) -> (bool, u32) {
     let mut dice = Dice { state: number };
-    let mut are_alike = true;
     let mut accepted: u32 = 0;
-    for _ in 0..CALLS {
+    for at in 0..CALLS {
         let call = any_call(rt, &mut dice);
         let (is_so, count) = answers_alike(rt, alloc, site, server, &call);
-        are_alike &= is_so;
+        must_go_so(rt, is_so, (number as usize, at as usize));
         accepted = accepted.saturating_add(count);
     }
-    let is_same = dumps_alike(rt, alloc, &site.node, server);
-    (are_alike && is_same, accepted)
+    (dumps_alike(rt, alloc, &site.node, server), accepted)
 }
 
 /// Whether both go alike over the list that begins with this number.

@@ -8,7 +8,7 @@ use crate::fixtures::{
 };
 use bayou_base::{ServerId, Stamp, Vector, Wid};
 use bayou_lang::Write;
-use bayou_node::{Desk, Desks, Node, Settled};
+use bayou_node::{Desk, Desks, Node, NodeSettled};
 use bayou_server::{ReopenFault, StartFault, TakeFault, Took, WriteFault};
 use std::alloc::Global;
 use std::marker::Brand;
@@ -144,9 +144,9 @@ fn goes<L: Desks, R: Wait + Abort>(
     }
 }
 
-fn is_as_made(rt: &impl Abort, settled: Settled, made: Made) -> bool {
+fn is_as_made(rt: &impl Abort, settled: NodeSettled, made: Made) -> bool {
     settled
-        == Settled {
+        == NodeSettled {
             accepted: made.accepted,
             adopted: made.adopted,
             vector: vector(rt, 3, 1),

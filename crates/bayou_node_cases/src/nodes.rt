@@ -3,7 +3,7 @@ ghost use Rattle.std.specs.Prelude.{◌≡◌};
 ghost use Rattle.bayou_node.specs.Books.{IsBlankOf};
 ghost use Rattle.bayou_server.specs.Server.{own_count};
 
-use crate::fixtures::{Memory, Served, new_site, vector};
+use crate::fixtures::{Memory, Served, must_be_so, new_site, vector};
 use crate::items::{is_stream, item, stream};
 use crate::pulls::full;
 use bayou_base::Vector;
@@ -35,6 +35,8 @@ enum Call {
     /// An Offer of what is held is written, and nothing comes.
     Pull,
 }
+
+static CALLS: [Call; 4] = [Call::Serve, Call::Answer, Call::PullFromZero, Call::Pull];
 
 /// Whether that is answered and written.
 fn ends(alloc: Global, written: &[u8], text: &str, is_answered: bool) -> bool {
@@ -108,10 +110,10 @@ fn goes<L: Desks, R: Wait + Abort>(
 #[test]
 fn a_node_sends_and_takes(rt: HostRuntime) {
     let alloc = rt.alloc();
-    for call in [Call::Serve, Call::Answer, Call::PullFromZero, Call::Pull] {
+    for (at, call) in CALLS.iter().enumerate() {
         let server = full(&rt, alloc, 2, [1, 0]);
-        let is_so = goes::<Brand, HostRuntime>(&rt, alloc, Blank::new(1), server, call);
-        assert!(rt; is_so);
+        let is_so = goes::<Brand, HostRuntime>(&rt, alloc, Blank::new(1), server, *call);
+        must_be_so(&rt, is_so, at);
     }
 }
 

@@ -1,7 +1,8 @@
 //! Servers that are given Writes that others accepted: what each answers and leaves, which of two refusals comes, each device call
 //! failing in turn, every order of receipt, and want of memory.
 use crate::fixtures::{
-    Memory, Served, begun, fuse, holds, key, must_be_so, on_device, plus, started, vector,
+    Memory, Served, begun, fuse, holds, key, must_be_so, must_go_so, on_device, plus, started,
+    vector,
 };
 use crate::items::{Given, write};
 use bayou_base::{Value, Vector};
@@ -101,10 +102,10 @@ fn goes(rt: &impl Abort, alloc: Global, server: &mut Served, step: Step) -> bool
     }
 }
 
-/// The steps go so, one after another.
-fn all_go(rt: &impl Abort, alloc: Global, server: &mut Served, steps: &[Step]) {
+/// The steps of this row go so, one after another.
+fn all_go(rt: &impl Abort, alloc: Global, server: &mut Served, steps: &[Step], row: usize) {
     for (at, step) in steps.iter().enumerate() {
-        must_be_so(rt, goes(rt, alloc, server, *step), at);
+        must_go_so(rt, goes(rt, alloc, server, *step), (row, at));
     }
 }
 
@@ -114,8 +115,9 @@ fn all_go_to_the_end(
     alloc: Global,
     mut server: Box<Served>,
     steps: &[Step],
+    row: usize,
 ) -> Memory {
-    all_go(rt, alloc, server.as_mut(), steps);
+    all_go(rt, alloc, server.as_mut(), steps, row);
     Box::into_inner(server).stop().device
 }
 
@@ -152,16 +154,16 @@ const TWO_STAND: [Step; 14] = [
     Has(Some(7), [1, 1]),
 ];
 
-/// The steps go so at a new server that may hold two Writes.
-fn goes_anew(rt: &impl Abort, alloc: Global, steps: &[Step]) {
+/// The steps of this row go so at a new server that may hold two Writes.
+fn goes_anew(rt: &impl Abort, alloc: Global, steps: &[Step], row: usize) {
     let server = start(rt, alloc, 2, MemoryDevice::new(alloc, OpenGate));
-    all_go_to_the_end(rt, alloc, server, steps);
+    all_go_to_the_end(rt, alloc, server, steps, row);
 }
 
 #[test]
 fn a_write_is_taken_or_refused(rt: HostRuntime) {
-    goes_anew(&rt, rt.alloc(), &MISFITS);
-    goes_anew(&rt, rt.alloc(), &TWO_STAND);
+    goes_anew(&rt, rt.alloc(), &MISFITS, 0);
+    goes_anew(&rt, rt.alloc(), &TWO_STAND, 1);
 }
 
 /// The device call under a taken Write that fails, how much of its entry of 91 bytes is added, the Write that a reopening adopts, if
@@ -177,9 +179,10 @@ static FAILING: [Failing; 6] = [
     (2, 91, Some((0, 2)), 2, 2),
 ];
 
-/// Takes a Write, and one more at which the device fails. The Write in doubt is another server's; adopted or forgotten, the next one
-/// that this server makes is its first.
-fn fails_and_goes_on(rt: &impl Abort, alloc: Global, (call, kept, adopted, value, held): Failing) {
+/// Takes a Write, and one more at which the device fails, as the row of this number says. The Write in doubt is another server's; adopted
+/// or forgotten, the next one that this server makes is its first.
+fn fails_and_goes_on(rt: &impl Abort, alloc: Global, failing: Failing, row: usize) {
+    let (call, kept, adopted, value, held) = failing;
     let steps = [
         Take((0, 1, 1, [0, 0], 1), Ok(Took::New)),
         Fuse(call, kept),
@@ -190,16 +193,16 @@ fn fails_and_goes_on(rt: &impl Abort, alloc: Global, (call, kept, adopted, value
         Has(Some(value), [held, 0]),
     ];
     let server = start(rt, alloc, 100, MemoryDevice::new(alloc, OpenGate));
-    let device = all_go_to_the_end(rt, alloc, server, &steps);
+    let device = all_go_to_the_end(rt, alloc, server, &steps, row);
     let again = [Has(Some(value), [held, 0]), Put(9, Ok(1))];
     let server = start(rt, alloc, 100, device);
-    all_go_to_the_end(rt, alloc, server, &again);
+    all_go_to_the_end(rt, alloc, server, &again, row);
 }
 
 #[test]
 fn each_device_call_of_a_take_may_fail(rt: HostRuntime) {
-    for row in FAILING.iter() {
-        fails_and_goes_on(&rt, rt.alloc(), *row);
+    for (row, failing) in FAILING.iter().enumerate() {
+        fails_and_goes_on(&rt, rt.alloc(), *failing, row);
     }
 }
 

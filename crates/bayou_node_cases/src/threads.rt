@@ -9,7 +9,7 @@ use crate::hands::{Hand, Three, reopens, works};
 use crate::meetings::meets;
 use bayou_base::ServerId;
 use bayou_device::{MemoryDevice, OpenGate};
-use bayou_node::{Desk, Desks, Node, Settled};
+use bayou_node::{Desk, Desks, Node, NodeSettled};
 use std::alloc::Global;
 use std::marker::Brand;
 use std::process::Abort;
@@ -158,19 +158,19 @@ fn hold_the_same<L: Desks, M: Desks, N: Desks, R: Wait + Abort>(
 }
 
 /// Whether what a node comes to is what the threads counted, and all of its own Writes.
-fn adds_up(settled: &Settled, accepted: u32, own: u32) -> bool {
+fn adds_up(settled: &NodeSettled, accepted: u32, own: u32) -> bool {
     settled.accepted == accepted && own == settled.accepted.saturating_add(settled.adopted)
 }
 
 /// How many Writes of this server are held.
-fn count_at(rt: &impl Abort, settled: &Settled, index: u8) -> u32 {
+fn count_at(rt: &impl Abort, settled: &NodeSettled, index: u8) -> u32 {
     settled
         .vector
         .get(ServerId::new(index % 3).expect(rt, "no server"))
 }
 
 /// Whether the three hold the same, each with what the threads counted.
-fn are_exact(rt: &impl Abort, settled: [Option<Settled>; 3], accepted: [u32; 3]) -> bool {
+fn are_exact(rt: &impl Abort, settled: [Option<NodeSettled>; 3], accepted: [u32; 3]) -> bool {
     let [Some(first), Some(second), Some(third)] = settled else {
         return false;
     };
@@ -216,7 +216,7 @@ where
 }
 
 /// What a node comes to, all of whose desks are back.
-fn come_to<L: Desks>(site: Box<Site<Memory, L>>) -> Option<Settled> {
+fn come_to<L: Desks>(site: Box<Site<Memory, L>>) -> Option<NodeSettled> {
     let Site { node, desks } = Box::into_inner(site);
     settled(node, desks)
 }

@@ -1,28 +1,22 @@
 //! Scripts over a network: which lines they may have, and what they do in which phase.
 use crate::fixtures::must_hold;
 use arrayvec::ArrayString;
-use bayou_script::{NetworkScriptReader, Part, Refusal, Script, ScriptReader, next_phase};
-use bayou_text::Command;
+use bayou_script::{
+    Draft, Front, NetworkCommand, NetworkDraft, Part, Refusal, TextReader, next_phase, places_for,
+};
 use std::alloc::Global;
 use std::fmt;
 use std::fmt::Write;
 
-/// The script that the text is to `bayou run`.
-fn read_here(alloc: Global, text: &str) -> Result<Script, Refusal> {
-    let mut reader = ScriptReader::new(alloc);
-    reader.feed(alloc, text.as_bytes())?;
-    reader.finish(alloc)
-}
-
-/// The script that the text is over a network.
-fn read_there(alloc: Global, text: &str) -> Result<Script, Refusal> {
-    let mut reader = NetworkScriptReader::new(alloc);
+/// What the text says, read as a text of its kind.
+fn read<F: Front>(alloc: Global, text: &str) -> Result<F::Text, Refusal> {
+    let mut reader = TextReader::<F>::new(alloc);
     reader.feed(alloc, text.as_bytes())?;
     reader.finish(alloc)
 }
 
 /// Whether the text is refused with this, or is taken, where there is nothing.
-fn is_told(answer: Result<Script, Refusal>, expected: &str) -> bool {
+fn is_told<T: Drop>(answer: Result<T, Refusal>, expected: &str) -> bool {
     match answer {
         Ok(_) => expected.is_empty(),
         Err(Refusal::Line { number, fault }) => {
@@ -110,14 +104,14 @@ static SCRIPTS: [(&str, &str, &str); 17] = [
 fn scripts_over_a_network(rt: HostRuntime) {
     let alloc = rt.alloc();
     for (text, here, there) in SCRIPTS.iter() {
-        let is_so = is_told(read_here(alloc, text), here)
-            && is_told(read_there(alloc, text), there);
+        let is_so = is_told(read::<Draft>(alloc, text), here)
+            && is_told(read::<NetworkDraft>(alloc, text), there);
         must_hold(&rt, is_so, text);
     }
 }
 
 /// Writes down the part that the command is.
-fn note<const N: usize>(told: &mut ArrayString<N>, command: &Command) -> fmt::Result {
+fn note<const N: usize>(told: &mut ArrayString<N>, command: &NetworkCommand) -> fmt::Result {
     match Part::of(command) {
         Part::Opens => write!(told, "O"),
         Part::Operation(session) => write!(told, "{}", session.index),
@@ -127,7 +121,7 @@ fn note<const N: usize>(told: &mut ArrayString<N>, command: &Command) -> fmt::Re
 }
 
 /// Writes down the parts that the commands are, in order, and a bar.
-fn note_all<const N: usize>(told: &mut ArrayString<N>, commands: &[Command]) -> fmt::Result {
+fn note_all<const N: usize>(told: &mut ArrayString<N>, commands: &[NetworkCommand]) -> fmt::Result {
     for command in commands {
         note(told, command)?;
     }
@@ -136,7 +130,7 @@ fn note_all<const N: usize>(told: &mut ArrayString<N>, commands: &[Command]) -> 
 
 /// Whether the text is a script over a network of phases with these parts.
 fn has_phases(alloc: Global, text: &str, expected: &str) -> bool {
-    let Ok(script) = read_there(alloc, text) else {
+    let Ok(script) = read::<NetworkDraft>(alloc, text) else {
         return false;
     };
     let mut commands = script.commands;
@@ -176,5 +170,40 @@ static PHASES: [(&str, &str); 6] = [
 fn phases_of_scripts(rt: HostRuntime) {
     for (text, expected) in PHASES.iter() {
         must_hold(&rt, has_phases(rt.alloc(), text, expected), text);
+    }
+}
+
+/// How many places the book of the script has that the text is.
+fn places_of(alloc: Global, text: &str) -> Option<usize> {
+    let script = read::<Draft>(alloc, text).ok()?;
+    Some(places_for(&script.commands))
+}
+
+/// The same of a script over a network.
+fn places_there(alloc: Global, text: &str) -> Option<usize> {
+    let script = read::<NetworkDraft>(alloc, text).ok()?;
+    Some(places_for(&script.commands))
+}
+
+/// Scripts, and how many operations they try, or one where they try none.
+static PLACES: [(&str, usize); 3] = [
+    (r#"["servers",2]"#, 1),
+    (
+        "[\"servers\",2]\n[\"session\",0,[]]\n[\"write\",0,0,{}]\n[\"pull\",1,0]\n[\"log\",0]\n[\"book\"]\n[\"phase\"]",
+        1,
+    ),
+    (
+        "[\"servers\",2]\n[\"session\",0,[]]\n[\"write\",0,0,{}]\n[\"read\",0,0,\"a\"]\n[\"read\",0,1,\"a\"]\n",
+        3,
+    ),
+];
+
+#[test]
+fn places_of_books(rt: HostRuntime) {
+    let alloc = rt.alloc();
+    for (text, expected) in PLACES.iter() {
+        let is_so = places_of(alloc, text) == Some(*expected)
+            && places_there(alloc, text) == Some(*expected);
+        must_hold(&rt, is_so, text);
     }
 }

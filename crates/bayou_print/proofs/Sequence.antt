@@ -7,12 +7,12 @@ use Rattle.std.proofs.lemmas.Result.{on_ok_weaker}
 use Rattle.bayou_lang.specs.declared.write.Write.{Write}
 use Rattle.bayou_judge.specs.History.{dump_of, lists_of}
 use Rattle.bayou_print.specs.Booked.{dumps_text, held_text}
-use Rattle.bayou_print.specs.declared.fault.Fault.{Fault}
+use Rattle.bayou_print.specs.declared.fault.RunFault.{RunFault}
 use Rattle.bayou_print.specs.Waiting.{Gathers, Stage}
 use Rattle.bayou_print.specs.Laws.Gathered.{Gathers-less, Gathers-trans}
 
 -- the second text is whole, or a part of it is missing
-pub both_whole : (a b c : Stage) (first second : List ℕ) (result : Result (Unit {0}) Fault) → Gathers a b first [] → OnOk result (Gathers b c second [])
+pub both_whole : (a b c : Stage) (first second : List ℕ) (result : Result (Unit {0}) RunFault) → Gathers a b first [] → OnOk result (Gathers b c second [])
     → OnOk result (Gathers a c (first ++ second) [])
 both_whole a b c first second result one two = on_ok_weaker result (Gathers-trans a b c first second [] one) two
 

@@ -1,9 +1,9 @@
 -- Which faults may come as lines are written.
-use Rattle.bayou_print.specs.declared.fault.Fault.{Fault}
-use Rattle.bayou_print.specs.declared.fault.Fault.TheVariants.{Line, Memory, Device, Network, Input, Output}
+use Rattle.bayou_print.specs.declared.fault.RunFault.{RunFault}
+use Rattle.bayou_print.specs.declared.fault.RunFault.TheVariants.{Line, Memory, Device, Network, Input, Output}
 
 -- what may end a run of a script that was accepted
-abbrev pub IsRunFault : Fault → Type 0
+abbrev pub IsRunFault : RunFault → Type 0
 IsRunFault (Line number fault) = ⊥
 IsRunFault Memory = Unit {0}
 IsRunFault Device = ⊥

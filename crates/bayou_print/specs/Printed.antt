@@ -18,18 +18,18 @@ use Rattle.bayou_server.specs.declared.fault.StartFault.{StartFault}
 use Rattle.bayou_server.specs.declared.fault.StartFault.TheVariants as starting
 use Rattle.bayou_server.specs.declared.fault.WriteFault.{WriteFault}
 use Rattle.bayou_server.specs.declared.fault.WriteFault.TheVariants as writing
-use Rattle.bayou_machine.specs.declared.answer.Answer.{Answer}
-use Rattle.bayou_machine.specs.declared.answer.Answer.TheVariants.{Done, Wrote, Read, Refused, NotServed, Lost, Logged, Stopped, Recovered, Exchanged, Counted, Judged, Surveyed, Booked}
+use Rattle.bayou_answers.specs.declared.answer.Answer.{Answer}
+use Rattle.bayou_answers.specs.declared.answer.Answer.TheVariants.{Done, Wrote, Read, Refused, Lost, Logged, Stopped, Recovered, Exchanged, Counted, Judged, Surveyed, Booked}
 use Rattle.bayou_frames.specs.declared.fault.Fault.TheVariants as streams
 use Rattle.bayou_peer.specs.declared.fault.PullFault.{PullFault}
 use Rattle.bayou_peer.specs.declared.fault.PullFault.TheVariants as pulling
 use Rattle.bayou_server.specs.declared.fault.TakeFault.{TakeFault}
 use Rattle.bayou_server.specs.declared.fault.TakeFault.TheVariants as taking
-use Rattle.bayou_machine.specs.declared.answer.Exchange.{Exchange}
-use Rattle.bayou_machine.specs.declared.answer.Exchange.TheVariants.{NotRunning as NothingRuns, Ended}
-use Rattle.bayou_machine.specs.declared.answer.Recovery.{Recovery}
-use Rattle.bayou_machine.specs.declared.answer.Recovery.TheVariants.{Reopened, NotReopened, NotRunning, Restarted, NotRestarted}
-use Rattle.bayou_node.specs.declared.settled.Settled.{Settled}
+use Rattle.bayou_answers.specs.declared.answer.Transfer.{Transfer}
+use Rattle.bayou_answers.specs.declared.answer.Transfer.TheVariants.{NotRunning as NothingRuns, Ended}
+use Rattle.bayou_answers.specs.declared.answer.Recovery.{Recovery}
+use Rattle.bayou_answers.specs.declared.answer.Recovery.TheVariants.{Reopened, NotReopened, NotRunning, Restarted, NotRestarted}
+use Rattle.bayou_node.specs.declared.node_settled.NodeSettled.{NodeSettled}
 use Rattle.bayou_print.specs.Booked.{book_text}
 use Rattle.bayou_print.specs.Verdicts.{refused_text, surveyed_text, verdict_text}
 
@@ -104,11 +104,10 @@ lines_text Done = []
 lines_text (Wrote session accepted) = []
 lines_text (Read session key seen) = []
 lines_text (Refused session refusal) = []
-lines_text (NotServed session vector) = []
 lines_text (Lost session) = []
 lines_text (Stopped server) = []
 lines_text (Recovered recovery) = []
-lines_text (Exchanged exchange) = []
+lines_text (Exchanged transfer) = []
 lines_text (Counted totals) = []
 
 -- the line of a server that was to be reopened or restarted
@@ -143,10 +142,10 @@ pulling_text (pulling.Stream streams.TooManyTurns) = codes "turns"
 pulling_text (pulling.Stream streams.OutOfMemory) = codes "memory"
 
 -- the line of a server that was to take Writes from another
-abbrev pub exchange_text : Exchange → List ℕ
-exchange_text NothingRuns = codes "pull fault lost\n"
-exchange_text (Ended (Ok pulled)) = codes "pulled " ++ (decimal pulled.taken ++ (codes " had " ++ (decimal pulled.had ++ codes "\n")))
-exchange_text (Ended (Err fault)) = codes "pull fault " ++ (pulling_text fault ++ codes "\n")
+abbrev pub transfer_text : Transfer → List ℕ
+transfer_text NothingRuns = codes "pull fault lost\n"
+transfer_text (Ended (Ok pulled)) = codes "pulled " ++ (decimal pulled.taken ++ (codes " had " ++ (decimal pulled.had ++ codes "\n")))
+transfer_text (Ended (Err fault)) = codes "pull fault " ++ (pulling_text fault ++ codes "\n")
 
 -- how many reads, Writes and refusals were filed, and how many slips are out
 abbrev pub totals_text : Totals → List ℕ
@@ -155,7 +154,7 @@ totals_text totals =
     ++ (codes " refusals " ++ (decimal totals.refusals ++ (codes " slips " ++ (decimal totals.slips ++ codes "\n")))))))
 
 -- how many Writes a server accepted, and how many it adopted as it was reopened
-abbrev pub settled_text : ℕ → Settled → List ℕ
+abbrev pub settled_text : ℕ → NodeSettled → List ℕ
 settled_text server settled =
     codes "settled " ++ (decimal server ++ (codes " accepted " ++ (decimal settled.accepted ++ (codes " adopted " ++ (decimal settled.adopted ++ codes "\n")))))
 
@@ -170,14 +169,12 @@ last_text servers (Read session key seen) =
     ++ (codes " at " ++ (counts_text servers seen.vector ++ codes "\n"))))))
 last_text servers (Refused session refusal) =
     decimal session.index ++ (codes " refused " ++ (refusal_text servers refusal ++ codes "\n"))
-last_text servers (NotServed session vector) =
-    decimal session.index ++ (codes " refused behind at " ++ (counts_text servers vector ++ codes "\n"))
 last_text servers (Lost session) = decimal session.index ++ codes " lost\n"
 last_text servers (Logged server listing vector) =
     codes "log " ++ (decimal server.index ++ (codes " at " ++ (counts_text servers vector ++ codes "\n")))
 last_text servers (Stopped server) = codes "stopped " ++ (decimal server.index ++ codes "\n")
 last_text servers (Recovered recovery) = recovery_text recovery
-last_text servers (Exchanged exchange) = exchange_text exchange
+last_text servers (Exchanged transfer) = transfer_text transfer
 last_text servers (Counted totals) = totals_text totals
 last_text servers (Judged verdict) = verdict_text verdict
 last_text servers (Surveyed (Ok list)) = []

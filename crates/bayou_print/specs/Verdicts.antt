@@ -1,10 +1,10 @@
 -- What is printed for a verdict and for a survey: this project's own lines.
-use Rattle.std.specs.Prelude.{ℕ, List, [], ◌++◌, Option, None, Some, Result, Ok, Err, codes, decimal}
+use Rattle.std.specs.Prelude.{ℕ, List, ◌++◌, Option, None, Some, Result, Ok, Err, codes, decimal}
 use Rattle.bayou_judge.specs.declared.breach.Breach.{Breach}
 use Rattle.bayou_judge.specs.declared.breach.Guarantee.{Guarantee}
 use Rattle.bayou_judge.specs.declared.breach.Guarantee.TheVariants.{ReadYourWrites, MonotonicReads, WritesFollowReads, MonotonicWrites}
-use Rattle.bayou_judge.specs.declared.verdict.Refusal.{Refusal}
-use Rattle.bayou_judge.specs.declared.verdict.Refusal.TheVariants.{BadDump, Forged, OutOfMemory}
+use Rattle.bayou_judge.specs.declared.verdict.BadEvidence.{BadEvidence}
+use Rattle.bayou_judge.specs.declared.verdict.BadEvidence.TheVariants.{BadDump, Forged}
 use Rattle.bayou_judge.specs.declared.verdict.Surveyed.{Surveyed}
 use Rattle.bayou_judge.specs.declared.verdict.Verdict.{Verdict}
 use Rattle.bayou_judge.specs.declared.verdict.Verdict.TheVariants.{Clean, Broken}
@@ -25,16 +25,15 @@ shown_text breach =
 abbrev pub broken_text : Breach → List ℕ
 broken_text breach = codes "broken " ++ (guarantee_text breach.guarantee ++ (codes " session " ++ (decimal breach.session.index ++ shown_text breach)))
 
--- why there is no verdict; of want of memory nothing is printed
-abbrev pub refused_text : Refusal → List ℕ
+-- why there is no verdict
+abbrev pub refused_text : BadEvidence → List ℕ
 refused_text (BadDump server at) = codes "judge refused dump " ++ (decimal server.index ++ (codes " " ++ (decimal at ++ codes "\n")))
 refused_text (Forged at) = codes "judge refused forged " ++ (decimal at ++ codes "\n")
-refused_text OutOfMemory = []
 
-abbrev pub verdict_text : Result Verdict Refusal → List ℕ
+abbrev pub verdict_text : Result Verdict BadEvidence → List ℕ
 verdict_text (Ok Clean) = codes "clean\n"
 verdict_text (Ok (Broken breach)) = broken_text breach
-verdict_text (Err refusal) = refused_text refusal
+verdict_text (Err bad) = refused_text bad
 
 -- what became of a guarantee in a session
 abbrev pub found_text : Option Breach → List ℕ

@@ -2,8 +2,8 @@
 ghost use Rattle.std.specs.Prelude.{◌≡◌, max};
 ghost use Rattle.bayou_print.specs.Fault.{answer_status, ended_status, verdict_status};
 
-use bayou_judge::{Refusal, Verdict};
-use bayou_machine::Answer;
+use bayou_answers::Answer;
+use bayou_judge::{BadEvidence, Verdict};
 
 /// What the verdicts that were told come to.
 #[derive(Clone, Copy, Debug, PartialEq, Eq)]
@@ -29,7 +29,7 @@ impl Ended {
     }
 
     /// What a verdict comes to.
-    pub fn of_verdict(verdict: &Result<Verdict, Refusal>) -> Self
+    pub fn of_verdict(verdict: &Result<Verdict, BadEvidence>) -> Self
         ensures { ended_status result ≡ verdict_status verdict.now }
     {
         match verdict {
@@ -51,7 +51,6 @@ impl Ended {
             | Answer::Wrote { .. }
             | Answer::Read { .. }
             | Answer::Refused { .. }
-            | Answer::NotServed { .. }
             | Answer::Lost { .. }
             | Answer::Logged { .. }
             | Answer::Stopped { .. }

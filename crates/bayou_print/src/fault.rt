@@ -1,5 +1,5 @@
 use arrayvec::ArrayString;
-use bayou_machine::BeginFault;
+use bayou_answers::BeginFault;
 use bayou_script::{Refusal, ScriptFault};
 use std::alloc::{AllocError, AllocFailed};
 use std::fmt::Write;
@@ -10,7 +10,7 @@ const MAX_FAULT_BYTES: usize = 128;
 
 /// Why a run ended early.
 #[derive(Clone, Copy, Debug, PartialEq, Eq, Error)]
-pub enum Fault {
+pub enum RunFault {
     /// The script is refused for its line of this number, counted from 1 on.
     #[error("line {number}: {fault}")]
     Line { number: u64, fault: ScriptFault },
@@ -31,7 +31,7 @@ pub enum Fault {
     Output,
 }
 
-impl Fault {
+impl RunFault {
     ghost use Rattle.std.specs.Prelude.{◌≡◌};
     ghost use Rattle.bayou_print.specs.Fault.{status_of};
 
@@ -40,8 +40,12 @@ impl Fault {
         ensures { result ≡ status_of self }
     {
         match self {
-            Fault::Line { .. } => 2,
-            Fault::Memory | Fault::Device | Fault::Network | Fault::Input | Fault::Output => 3,
+            RunFault::Line { .. } => 2,
+            RunFault::Memory
+            | RunFault::Device
+            | RunFault::Network
+            | RunFault::Input
+            | RunFault::Output => 3,
         }
     }
 
@@ -54,52 +58,52 @@ impl Fault {
     }
 }
 
-impl From<AllocError> for Fault {
+impl From<AllocError> for RunFault {
     ghost use Rattle.std.specs.Prelude.{◌≡◌};
-    ghost use Rattle.bayou_print.specs.declared.fault.Fault.TheVariants.{Memory};
+    ghost use Rattle.bayou_print.specs.declared.fault.RunFault.TheVariants.{Memory};
 
     ghost from_gives = { λ _ fault. fault ≡ Memory };
 
-    fn from(_error: AllocError) -> Fault {
-        Fault::Memory
+    fn from(_error: AllocError) -> RunFault {
+        RunFault::Memory
     }
 }
 
-impl<T: Drop> From<AllocFailed<T>> for Fault {
+impl<T: Drop> From<AllocFailed<T>> for RunFault {
     ghost use Rattle.std.specs.Prelude.{◌≡◌};
-    ghost use Rattle.bayou_print.specs.declared.fault.Fault.TheVariants.{Memory};
+    ghost use Rattle.bayou_print.specs.declared.fault.RunFault.TheVariants.{Memory};
 
     ghost from_gives = { λ _ fault. fault ≡ Memory };
 
-    fn from(_error: AllocFailed<T>) -> Fault {
-        Fault::Memory
+    fn from(_error: AllocFailed<T>) -> RunFault {
+        RunFault::Memory
     }
 }
 
-impl From<Refusal> for Fault {
+impl From<Refusal> for RunFault {
     ghost use Rattle.std.specs.Prelude.{◌≡◌};
     ghost use Rattle.bayou_print.specs.Fault.{fault_of};
 
     ghost from_gives = { λ refusal fault. fault ≡ fault_of refusal };
 
-    fn from(refusal: Refusal) -> Fault {
+    fn from(refusal: Refusal) -> RunFault {
         match refusal {
-            Refusal::Line { number, fault } => Fault::Line { number, fault },
-            Refusal::OutOfMemory => Fault::Memory,
+            Refusal::Line { number, fault } => RunFault::Line { number, fault },
+            Refusal::OutOfMemory => RunFault::Memory,
         }
     }
 }
 
-impl From<BeginFault> for Fault {
+impl From<BeginFault> for RunFault {
     ghost use Rattle.std.specs.Prelude.{◌≡◌};
     ghost use Rattle.bayou_print.specs.Fault.{fault_of_begin};
 
     ghost from_gives = { λ begin fault. fault ≡ fault_of_begin begin };
 
-    fn from(begin: BeginFault) -> Fault {
+    fn from(begin: BeginFault) -> RunFault {
         match begin {
-            BeginFault::OutOfMemory => Fault::Memory,
-            BeginFault::Device => Fault::Device,
+            BeginFault::OutOfMemory => RunFault::Memory,
+            BeginFault::Device => RunFault::Device,
         }
     }
 }

@@ -6,7 +6,7 @@
 //!
 //! [`write_answer`] and [`write_each`] put such lines behind what waits to be written ([`Waiting`]), which goes to the output (`bayou_streams`)
 //! in pieces: `Gathers` says what was taken and what waits. An output is at fault only where a call of it failed, or no turn was left. A run
-//! ends with what its verdicts came to ([`Ended`]), or with a [`Fault`]; each has its exit status.
+//! ends with what its verdicts came to ([`Ended`]), or with a [`RunFault`]; each has its exit status.
 //!
 //! Callers owe nothing but the number of servers. It isn't promised that memory suffices, or that an output takes anything.
 #![tactic(auto)]
@@ -23,7 +23,7 @@ pub mod writing;
 
 pub use book::{Entries, Holding, servers_line};
 pub use ended::Ended;
-pub use fault::Fault;
+pub use fault::RunFault;
 pub use printed::{last_line, settled_line};
 pub use printer::{Listing, Printer, Survey};
 pub use telling::{write_answer, write_each};

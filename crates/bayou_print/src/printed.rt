@@ -2,17 +2,17 @@ ghost use Rattle.std.specs.Prelude.{◌≡◌, ◌≤◌, Some, IfOk, string_byt
 ghost use Rattle.serde_json.specs.Data.{string};
 ghost use Rattle.serde_json.specs.Written.{compact_text};
 ghost use Rattle.bayou_base.specs.declared.limits.TheConstants.{SERVERS};
-ghost use Rattle.bayou_machine.specs.declared.answer.Answer.TheVariants.{NotServed, Read, Wrote};
-ghost use Rattle.bayou_print.specs.Printed.{adopted_text, counts_text, exchange_text, last_text, listed_text, pulling_text, recovery_text, refusal_text, reopening_text, settled_text, starting_text, taking_text, totals_text, value_text};
+ghost use Rattle.bayou_answers.specs.declared.answer.Answer.TheVariants.{Read, Wrote};
+ghost use Rattle.bayou_print.specs.Printed.{adopted_text, counts_text, transfer_text, last_text, listed_text, pulling_text, recovery_text, refusal_text, reopening_text, settled_text, starting_text, taking_text, totals_text, value_text};
 
 use crate::verdict::{refused_line, verdict_line};
+use bayou_answers::{Answer, Recovery, Transfer};
 use bayou_audit::Totals;
 use bayou_base::{Accepted, Key, Seen, ServerId, SessionId, Value, Vector, Wid};
 use bayou_frames::Fault as Stream;
 use bayou_lang::Outcome;
 use bayou_log::Listed;
-use bayou_machine::{Answer, Exchange, Recovery};
-use bayou_node::Settled;
+use bayou_node::NodeSettled;
 use bayou_peer::{PullFault, Pulled};
 use bayou_server::{ReopenFault, StartFault, TakeFault, WriteFault};
 use serde_json::Value as Json;
@@ -182,21 +182,6 @@ fn read_line(
     format!(in alloc; "{session} read {key} {found} at {counts}\n")
 }
 
-/// The line of a read that was refused.
-fn behind_line(
-    alloc: Global,
-    servers: u8,
-    session: SessionId,
-    vector: &Vector,
-) -> Result<String, AllocError>
-    requires { servers ≤ SERVERS }
-    ensures { IfOk result (λ line. string_bytes line ≡ last_text servers (NotServed session vector.now)) }
-{
-    let session = session.index;
-    let counts = Counts { vector, servers };
-    format!(in alloc; "{session} refused behind at {counts}\n")
-}
-
 /// The line of a server that was to be reopened or restarted.
 fn recovery_line(alloc: Global, recovery: &Recovery) -> Result<String, AllocError>
     ensures { IfOk result (λ text. string_bytes text ≡ recovery_text recovery.now) }
@@ -259,15 +244,15 @@ fn pulling_word(fault: &PullFault) -> &'static str
 }
 
 /// The line of a server that was to take Writes from another.
-fn exchange_line(alloc: Global, exchange: &Exchange) -> Result<String, AllocError>
-    ensures { IfOk result (λ text. string_bytes text ≡ exchange_text exchange.now) }
+fn transfer_line(alloc: Global, transfer: &Transfer) -> Result<String, AllocError>
+    ensures { IfOk result (λ text. string_bytes text ≡ transfer_text transfer.now) }
 {
-    match exchange {
-        Exchange::NotRunning => String::from_str(alloc, "pull fault lost\n"),
-        Exchange::Ended(Ok(Pulled { taken, had })) => format!(in alloc;
+    match transfer {
+        Transfer::NotRunning => String::from_str(alloc, "pull fault lost\n"),
+        Transfer::Ended(Ok(Pulled { taken, had })) => format!(in alloc;
             "pulled {taken} had {had}\n"
         ),
-        Exchange::Ended(Err(fault)) => {
+        Transfer::Ended(Err(fault)) => {
             let why = pulling_word(fault);
             format!(in alloc; "pull fault {why}\n")
         }
@@ -291,7 +276,7 @@ fn totals_line(alloc: Global, totals: Totals) -> Result<String, AllocError>
 pub fn settled_line(
     alloc: Global,
     server: ServerId,
-    settled: &Settled,
+    settled: &NodeSettled,
 ) -> Result<String, AllocError>
     ensures { IfOk result (λ line. string_bytes line ≡ settled_text server.index settled.now) }
 {
@@ -314,7 +299,6 @@ pub fn last_line(alloc: Global, servers: u8, answer: &Answer) -> Result<String, 
             let why = refusal_words(alloc, servers, refusal)?;
             format!(in alloc; "{session} refused {why}\n")
         }
-        Answer::NotServed { session, vector } => behind_line(alloc, servers, *session, vector),
         Answer::Lost { session } => {
             let session = session.index;
             format!(in alloc; "{session} lost\n")
@@ -329,7 +313,7 @@ pub fn last_line(alloc: Global, servers: u8, answer: &Answer) -> Result<String, 
             format!(in alloc; "stopped {server}\n")
         }
         Answer::Recovered(recovery) => recovery_line(alloc, recovery),
-        Answer::Exchanged(exchange) => exchange_line(alloc, exchange),
+        Answer::Exchanged(transfer) => transfer_line(alloc, transfer),
         Answer::Counted(totals) => totals_line(alloc, *totals),
         Answer::Judged(verdict) => verdict_line(alloc, verdict),
         Answer::Surveyed(Err(refusal)) => refused_line(alloc, refusal),

@@ -9,13 +9,13 @@ ghost use Rattle.bayou_print.specs.Waiting.{Gathers, stage};
 ghost use Rattle.bayou_print.specs.Turns.{EndsWriting};
 
 use crate::book::{Entries, Holding, servers_line};
-use crate::fault::Fault;
+use crate::fault::RunFault;
 use crate::printed::last_line;
 use crate::printer::{Listing, Printer, Survey};
 use crate::waiting::Waiting;
+use bayou_answers::Answer;
 use bayou_base::ServerId;
 use bayou_lang::RestingWrite;
-use bayou_machine::Answer;
 use bayou_script::AuditFile;
 use bayou_streams::Output;
 use std::alloc::Global;
@@ -28,7 +28,7 @@ pub fn write_each<P: Printer, W: Write>(
     parts: &[P::Part],
     output: &mut Output<W>,
     waiting: &mut Waiting,
-) -> Result<(), Fault>
+) -> Result<(), RunFault>
     ensures whole { OnOk result (Gathers (stage W.contents output.old waiting.old) (stage W.contents output.new waiting.new) (flat_map (P.text printer.now) parts.now) []) }
     ensures fault { IfErr result IsRunFault }
     ensures ended { IfErr result (EndsWriting output.new.channel.write_failed output.new.channel.turns_left) }
@@ -49,7 +49,7 @@ fn write_dumps<W: Write>(
     dumps: &[Vec<RestingWrite>],
     output: &mut Output<W>,
     waiting: &mut Waiting,
-) -> Result<(), Fault>
+) -> Result<(), RunFault>
     requires servers { (0 < count) × (count ≤ SERVERS) }
     requires dumps { length dumps.now ≡ count }
     ensures whole { OnOk result (Gathers (stage W.contents output.old waiting.old) (stage W.contents output.new waiting.new) (dumps_text count (lists_of dumps.now) count) []) }
@@ -75,7 +75,7 @@ fn write_evidence<W: Write>(
     file: &AuditFile,
     output: &mut Output<W>,
     waiting: &mut Waiting,
-) -> Result<(), Fault>
+) -> Result<(), RunFault>
     ensures whole { OnOk result (Gathers (stage W.contents output.old waiting.old) (stage W.contents output.new waiting.new) (evidence_text file.now.count file.now.entries.items (lists_of file.now.dumps.items)) []) }
     ensures fault { IfErr result IsRunFault }
     ensures ended { IfErr result (EndsWriting output.new.channel.write_failed output.new.channel.turns_left) }
@@ -93,7 +93,7 @@ fn write_book<W: Write>(
     file: &AuditFile,
     output: &mut Output<W>,
     waiting: &mut Waiting,
-) -> Result<(), Fault>
+) -> Result<(), RunFault>
     ensures whole { OnOk result (Gathers (stage W.contents output.old waiting.old) (stage W.contents output.new waiting.new) (book_text file.now.count file.now.entries.items (lists_of file.now.dumps.items)) []) }
     ensures fault { IfErr result IsRunFault }
     ensures ended { IfErr result (EndsWriting output.new.channel.write_failed output.new.channel.turns_left) }
@@ -111,7 +111,7 @@ fn write_parts<W: Write>(
     answer: &Answer,
     output: &mut Output<W>,
     waiting: &mut Waiting,
-) -> Result<(), Fault>
+) -> Result<(), RunFault>
     ensures whole { OnOk result (Gathers (stage W.contents output.old waiting.old) (stage W.contents output.new waiting.new) (lines_text answer.now) []) }
     ensures fault { IfErr result IsRunFault }
     ensures ended { IfErr result (EndsWriting output.new.channel.write_failed output.new.channel.turns_left) }
@@ -147,7 +147,7 @@ fn write_last<W: Write>(
     answer: &Answer,
     output: &mut Output<W>,
     waiting: &mut Waiting,
-) -> Result<(), Fault>
+) -> Result<(), RunFault>
     requires { servers ≤ SERVERS }
     ensures whole { OnOk result (Gathers (stage W.contents output.old waiting.old) (stage W.contents output.new waiting.new) (last_text servers answer.now) []) }
     ensures fault { IfErr result IsRunFault }
@@ -166,7 +166,7 @@ pub fn write_answer<W: Write>(
     answer: &Answer,
     output: &mut Output<W>,
     waiting: &mut Waiting,
-) -> Result<(), Fault>
+) -> Result<(), RunFault>
     requires { servers ≤ SERVERS }
     ensures whole { OnOk result (Gathers (stage W.contents output.old waiting.old) (stage W.contents output.new waiting.new) (answer_text servers answer.now) []) }
     ensures fault { IfErr result IsRunFault }

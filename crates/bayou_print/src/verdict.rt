@@ -2,7 +2,7 @@
 ghost use Rattle.std.specs.Prelude.{◌≡◌, IfOk, string_bytes};
 ghost use Rattle.bayou_print.specs.Verdicts.{broken_text, found_text, guarantee_text, refused_text, shown_text, surveyed_text, verdict_text};
 
-use bayou_judge::{Breach, Guarantee, Refusal, Surveyed, Verdict};
+use bayou_judge::{BadEvidence, Breach, Guarantee, Surveyed, Verdict};
 use std::alloc::{AllocError, Global};
 
 /// The word of the guarantee.
@@ -37,28 +37,30 @@ fn broken_line(alloc: Global, breach: &Breach) -> Result<String, AllocError>
     format!(in alloc; "broken {guarantee} session {session}{shown}")
 }
 
-/// The line of what can be no evidence; none of want of memory.
-pub(crate) fn refused_line(alloc: Global, refusal: &Refusal) -> Result<String, AllocError>
-    ensures { IfOk result (λ line. string_bytes line ≡ refused_text refusal.now) }
+/// The line of what can be no evidence.
+pub(crate) fn refused_line(alloc: Global, bad: &BadEvidence) -> Result<String, AllocError>
+    ensures { IfOk result (λ line. string_bytes line ≡ refused_text bad.now) }
 {
-    match refusal {
-        Refusal::BadDump(server, at) => {
+    match bad {
+        BadEvidence::BadDump(server, at) => {
             let server = server.index;
             format!(in alloc; "judge refused dump {server} {at}\n")
         }
-        Refusal::Forged(at) => format!(in alloc; "judge refused forged {at}\n"),
-        Refusal::OutOfMemory => Ok(String::new(alloc)),
+        BadEvidence::Forged(at) => format!(in alloc; "judge refused forged {at}\n"),
     }
 }
 
-/// The line of the verdict, or of why there is none. Of want of memory nothing is told.
-pub fn verdict_line(alloc: Global, verdict: &Result<Verdict, Refusal>) -> Result<String, AllocError>
+/// The line of the verdict, or of why there is none.
+pub fn verdict_line(
+    alloc: Global,
+    verdict: &Result<Verdict, BadEvidence>,
+) -> Result<String, AllocError>
     ensures { IfOk result (λ line. string_bytes line ≡ verdict_text verdict.now) }
 {
     match verdict {
         Ok(Verdict::Clean) => String::from_str(alloc, "clean\n"),
         Ok(Verdict::Broken(breach)) => broken_line(alloc, breach),
-        Err(refusal) => refused_line(alloc, refusal),
+        Err(bad) => refused_line(alloc, bad),
     }
 }
 

@@ -3,7 +3,7 @@ ghost use Rattle.std.specs.Prelude.{◌≡◌, ◌≤◌, ◌⊎◌, [], Err, Li
 ghost use Rattle.std.specs.Io.{IsEmptyOrEndsWith};
 ghost use Rattle.bayou_streams.specs.Account.{Takes, TakesFront};
 
-use crate::fault::Fault;
+use crate::fault::RunFault;
 use crate::writing::write_text;
 use bayou_base::limits::PIECE_BYTES;
 use bayou_streams::Output;
@@ -21,7 +21,7 @@ impl Waiting {
     ghost use Rattle.bayou_streams.specs.Account.{account};
     ghost use Rattle.bayou_print.specs.Waiting.{Gathers, stage};
     ghost use Rattle.bayou_print.specs.Faults.{IsRunFault};
-    ghost use Rattle.bayou_print.specs.declared.fault.Fault.TheVariants.{Output as OutputFault};
+    ghost use Rattle.bayou_print.specs.declared.fault.RunFault.TheVariants.{Output as OutputFault};
     ghost use Rattle.bayou_print.specs.Turns.{EndsWriting};
 
     /// None, with room for a piece.
@@ -33,7 +33,7 @@ impl Waiting {
     }
 
     /// Writes them. Where that fails, those that weren't taken are gone.
-    pub fn write<W: Write>(&mut self, output: &mut Output<W>) -> Result<(), Fault>
+    pub fn write<W: Write>(&mut self, output: &mut Output<W>) -> Result<(), RunFault>
         ensures whole { OnOk result (Takes (account W.contents output.old) (account W.contents output.new) self.old.lines.items) }
         ensures part { TakesFront (account W.contents output.old) (account W.contents output.new) self.old.lines.items }
         ensures none { self.new.lines.items ≡ [] }
@@ -48,7 +48,7 @@ impl Waiting {
     }
 
     /// Writes them where they would be more than a piece with so many bytes more.
-    fn make_room<W: Write>(&mut self, output: &mut Output<W>, more: usize) -> Result<(), Fault>
+    fn make_room<W: Write>(&mut self, output: &mut Output<W>, more: usize) -> Result<(), RunFault>
         ensures whole { OnOk result (Gathers (stage W.contents output.old self.old) (stage W.contents output.new self.new) [] []) }
         ensures part { (missing : List ℕ) × Gathers (stage W.contents output.old self.old) (stage W.contents output.new self.new) [] missing }
         ensures fault { IfErr result IsRunFault }
@@ -62,7 +62,7 @@ impl Waiting {
     }
 
     /// Puts a line, or nothing, behind them.
-    pub fn print<W: Write>(&mut self, output: &mut Output<W>, line: &[u8]) -> Result<(), Fault>
+    pub fn print<W: Write>(&mut self, output: &mut Output<W>, line: &[u8]) -> Result<(), RunFault>
         requires { IsEmptyOrEndsWith line.now 10 }
         ensures whole { OnOk result (Gathers (stage W.contents output.old self.old) (stage W.contents output.new self.new) line.now []) }
         ensures part { (missing : List ℕ) × Gathers (stage W.contents output.old self.old) (stage W.contents output.new self.new) line.now missing }
@@ -79,9 +79,9 @@ impl Waiting {
     /// memory, or before a fault of the network, is written too; where that fails, that fault still came first.
     pub fn end<A: Drop, W: Write>(
         self,
-        ended: Result<A, Fault>,
+        ended: Result<A, RunFault>,
         output: &mut Output<W>,
-    ) -> Result<A, Fault>
+    ) -> Result<A, RunFault>
         requires ended { IfErr ended (EndsWriting output.old.channel.write_failed output.old.channel.turns_left) }
         ensures whole { OnOk result (Takes (account W.contents output.old) (account W.contents output.new) self.lines.items) }
         ensures part { TakesFront (account W.contents output.old) (account W.contents output.new) self.lines.items }
@@ -96,13 +96,13 @@ impl Waiting {
                 waiting.write(output)?;
                 Ok(told)
             }
-            Err(Fault::Memory) => {
+            Err(RunFault::Memory) => {
                 let _ = waiting.write(output);
-                Err(Fault::Memory)
+                Err(RunFault::Memory)
             }
-            Err(Fault::Network) => {
+            Err(RunFault::Network) => {
                 let _ = waiting.write(output);
-                Err(Fault::Network)
+                Err(RunFault::Network)
             }
             Err(fault) => Err(fault),
         }

@@ -1,15 +1,15 @@
 ghost use Rattle.std.specs.Prelude.{◌≡◌, ◌≤◌, true, OnOk, IfErr};
 ghost use Rattle.std.specs.Io.{IsEmptyOrEndsWith};
 ghost use Rattle.bayou_streams.specs.Account.{Takes, TakesFront, account};
-ghost use Rattle.bayou_print.specs.declared.fault.Fault.TheVariants.{Output as OutputFault};
+ghost use Rattle.bayou_print.specs.declared.fault.RunFault.TheVariants.{Output as OutputFault};
 ghost use Rattle.bayou_print.specs.Turns.{HasEnded};
 
-use crate::fault::Fault;
+use crate::fault::RunFault;
 use bayou_streams::{Output, StreamFault};
 use std::io::Write;
 
 /// Writes the whole text. It ends with `Output` only where a call of the writer failed or all turns of a line were taken.
-pub fn write_text<W: Write>(output: &mut Output<W>, text: &[u8]) -> Result<(), Fault>
+pub fn write_text<W: Write>(output: &mut Output<W>, text: &[u8]) -> Result<(), RunFault>
     ensures whole { OnOk result (Takes (account W.contents output.old) (account W.contents output.new) text.now) }
     ensures fault { IfErr result (λ fault. fault ≡ OutputFault) }
     ensures ended { IfErr result (λ fault. HasEnded output.new.channel.write_failed output.new.channel.turns_left) }
@@ -21,6 +21,6 @@ pub fn write_text<W: Write>(output: &mut Output<W>, text: &[u8]) -> Result<(), F
 {
     match output.write_lines(text) {
         Ok(()) => Ok(()),
-        Err(StreamFault::Failed | StreamFault::TooManyTurns) => Err(Fault::Output),
+        Err(StreamFault::Failed | StreamFault::TooManyTurns) => Err(RunFault::Output),
     }
 }

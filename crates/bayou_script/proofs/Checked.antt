@@ -1,14 +1,11 @@
 -- The checks of lines.
-use Rattle.std.proofs.Common.{◌≡◌, ◌≢◌, inl, inr, ℕ, ◌&&◌, List, [], ◌∷◌, map, ap, refl}
-use Rattle.std.specs.List.{list_all}
+use Rattle.std.proofs.Common.{◌≢◌, inl, inr, ℕ, List, [], refl}
 use Rattle.bayou_text.specs.declared.line.LineFault.{LineFault}
 use Rattle.bayou_text.specs.declared.line.LineFault.TheVariants as line
 use Rattle.bayou_text.specs.Lines.{IsRefusalOf}
-use Rattle.bayou_text.specs.Said.{Said, command_said}
-use Rattle.bayou_text.specs.declared.command.Command.{Command}
+use Rattle.bayou_text.specs.Said.{Said}
 use Rattle.bayou_script.specs.Inner.Taking.{FaultAt, refusal_of}
 use Rattle.bayou_script.specs.Order.{Order, in_itself}
-use Rattle.bayou_script.specs.Script.{is_served}
 
 -- a line's own fault is told under its number
 pub own_fault : (order : Order) (number : ℕ) (front : List Said) (bytes : List ℕ) (why : LineFault) → bytes ≢ [] → IsRefusalOf bytes why
@@ -22,9 +19,3 @@ own_fault order number front bytes (line.Key why) some (inl e) = let bad = e.0 i
 own_fault order number front bytes (line.Key why) some (inr is) = (refl, in_itself (line.Key why) some is refl)
 own_fault order number front bytes (line.Program why) some (inl e) = let bad = e.0 in absurd (cc)
 own_fault order number front bytes (line.Program why) some (inr is) = (refl, in_itself (line.Program why) some is refl)
-
--- each command is said to a server that there is
-pub list_all-said : (count : ℕ) (commands : List Command) → list_all (is_served count) (map command_said commands)
-    ≡ list_all (λ command. is_served count (command_said command)) commands
-list_all-said count [] = refl
-list_all-said count (command ∷ commands) = ap (λ all. is_served count (command_said command) && all) (list_all-said count commands)

@@ -2,8 +2,7 @@
 use Rattle.std.proofs.Common.{◌≡◌, ◌≢◌, if◌then◌else◌, Bool, true, false, not, List, [], ◌∷◌, ◌++◌, IsTrue, map, refl, sym, ap, ◌∙◌, append-nil}
 use Rattle.std.specs.List.{list_all, onto_first}
 use Rattle.std.proofs.lemmas.List.{map-append}
-use Rattle.bayou_text.specs.Said.{Said, command_said}
-use Rattle.bayou_text.specs.declared.command.Command.{Command}
+use Rattle.bayou_text.specs.Said.{Said}
 use Rattle.bayou_script.proofs.Told.{both_left, both_right}
 use Rattle.bayou_script.specs.Phases.{ends_phase, phases_of}
 
@@ -31,18 +30,21 @@ phase_last first [] all = phases_more first [] (both_left _ _ all)
 phase_last first (next ∷ lines) all =
     phases_more first (next ∷ lines) (both_left _ _ all) ∙ ap (onto_first first) (phase_last next lines (both_right _ _ all))
 
--- commands that were taken up to one that ends a phase
-pub taken_ended : (all taken : List Command) (end : Command) (left : List Command) → all ≡ taken ++ end ∷ left → IsTrue (list_all goes_on (map command_said taken))
-    → ends_phase (command_said end) ≡ true → phases_of (map command_said all) ≡ map command_said taken ∷ phases_of (map command_said left)
-taken_ended all taken end left is on ends =
-    ap (λ (l : List Command). phases_of (map command_said l)) is ∙ ap phases_of (map-append command_said taken (end ∷ left))
-    ∙ phase_ended (map command_said taken) (command_said end) (map command_said left) on ends
+-- ---- commands, by what their lines say
 
--- and all that there are
-pub taken_last : (all taken left : List Command) → all ≡ taken ++ left → left ≡ [] → all ≢ [] → IsTrue (list_all goes_on (map command_said taken))
-    → phases_of (map command_said all) ≡ map command_said taken ∷ phases_of (map command_said left)
-taken_last all [] left is none some on = absurd (some (is ∙ none))
-taken_last all (first ∷ taken) left is none some on =
-    ap (λ (l : List Command). phases_of (map command_said l)) (is ∙ ap (λ (l : List Command). (first ∷ taken) ++ l) none ∙ append-nil (first ∷ taken))
-    ∙ phase_last (command_said first) (map command_said taken) on
-    ∙ ap (λ (l : List Command). map command_said (first ∷ taken) ∷ phases_of (map command_said l)) (sym none)
+module _ {C : Type 0} (line : C → Said) where
+  -- commands that were taken up to one that ends a phase
+  pub taken_ended : (all taken : List C) (end : C) (left : List C) → all ≡ taken ++ end ∷ left → IsTrue (list_all goes_on (map line taken))
+      → ends_phase (line end) ≡ true → phases_of (map line all) ≡ map line taken ∷ phases_of (map line left)
+  taken_ended all taken end left is on ends =
+      ap (λ (l : List C). phases_of (map line l)) is ∙ ap phases_of (map-append line taken (end ∷ left))
+      ∙ phase_ended (map line taken) (line end) (map line left) on ends
+
+  -- and all that there are
+  pub taken_last : (all taken left : List C) → all ≡ taken ++ left → left ≡ [] → all ≢ [] → IsTrue (list_all goes_on (map line taken))
+      → phases_of (map line all) ≡ map line taken ∷ phases_of (map line left)
+  taken_last all [] left is none some on = absurd (some (is ∙ none))
+  taken_last all (first ∷ taken) left is none some on =
+      ap (λ (l : List C). phases_of (map line l)) (is ∙ ap (λ (l : List C). (first ∷ taken) ++ l) none ∙ append-nil (first ∷ taken))
+      ∙ phase_last (line first) (map line taken) on
+      ∙ ap (λ (l : List C). map line (first ∷ taken) ∷ phases_of (map line l)) (sym none)

@@ -1,8 +1,12 @@
 pub mod AuditFile
 pub mod Inner
+pub mod Kinds
+pub mod Laws
 pub mod Network
+pub mod NetworkSaid
 pub mod Order
 pub mod Phases
+pub mod Places
 pub mod Plan
 pub mod Reading
 pub mod Script

@@ -26,6 +26,11 @@ pub data InOrderBy (order : Order) : List (List ℕ) → List Said → Type 0 wh
   added : (lines : List (List ℕ)) (front : List Said) (line : List ℕ) (said : Said) → InOrderBy order lines front
       → line ≢ [] → Spells line said → IsTrue (order (length lines + 1) front said) → InOrderBy order (lines ++ line ∷ []) (front ++ said ∷ [])
 
+-- What this says was added behind the front, if that is its place there.
+pub record HasAdded {D : Type 0} (order : Order) (keeps : D → List Said → Type 0) (number : ℕ) (front : List Said) (told : Said) (new : D) (placed : Bool) : Type 0 where
+  pub place : placed ≡ order number front told
+  pub kept : IsTrue placed → keeps new (front ++ told ∷ [])
+
 -- the kind of a line's own fault; want of memory is none
 abbrev pub kind_of : LineFault → Option ScriptFault
 kind_of line.OutOfMemory = None

@@ -3,9 +3,9 @@ use Rattle.std.specs.Prelude.{◌≡◌, ◌+◌, ℕ, List, [], ◌∷◌, ◌+
 use Rattle.std.specs.List.{onto_first}
 use Rattle.bayou_text.specs.Said.{Said}
 use Rattle.bayou_script.specs.declared.fault.Refusal.{Refusal}
-use Rattle.bayou_script.specs.declared.reader.AuditReader.{AuditReader}
-use Rattle.bayou_script.specs.declared.reader.NetworkScriptReader.{NetworkScriptReader}
-use Rattle.bayou_script.specs.declared.reader.ScriptReader.{ScriptReader}
+use Rattle.bayou_script.specs.declared.audit_draft.AuditDraft.{AuditDraft}
+use Rattle.bayou_script.specs.declared.draft.Draft.{Draft}
+use Rattle.bayou_script.specs.declared.network_draft.NetworkDraft.{NetworkDraft}
 use Rattle.bayou_script.specs.declared.text.TextReader.{TextReader}
 use Rattle.bayou_script.specs.AuditFile.{audit_order}
 use Rattle.bayou_script.specs.Inner.AuditDraft.{IsAuditDraftOf}
@@ -22,22 +22,22 @@ begun_by (byte ∷ bytes) lines = onto_first byte (begun_by bytes lines)
 
 -- The reader was given these bytes: the lines that have ended are in order, what they say is kept, and the last one has come so
 -- far, whatever follows.
-pub record HasReadBy {D : Type 0} (order : Order) (keeps : D → List Said → Type 0) (reader : TextReader D) (bytes : List ℕ) : Type 0 where
+pub record HasReadBy {F : Type 0} (order : Order) (keeps : F → List Said → Type 0) (reader : TextReader F) (bytes : List ℕ) : Type 0 where
   pub ended : List (List ℕ)
   pub front : List Said
   pub cut : (more : List ℕ) → lines_of (bytes ++ more) ≡ ended ++ begun_by reader.line.items (lines_of more)
   pub number : reader.number ≡ length ended + 1
   pub in_order : InOrderBy order ended front
-  pub kept : keeps reader.draft front
+  pub kept : keeps reader.front front
 
-abbrev pub HasRead : ScriptReader → List ℕ → Type 0
-HasRead reader bytes = HasReadBy script_order IsDraftOf reader.text bytes
+abbrev pub HasRead : TextReader Draft → List ℕ → Type 0
+HasRead reader bytes = HasReadBy script_order IsDraftOf reader bytes
 
-abbrev pub HasReadNetwork : NetworkScriptReader → List ℕ → Type 0
-HasReadNetwork reader bytes = HasReadBy network_order IsNetworkDraftOf reader.text bytes
+abbrev pub HasReadNetwork : TextReader NetworkDraft → List ℕ → Type 0
+HasReadNetwork reader bytes = HasReadBy network_order IsNetworkDraftOf reader bytes
 
-abbrev pub HasReadAudit : AuditReader → List ℕ → Type 0
-HasReadAudit reader bytes = HasReadBy audit_order IsAuditDraftOf reader.text bytes
+abbrev pub HasReadAudit : TextReader AuditDraft → List ℕ → Type 0
+HasReadAudit reader bytes = HasReadBy audit_order IsAuditDraftOf reader bytes
 
 -- the lines are refused so, whatever follows these bytes
 abbrev pub IsRefusedSoFar : Order → List ℕ → Refusal → Type 0

@@ -11,7 +11,7 @@ use std::alloc::Global;
 
 /// The front of an audit file, while its lines are checked.
 #[derive(Drop)]
-pub(crate) struct AuditDraft {
+pub struct AuditDraft {
     /// How many servers there are: none before the first line that isn't empty.
     count: u8,
     entries: Vec<Entry>,
@@ -24,20 +24,9 @@ pub(crate) struct AuditDraft {
 impl AuditDraft {
     ghost use Rattle.bayou_text.specs.Said.{Said, audit_said, entry as entry_line, held as held_line, servers as servers_line};
     ghost use Rattle.bayou_script.specs.declared.fault.Refusal.TheVariants.{OutOfMemory};
-    ghost use Rattle.bayou_script.specs.AuditFile.{IsAuditFile, InAuditOrder, audit_order, evidence_of};
+    ghost use Rattle.bayou_script.specs.AuditFile.{audit_order};
     ghost use Rattle.bayou_script.specs.Inner.AuditDraft.{IsAuditDraftOf};
-    ghost use Rattle.bayou_script.specs.Inner.Taking.{HasAdded};
-    ghost use Rattle.bayou_script.specs.Order.{RefusedBy};
-
-    pub fn new(alloc: Global) -> Self
-        ensures { IsAuditDraftOf result [] }
-    {
-        AuditDraft {
-            count: 0,
-            entries: Vec::new(alloc),
-            dumps: Vec::new(alloc),
-        }
-    }
+    ghost use Rattle.bayou_script.specs.Order.{HasAdded};
 
     /// Starts so many servers, which hold nothing yet, where none were started.
     fn start(&mut self, alloc: Global, count: u8) -> Result<bool, Refusal>
@@ -107,12 +96,39 @@ impl AuditDraft {
             } => self.add_held(server, write, counts),
         }
     }
+}
 
-    /// The audit file of which this is all.
-    pub fn finish(self) -> Result<AuditFile, Refusal>
-        ensures { (lines : List (List ℕ)) (front : List Said) → InAuditOrder lines front → IsAuditDraftOf self front
-            → MatchResult result (λ file. IsAuditFile lines (evidence_of file)) (RefusedBy audit_order lines) }
-    {
+impl Front for AuditDraft {
+    ghost use Rattle.bayou_script.specs.AuditFile.{IsAuditFile, audit_order, evidence_of};
+    ghost use Rattle.bayou_script.specs.Inner.AuditDraft.{IsAuditDraftOf};
+
+    type Text = AuditFile;
+
+    ghost order = { audit_order };
+
+    ghost keeps = { IsAuditDraftOf };
+
+    ghost says = { λ lines file. IsAuditFile lines (evidence_of file) };
+
+    ghost tells = { λ file. Unit {0} };
+
+    fn new(alloc: Global) -> Self {
+        AuditDraft {
+            count: 0,
+            entries: Vec::new(alloc),
+            dumps: Vec::new(alloc),
+        }
+    }
+
+    fn add(&mut self, alloc: Global, _number: u64, line: Line) -> Result<bool, Refusal> {
+        match line {
+            Line::Servers { count, .. } => self.start(alloc, count),
+            Line::Audit(told) => self.add_told(told),
+            Line::Command(_) => Ok(false),
+        }
+    }
+
+    fn finish(self) -> Result<AuditFile, Refusal> {
         if self.count == 0 {
             return Err(Refusal::out_of_place(1));
         }
@@ -121,22 +137,5 @@ impl AuditDraft {
             entries: self.entries,
             dumps: self.dumps,
         })
-    }
-}
-
-impl Front for AuditDraft {
-    ghost use Rattle.bayou_script.specs.AuditFile.{audit_order};
-    ghost use Rattle.bayou_script.specs.Inner.AuditDraft.{IsAuditDraftOf};
-
-    ghost order = { audit_order };
-
-    ghost keeps = { IsAuditDraftOf };
-
-    fn add(&mut self, alloc: Global, _number: u64, line: Line) -> Result<bool, Refusal> {
-        match line {
-            Line::Servers { count, .. } => self.start(alloc, count),
-            Line::Audit(told) => self.add_told(told),
-            Line::Command(_) => Ok(false),
-        }
     }
 }

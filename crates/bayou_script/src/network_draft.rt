@@ -1,73 +1,106 @@
-ghost use Rattle.std.specs.Prelude.{◌≡◌, [], List, MatchResult};
-ghost use Rattle.bayou_script.specs.Network.{runs_over_network};
-ghost use Rattle.bayou_text.specs.Said.{said};
+//! The front of a script over a network.
+ghost use Rattle.std.specs.Prelude.{IsTrue};
+ghost use Rattle.std.specs.List.{list_all};
+ghost use Rattle.bayou_script.specs.Inner.Started.{are_few, are_started};
+ghost use Rattle.bayou_script.specs.NetworkSaid.{network_said};
+ghost use Rattle.bayou_script.specs.Script.{use_of};
 
-use crate::draft::Draft;
 use crate::fault::Refusal;
-use crate::script::Script;
+use crate::network::NetworkCommand;
+use crate::script::NetworkScript;
+use crate::stage::Stage;
 use crate::text::Front;
-use bayou_base::NET_SERVERS;
+use crate::uses::used_by;
+use bayou_base::{MAX_LINES, NET_SERVERS};
 use bayou_text::{Command, Line};
 use std::alloc::Global;
-
-/// Whether servers over a network can be asked this.
-fn runs_over_network(line: &Line) -> bool
-    ensures { result ≡ runs_over_network (said line.now) }
-{
-    match line {
-        Line::Servers { count, .. } => usize::from(*count) <= NET_SERVERS,
-        Line::Command(
-            Command::Fuse { .. }
-            | Command::Lose { .. }
-            | Command::Restart { .. }
-            | Command::Resend { .. },
-        ) => false,
-        Line::Command(Command::Pull { cut, .. }) => cut.is_none(),
-        Line::Command(_) | Line::Audit(_) => true,
-    }
-}
+use std::collections::VecDeque;
 
 /// The front of a script over a network, while its lines are checked.
 #[derive(Drop)]
-pub(crate) struct NetworkDraft {
-    script: Draft,
+pub struct NetworkDraft {
+    stage: Stage,
+    commands: VecDeque<NetworkCommand>,
+    ghost served: { IsTrue (list_all (λ command. are_started stage.servers (use_of (network_said command)).servers) commands.items) },
+    ghost few: { IsTrue (are_few stage.servers) },
 }
 
 impl NetworkDraft {
-    ghost use Rattle.bayou_text.specs.Said.{Said};
-    ghost use Rattle.bayou_script.specs.Inner.Draft.{Tells, TellsNothing};
+    ghost use Rattle.std.specs.Prelude.{◌≡◌, ◌≤◌, ℕ, List, MatchResult};
+    ghost use Rattle.bayou_base.specs.declared.limits.TheConstants.{MAX_LINES as MOST_LINES};
+    ghost use Rattle.bayou_text.specs.Said.{Said, command_said, servers as servers_line};
+    ghost use Rattle.bayou_text.specs.Table.{Spells};
+    ghost use Rattle.bayou_script.specs.declared.fault.Refusal.TheVariants.{OutOfMemory};
     ghost use Rattle.bayou_script.specs.Inner.NetworkDraft.{IsNetworkDraftOf};
-    ghost use Rattle.bayou_script.specs.Plan.{plan_of};
+    ghost use Rattle.bayou_script.specs.Order.{HasAdded};
+    ghost use Rattle.bayou_script.specs.Network.{network_order};
 
-    pub fn new(alloc: Global) -> Self
-        ensures { IsNetworkDraftOf result [] }
+    /// Starts so many servers, if that has its place and they are few enough.
+    fn start(&mut self, count: u8, limit: Option<u32>) -> bool
+        requires { (bytes : List ℕ) × Spells bytes (servers_line count limit) }
+        ensures { (number : ℕ) (front : List Said) → number ≤ MOST_LINES → IsNetworkDraftOf self.old front
+            → HasAdded network_order IsNetworkDraftOf number front (servers_line count limit) self.new result }
     {
-        NetworkDraft {
-            script: Draft::new(alloc),
-        }
+        usize::from(count) <= NET_SERVERS && self.stage.start(count, limit)
     }
 
-    /// The script of which this is all.
-    pub fn finish(self) -> Result<Script, Refusal>
-        requires { (front : List Said) × IsNetworkDraftOf self front }
-        ensures { (front : List Said) → IsNetworkDraftOf self front → MatchResult result (λ script. Tells front (plan_of script)) (TellsNothing front) }
+    /// Adds the command, if it has its place and runs over a network.
+    fn push(&mut self, command: Command) -> Result<bool, Refusal>
+        ensures { (number : ℕ) (front : List Said) → number ≤ MOST_LINES → IsNetworkDraftOf self.old front
+            → MatchResult result (HasAdded network_order IsNetworkDraftOf number front (command_said command) self.new) (λ refusal. refusal ≡ OutOfMemory) }
     {
-        self.script.finish()
+        let uses = used_by(&command);
+        let Some(command) = NetworkCommand::of(command) else {
+            return Ok(false);
+        };
+        if !self.stage.admit(uses) {
+            return Ok(false);
+        }
+        self.commands.push_back(command)?;
+        Ok(true)
     }
 }
 
 impl Front for NetworkDraft {
     ghost use Rattle.bayou_script.specs.Inner.NetworkDraft.{IsNetworkDraftOf};
-    ghost use Rattle.bayou_script.specs.Network.{network_order};
+    ghost use Rattle.bayou_script.specs.Network.{IsNetworkScript, RunsOverNetwork, network_order};
+    ghost use Rattle.bayou_script.specs.Plan.{network_plan_of};
+
+    type Text = NetworkScript;
 
     ghost order = { network_order };
 
     ghost keeps = { IsNetworkDraftOf };
 
-    fn add(&mut self, alloc: Global, number: u64, line: Line) -> Result<bool, Refusal> {
-        if !runs_over_network(&line) {
+    ghost says = { λ lines script. IsNetworkScript lines (network_plan_of script) };
+
+    ghost tells = { λ script. RunsOverNetwork (network_plan_of script) };
+
+    fn new(alloc: Global) -> Self {
+        NetworkDraft {
+            stage: Stage::new(),
+            commands: VecDeque::new(alloc),
+        }
+    }
+
+    fn add(&mut self, _alloc: Global, number: u64, line: Line) -> Result<bool, Refusal> {
+        if number > MAX_LINES {
             return Ok(false);
         }
-        self.script.add(alloc, number, line)
+        match line {
+            Line::Servers { count, limit } => Ok(self.start(count, limit)),
+            Line::Command(command) => self.push(command),
+            Line::Audit(_) => Ok(false),
+        }
+    }
+
+    fn finish(self) -> Result<NetworkScript, Refusal> {
+        match self.stage.servers {
+            Some(servers) => Ok(NetworkScript {
+                servers,
+                commands: self.commands,
+            }),
+            None => Err(Refusal::out_of_place(1)),
+        }
     }
 }

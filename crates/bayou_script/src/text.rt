@@ -1,7 +1,7 @@
 //! Texts that come in pieces, each of which is cut into lines.
-ghost use Rattle.std.specs.Prelude.{◌≡◌, ◌+◌, [], ◌∷◌, ◌++◌, ℕ, List, MatchResult, length, Bool};
-ghost use Rattle.bayou_script.specs.Inner.Taking.{FaultAt, HasAdded};
-ghost use Rattle.bayou_script.specs.Order.{InOrderBy};
+ghost use Rattle.std.specs.Prelude.{◌≡◌, ◌+◌, [], ◌∷◌, ◌++◌, ℕ, IfOk, List, MatchResult, length};
+ghost use Rattle.bayou_script.specs.Inner.Taking.{FaultAt};
+ghost use Rattle.bayou_script.specs.Order.{HasAdded, InOrderBy, Order, RefusedBy};
 ghost use Rattle.bayou_script.specs.declared.fault.Refusal.TheVariants.{OutOfMemory};
 ghost use Rattle.bayou_text.specs.Said.{Said, said};
 ghost use Rattle.bayou_text.specs.Table.{Spells};
@@ -11,32 +11,46 @@ use bayou_base::MAX_LINE_BYTES;
 use bayou_text::{Line, read_line};
 use std::alloc::Global;
 
-/// What the lines of a text have said, while they are checked.
-pub(crate) trait Front: Drop {
+/// What the lines of a text have said, while they are checked. Each kind of text has its own.
+pub trait Front: Drop {
+    /// What a whole text says.
+    type Text: Drop;
+
     /// Whether the line of this number may say this behind what was said before.
-    ghost order: { ℕ → List Said → Said → Bool };
+    ghost order: { Order };
 
     /// It keeps what was said.
     ghost keeps: { Self → List Said → Type 0 };
+
+    /// The lines of a text say this.
+    ghost says: { List (List ℕ) → Self.Text → Type 0 };
+
+    /// What holds of each text that is told, whatever its lines are.
+    ghost tells: { Self.Text → Type 0 };
+
+    /// Nothing was said.
+    fn new(alloc: Global) -> Self
+        ensures { keeps result [] };
 
     /// Adds what the line of this number says, if that has its place, and answers whether it has.
     fn add(&mut self, alloc: Global, number: u64, line: Line) -> Result<bool, Refusal>
         requires { (bytes : List ℕ) × Spells bytes (said line) }
         ensures { (front : List Said) → keeps self.old front
             → MatchResult result (HasAdded order keeps number front (said line) self.new) (λ refusal. refusal ≡ OutOfMemory) };
+
+    /// What a text says of which this is all.
+    fn finish(self) -> Result<Self::Text, Refusal>
+        ensures said { (lines : List (List ℕ)) (front : List Said) → InOrderBy order lines front → keeps self front
+            → MatchResult result (says lines) (RefusedBy order lines) }
+        ensures told { IfOk result tells };
 }
 
 /// Adds what the line of this number says. An empty line says nothing.
-fn add_line<D: Front>(
-    draft: &mut D,
-    alloc: Global,
-    number: u64,
-    bytes: &[u8],
-) -> Result<(), Refusal>
-    ensures { (before : List (List ℕ)) (front : List Said) → number ≡ length before + 1 → InOrderBy D.order before front → D.keeps draft.old front
+fn add_line<F: Front>(text: &mut F, alloc: Global, number: u64, bytes: &[u8]) -> Result<(), Refusal>
+    ensures { (before : List (List ℕ)) (front : List Said) → number ≡ length before + 1 → InOrderBy F.order before front → F.keeps text.old front
         → MatchResult result
-        (λ _. (after : List Said) × InOrderBy D.order (before ++ bytes.now ∷ []) after × D.keeps draft.new after)
-        (FaultAt D.order number front bytes.now) }
+        (λ _. (after : List Said) × InOrderBy F.order (before ++ bytes.now ∷ []) after × F.keeps text.new after)
+        (FaultAt F.order number front bytes.now) }
 {
     if bytes.is_empty() {
         return Ok(());
@@ -45,7 +59,7 @@ fn add_line<D: Front>(
         Ok(line) => line,
         Err(fault) => return Err(Refusal::of_line(number, fault)),
     };
-    if draft.add(alloc, number, line)? {
+    if text.add(alloc, number, line)? {
         Ok(())
     } else {
         Err(Refusal::out_of_place(number))
@@ -54,24 +68,23 @@ fn add_line<D: Front>(
 
 /// A text of which a front was read. It keeps what the whole lines say, and the bytes of the line that hasn't ended.
 #[derive(Drop)]
-pub(crate) struct TextReader<D> {
-    draft: D,
+pub struct TextReader<F> {
+    front: F,
     /// The number of the line that hasn't ended, counted from 1 on.
     number: u64,
     line: Vec<u8>,
 }
 
-impl<D: Front> TextReader<D> {
+impl<F: Front> TextReader<F> {
     ghost use Rattle.bayou_script.specs.Reading.{HasReadBy, IsRefusedSoFar};
-    ghost use Rattle.bayou_script.specs.Order.{RefusedBy, lines_of};
+    ghost use Rattle.bayou_script.specs.Order.{lines_of};
 
     /// Nothing was read.
-    pub fn new(alloc: Global, draft: D) -> Self
-        requires { D.keeps draft [] }
-        ensures { HasReadBy D.order D.keeps result [] }
+    pub fn new(alloc: Global) -> Self
+        ensures { HasReadBy F.order F.keeps result [] }
     {
         TextReader {
-            draft,
+            front: F::new(alloc),
             number: 1,
             line: Vec::new(alloc),
         }
@@ -79,10 +92,10 @@ impl<D: Front> TextReader<D> {
 
     /// Takes the line that has ended.
     fn end_line(&mut self, alloc: Global) -> Result<(), Refusal>
-        ensures { (bytes : List ℕ) → HasReadBy D.order D.keeps self.old bytes
-            → MatchResult result (λ _. HasReadBy D.order D.keeps self.new (bytes ++ 10 ∷ [])) (IsRefusedSoFar D.order (bytes ++ 10 ∷ [])) }
+        ensures { (bytes : List ℕ) → HasReadBy F.order F.keeps self.old bytes
+            → MatchResult result (λ _. HasReadBy F.order F.keeps self.new (bytes ++ 10 ∷ [])) (IsRefusedSoFar F.order (bytes ++ 10 ∷ [])) }
     {
-        add_line(&mut self.draft, alloc, self.number, self.line.as_slice())?;
+        add_line(&mut self.front, alloc, self.number, self.line.as_slice())?;
         let Some(next) = self.number.checked_add(1) else {
             return Err(Refusal::OutOfMemory);
         };
@@ -94,8 +107,8 @@ impl<D: Front> TextReader<D> {
     /// Takes a byte of the line that hasn't ended. A line that is too long needn't end to be refused.
     fn go_on(&mut self, byte: u8) -> Result<(), Refusal>
         requires { ¬ (byte ≡ 10) }
-        ensures { (bytes : List ℕ) → HasReadBy D.order D.keeps self.old bytes
-            → MatchResult result (λ _. HasReadBy D.order D.keeps self.new (bytes ++ byte ∷ [])) (IsRefusedSoFar D.order (bytes ++ byte ∷ [])) }
+        ensures { (bytes : List ℕ) → HasReadBy F.order F.keeps self.old bytes
+            → MatchResult result (λ _. HasReadBy F.order F.keeps self.new (bytes ++ byte ∷ [])) (IsRefusedSoFar F.order (bytes ++ byte ∷ [])) }
     {
         if self.line.len() >= MAX_LINE_BYTES {
             return Err(Refusal::Line {
@@ -109,8 +122,8 @@ impl<D: Front> TextReader<D> {
 
     /// Takes the next byte.
     fn take(&mut self, alloc: Global, byte: u8) -> Result<(), Refusal>
-        ensures { (bytes : List ℕ) → HasReadBy D.order D.keeps self.old bytes
-            → MatchResult result (λ _. HasReadBy D.order D.keeps self.new (bytes ++ byte ∷ [])) (IsRefusedSoFar D.order (bytes ++ byte ∷ [])) }
+        ensures { (bytes : List ℕ) → HasReadBy F.order F.keeps self.old bytes
+            → MatchResult result (λ _. HasReadBy F.order F.keeps self.new (bytes ++ byte ∷ [])) (IsRefusedSoFar F.order (bytes ++ byte ∷ [])) }
     {
         if byte == b'\n' {
             return self.end_line(alloc);
@@ -118,10 +131,11 @@ impl<D: Front> TextReader<D> {
         self.go_on(byte)
     }
 
-    /// Reads on.
+    /// Reads on. The least line with a fault is told as soon as its fault is sure, whatever stands behind it; then the reader
+    /// is of no more use.
     pub fn feed(&mut self, alloc: Global, piece: &[u8]) -> Result<(), Refusal>
-        ensures { (bytes : List ℕ) → HasReadBy D.order D.keeps self.old bytes
-            → MatchResult result (λ _. HasReadBy D.order D.keeps self.new (bytes ++ piece.now)) (IsRefusedSoFar D.order (bytes ++ piece.now)) }
+        ensures { (bytes : List ℕ) → HasReadBy F.order F.keeps self.old bytes
+            → MatchResult result (λ _. HasReadBy F.order F.keeps self.new (bytes ++ piece.now)) (IsRefusedSoFar F.order (bytes ++ piece.now)) }
     {
         for byte in piece {
             self.take(alloc, *byte)?;
@@ -130,14 +144,23 @@ impl<D: Front> TextReader<D> {
     }
 
     /// What all the lines have said. What stands behind the last line feed is the last of them.
-    pub fn end(self, alloc: Global) -> Result<D, Refusal>
-        ensures { (bytes : List ℕ) → HasReadBy D.order D.keeps self bytes
+    fn end(self, alloc: Global) -> Result<F, Refusal>
+        ensures { (bytes : List ℕ) → HasReadBy F.order F.keeps self bytes
             → MatchResult result
-            (λ draft. (front : List Said) × InOrderBy D.order (lines_of bytes) front × D.keeps draft front)
-            (RefusedBy D.order (lines_of bytes)) }
+            (λ text. (front : List Said) × InOrderBy F.order (lines_of bytes) front × F.keeps text front)
+            (RefusedBy F.order (lines_of bytes)) }
     {
-        let mut draft = self.draft;
-        add_line(&mut draft, alloc, self.number, self.line.as_slice())?;
-        Ok(draft)
+        let mut text = self.front;
+        add_line(&mut text, alloc, self.number, self.line.as_slice())?;
+        Ok(text)
+    }
+
+    /// What the text says that was read. What stands behind the last line feed is its last line.
+    pub fn finish(self, alloc: Global) -> Result<F::Text, Refusal>
+        ensures said { (bytes : List ℕ) → HasReadBy F.order F.keeps self bytes
+            → MatchResult result (F.says (lines_of bytes)) (RefusedBy F.order (lines_of bytes)) }
+        ensures told { IfOk result F.tells }
+    {
+        self.end(alloc)?.finish()
     }
 }

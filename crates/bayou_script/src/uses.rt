@@ -1,12 +1,12 @@
 //! What a command uses.
 ghost use Rattle.std.specs.Prelude.{◌≡◌, None};
-ghost use Rattle.bayou_text.specs.Said.{command_said};
-ghost use Rattle.bayou_script.specs.declared.uses.Places.TheVariants.{At, Between};
+ghost use Rattle.bayou_text.specs.Said.{command_said, question_said};
+ghost use Rattle.bayou_script.specs.declared.uses.Places.TheVariants.{At, Between, Nowhere};
 ghost use Rattle.bayou_script.specs.Inner.Using.{AreUses};
 ghost use Rattle.bayou_script.specs.Script.{use_of};
 
 use bayou_base::{ServerId, SessionId};
-use bayou_text::Command;
+use bayou_text::{Command, Question};
 
 /// The servers that a command speaks to.
 #[derive(Clone, Copy)]
@@ -49,6 +49,27 @@ fn between(to: ServerId, from: ServerId) -> Uses
     }
 }
 
+/// Of a command that uses none.
+fn nothing() -> Uses
+    ensures { result ≡ record { opens = None; session = None; servers = Nowhere } }
+{
+    Uses {
+        opens: None,
+        session: None,
+        servers: Places::Nowhere,
+    }
+}
+
+/// What the question uses.
+fn used_by_question(question: Question) -> Uses
+    ensures { AreUses result (use_of (question_said question)) }
+{
+    match question {
+        Question::Log(server) => at_server(None, server),
+        Question::Totals | Question::Judge | Question::Survey | Question::Book => nothing(),
+    }
+}
+
 /// What the command uses.
 pub(crate) fn used_by(command: &Command) -> Uses
     ensures { AreUses result (use_of (command_said command.now)) }
@@ -59,27 +80,10 @@ pub(crate) fn used_by(command: &Command) -> Uses
             session: None,
             servers: Places::Nowhere,
         },
-        Command::Write {
-            session,
-            server,
-            ..
-        }
-        | Command::Read {
-            session,
-            server,
-            ..
-        } => at_server(Some(*session), *server),
-        Command::Log { server }
-        | Command::Fuse { server, .. }
-        | Command::Lose { server, .. }
-        | Command::Reopen { server }
-        | Command::Restart { server } => at_server(None, *server),
-        Command::Pull { to, from, .. } | Command::Resend { to, from } => between(*to, *from),
-        Command::Totals | Command::Judge | Command::Survey | Command::Book | Command::Phase =>
-            Uses {
-                opens: None,
-                session: None,
-                servers: Places::Nowhere,
-            },
+        Command::Operation(operation) => at_server(Some(operation.session), operation.server),
+        Command::Trial(trial) => at_server(None, trial.server),
+        Command::Exchange(exchange) => between(exchange.to, exchange.from),
+        Command::Question(question) => used_by_question(*question),
+        Command::Phase => nothing(),
     }
 }

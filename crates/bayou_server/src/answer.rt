@@ -1,6 +1,10 @@
+ghost use Rattle.std.specs.Prelude.{◌≡◌, IfOk};
+
+use crate::server::copies;
 use bayou_base::Wid;
 use bayou_lang::RestingWrite;
 use bayou_log::WriteLog;
+use std::alloc::{AllocError, Global};
 
 /// What a server that was given a Write did with it.
 #[derive(Clone, Copy, Debug, PartialEq, Eq)]
@@ -26,4 +30,13 @@ pub struct Stopped<D> {
     pub log: WriteLog,
     /// The Write in doubt, where it was down.
     pub doubt: Option<RestingWrite>,
+}
+
+impl<D> Stopped<D> {
+    /// Copies of the Writes that it held, in order of receipt.
+    pub fn dump(&self, alloc: Global) -> Result<Vec<RestingWrite>, AllocError>
+        ensures { IfOk result (λ writes. writes.items ≡ self.now.log.receipts) }
+    {
+        copies(alloc, self.log.receipts())
+    }
 }

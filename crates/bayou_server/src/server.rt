@@ -319,7 +319,10 @@ impl<D: Device> Server<D> {
 }
 
 // The Writes again.
-fn copies(alloc: Global, writes: &[RestingWrite]) -> Result<Vec<RestingWrite>, AllocError>
+pub(crate) fn copies(
+    alloc: Global,
+    writes: &[RestingWrite],
+) -> Result<Vec<RestingWrite>, AllocError>
     ensures { IfOk result (λ copies. copies.items ≡ writes.now) }
 {
     let mut copies = Vec::new(alloc);

@@ -1,23 +1,30 @@
 -- Audits: what was printed of a verdict and of a survey.
-use Rattle.std.proofs.Common.{◌≡◌, ◌≤◌, ◌⊎◌, ◌∙◌, ◌++◌, ℕ, List, [], ◌∷◌, Option, None, Some, IfSome, IfErr, IfOk, OnOk, Result, Ok, Err, inl, inr, ap, sym, refl, subst, true, false, append_assoc}
+use Rattle.std.proofs.Common.{◌≡◌, ◌≤◌, ◌∙◌, ◌++◌, ℕ, List, [], ◌∷◌, Option, None, Some, IfSome, IfErr, IfOk, OnOk, Result, Ok, Err, inl, inr, ap, sym, refl, subst, append_assoc}
 use Rattle.std.proofs.lemmas.List.{append-nil}
 use Rattle.std.proofs.KnownBytes.{Keeps-refl}
-use Rattle.bayou_judge.specs.declared.verdict.Refusal.{Refusal}
+use Rattle.bayou_judge.specs.declared.verdict.BadEvidence.{BadEvidence}
+use Rattle.bayou_judge.specs.declared.verdict.Surveyed.{Surveyed}
 use Rattle.bayou_judge.specs.declared.verdict.Verdict.{Verdict}
-use Rattle.bayou_print.specs.Verdicts.{verdict_text}
+use Rattle.std.specs.Global.{Vec}
+use Rattle.bayou_judge.specs.Answers.{IsEvidence, IsSurvey, Judges, SurveyAnswer}
+use Rattle.bayou_judge.specs.History.{history_of}
+use Rattle.bayou_base.specs.declared.entry.Entry.{Entry}
+use Rattle.bayou_lang.specs.declared.write.Write.{Write}
+use Rattle.bayou_shell.specs.Inner.Surveyed.{IsEvidenceSurveyed}
+use Rattle.std.specs.Prelude.{flat_map}
+use Rattle.bayou_print.specs.Verdicts.{surveyed_text, verdict_text}
 use Rattle.bayou_script.specs.AuditFile.{Evidence, IsAuditFile, audit_order}
 use Rattle.bayou_script.specs.Order.{lines_of}
 use Rattle.bayou_streams.specs.Account.{Account, Pays, Takes}
 use Rattle.bayou_base.specs.declared.limits.TheConstants.{MAX_TURNS}
-use Rattle.bayou_streams.proofs.Taken.{Pays-part, Pays-whole}
+use Rattle.bayou_streams.specs.Laws.Taken.{Pays-part, Pays-whole}
 use Rattle.bayou_print.specs.Turns.{cut_lines}
-use Rattle.std.specs.Prelude.{is_ok}
 use Rattle.bayou_print.specs.Fault.{ended_status, verdict_status}
 use Rattle.bayou_shell.specs.Audit.{AuditsAs, IsAudit, IsAuditPart, IsBehind, IsSurveyOf, IsVerdictOf, nothing, of_both, of_verdict}
 use Rattle.bayou_print.specs.declared.ended.Ended.{Ended}
-use Rattle.bayou_print.specs.declared.fault.Fault.{Fault}
-use Rattle.bayou_print.specs.declared.fault.Fault.TheVariants.{Line, Device, Network, Input, Output}
-use Rattle.bayou_print.specs.declared.fault.Fault.TheVariants as faults
+use Rattle.bayou_print.specs.declared.fault.RunFault.{RunFault}
+use Rattle.bayou_print.specs.declared.fault.RunFault.TheVariants.{Line, Device, Network, Input, Output}
+use Rattle.bayou_print.specs.declared.fault.RunFault.TheVariants as faults
 use Rattle.bayou_print.specs.Faults.{IsRunFault}
 use Rattle.bayou_shell.specs.Inner.Faults.{IsReadFault}
 use Rattle.bayou_print.specs.Waiting.{Gathers, Stage}
@@ -45,26 +52,50 @@ pub no_part : (evidence : Evidence) (a : Stage) → (text missing : List ℕ) ×
 no_part evidence a = ([], [], nothing refl, Gathers-nil a)
 
 -- a part of the verdict's line
-pub verdict_part : (evidence : Evidence) (verdict : Result Verdict Refusal) (a b : Stage) → IsVerdictOf evidence verdict
+pub verdict_part : (evidence : Evidence) (verdict : Result Verdict BadEvidence) (a b : Stage) → IsVerdictOf evidence verdict
     → (missing : List ℕ) × Gathers a b (verdict_text verdict) missing → (text missing : List ℕ) × IsAuditPart evidence text × Gathers a b text missing
 verdict_part evidence verdict a b is (missing, gathered) =
     (verdict_text verdict, missing, of_verdict verdict [] is (sym (append-nil (verdict_text verdict))), gathered)
 
 -- the verdict's line, and a part of the survey
-pub survey_part : (evidence : Evidence) (verdict : Result Verdict Refusal) (a b c : Stage) → IsVerdictOf evidence verdict → Gathers a b (verdict_text verdict) []
-    → (c ≡ b) ⊎ ((rest missing : List ℕ) × IsBehind evidence verdict rest × Gathers b c rest missing)
-    → (text missing : List ℕ) × IsAuditPart evidence text × Gathers a c text missing
-survey_part evidence verdict a b c is one (inl same) =
-    verdict_part evidence verdict a c is ([], subst (λ stands. Gathers a stands (verdict_text verdict) []) (sym same) one)
-survey_part evidence verdict a b c is one (inr (rest, missing, behind, two)) = (
+pub both_part : (evidence : Evidence) (verdict : Result Verdict BadEvidence) (a b c : Stage) (rest missing : List ℕ) → IsVerdictOf evidence verdict → IsBehind evidence verdict rest
+    → Gathers a b (verdict_text verdict) [] → Gathers b c rest missing → (text missing : List ℕ) × IsAuditPart evidence text × Gathers a c text missing
+both_part evidence verdict a b c rest missing is behind one two = (
   verdict_text verdict ++ rest,
   missing,
   of_both verdict rest [] is behind (sym (append-nil (verdict_text verdict ++ rest))),
   Gathers-trans a b c (verdict_text verdict) rest missing one two,
 )
 
+-- the verdict that is found in the survey of the evidence
+pub verdict_is : (evidence : Evidence) (entries : List Entry) (surveyed : List Surveyed) (verdict : Verdict) → entries ≡ evidence.entries → IsEvidenceSurveyed evidence surveyed
+    → ((count : ℕ) (dumps : List (List Write)) → IsEvidence count entries dumps → IsSurvey (history_of entries dumps) entries surveyed → Judges count entries dumps (Ok verdict))
+    → IsVerdictOf evidence (Ok verdict)
+verdict_is evidence entries surveyed verdict same (list, items, (stands, survey)) judges =
+    record {
+      judges = subst
+          (λ (entries : List Entry). (count : ℕ) (dumps : List (List Write)) → IsEvidence count entries dumps → IsSurvey (history_of entries dumps) entries surveyed → Judges count entries dumps (Ok verdict))
+          same judges evidence.count evidence.dumps stands (subst (IsSurvey (history_of evidence.entries evidence.dumps) evidence.entries) items survey);
+    }
+
+-- what a survey answered is the answer on the evidence
+pub answer_is : (evidence : Evidence) (entries : List Entry) (dumps lent : List (List Write)) (answer told : Result (Vec Surveyed) BadEvidence) → entries ≡ evidence.entries → lent ≡ dumps
+    → dumps ≡ evidence.dumps → answer ≡ told → SurveyAnswer evidence.count entries lent answer → SurveyAnswer evidence.count evidence.entries evidence.dumps told
+answer_is evidence entries dumps lent answer told same lending are is answers =
+    subst (SurveyAnswer evidence.count evidence.entries evidence.dumps) is
+    (subst (λ (entries : List Entry). SurveyAnswer evidence.count entries evidence.dumps answer) same
+    (subst (λ (dumps : List (List Write)). SurveyAnswer evidence.count entries dumps answer) (lending ∙ are) answers))
+
+-- where it is refused, there is no verdict
+pub refused_is : (evidence : Evidence) (bad : BadEvidence) → SurveyAnswer evidence.count evidence.entries evidence.dumps (Err bad) → IsVerdictOf evidence (Err bad)
+refused_is evidence bad refuses = record { judges = refuses }
+
+-- and the survey behind it
+pub survey_behind : (evidence : Evidence) (surveyed : List Surveyed) → IsEvidenceSurveyed evidence surveyed → IsSurveyOf evidence (flat_map surveyed_text surveyed)
+survey_behind evidence surveyed (list, items, survey) = (list, survey, ap (flat_map surveyed_text) (sym items))
+
 -- where the input isn't taken as an audit file, nothing is printed
-pub AuditsAs-unread : (known contents : Option (List ℕ)) (fault : Fault) → IsReadFault audit_order known fault → IfSome known (λ input. AuditsAs input (Err fault) contents contents)
+pub AuditsAs-unread : (known contents : Option (List ℕ)) (fault : RunFault) → IsReadFault audit_order known fault → IfSome known (λ input. AuditsAs input (Err fault) contents contents)
 AuditsAs-unread None contents fault is = tt
 AuditsAs-unread (Some input) contents (Line number why) refused = (refused, Keeps-refl contents)
 AuditsAs-unread (Some input) contents faults.Memory is = inl (Keeps-refl contents)
@@ -79,7 +110,7 @@ AuditsAs-memory None contents = tt
 AuditsAs-memory (Some input) contents = inl (Keeps-refl contents)
 
 -- a file that was read is audited as it is told
-pub AuditsAs-file : (known : Option (List ℕ)) (old new : Account) (evidence : Evidence) (result : Result Ended Fault)
+pub AuditsAs-file : (known : Option (List ℕ)) (old new : Account) (evidence : Evidence) (result : Result Ended RunFault)
     → IfSome known (λ text. IsAuditFile (lines_of text) evidence)
     → IfOk result (λ ended. (text : List ℕ) × IsAudit evidence ended text × Takes old new text)
     → IfErr result (λ fault. IsRunFault fault × (text : List ℕ) × IsAuditPart evidence text × Takes old new text)
@@ -93,23 +124,8 @@ AuditsAs-file (Some input) old new evidence (Err Network) file ok (is, text, par
 AuditsAs-file (Some input) old new evidence (Err Input) file ok (is, text, part, took) = absurd is
 AuditsAs-file (Some input) old new evidence (Err Output) file ok (is, text, part, took) = (evidence, file, text, part, took.bytes)
 
--- a verdict that isn't refused has a survey behind it
-pub survey_behind : (evidence : Evidence) (verdict : Result Verdict Refusal) (text : List ℕ) → is_ok verdict ≡ true → IsSurveyOf evidence text → IsBehind evidence verdict text
-survey_behind evidence (Ok verdict) text is survey = survey
-survey_behind evidence (Err refusal) text is survey = absurd (cc)
-
-pub nothing_behind : (evidence : Evidence) (verdict : Result Verdict Refusal) → is_ok verdict ≡ false → IsBehind evidence verdict []
-nothing_behind evidence (Ok verdict) is = absurd (cc)
-nothing_behind evidence (Err refusal) is = refl
-
-pub has_survey : (evidence : Evidence) (verdict : Result Verdict Refusal) (b c : Stage) → is_ok verdict ≡ true
-    → (c ≡ b) ⊎ ((rest missing : List ℕ) × IsSurveyOf evidence rest × Gathers b c rest missing)
-    → (c ≡ b) ⊎ ((rest missing : List ℕ) × IsBehind evidence verdict rest × Gathers b c rest missing)
-has_survey evidence verdict b c is (inl same) = inl same
-has_survey evidence verdict b c is (inr (rest, missing, survey, some)) = inr (rest, missing, survey_behind evidence verdict rest is survey, some)
-
 -- the verdict's line, and what stands behind it
-pub audit_of : (evidence : Evidence) (verdict : Result Verdict Refusal) (ended : Ended) (a b c : Stage) (rest : List ℕ) → IsVerdictOf evidence verdict → IsBehind evidence verdict rest
+pub audit_of : (evidence : Evidence) (verdict : Result Verdict BadEvidence) (ended : Ended) (a b c : Stage) (rest : List ℕ) → IsVerdictOf evidence verdict → IsBehind evidence verdict rest
     → Gathers a b (verdict_text verdict) [] → Gathers b c rest [] → ended_status ended ≡ verdict_status verdict → (text : List ℕ) × IsAudit evidence ended text × Gathers a c text []
 audit_of evidence verdict ended a b c rest is behind one two status = (
   verdict_text verdict ++ rest,
@@ -117,8 +133,23 @@ audit_of evidence verdict ended a b c rest is behind one two status = (
   Gathers-trans a b c (verdict_text verdict) rest [] one two,
 )
 
+-- why there is no verdict, and nothing behind it
+pub refused_of : (evidence : Evidence) (bad : BadEvidence) (a b : Stage) (result : Result Ended RunFault) → IsVerdictOf evidence (Err bad)
+    → IfOk result (λ ended. (ended_status ended ≡ verdict_status (Err bad)) × Gathers a b (verdict_text (Err bad)) [])
+    → IfOk result (λ ended. (text : List ℕ) × IsAudit evidence ended text × Gathers a b text [])
+refused_of evidence bad a b (Ok ended) is (status, one) = audit_of evidence (Err bad) ended a b b [] is refl one (Gathers-nil b) status
+refused_of evidence bad a b (Err fault) is none = tt
+
+pub refused_part : (evidence : Evidence) (bad : BadEvidence) (a b : Stage) (result : Result Ended RunFault) → IsVerdictOf evidence (Err bad)
+    → IfErr result (λ fault. IsRunFault fault × (missing : List ℕ) × Gathers a b (verdict_text (Err bad)) missing)
+    → IfErr result (λ fault. IsRunFault fault × (text missing : List ℕ) × IsAuditPart evidence text × Gathers a b text missing)
+refused_part evidence bad a b (Ok ended) is none = tt
+refused_part evidence bad a b (Err fault) is (run, missing, gathered) =
+    let (text, missing, part, took) = verdict_part evidence (Err bad) a b is (missing, gathered) in
+    (run, text, missing, part, took)
+
 -- what was spent on it
-pub audit_paid : (evidence : Evidence) (old new : Account) (result : Result Ended Fault) → old.turns_left ≤ MAX_TURNS
+pub audit_paid : (evidence : Evidence) (old new : Account) (result : Result Ended RunFault) → old.turns_left ≤ MAX_TURNS
     → IfOk result (λ ended. (text : List ℕ) × IsAudit evidence ended text × Takes old new text)
     → IfErr result (λ fault. IsRunFault fault × (text : List ℕ) × IsAuditPart evidence text × Takes old new text)
     → OnOk result (old.turns_left ≤ new.turns_left) → Pays old new (cut_lines result)

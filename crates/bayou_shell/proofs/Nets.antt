@@ -5,8 +5,8 @@ use Rattle.std.specs.Io.KnownBytes.{Keeps}
 use Rattle.bayou_script.specs.Network.{IsNetworkScript, network_order}
 use Rattle.bayou_script.specs.Script.{Plan, lines_of}
 use Rattle.bayou_print.specs.declared.ended.Ended.{Ended}
-use Rattle.bayou_print.specs.declared.fault.Fault.{Fault}
-use Rattle.bayou_print.specs.declared.fault.Fault.TheVariants.{Line, Memory, Device, Network, Input, Output}
+use Rattle.bayou_print.specs.declared.fault.RunFault.{RunFault}
+use Rattle.bayou_print.specs.declared.fault.RunFault.TheVariants.{Line, Memory, Device, Network, Input, Output}
 use Rattle.bayou_shell.specs.Inner.Faults.{IsReadFault}
 use Rattle.bayou_shell.specs.Net.{NetsAs, Runs}
 use Rattle.bayou_socket_run.specs.Faults.{IsNetFault, KeepsUnstarted}
@@ -14,7 +14,7 @@ use Rattle.bayou_print.specs.Turns.{EndsReading}
 use Rattle.bayou_streams.specs.Account.{Account, Takes}
 
 -- where the input isn't taken as a script over a network, nothing is run
-pub NetsAs-unread : (runs : Runs) (known contents : Option (List ℕ)) (fault : Fault) → IsReadFault network_order known fault
+pub NetsAs-unread : (runs : Runs) (known contents : Option (List ℕ)) (fault : RunFault) → IsReadFault network_order known fault
     → IfSome known (λ input. NetsAs runs input (Err fault) contents contents)
 NetsAs-unread runs None contents fault is = tt
 NetsAs-unread runs (Some input) contents (Line number why) refused = (refused, Keeps-refl contents)
@@ -25,7 +25,7 @@ NetsAs-unread runs (Some input) contents Input is = Keeps-refl contents
 NetsAs-unread runs (Some input) contents Output is = absurd is
 
 -- a script that was read is run, and what is printed stands behind what was there
-pub NetsAs-script : (runs : Runs) (known : Option (List ℕ)) (old new : Account) (plan : Plan) (result : Result Ended Fault)
+pub NetsAs-script : (runs : Runs) (known : Option (List ℕ)) (old new : Account) (plan : Plan) (result : Result Ended RunFault)
     → IfSome known (λ text. IsNetworkScript (lines_of text) plan) → runs plan result → IfErr result IsNetFault → KeepsUnstarted result old new → (text : List ℕ) × Takes old new text
     → IfSome known (λ input. NetsAs runs input result old.contents new.contents)
 NetsAs-script runs None old new plan result script ran is kept took = tt
@@ -39,7 +39,7 @@ NetsAs-script runs (Some input) old new plan (Err Input) script ran is kept took
 NetsAs-script runs (Some input) old new plan (Err Output) script ran is kept (text, took) = (plan, script, ran, text, took.bytes)
 
 -- no input is at fault where a script runs
-pub nets_reads : (fails : Bool) (turns : ℕ) (result : Result Ended Fault) → IfErr result IsNetFault → IfErr result (EndsReading fails turns)
+pub nets_reads : (fails : Bool) (turns : ℕ) (result : Result Ended RunFault) → IfErr result IsNetFault → IfErr result (EndsReading fails turns)
 nets_reads fails turns (Ok ended) is = tt
 nets_reads fails turns (Err (Line number why)) is = tt
 nets_reads fails turns (Err Memory) is = tt

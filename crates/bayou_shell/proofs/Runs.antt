@@ -5,22 +5,22 @@ use Rattle.std.proofs.lemmas.Grind.{flat_map-append}
 use Rattle.std.proofs.KnownBytes.{Keeps-refl}
 use Rattle.std.proofs.Math.Seq.{take-append_seam}
 use Rattle.std.specs.List.{list_all}
-use Rattle.bayou_machine.specs.declared.answer.Answer.{Answer}
-use Rattle.bayou_machine.specs.declared.fault.BeginFault.{BeginFault}
-use Rattle.bayou_machine.specs.declared.fault.BeginFault.TheVariants as beginning
-use Rattle.bayou_machine.specs.Filed.{operations}
+use Rattle.bayou_answers.specs.declared.answer.Answer.{Answer}
+use Rattle.bayou_answers.specs.declared.fault.BeginFault.{BeginFault}
+use Rattle.bayou_answers.specs.declared.fault.BeginFault.TheVariants as beginning
+use Rattle.bayou_script.specs.Places.{operations}
 use Rattle.bayou_machine.specs.Laws.Runs.{Run-more, Turn-moves, operations-first}
-use Rattle.bayou_machine.specs.Machine.{FailsToBegin}
-use Rattle.bayou_machine.specs.Run.{Audited, IsNewRun, Run, Turn}
+use Rattle.bayou_machine.specs.Standing.{FailsToBegin}
+use Rattle.bayou_machine.specs.Run.{IsNewRun, ScriptRun, ScriptState, Turn}
 use Rattle.bayou_script.specs.Script.{IsScript, Plan, is_served, lines_of, script_order}
 use Rattle.bayou_base.specs.declared.limits.TheConstants.{MAX_TURNS}
 use Rattle.bayou_streams.specs.Account.{Account, Pays, Takes}
-use Rattle.bayou_streams.proofs.Taken.{Pays-part, Pays-whole}
+use Rattle.bayou_streams.specs.Laws.Taken.{Pays-part, Pays-whole}
 use Rattle.bayou_text.specs.declared.command.Command.{Command}
 use Rattle.bayou_text.specs.Said.{Said, command_said}
-use Rattle.bayou_print.specs.declared.fault.Fault.{Fault}
-use Rattle.bayou_print.specs.declared.fault.Fault.TheVariants.{Line, Device, Network, Input, Output}
-use Rattle.bayou_print.specs.declared.fault.Fault.TheVariants as faults
+use Rattle.bayou_print.specs.declared.fault.RunFault.{RunFault}
+use Rattle.bayou_print.specs.declared.fault.RunFault.TheVariants.{Line, Device, Network, Input, Output}
+use Rattle.bayou_print.specs.declared.fault.RunFault.TheVariants as faults
 use Rattle.std.proofs.Math.Nat.{max-zero, suc-max-suc, zero-max}
 use Rattle.bayou_print.specs.declared.ended.Ended.{Ended}
 use Rattle.bayou_print.specs.Fault.{answer_status, answers_status, ended_status, exit_status, fault_of_begin, status_of}
@@ -54,34 +54,34 @@ statuses_more (first ∷ answers) answer =
     ap (max (answer_status first)) (statuses_more answers answer) ∙ sym (max-assoc (answer_status first) (answers_status answers) (answer_status answer))
 
 -- what was answered so far, and what is left
-pub record SoFar (plan : Plan) (ended : Ended) (state : Audited) (rest : List Command) (old new : Stage) : Type 0 where
+pub record SoFar (plan : Plan) (ended : Ended) (state : ScriptState) (rest : List Command) (old new : Stage) : Type 0 where
   pub done : List Said
   pub answers : List Answer
-  pub first : Audited
+  pub first : ScriptState
   pub begun : IsNewRun plan first
   pub whole : plan.commands ≡ done ++ map command_said rest
-  pub run : Run first done answers state
-  pub count : state.machine.count ≡ plan.count
+  pub run : ScriptRun first done answers state
+  pub count : state.standing.count ≡ plan.count
   pub room : length state.book.entries + operations (map command_said rest) ≤ state.book.places
   pub served : IsTrue (list_all (λ command. is_served plan.count (command_said command)) rest)
   pub written : Gathers old new (answers_text plan.count answers) []
   pub verdicts : ended_status ended ≡ answers_status answers
 
 -- one command more was answered
-pub SoFar-more : (plan : Plan) (ended told now : Ended) (store after : Audited) (command : Command) (rest : List Command) (answer : Answer) (old mid new : Stage)
-    → SoFar plan ended store (command ∷ rest) old mid → Turn store (command_said command) answer after → Gathers mid new (answer_text plan.count answer) []
+pub SoFar-more : (plan : Plan) (ended told now : Ended) (state after : ScriptState) (command : Command) (rest : List Command) (answer : Answer) (old mid new : Stage)
+    → SoFar plan ended state (command ∷ rest) old mid → Turn state (command_said command) answer after → Gathers mid new (answer_text plan.count answer) []
     → ended_status told ≡ answer_status answer → ended_status now ≡ max (ended_status ended) (ended_status told)
     → SoFar plan now after rest old new
-SoFar-more plan ended told now store after command rest answer old mid new so_far step written of both =
+SoFar-more plan ended told now state after command rest answer old mid new so_far step written of both =
     let said = command_said command in
-    let moves = Turn-moves store after said answer step in
+    let moves = Turn-moves state after said answer step in
     record {
       done = so_far.done ++ said ∷ [];
       answers = so_far.answers ++ answer ∷ [];
       first = so_far.first;
       begun = so_far.begun;
       whole = so_far.whole ∙ sym (append_assoc so_far.done (said ∷ []) (map command_said rest));
-      run = Run-more so_far.first store after so_far.done so_far.answers said answer so_far.run step;
+      run = Run-more so_far.first state after so_far.done so_far.answers said answer so_far.run step;
       count = moves.count ∙ so_far.count;
       room = omega (arith, so_far.room, moves.places, moves.filed, operations-first said (map command_said rest));
       served = and_right (is_served plan.count said) _ so_far.served;
@@ -91,17 +91,17 @@ SoFar-more plan ended told now store after command rest answer old mid new so_fa
     }
 
 -- all commands were answered
-pub SoFar-all : (plan : Plan) (ended : Ended) (store : Audited) (old new : Stage) → SoFar plan ended store [] old new
+pub SoFar-all : (plan : Plan) (ended : Ended) (state : ScriptState) (old new : Stage) → SoFar plan ended state [] old new
     → (text : List ℕ) × Prints plan ended text × Gathers old new text []
-SoFar-all plan ended store old new so_far =
+SoFar-all plan ended state old new so_far =
     let all : plan.commands ≡ so_far.done = so_far.whole ∙ append-nil so_far.done in (
       answers_text plan.count so_far.answers,
       record {
         answers = so_far.answers;
         first = so_far.first;
-        last = store;
+        last = state;
         begun = so_far.begun;
-        run = subst (λ commands. Run so_far.first commands so_far.answers store) (sym all) so_far.run;
+        run = subst (λ commands. ScriptRun so_far.first commands so_far.answers state) (sym all) so_far.run;
         lines = refl;
         verdicts = so_far.verdicts;
       },
@@ -109,10 +109,10 @@ SoFar-all plan ended store old new so_far =
     )
 
 -- one command more was answered, and a part of what is printed for it is missing
-pub SoFar-part : (plan : Plan) (ended : Ended) (store after : Audited) (command : Command) (rest : List Command) (answer : Answer) (old mid new : Stage) (missing : List ℕ)
-    → SoFar plan ended store (command ∷ rest) old mid → Turn store (command_said command) answer after → Gathers mid new (answer_text plan.count answer) missing
+pub SoFar-part : (plan : Plan) (ended : Ended) (state after : ScriptState) (command : Command) (rest : List Command) (answer : Answer) (old mid new : Stage) (missing : List ℕ)
+    → SoFar plan ended state (command ∷ rest) old mid → Turn state (command_said command) answer after → Gathers mid new (answer_text plan.count answer) missing
     → (text : List ℕ) × (missing : List ℕ) × PrintsPart plan text × Gathers old new text missing
-SoFar-part plan ended store after command rest answer old mid new missing so_far step some =
+SoFar-part plan ended state after command rest answer old mid new missing so_far step some =
     let said = command_said command in
     let before = answers_text plan.count so_far.answers in
     let done = so_far.done ++ said ∷ [] in
@@ -127,8 +127,8 @@ SoFar-part plan ended store after command rest answer old mid new missing so_far
         first = so_far.first;
         last = after;
         begun = so_far.begun;
-        run = subst (λ commands. Run so_far.first commands (so_far.answers ++ answer ∷ []) after) (sym first)
-            (Run-more so_far.first store after so_far.done so_far.answers said answer so_far.run step);
+        run = subst (λ commands. ScriptRun so_far.first commands (so_far.answers ++ answer ∷ []) after) (sym first)
+            (Run-more so_far.first state after so_far.done so_far.answers said answer so_far.run step);
         missing = [];
         lines = answers_more plan.count so_far.answers answer ∙ sym (append-nil (before ++ answer_text plan.count answer));
       },
@@ -136,9 +136,9 @@ SoFar-part plan ended store after command rest answer old mid new missing so_far
     )
 
 -- nothing was written for one command more
-pub SoFar-stopped : (plan : Plan) (ended : Ended) (store : Audited) (rest : List Command) (old mid new : Stage)
-    → SoFar plan ended store rest old mid → new ≡ mid → (text : List ℕ) × (missing : List ℕ) × PrintsPart plan text × Gathers old new text missing
-SoFar-stopped plan ended store rest old mid new so_far same =
+pub SoFar-stopped : (plan : Plan) (ended : Ended) (state : ScriptState) (rest : List Command) (old mid new : Stage)
+    → SoFar plan ended state rest old mid → new ≡ mid → (text : List ℕ) × (missing : List ℕ) × PrintsPart plan text × Gathers old new text missing
+SoFar-stopped plan ended state rest old mid new so_far same =
     let before = answers_text plan.count so_far.answers in
     let first : take (length so_far.done) plan.commands ≡ so_far.done =
     ap (take (length so_far.done)) so_far.whole ∙ take-append_seam so_far.done (map command_said rest) in (
@@ -148,9 +148,9 @@ SoFar-stopped plan ended store rest old mid new so_far same =
         number = length so_far.done;
         answers = so_far.answers;
         first = so_far.first;
-        last = store;
+        last = state;
         begun = so_far.begun;
-        run = subst (λ commands. Run so_far.first commands so_far.answers store) (sym first) so_far.run;
+        run = subst (λ commands. ScriptRun so_far.first commands so_far.answers state) (sym first) so_far.run;
         missing = [];
         lines = sym (append-nil before);
       },
@@ -178,13 +178,13 @@ PrintsPart-whole plan ended text all = record {
   first = all.first;
   last = all.last;
   begun = all.begun;
-  run = subst (λ commands. Run all.first commands all.answers all.last) (sym (take_all (length plan.commands) plan.commands (omega arith))) all.run;
+  run = subst (λ commands. ScriptRun all.first commands all.answers all.last) (sym (take_all (length plan.commands) plan.commands (omega arith))) all.run;
   missing = [];
   lines = sym all.lines ∙ sym (append-nil text);
 }
 
 -- where the input isn't taken as a script, nothing is answered
-pub RunsAs-unread : (known contents : Option (List ℕ)) (fault : Fault) → IsReadFault script_order known fault → IfSome known (λ input. RunsAs input (Err fault) contents contents)
+pub RunsAs-unread : (known contents : Option (List ℕ)) (fault : RunFault) → IsReadFault script_order known fault → IfSome known (λ input. RunsAs input (Err fault) contents contents)
 RunsAs-unread None contents fault is = tt
 RunsAs-unread (Some input) contents (Line number why) refused = (refused, Keeps-refl contents)
 RunsAs-unread (Some input) contents faults.Memory is = inl (Keeps-refl contents)
@@ -195,13 +195,13 @@ RunsAs-unread (Some input) contents Output is = absurd is
 
 -- want of memory before anything was read is an end of a run
 pub RunsAs-memory : (known contents : Option (List ℕ)) (status : ℕ) (read_fails write_fails : Bool) (reads writes : ℕ) → status ≡ status_of faults.Memory
-    → IfSome known (λ input. (ended : Result Ended Fault) × RunsAs input ended contents contents × (status ≡ exit_status ended)
+    → IfSome known (λ input. (ended : Result Ended RunFault) × RunsAs input ended contents contents × (status ≡ exit_status ended)
     × IfErr ended (EndsReading read_fails reads) × IfErr ended (EndsWriting write_fails writes))
 RunsAs-memory None contents status read_fails write_fails reads writes is = tt
 RunsAs-memory (Some input) contents status read_fails write_fails reads writes is = (Err faults.Memory, inl (Keeps-refl contents), is, tt, tt)
 
 -- a script that was read runs as it is told
-pub RunsAs-script : (known : Option (List ℕ)) (old new : Account) (plan : Plan) (result : Result Ended Fault)
+pub RunsAs-script : (known : Option (List ℕ)) (old new : Account) (plan : Plan) (result : Result Ended RunFault)
     → IfSome known (λ text. IsScript (lines_of text) plan)
     → IfOk result (λ ended. (text : List ℕ) × Prints plan ended text × Takes old new text)
     → IfErr result (λ fault. IsRunFault fault × (text : List ℕ) × PrintsPart plan text × Takes old new text)
@@ -232,7 +232,7 @@ unbegun_writes fails turns beginning.OutOfMemory = tt
 unbegun_writes fails turns beginning.Device = tt
 
 -- what was written is paid for
-pub run_paid : (plan : Plan) (old new : Account) (result : Result Ended Fault) → old.turns_left ≤ MAX_TURNS
+pub run_paid : (plan : Plan) (old new : Account) (result : Result Ended RunFault) → old.turns_left ≤ MAX_TURNS
     → IfOk result (λ ended. (text : List ℕ) × Prints plan ended text × Takes old new text)
     → IfErr result (λ fault. IsRunFault fault × (text : List ℕ) × PrintsPart plan text × Takes old new text)
     → OnOk result (old.turns_left ≤ new.turns_left) → Pays old new (cut_lines result)
@@ -240,7 +240,7 @@ run_paid plan old new (Ok ended) within (text, prints, took) err ready = Pays-wh
 run_paid plan old new (Err fault) within ok (is, text, part, took) ready = Pays-part old new text within took
 
 -- a fault of a run tells of no input
-pub run_reads : (fails : Bool) (turns : ℕ) (plan : Plan) (old new : Account) (result : Result Ended Fault)
+pub run_reads : (fails : Bool) (turns : ℕ) (plan : Plan) (old new : Account) (result : Result Ended RunFault)
     → IfErr result (λ fault. IsRunFault fault × (text : List ℕ) × PrintsPart plan text × Takes old new text) → IfErr result (EndsReading fails turns)
 run_reads fails turns plan old new (Ok ended) err = tt
 run_reads fails turns plan old new (Err (Line number why)) (is, text, part, took) = absurd is

@@ -3,8 +3,8 @@ use Rattle.std.proofs.Common.{◌≡◌, ◌<◌, ◌≤◌, ◌∙◌, ℕ, Boo
 use Rattle.std.proofs.KnownBytes.{Keeps-refl}
 use Rattle.bayou_command.specs.Words.{AreMistaken, AskFor, AskForText, Asked, Input as Named, a_net, a_run, an_audit, file, standard}
 use Rattle.bayou_print.specs.declared.ended.Ended.{Ended}
-use Rattle.bayou_print.specs.declared.fault.Fault.{Fault}
-use Rattle.bayou_print.specs.declared.fault.Fault.TheVariants.{Line, Memory, Device, Network, Input, Output}
+use Rattle.bayou_print.specs.declared.fault.RunFault.{RunFault}
+use Rattle.bayou_print.specs.declared.fault.RunFault.TheVariants.{Line, Memory, Device, Network, Input, Output}
 use Rattle.bayou_print.specs.Fault.{exit_status, status_of}
 use Rattle.bayou_shell.specs.Net.{Runs}
 use Rattle.bayou_shell.specs.Program.{Works}
@@ -16,9 +16,9 @@ pub asked_once : (words : List (List ℕ)) (one other : Asked) → AskFor words 
 asked_once words one other first second = sym first.entered ∙ second.entered
 
 -- it ended so
-pub works_so : (runs : List ℕ → Runs) (known : Option (List ℕ)) (asked : Asked) (result : Result Ended Fault) (status : ℕ) (old new : Option (List ℕ)) (read_fails write_fails : Bool) (reads writes : ℕ)
+pub works_so : (runs : List ℕ → Runs) (known : Option (List ℕ)) (asked : Asked) (result : Result Ended RunFault) (status : ℕ) (old new : Option (List ℕ)) (read_fails write_fails : Bool) (reads writes : ℕ)
     → IfSome known (λ text. Works runs asked text result old new) → status ≡ exit_status result → IfErr result (EndsReading read_fails reads) → IfErr result (EndsWriting write_fails writes)
-    → IfSome known (λ text. (ended : Result Ended Fault) × Works runs asked text ended old new × (status ≡ exit_status ended)
+    → IfSome known (λ text. (ended : Result Ended RunFault) × Works runs asked text ended old new × (status ≡ exit_status ended)
     × IfErr ended (EndsReading read_fails reads) × IfErr ended (EndsWriting write_fails writes))
 works_so runs None asked result status old new read_fails write_fails reads writes works is read written = tt
 works_so runs (Some text) asked result status old new read_fails write_fails reads writes works is read written = (result, works, is, read, written)
@@ -31,7 +31,7 @@ kept runs (a_net folder source) text contents = inl (Keeps-refl contents)
 -- want of memory before anything was read is an end of each task
 pub works_unread : (runs : List ℕ → Runs) (known : Option (List ℕ)) (asked : Asked) (status : ℕ) (contents : Option (List ℕ)) (read_fails write_fails : Bool) (reads writes : ℕ)
     → status ≡ status_of Memory
-    → IfSome known (λ text. (ended : Result Ended Fault) × Works runs asked text ended contents contents × (status ≡ exit_status ended)
+    → IfSome known (λ text. (ended : Result Ended RunFault) × Works runs asked text ended contents contents × (status ≡ exit_status ended)
     × IfErr ended (EndsReading read_fails reads) × IfErr ended (EndsWriting write_fails writes))
 works_unread runs None asked status contents read_fails write_fails reads writes is = tt
 works_unread runs (Some text) asked status contents read_fails write_fails reads writes is = (Err Memory, kept runs asked text contents, is, tt, tt)
@@ -52,11 +52,11 @@ pub no_mistake : (words : List (List ℕ)) (asked : Asked) → AreMistaken words
 no_mistake words asked why is = rw is.good at why.among
 
 -- at most one line is cut short
-pub pays_one : (a b : Account) (result : Result Ended Fault) → Pays a b (cut_lines result) → Pays a b 1
+pub pays_one : (a b : Account) (result : Result Ended RunFault) → Pays a b (cut_lines result) → Pays a b 1
 pays_one a b (Ok ended) paid = record { text = paid.text; written = paid.written; lines = paid.lines; turns = omega (arith, paid.turns) }
 pays_one a b (Err fault) paid = paid
 
-at_least_two : (fault : Fault) → 2 ≤ status_of fault
+at_least_two : (fault : RunFault) → 2 ≤ status_of fault
 at_least_two (Line number why) = omega arith
 at_least_two Memory = omega arith
 at_least_two Device = omega arith
@@ -65,6 +65,6 @@ at_least_two Input = omega arith
 at_least_two Output = omega arith
 
 -- and none where the status tells of no fault
-pub pays_none : (a b : Account) (result : Result Ended Fault) (status : ℕ) → status ≡ exit_status result → status < 2 → Pays a b (cut_lines result) → Pays a b 0
+pub pays_none : (a b : Account) (result : Result Ended RunFault) (status : ℕ) → status ≡ exit_status result → status < 2 → Pays a b (cut_lines result) → Pays a b 0
 pays_none a b (Ok ended) status is low paid = paid
 pays_none a b (Err fault) status is low paid = absurd (omega (arith, is, low, at_least_two fault))

@@ -3,9 +3,9 @@ use Rattle.std.specs.Prelude.{◌≡◌, ℕ, List, Option, IfSome, Result, Ok, 
 use Rattle.std.specs.Io.KnownBytes.{Appends, Keeps}
 use Rattle.bayou_command.specs.Words.{AreMistaken, AskForText, Asked, Input, a_net, a_run, an_audit}
 use Rattle.bayou_print.specs.declared.ended.Ended.{Ended}
-use Rattle.bayou_print.specs.declared.fault.Fault.{Fault}
-use Rattle.bayou_print.specs.declared.fault.Fault.TheVariants.{Line, Memory, Device, Network, Output}
-use Rattle.bayou_print.specs.declared.fault.Fault.TheVariants.{Input as InputFault}
+use Rattle.bayou_print.specs.declared.fault.RunFault.{RunFault}
+use Rattle.bayou_print.specs.declared.fault.RunFault.TheVariants.{Line, Memory, Device, Network, Output}
+use Rattle.bayou_print.specs.declared.fault.RunFault.TheVariants.{Input as InputFault}
 use Rattle.bayou_print.specs.Fault.{status_of}
 use Rattle.bayou_shell.specs.Audit.{AuditsAs}
 use Rattle.bayou_shell.specs.Net.{NetsAs, Runs}
@@ -18,7 +18,7 @@ abbrev pub refused_status : ℕ
 refused_status = 2
 
 -- the text was written whole, or the output was at fault and has a front of it
-abbrev pub WritesText : List ℕ → Result (Unit {0}) Fault → Option (List ℕ) → Option (List ℕ) → Type 0
+abbrev pub WritesText : List ℕ → Result (Unit {0}) RunFault → Option (List ℕ) → Option (List ℕ) → Type 0
 WritesText text (Ok done) old new = Appends old new text
 WritesText text (Err Output) old new = AppendsFront old new text
 WritesText text (Err Memory) old new = ⊥
@@ -28,19 +28,19 @@ WritesText text (Err InputFault) old new = ⊥
 WritesText text (Err (Line number fault)) old new = ⊥
 
 -- the exit status of a text that was asked for
-abbrev pub text_status : Result (Unit {0}) Fault → ℕ
+abbrev pub text_status : Result (Unit {0}) RunFault → ℕ
 text_status (Ok done) = 0
 text_status (Err fault) = status_of fault
 
 -- Words that ask for a text get it on the output, and the status tells whether it was written; of words that are a mistake, and where
 -- memory runs out, nothing goes there.
 pub data TellsOf (words : List (List ℕ)) (status : ℕ) (old new : Option (List ℕ)) : Type 0 where
-  asked : AskForText words → (text : List ℕ) (ended : Result (Unit {0}) Fault) → WritesText text ended old new → status ≡ text_status ended → TellsOf words status old new
+  asked : AskForText words → (text : List ℕ) (ended : Result (Unit {0}) RunFault) → WritesText text ended old new → status ≡ text_status ended → TellsOf words status old new
   mistaken : AreMistaken words → status ≡ refused_status → Keeps old new → TellsOf words status old new
   no_memory : status ≡ status_of Memory → Keeps old new → TellsOf words status old new
 
 -- what is asked for is done on an input of these bytes
-abbrev pub Works : (runs : List ℕ → Runs) → Asked → List ℕ → Result Ended Fault → Option (List ℕ) → Option (List ℕ) → Type 0
+abbrev pub Works : (runs : List ℕ → Runs) → Asked → List ℕ → Result Ended RunFault → Option (List ℕ) → Option (List ℕ) → Type 0
 Works runs (a_run source) input ended old new = RunsAs input ended old new
 Works runs (an_audit source) input ended old new = AuditsAs input ended old new
 Works runs (a_net folder source) input ended old new = NetsAs (runs folder) input ended old new
@@ -52,7 +52,7 @@ input_of_asked (a_net folder source) = source
 
 -- What becomes of what is asked for on a file: the file may be refused, or memory may run out before it is opened, and nothing is printed;
 -- else it is done on what a reader of it gives.
-pub data WorksOn {R : Type 0} (opens : R → Type 0) (refuses : Type 0) (runs : List ℕ → Plan → Result Ended Fault → Type 0) (remaining : R → Option (List ℕ)) (asked : Asked) (ended : Result Ended Fault)
+pub data WorksOn {R : Type 0} (opens : R → Type 0) (refuses : Type 0) (runs : List ℕ → Plan → Result Ended RunFault → Type 0) (remaining : R → Option (List ℕ)) (asked : Asked) (ended : Result Ended RunFault)
     (old new : Option (List ℕ)) : Type 0 where
   not_opened : refuses → ended ≡ Err InputFault → Keeps old new → WorksOn opens refuses runs remaining asked ended old new
   no_memory : ended ≡ Err Memory → Keeps old new → WorksOn opens refuses runs remaining asked ended old new

@@ -1,15 +1,15 @@
 -- What is read and printed of a run.
 use Rattle.std.specs.Prelude.{◌≡◌, ℕ, ◌⊎◌, List, ◌++◌, Option, Result, Ok, Err, take, flat_map}
 use Rattle.std.specs.Io.KnownBytes.{Appends, Keeps}
-use Rattle.bayou_machine.specs.declared.answer.Answer.{Answer}
-use Rattle.bayou_machine.specs.declared.fault.BeginFault.TheVariants as beginning
-use Rattle.bayou_machine.specs.Machine.{FailsToBegin}
-use Rattle.bayou_machine.specs.Run.{Audited, IsNewRun, Run}
+use Rattle.bayou_answers.specs.declared.answer.Answer.{Answer}
+use Rattle.bayou_answers.specs.declared.fault.BeginFault.TheVariants as beginning
+use Rattle.bayou_machine.specs.Standing.{FailsToBegin}
+use Rattle.bayou_machine.specs.Run.{IsNewRun, ScriptRun, ScriptState}
 use Rattle.bayou_script.specs.Script.{IsRefused, IsScript, Plan, lines_of}
 use Rattle.bayou_print.specs.declared.ended.Ended.{Ended}
-use Rattle.bayou_print.specs.declared.fault.Fault.{Fault}
-use Rattle.bayou_print.specs.declared.fault.Fault.TheVariants.{Line, Device, Network, Input, Output}
-use Rattle.bayou_print.specs.declared.fault.Fault.TheVariants as fault
+use Rattle.bayou_print.specs.declared.fault.RunFault.{RunFault}
+use Rattle.bayou_print.specs.declared.fault.RunFault.TheVariants.{Line, Device, Network, Input, Output}
+use Rattle.bayou_print.specs.declared.fault.RunFault.TheVariants as fault
 use Rattle.bayou_print.specs.Printed.{answer_text}
 use Rattle.bayou_print.specs.Fault.{answers_status, ended_status}
 
@@ -20,10 +20,10 @@ answers_text count answers = flat_map (answer_text count) answers
 -- the text is what is printed for the answers of some run of all commands, and the verdicts among them come to this
 pub record Prints (plan : Plan) (ended : Ended) (text : List ℕ) : Type 0 where
   pub answers : List Answer
-  pub first : Audited
-  pub last : Audited
+  pub first : ScriptState
+  pub last : ScriptState
   pub begun : IsNewRun plan first
-  pub run : Run first plan.commands answers last
+  pub run : ScriptRun first plan.commands answers last
   pub lines : text ≡ answers_text plan.count answers
   pub verdicts : ended_status ended ≡ answers_status answers
 
@@ -31,17 +31,17 @@ pub record Prints (plan : Plan) (ended : Ended) (text : List ℕ) : Type 0 where
 pub record PrintsPart (plan : Plan) (text : List ℕ) : Type 0 where
   pub number : ℕ
   pub answers : List Answer
-  pub first : Audited
-  pub last : Audited
+  pub first : ScriptState
+  pub last : ScriptState
   pub begun : IsNewRun plan first
-  pub run : Run first (take number plan.commands) answers last
+  pub run : ScriptRun first (take number plan.commands) answers last
   pub missing : List ℕ
   pub lines : answers_text plan.count answers ≡ text ++ missing
 
 -- What is read and written from an input. A script is run whole, or is told a fault of a run with a part of its lines
 -- printed; another input is refused for its least line with a fault, with nothing printed. Want of memory and of the
 -- input may come before anything is printed, and so may a server whose start was refused for something else.
-abbrev pub RunsAs : List ℕ → Result Ended Fault → Option (List ℕ) → Option (List ℕ) → Type 0
+abbrev pub RunsAs : List ℕ → Result Ended RunFault → Option (List ℕ) → Option (List ℕ) → Type 0
 RunsAs input (Ok ended) old new = (plan : Plan) × IsScript (lines_of input) plan × (text : List ℕ) × Prints plan ended text × Appends old new text
 RunsAs input (Err (Line number fault)) old new = IsRefused (lines_of input) number fault × Keeps old new
 RunsAs input (Err fault.Memory) old new = Keeps old new ⊎ ((plan : Plan) × IsScript (lines_of input) plan × (text : List ℕ) × PrintsPart plan text × Appends old new text)

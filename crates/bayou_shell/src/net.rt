@@ -6,7 +6,7 @@ ghost use Rattle.bayou_streams.specs.Account.{Pays, account};
 
 use crate::networks::Networks;
 use crate::reading::read_network_script;
-use bayou_print::{Ended, Fault};
+use bayou_print::{Ended, RunFault};
 use bayou_streams::{Channel, Output};
 use std::alloc::Global;
 use std::io::{Read, Write};
@@ -19,7 +19,7 @@ pub fn run_net<N: Networks, R: Read, W: Write>(
     folder: &str,
     input: &mut Channel<R, ()>,
     output: &mut Output<W>,
-) -> Result<Ended, Fault>
+) -> Result<Ended, RunFault>
     ensures nets { IfSome (R.remaining input.old.reader) (λ text. NetsAs (N.runs folder.now) text result (W.contents output.old.channel.writer) (W.contents output.new.channel.writer)) }
     ensures read { IfErr result (EndsReading input.new.read_failed input.new.turns_left) }
     ensures written { IfErr result (EndsWriting output.new.channel.write_failed output.new.channel.turns_left) }

@@ -1,16 +1,15 @@
 //! Networks that scripts are run over.
 ghost use Rattle.std.specs.Prelude.{◌≤◌, IfErr, List, OnOk, Result, ℕ};
-ghost use Rattle.bayou_script.specs.Network.{RunsOverNetwork};
 ghost use Rattle.bayou_print.specs.declared.ended.Ended.{Ended as Told};
-ghost use Rattle.bayou_print.specs.declared.fault.Fault.{Fault as Cause};
-ghost use Rattle.bayou_script.specs.Plan.{plan_of};
+ghost use Rattle.bayou_print.specs.declared.fault.RunFault.{RunFault as Cause};
+ghost use Rattle.bayou_script.specs.Plan.{network_plan_of};
 ghost use Rattle.bayou_script.specs.Script.{Plan};
 ghost use Rattle.bayou_socket_run.specs.Faults.{IsNetFault, KeepsUnstarted};
 ghost use Rattle.bayou_print.specs.Turns.{EndsWriting};
 ghost use Rattle.bayou_streams.specs.Account.{Takes, account};
 
-use bayou_print::{Ended, Fault};
-use bayou_script::Script;
+use bayou_print::{Ended, RunFault};
+use bayou_script::NetworkScript;
 use bayou_streams::Output;
 use std::alloc::Global;
 use std::io::Write;
@@ -26,11 +25,10 @@ pub trait Networks {
         &mut self,
         alloc: Global,
         folder: &str,
-        script: Script,
+        script: NetworkScript,
         output: &mut Output<W>,
-    ) -> Result<Ended, Fault>
-        requires { RunsOverNetwork (plan_of script) }
-        ensures runs { runs folder.now (plan_of script) result }
+    ) -> Result<Ended, RunFault>
+        ensures runs { runs folder.now (network_plan_of script) result }
         // Lines are put behind what the output holds, and nothing else is done there.
         ensures took { (text : List ℕ) × Takes (account W.contents output.old) (account W.contents output.new) text }
         ensures fault { IfErr result IsNetFault }

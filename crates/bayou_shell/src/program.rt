@@ -2,8 +2,8 @@ ghost use Rattle.std.specs.IoError.{error_kind};
 ghost use Rattle.std.specs.Prelude.{◌≡◌, ◌≢◌, ◌<◌, ◌≤◌, ℕ, IfErr, IfSome, List, Result, map, true};
 ghost use Rattle.bayou_command.specs.Words.{AskFor, Asked, file, input_seen, standard, task_seen};
 ghost use Rattle.bayou_print.specs.declared.ended.Ended.{Ended};
-ghost use Rattle.bayou_print.specs.declared.fault.Fault.{Fault};
-ghost use Rattle.bayou_print.specs.declared.fault.Fault.TheVariants.{Memory};
+ghost use Rattle.bayou_print.specs.declared.fault.RunFault.{RunFault};
+ghost use Rattle.bayou_print.specs.declared.fault.RunFault.TheVariants.{Memory};
 ghost use Rattle.bayou_print.specs.Fault.{exit_status, status_of};
 ghost use Rattle.bayou_shell.specs.Program.{TellsOf, Works, WorksOn, WritesText, input_of_asked, refused_status, text_status};
 ghost use Rattle.bayou_socket_run.specs.Faults.{IsNetFault, KeepsUnstarted};
@@ -17,8 +17,8 @@ use crate::networks::Networks;
 use crate::run::run_script;
 use bayou_command::{Source, Stop, Task, read_words};
 use bayou_net::Sockets;
-use bayou_print::{Ended, Fault, write_text};
-use bayou_script::Script;
+use bayou_print::{Ended, RunFault, write_text};
+use bayou_script::NetworkScript;
 use bayou_socket_run::run_on_sockets;
 use bayou_streams::{Channel, Output};
 use std::alloc::Global;
@@ -33,7 +33,7 @@ use std::{fs, io};
 const REFUSED: u8 = 2;
 
 /// Tells a fault, as far as that can be written, and gives the exit status.
-fn tell<E: Write>(errors: &mut Output<E>, fault: Fault) -> u8
+fn tell<E: Write>(errors: &mut Output<E>, fault: RunFault) -> u8
     ensures status { result ≡ status_of fault }
     ensures paid { Pays (account E.contents errors.old) (account E.contents errors.new) 1 }
 {
@@ -43,7 +43,7 @@ fn tell<E: Write>(errors: &mut Output<E>, fault: Fault) -> u8
 }
 
 /// Tells how a task ended, where it ended with a fault, and gives the exit status.
-fn finish<E: Write>(errors: &mut Output<E>, ended: Result<Ended, Fault>) -> u8
+fn finish<E: Write>(errors: &mut Output<E>, ended: Result<Ended, RunFault>) -> u8
     ensures status { result ≡ exit_status ended }
     ensures paid { Pays (account E.contents errors.old) (account E.contents errors.new) 1 }
 {
@@ -55,7 +55,7 @@ fn finish<E: Write>(errors: &mut Output<E>, ended: Result<Ended, Fault>) -> u8
 
 /// Writes a text that was asked for, and gives the exit status.
 fn show<W: Write, E: Write>(output: &mut Output<W>, errors: &mut Output<E>, text: &str) -> u8
-    ensures written { (ended : Result (Unit {0}) Fault) × WritesText text.now ended (W.contents output.old.channel.writer) (W.contents output.new.channel.writer) × (result ≡ text_status ended) }
+    ensures written { (ended : Result (Unit {0}) RunFault) × WritesText text.now ended (W.contents output.old.channel.writer) (W.contents output.new.channel.writer) × (result ≡ text_status ended) }
     ensures clean { result ≡ 0 → output.new.channel.write_failed ≡ true → output.old.channel.write_failed ≡ true }
     ensures paid { Pays (account W.contents output.old) (account W.contents output.new) 1 }
     ensures paid_errors { Pays (account E.contents errors.old) (account E.contents errors.new) 1 }
@@ -73,7 +73,7 @@ pub fn refuse_words<E: Write>(errors: &mut Output<E>, error: &io::Error) -> u8
     ensures paid { Pays (account E.contents errors.old) (account E.contents errors.new) 1 }
 {
     if error.kind() == ErrorKind::OutOfMemory {
-        return tell(errors, Fault::Memory);
+        return tell(errors, RunFault::Memory);
     }
     let _ = write_text(errors, b"error: a word of the command line isn't UTF-8\n");
     REFUSED
@@ -96,7 +96,7 @@ fn work<N: Networks, R: Read, W: Write>(
     networks: &mut N,
     input: &mut Channel<R, ()>,
     output: &mut Output<W>,
-) -> Result<Ended, Fault>
+) -> Result<Ended, RunFault>
     ensures works { IfSome (R.remaining input.old.reader) (λ text. Works N.runs (task_seen task.entry) text result (W.contents output.old.channel.writer) (W.contents output.new.channel.writer)) }
     ensures read { IfErr result (EndsReading input.new.read_failed input.new.turns_left) }
     ensures written { IfErr result (EndsWriting output.new.channel.write_failed output.new.channel.turns_left) }
@@ -117,14 +117,14 @@ fn work_on<F: Files + Networks, W: Write>(
     name: &str,
     files: &mut F,
     output: &mut Output<W>,
-) -> Result<Ended, Fault>
+) -> Result<Ended, RunFault>
     ensures works { WorksOn (F.opens name.now) (F.refuses name.now) F.runs ⟦<F::Reader as Read>⟧.remaining (task_seen task.entry) result (W.contents output.old.channel.writer) (W.contents output.new.channel.writer) }
     ensures written { IfErr result (EndsWriting output.new.channel.write_failed output.new.channel.turns_left) }
     ensures paid { Pays (account W.contents output.old) (account W.contents output.new) (cut_lines result) }
 {
     match files.open(alloc, name) {
         Ok(reader) => work(alloc, task, files, &mut Channel::new(reader, ()), output),
-        Err(_) => Err(Fault::Input),
+        Err(_) => Err(RunFault::Input),
     }
 }
 
@@ -135,7 +135,7 @@ fn do_task<F: Files + Networks, R: Read, W: Write>(
     files: &mut F,
     input: &mut Channel<R, ()>,
     output: &mut Output<W>,
-) -> Result<Ended, Fault>
+) -> Result<Ended, RunFault>
     ensures standard { input_of_asked (task_seen task.entry) ≡ standard → IfSome (R.remaining input.old.reader) (λ text.
         Works F.runs (task_seen task.entry) text result (W.contents output.old.channel.writer) (W.contents output.new.channel.writer)) }
     ensures named { (name : List ℕ) → input_of_asked (task_seen task.entry) ≡ file name
@@ -162,11 +162,11 @@ pub fn run_main<'a, S: AsStr, F: Files + Networks, R: Read, W: Write, E: Write>(
     errors: &mut Output<E>,
 ) -> u8
     // A task on the standard input.
-    ensures standard { (asked : Asked) → AskFor (map S.text words.entry.now) asked → input_of_asked asked ≡ standard → IfSome (R.remaining input.old.reader) (λ text. (ended : Result Ended Fault)
+    ensures standard { (asked : Asked) → AskFor (map S.text words.entry.now) asked → input_of_asked asked ≡ standard → IfSome (R.remaining input.old.reader) (λ text. (ended : Result Ended RunFault)
         × Works F.runs asked text ended (W.contents output.old.channel.writer) (W.contents output.new.channel.writer) × (result ≡ exit_status ended)
         × IfErr ended (EndsReading input.new.read_failed input.new.turns_left) × IfErr ended (EndsWriting output.new.channel.write_failed output.new.channel.turns_left)) }
     // A task on a file.
-    ensures named { (asked : Asked) (name : List ℕ) → AskFor (map S.text words.entry.now) asked → input_of_asked asked ≡ file name → (ended : Result Ended Fault)
+    ensures named { (asked : Asked) (name : List ℕ) → AskFor (map S.text words.entry.now) asked → input_of_asked asked ≡ file name → (ended : Result Ended RunFault)
         × WorksOn (F.opens name) (F.refuses name) F.runs ⟦<F::Reader as Read>⟧.remaining asked ended (W.contents output.old.channel.writer) (W.contents output.new.channel.writer)
         × (result ≡ exit_status ended) × IfErr ended (EndsWriting output.new.channel.write_failed output.new.channel.turns_left) }
     // The standard input isn't read where nothing is asked for of it.
@@ -189,7 +189,7 @@ pub fn run_main<'a, S: AsStr, F: Files + Networks, R: Read, W: Write, E: Write>(
             let _ = write_text(errors, text.as_bytes());
             REFUSED
         }
-        Err(Stop::Memory) => tell(errors, Fault::Memory),
+        Err(Stop::Memory) => tell(errors, RunFault::Memory),
     }
 }
 
@@ -198,7 +198,7 @@ pub fn run_taken<T, W, E>(
     rt: &T,
     alloc: Global,
     folder: &str,
-    script: Script,
+    script: NetworkScript,
     output: &mut Output<W>,
     errors: &mut Output<E>,
 ) -> u8
@@ -207,7 +207,7 @@ where
     W: Write,
     E: Write,
     ensures took { (text : List ℕ) × Takes (account W.contents output.old) (account W.contents output.new) text }
-    ensures ended { (ended : Result Ended Fault) × (result ≡ exit_status ended) × IfErr ended IsNetFault
+    ensures ended { (ended : Result Ended RunFault) × (result ≡ exit_status ended) × IfErr ended IsNetFault
         × KeepsUnstarted ended (account W.contents output.old) (account W.contents output.new)
         × IfErr ended (EndsWriting output.new.channel.write_failed output.new.channel.turns_left) }
     ensures paid_errors { Pays (account E.contents errors.old) (account E.contents errors.new) 1 }

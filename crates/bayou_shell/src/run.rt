@@ -2,12 +2,12 @@ ghost use Rattle.std.specs.Prelude.{◌≡◌, ◌≢◌, ◌<◌, ◌≤◌, �
 ghost use Rattle.bayou_script.specs.Plan.{plan_of};
 ghost use Rattle.bayou_script.specs.Script.{is_served};
 ghost use Rattle.bayou_text.specs.Said.{command_said};
-ghost use Rattle.bayou_machine.specs.declared.answer.Answer.{Answer};
+ghost use Rattle.bayou_answers.specs.declared.answer.Answer.{Answer};
 ghost use Rattle.bayou_base.specs.declared.limits.TheConstants.{SESSIONS as SESSIONS_NUMBER};
 ghost use Rattle.bayou_audit.specs.Blanks.{AreBlanksOf, named};
-ghost use Rattle.bayou_machine.specs.Filed.{operation_of};
+ghost use Rattle.bayou_script.specs.Places.{operation_of};
 ghost use Rattle.bayou_print.specs.Printed.{answer_text};
-ghost use Rattle.bayou_machine.specs.Run.{IsNewRun, Turn, audited};
+ghost use Rattle.bayou_machine.specs.Run.{IsNewRun, Turn};
 ghost use Rattle.bayou_shell.specs.Run.{Prints, PrintsPart, RunsAs};
 ghost use Rattle.bayou_print.specs.Fault.{answer_status, ended_status};
 ghost use Rattle.bayou_print.specs.Faults.{IsRunFault};
@@ -18,9 +18,9 @@ ghost use Rattle.bayou_print.specs.Turns.{EndsReading, EndsWriting, cut_lines};
 use crate::reading::read_script;
 use bayou_audit::{Blanks, Four, Ledgers};
 use bayou_base::SESSIONS;
-use bayou_machine::{Filing, Store, places_for};
-use bayou_print::{Ended, Fault, Waiting, write_answer};
-use bayou_script::{Script, Servers};
+use bayou_machine::Machine;
+use bayou_print::{Ended, RunFault, Waiting, write_answer};
+use bayou_script::{Script, Servers, places_for};
 use bayou_streams::{Channel, Output};
 use bayou_text::Command;
 use std::alloc::Global;
@@ -32,25 +32,24 @@ use std::sync::ledger::{Blank, Ledger};
 fn answer_one<K: Ledgers, W: Write>(
     alloc: Global,
     servers: Servers,
-    store: &mut Store,
-    filing: &mut Filing<K>,
+    machine: &mut Machine<K>,
     command: Command,
     output: &mut Output<W>,
     waiting: &mut Waiting,
-) -> Result<Ended, Fault>
-    requires served { IsTrue (is_served store.old.count (command_said command)) }
-    requires room { operation_of (command_said command) ≢ None → length filing.old.entries < filing.old.places }
+) -> Result<Ended, RunFault>
+    requires served { IsTrue (is_served machine.old.standing.count (command_said command)) }
+    requires room { operation_of (command_said command) ≢ None → length machine.old.book.entries < machine.old.book.places }
     ensures answered { MatchResult result
         (λ ended. (answer : Answer) × (ended_status ended ≡ answer_status answer)
-        × Turn (audited store.old filing.old) (command_said command) answer (audited store.new filing.new)
+        × Turn machine.old (command_said command) answer machine.new
         × Gathers (stage W.contents output.old waiting.old) (stage W.contents output.new waiting.new) (answer_text servers.count answer) [])
         (λ fault. IsRunFault fault × ((stage W.contents output.new waiting.new ≡ stage W.contents output.old waiting.old)
-        ⊎ (answer : Answer) × Turn (audited store.old filing.old) (command_said command) answer (audited store.new filing.new)
+        ⊎ (answer : Answer) × Turn machine.old (command_said command) answer machine.new
         × (missing : List ℕ) × Gathers (stage W.contents output.old waiting.old) (stage W.contents output.new waiting.new) (answer_text servers.count answer) missing)) }
     ensures ended { IfErr result (EndsWriting output.new.channel.write_failed output.new.channel.turns_left) }
     ensures ready { OnOk result (output.old.channel.turns_left ≤ output.new.channel.turns_left) }
 {
-    let answer = filing.answer(alloc, store, command)?;
+    let answer = machine.answer(alloc, command)?;
     write_answer(alloc, servers.count, &answer, output, waiting)?;
     Ok(Ended::of(&answer))
 }
@@ -60,12 +59,11 @@ fn answer_one<K: Ledgers, W: Write>(
 fn answer_each<K: Ledgers, W: Write>(
     alloc: Global,
     script: Script,
-    store: &mut Store,
-    filing: &mut Filing<K>,
+    machine: &mut Machine<K>,
     output: &mut Output<W>,
     waiting: &mut Waiting,
-) -> Result<Ended, Fault>
-    requires { IsNewRun (plan_of script) (audited store.old filing.old) }
+) -> Result<Ended, RunFault>
+    requires { IsNewRun (plan_of script) machine.old }
     ensures ok { IfOk result (λ ended. (text : List ℕ) × Prints (plan_of script) ended text × Gathers (stage W.contents output.old waiting.old) (stage W.contents output.new waiting.new) text []) }
     ensures err { IfErr result (λ fault. IsRunFault fault × (text : List ℕ) × (missing : List ℕ) × PrintsPart (plan_of script) text
         × Gathers (stage W.contents output.old waiting.old) (stage W.contents output.new waiting.new) text missing) }
@@ -78,7 +76,7 @@ fn answer_each<K: Ledgers, W: Write>(
     } = script;
     let mut ended = Ended::Clean;
     while let Some(command) = commands.pop_front() {
-        let told = answer_one(alloc, servers, store, filing, command, output, waiting)?;
+        let told = answer_one(alloc, servers, machine, command, output, waiting)?;
         ended = ended.and(told);
     }
     Ok(ended)
@@ -88,12 +86,11 @@ fn answer_each<K: Ledgers, W: Write>(
 fn answer_all<K: Ledgers, W: Write>(
     alloc: Global,
     script: Script,
-    store: &mut Store,
-    filing: &mut Filing<K>,
+    machine: &mut Machine<K>,
     output: &mut Output<W>,
     waiting: Waiting,
-) -> Result<Ended, Fault>
-    requires begun { IsNewRun (plan_of script) (audited store.old filing.old) }
+) -> Result<Ended, RunFault>
+    requires begun { IsNewRun (plan_of script) machine.old }
     requires none { waiting.lines.items ≡ [] }
     ensures ok { IfOk result (λ ended. (text : List ℕ) × Prints (plan_of script) ended text × Takes (account W.contents output.old) (account W.contents output.new) text) }
     ensures err { IfErr result (λ fault. IsRunFault fault
@@ -102,7 +99,7 @@ fn answer_all<K: Ledgers, W: Write>(
     ensures ready { OnOk result (output.old.channel.turns_left ≤ output.new.channel.turns_left) }
 {
     let mut waiting = waiting;
-    let ended = answer_each(alloc, script, store, filing, output, &mut waiting);
+    let ended = answer_each(alloc, script, machine, output, &mut waiting);
     waiting.end(ended, output)
 }
 
@@ -113,7 +110,7 @@ fn run_with<K: Ledgers, R: Read, W: Write>(
     blanks: Blanks,
     input: &mut Channel<R, ()>,
     output: &mut Output<W>,
-) -> Result<Ended, Fault>
+) -> Result<Ended, RunFault>
     requires blanks { AreBlanksOf blanks (named K.Slips.name K.Slips.parts) (named K.Reads.name K.Reads.parts) (named K.Writes.name K.Writes.parts) (named K.Refusals.name K.Refusals.parts) SESSIONS_NUMBER }
     ensures runs { IfSome (R.remaining input.old.reader) (λ text. RunsAs text result (W.contents output.old.channel.writer) (W.contents output.new.channel.writer)) }
     ensures read { IfErr result (EndsReading input.new.read_failed input.new.turns_left) }
@@ -123,9 +120,9 @@ fn run_with<K: Ledgers, R: Read, W: Write>(
 {
     let script = read_script(alloc, input)?;
     let waiting = Waiting::new(alloc)?;
-    let mut store = Store::new(alloc, script.servers)?;
-    let mut filing = Filing::<K>::new(alloc, blanks, places_for(&script.commands))?;
-    answer_all(alloc, script, &mut store, &mut filing, output, waiting)
+    let places = places_for(&script.commands);
+    let mut machine = Machine::<K>::new(alloc, blanks, script.servers, places)?;
+    answer_all(alloc, script, &mut machine, output, waiting)
 }
 
 /// The same, with a ledger for each of the four totals.
@@ -134,7 +131,7 @@ fn run_over<S, T, U, V, R, W>(
     blanks: Blanks,
     input: &mut Channel<R, ()>,
     output: &mut Output<W>,
-) -> Result<Ended, Fault>
+) -> Result<Ended, RunFault>
 where
     S: Ledger + Send + Sync,
     T: Ledger + Send + Sync,
@@ -157,7 +154,7 @@ pub fn run_script<R: Read, W: Write>(
     alloc: Global,
     input: &mut Channel<R, ()>,
     output: &mut Output<W>,
-) -> Result<Ended, Fault>
+) -> Result<Ended, RunFault>
     ensures runs { IfSome (R.remaining input.old.reader) (λ text. RunsAs text result (W.contents output.old.channel.writer) (W.contents output.new.channel.writer)) }
     ensures read { IfErr result (EndsReading input.new.read_failed input.new.turns_left) }
     ensures written { IfErr result (EndsWriting output.new.channel.write_failed output.new.channel.turns_left) }

@@ -7,7 +7,7 @@ use crate::words::{Words, read_words};
 use bayou_base::{MAX_WRITES, ServerId};
 use bayou_device::FileDevice;
 use bayou_net::{NoGate, listen};
-use bayou_node::{Desk, Desks, Node, Settled};
+use bayou_node::{Desk, Desks, Node, NodeSettled};
 use bayou_server::Server;
 use std::alloc::Global;
 use std::fs::{File, Files};
@@ -45,7 +45,7 @@ fn tell_port<R: Print>(rt: &R, listener: &TcpListener) -> Result<(), Fault> {
 }
 
 // What the books come to, and how many Writes of each server are held.
-fn tell_settled<R: Print>(rt: &R, settled: &Settled) -> Result<(), Fault> {
+fn tell_settled<R: Print>(rt: &R, settled: &NodeSettled) -> Result<(), Fault> {
     let [first, second, ..] = settled.vector.counts();
     match println!(rt;
         "settled 0 accepted {} adopted {}\nlog 0 at {first},{second}",

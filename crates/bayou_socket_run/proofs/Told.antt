@@ -1,10 +1,10 @@
 -- What is told of a run over a network, one text behind another.
 use Rattle.std.proofs.Common.{◌≡◌, ◌⊎◌, ℕ, Bool, List, [], ◌++◌, Result, Ok, Err, IfErr, inl, inr, refl, subst, sym}
 use Rattle.bayou_streams.specs.Account.{Account, Takes, TakesFront}
-use Rattle.bayou_streams.proofs.Taken.{Takes-nil, Takes-trans}
+use Rattle.bayou_streams.specs.Laws.Taken.{Takes-nil, Takes-trans}
 use Rattle.bayou_print.specs.declared.ended.Ended.{Ended}
-use Rattle.bayou_print.specs.declared.fault.Fault.{Fault}
-use Rattle.bayou_print.specs.declared.fault.Fault.TheVariants.{Line, Memory, Device, Network, Input, Output}
+use Rattle.bayou_print.specs.declared.fault.RunFault.{RunFault}
+use Rattle.bayou_print.specs.declared.fault.RunFault.TheVariants.{Line, Memory, Device, Network, Input, Output}
 use Rattle.bayou_print.specs.Faults.{IsRunFault}
 use Rattle.bayou_socket_run.specs.Inner.Faults.{IsPhaseFault, IsStartFault}
 use Rattle.bayou_print.specs.Waiting.{Gathers, Stage}
@@ -37,14 +37,14 @@ pub part_behind : (a b c : Stage) → Whole a b → Part b c → Part a c
 part_behind a b c (first, one) (second, missing, two) = (first ++ second, missing, Gathers-trans a b c first second missing one two)
 
 -- a fault, and a part of what was told before it
-pub fault_told : (fault : Fault) (a b : Stage) → IsPhaseFault fault → Part a b → Tells {A = Unit {0}} (Err fault) a b
+pub fault_told : (fault : RunFault) (a b : Stage) → IsPhaseFault fault → Part a b → Tells {A = Unit {0}} (Err fault) a b
 fault_told fault a b is (text, missing, some) = (is, text, missing, some)
 
 -- a whole text, and a fault behind it
-pub fault_behind : (fault : Fault) (a b c : Stage) → Whole a b → Tells {A = Unit {0}} (Err fault) b c → Tells {A = Unit {0}} (Err fault) a c
+pub fault_behind : (fault : RunFault) (a b c : Stage) → Whole a b → Tells {A = Unit {0}} (Err fault) b c → Tells {A = Unit {0}} (Err fault) a c
 fault_behind fault a b c (first, one) (is, second, missing, two) = (is, first ++ second, missing, Gathers-trans a b c first second missing one two)
 
-pub phase_fault : (fault : Fault) → IsRunFault fault → IsPhaseFault fault
+pub phase_fault : (fault : RunFault) → IsRunFault fault → IsPhaseFault fault
 phase_fault (Line number why) is = absurd is
 phase_fault Memory is = tt
 phase_fault Device is = absurd is
@@ -52,7 +52,7 @@ phase_fault Network is = absurd is
 phase_fault Input is = absurd is
 phase_fault Output is = tt
 
-pub start_writes : (fails : Bool) (turns : ℕ) (fault : Fault) → IsStartFault fault → EndsWriting fails turns fault
+pub start_writes : (fails : Bool) (turns : ℕ) (fault : RunFault) → IsStartFault fault → EndsWriting fails turns fault
 start_writes fails turns (Line number why) is = absurd is
 start_writes fails turns Memory is = tt
 start_writes fails turns Device is = tt
@@ -67,12 +67,12 @@ took_part a b c none (text, missing, some) more = let (front, rest, split, took)
 pub took_nothing : (a : Account) → (text : List ℕ) × Takes a a text
 took_nothing a = ([], Takes-nil a)
 
-pub tells_part : (result : Result Ended Fault) (a b : Stage) → Tells result a b → Part a b
+pub tells_part : (result : Result Ended RunFault) (a b : Stage) → Tells result a b → Part a b
 tells_part (Ok ended) a b told = part_of_whole a b told
 tells_part (Err fault) a b (is, text, missing, some) = (text, missing, some)
 
 -- what was told was written, as far as it was
-pub took_told : (result : Result Ended Fault) (a b : Stage) (c : Account) → a.waiting ≡ [] → Tells result a b → TakesFront b.output c b.waiting → (text : List ℕ) × Takes a.output c text
+pub took_told : (result : Result Ended RunFault) (a b : Stage) (c : Account) → a.waiting ≡ [] → Tells result a b → TakesFront b.output c b.waiting → (text : List ℕ) × Takes a.output c text
 took_told result a b c none told more = took_part a b c none (tells_part result a b told) more
 
 -- an end that is told in other words
@@ -84,7 +84,7 @@ pub took_both : (a b c : Account) → (text : List ℕ) × Takes a b text → (t
 took_both a b c (first, one) (second, two) = (first ++ second, Takes-trans a b c first second one two)
 
 -- what may end a start may end a run
-pub start_net : (fault : Fault) → IsStartFault fault → IsNetFault fault
+pub start_net : (fault : RunFault) → IsStartFault fault → IsNetFault fault
 start_net (Line number why) is = absurd is
 start_net Memory is = tt
 start_net Device is = tt
@@ -92,7 +92,7 @@ start_net Network is = absurd is
 start_net Input is = absurd is
 start_net Output is = absurd is
 
-pub start_unstarted : (fault : Fault) (a : Account) → KeepsUnstarted {A = Ended} (Err fault) a a
+pub start_unstarted : (fault : RunFault) (a : Account) → KeepsUnstarted {A = Ended} (Err fault) a a
 start_unstarted (Line number why) a = tt
 start_unstarted Memory a = tt
 start_unstarted Device a = refl
@@ -101,7 +101,7 @@ start_unstarted Input a = tt
 start_unstarted Output a = tt
 
 -- and so may what ends a phase, which is no fault of a start
-pub phase_net : (result : Result Ended Fault) → IfErr result IsPhaseFault → IfErr result IsNetFault
+pub phase_net : (result : Result Ended RunFault) → IfErr result IsPhaseFault → IfErr result IsNetFault
 phase_net (Ok ended) is = tt
 phase_net (Err (Line number why)) is = absurd is
 phase_net (Err Memory) is = tt
@@ -110,7 +110,7 @@ phase_net (Err Network) is = tt
 phase_net (Err Input) is = absurd is
 phase_net (Err Output) is = tt
 
-pub phase_unstarted : (result : Result Ended Fault) (a b : Account) → IfErr result IsPhaseFault → KeepsUnstarted result a b
+pub phase_unstarted : (result : Result Ended RunFault) (a b : Account) → IfErr result IsPhaseFault → KeepsUnstarted result a b
 phase_unstarted (Ok ended) a b is = tt
 phase_unstarted (Err (Line number why)) a b is = absurd is
 phase_unstarted (Err Memory) a b is = tt
@@ -120,12 +120,12 @@ phase_unstarted (Err Input) a b is = absurd is
 phase_unstarted (Err Output) a b is = tt
 
 -- a fault of what was told is one of a phase
-pub tells_phase : (result : Result Ended Fault) (a b : Stage) → Tells result a b → IfErr result IsPhaseFault
+pub tells_phase : (result : Result Ended RunFault) (a b : Stage) → Tells result a b → IfErr result IsPhaseFault
 tells_phase (Ok ended) a b told = tt
 tells_phase (Err fault) a b told = told.0
 
 -- and stays one once what waited was written, or where the output is at fault
-pub phase_kept : (told result : Result Ended Fault) → IfErr told IsPhaseFault → IfErr result (λ fault. (told ≡ Err fault) ⊎ (fault ≡ Output)) → IfErr result IsPhaseFault
+pub phase_kept : (told result : Result Ended RunFault) → IfErr told IsPhaseFault → IfErr result (λ fault. (told ≡ Err fault) ⊎ (fault ≡ Output)) → IfErr result IsPhaseFault
 phase_kept told (Ok ended) is cause = tt
-phase_kept told (Err fault) is (inl same) = subst (λ (r : Result Ended Fault). IfErr r IsPhaseFault) same is
+phase_kept told (Err fault) is (inl same) = subst (λ (r : Result Ended RunFault). IfErr r IsPhaseFault) same is
 phase_kept told (Err fault) is (inr output) = subst IsPhaseFault (sym output) tt

@@ -2,17 +2,17 @@
 use Rattle.std.specs.Prelude.{◌≡◌, Result, Err}
 use Rattle.bayou_fleet.specs.declared.fault.FleetFault.{FleetFault}
 use Rattle.bayou_fleet.specs.declared.fault.FleetFault.TheVariants as fleet
-use Rattle.bayou_print.specs.declared.fault.Fault.{Fault}
-use Rattle.bayou_print.specs.declared.fault.Fault.TheVariants.{Line, Memory, Device, Network, Input, Output}
+use Rattle.bayou_print.specs.declared.fault.RunFault.{RunFault}
+use Rattle.bayou_print.specs.declared.fault.RunFault.TheVariants.{Line, Memory, Device, Network, Input, Output}
 use Rattle.bayou_streams.specs.Account.{Account}
 
 -- what a run is told to end with whose servers can't go on
-abbrev pub fault_of_fleet : FleetFault → Fault
+abbrev pub fault_of_fleet : FleetFault → RunFault
 fault_of_fleet fleet.Memory = Memory
 fault_of_fleet fleet.Network = Network
 
 -- what may end a run over a network of a script that was accepted
-abbrev pub IsNetFault : Fault → Type 0
+abbrev pub IsNetFault : RunFault → Type 0
 IsNetFault (Line number fault) = ⊥
 IsNetFault Memory = Unit {0}
 IsNetFault Device = Unit {0}
@@ -21,6 +21,6 @@ IsNetFault Input = ⊥
 IsNetFault Output = Unit {0}
 
 -- where the device of a server was at fault as it was started, the output is as it was
-abbrev pub KeepsUnstarted : {A : Type 0} → Result A Fault → Account → Account → Type 0
+abbrev pub KeepsUnstarted : {A : Type 0} → Result A RunFault → Account → Account → Type 0
 KeepsUnstarted (Err Device) old new = new ≡ old
 KeepsUnstarted other old new = Unit {0}

@@ -4,7 +4,7 @@ ghost use Rattle.bayou_socket_run.specs.Inner.Faults.{IsStartFault};
 
 use bayou_base::ServerId;
 use bayou_device::FileDevice;
-use bayou_print::Fault;
+use bayou_print::RunFault;
 use bayou_script::Servers;
 use bayou_server::{Server, StartFault};
 use std::alloc::Global;
@@ -15,26 +15,26 @@ use std::fs::{File, Files};
 pub(crate) type Journaled = Server<FileDevice<File>>;
 
 /// What a start that was refused comes to.
-fn fault_of(refused: StartFault) -> Fault
+fn fault_of(refused: StartFault) -> RunFault
     ensures { IsStartFault result }
 {
     match refused {
-        StartFault::OutOfMemory => Fault::Memory,
+        StartFault::OutOfMemory => RunFault::Memory,
         StartFault::Journal(_)
         | StartFault::BadRecord(_)
         | StartFault::Gap(_)
-        | StartFault::LogFull => Fault::Device,
+        | StartFault::LogFull => RunFault::Device,
     }
 }
 
 /// The server in a box of its own, in which it is handed from function to function.
-fn boxed(alloc: Global, server: Journaled) -> Result<Box<Journaled>, Fault>
+fn boxed(alloc: Global, server: Journaled) -> Result<Box<Journaled>, RunFault>
     ensures same { IfOk result (λ boxed. boxed.value ≡ server) }
     ensures fault { IfErr result IsStartFault }
 {
     match Box::new(alloc, server) {
         Ok(server) => Ok(server),
-        Err(_) => Err(Fault::Memory),
+        Err(_) => Err(RunFault::Memory),
     }
 }
 
@@ -45,13 +45,13 @@ fn start_one<T: Files<File = File>>(
     folder: &str,
     servers: Servers,
     index: u8,
-) -> Result<Box<Journaled>, Fault>
+) -> Result<Box<Journaled>, RunFault>
     requires { index < servers.count }
     ensures { IfErr result IsStartFault }
 {
     let path = format!(in alloc; "{folder}/server-{index}.journal")?;
     let Ok(device) = FileDevice::open(rt, path.as_str()) else {
-        return Err(Fault::Device);
+        return Err(RunFault::Device);
     };
     match Server::start(
         alloc,
@@ -71,7 +71,7 @@ pub(crate) fn start_all<T: Files<File = File>>(
     alloc: Global,
     folder: &str,
     servers: Servers,
-) -> Result<VecDeque<Box<Journaled>>, Fault>
+) -> Result<VecDeque<Box<Journaled>>, RunFault>
     ensures { IfErr result IsStartFault }
 {
     let mut started = VecDeque::new(alloc);

@@ -5,14 +5,13 @@ ghost use Rattle.bayou_socket_run.specs.Inner.Telling.{Tells};
 ghost use Rattle.bayou_print.specs.Turns.{EndsWriting};
 
 use crate::faults::in_run;
+use bayou_answers::Answer;
 use bayou_audit::Ledgers;
-use bayou_fleet::{Fleet, Member, Network, Phase, Rest, run_together};
-use bayou_machine::Answer;
+use bayou_fleet::{Closing, Fleet, Inquiry, Network, Phase, RunSession, run_together};
 use bayou_net::Sockets;
-use bayou_print::{Ended, Fault, Waiting, write_answer};
-use bayou_script::{Servers, next_phase};
+use bayou_print::{Ended, RunFault, Waiting, write_answer};
+use bayou_script::{NetworkCommand, Servers, next_phase};
 use bayou_streams::Output;
-use bayou_text::Command;
 use std::alloc::Global;
 use std::collections::VecDeque;
 use std::io::Write;
@@ -21,20 +20,20 @@ use std::thread::Threads;
 
 /// What servers are asked in a run, and by which sessions.
 #[derive(Drop)]
-pub(crate) struct Course<K: Ledgers> {
+pub(crate) struct Agenda<K: Ledgers> {
     pub(crate) servers: Servers,
     /// How many connections each server is reached by at the most.
     pub(crate) connections: u32,
-    pub(crate) commands: VecDeque<Command>,
+    pub(crate) commands: VecDeque<NetworkCommand>,
     /// The sessions, from session 0 on.
-    pub(crate) members: Vec<Member<K>>,
+    pub(crate) sessions: Vec<RunSession<K>>,
 }
 
 /// What a phase came to.
 #[derive(Drop)]
 struct Passed<K: Ledgers> {
     ended: Ended,
-    members: Vec<Member<K>>,
+    sessions: Vec<RunSession<K>>,
 }
 
 /// Writes what is printed for these answers.
@@ -44,7 +43,7 @@ fn write_answers<W: Write>(
     answers: &[Answer],
     output: &mut Output<W>,
     waiting: &mut Waiting,
-) -> Result<(), Fault>
+) -> Result<(), RunFault>
     ensures told { Tells result (stage W.contents output.old waiting.old) (stage W.contents output.new waiting.new) }
     ensures ended { IfErr result (EndsWriting output.new.channel.write_failed output.new.channel.turns_left) }
     ensures ready { OnOk result (output.old.channel.turns_left ≤ output.new.channel.turns_left) }
@@ -55,62 +54,64 @@ fn write_answers<W: Write>(
     Ok(())
 }
 
-/// Has one of the rest of a phase answered, and writes what is printed for it.
+/// Has one of what closes a phase answered, and writes what is printed for it.
 fn answer_one<F: Fleet, K: Ledgers, T: Wait, W: Write>(
     rt: &T,
     alloc: Global,
     network: &Network<F, K>,
-    rest: &mut Rest,
+    inquiry: &mut Inquiry,
     servers: Servers,
-    command: Command,
+    closing: Closing,
     output: &mut Output<W>,
     waiting: &mut Waiting,
-) -> Result<Ended, Fault>
+) -> Result<Ended, RunFault>
     ensures told { Tells result (stage W.contents output.old waiting.old) (stage W.contents output.new waiting.new) }
     ensures ended { IfErr result (EndsWriting output.new.channel.write_failed output.new.channel.turns_left) }
     ensures ready { OnOk result (output.old.channel.turns_left ≤ output.new.channel.turns_left) }
 {
-    let answer = in_run(rest.answer(rt, alloc, network, command))?;
+    let answer = in_run(inquiry.answer(rt, alloc, network, closing))?;
     write_answer(alloc, servers.count, &answer, output, waiting)?;
     Ok(Ended::of(&answer))
 }
 
-/// Has the rest of a phase answered in order, and writes what is printed for it.
-fn answer_rest<F: Fleet, K: Ledgers, T: Wait, W: Write>(
+/// Has what closes a phase answered in order, and writes what is printed for it.
+fn answer_closings<F: Fleet, K: Ledgers, T: Wait, W: Write>(
     rt: &T,
     alloc: Global,
     network: &Network<F, K>,
-    rest: &mut Rest,
+    inquiry: &mut Inquiry,
     servers: Servers,
-    commands: VecDeque<Command>,
+    closings: VecDeque<Closing>,
     output: &mut Output<W>,
     waiting: &mut Waiting,
-) -> Result<Ended, Fault>
+) -> Result<Ended, RunFault>
     ensures told { Tells result (stage W.contents output.old waiting.old) (stage W.contents output.new waiting.new) }
     ensures ended { IfErr result (EndsWriting output.new.channel.write_failed output.new.channel.turns_left) }
     ensures ready { OnOk result (output.old.channel.turns_left ≤ output.new.channel.turns_left) }
 {
-    let mut commands = commands;
+    let mut closings = closings;
     let mut ended = Ended::Clean;
-    while let Some(command) = commands.pop_front() {
-        let told = answer_one(rt, alloc, network, rest, servers, command, output, waiting)?;
+    while let Some(closing) = closings.pop_front() {
+        let told = answer_one(
+            rt, alloc, network, inquiry, servers, closing, output, waiting,
+        )?;
         ended = ended.and(told);
     }
     Ok(ended)
 }
 
-/// Runs a phase to its end: its sessions and its pulls side by side, and then the rest. What is printed for it is written.
+/// Runs a phase to its end: its sessions and its pulls side by side, and then what closes it. What is printed for it is written.
 fn run_phase<F, K, T, W>(
     rt: &T,
     alloc: Global,
     network: &Network<F, K>,
-    rest: &mut Rest,
+    inquiry: &mut Inquiry,
     servers: Servers,
     phase: Phase,
-    members: Vec<Member<K>>,
+    sessions: Vec<RunSession<K>>,
     output: &mut Output<W>,
     waiting: &mut Waiting,
-) -> Result<Passed<K>, Fault>
+) -> Result<Passed<K>, RunFault>
 where
     F: Fleet + Send + Sync,
     K: Ledgers + Send + Sync,
@@ -121,18 +122,20 @@ where
     ensures ready { OnOk result (output.old.channel.turns_left ≤ output.new.channel.turns_left) }
 {
     let Phase {
-        opens,
+        openings,
         operations,
         pulls,
-        rest: others,
+        closings,
     } = phase;
-    let together = in_run(run_together(rt, alloc, network, members, opens, operations, pulls))?;
+    let together = in_run(run_together(rt, alloc, network, sessions, openings, operations, pulls))?;
     write_answers(alloc, servers, together.answers.as_slice(), output, waiting)?;
-    let ended = answer_rest(rt, alloc, network, rest, servers, others, output, waiting)?;
+    let ended = answer_closings(
+        rt, alloc, network, inquiry, servers, closings, output, waiting,
+    )?;
     waiting.write(output)?;
     Ok(Passed {
         ended,
-        members: together.members,
+        sessions: together.sessions,
     })
 }
 
@@ -141,10 +144,10 @@ pub(crate) fn run_phases<F, K, T, W>(
     rt: &T,
     alloc: Global,
     network: &Network<F, K>,
-    course: Course<K>,
+    agenda: Agenda<K>,
     output: &mut Output<W>,
     waiting: &mut Waiting,
-) -> Result<Ended, Fault>
+) -> Result<Ended, RunFault>
 where
     F: Fleet + Send + Sync,
     K: Ledgers + Send + Sync,
@@ -154,21 +157,29 @@ where
     ensures ended { IfErr result (EndsWriting output.new.channel.write_failed output.new.channel.turns_left) }
     ensures ready { OnOk result (output.old.channel.turns_left ≤ output.new.channel.turns_left) }
 {
-    let Course {
+    let Agenda {
         servers,
         mut commands,
-        mut members,
+        mut sessions,
         ..
-    } = course;
-    let mut rest = in_run(Rest::new(rt, alloc, network))?;
+    } = agenda;
+    let mut inquiry = in_run(Inquiry::new(rt, alloc, network))?;
     let mut ended = Ended::Clean;
     while let Some(said) = next_phase(alloc, &mut commands)? {
         let phase = Phase::arranged(alloc, said)?;
         let passed = run_phase(
-            rt, alloc, network, &mut rest, servers, phase, members, output, waiting,
+            rt,
+            alloc,
+            network,
+            &mut inquiry,
+            servers,
+            phase,
+            sessions,
+            output,
+            waiting,
         )?;
         ended = ended.and(passed.ended);
-        members = passed.members;
+        sessions = passed.sessions;
     }
     Ok(ended)
 }

@@ -4,14 +4,14 @@ ghost use Rattle.bayou_print.specs.Waiting.{stage};
 ghost use Rattle.bayou_socket_run.specs.Inner.Telling.{Tells};
 ghost use Rattle.bayou_print.specs.Turns.{EndsWriting};
 
+use bayou_answers::Answer;
 use bayou_audit::{Ledgers, Totals};
 use bayou_base::ServerId;
 use bayou_fleet::{Fleet, FleetFault, Network};
-use bayou_judge::{Refusal, Verdict, judge};
+use bayou_judge::{BadEvidence, Verdict, judge, lend_dumps};
 use bayou_lang::RestingWrite;
-use bayou_machine::Answer;
-use bayou_node::Settled;
-use bayou_print::{Ended, Fault, Waiting, settled_line, write_answer};
+use bayou_node::NodeSettled;
+use bayou_print::{Ended, RunFault, Waiting, settled_line, write_answer};
 use bayou_script::Servers;
 use bayou_streams::Output;
 use std::alloc::{AllocError, Global};
@@ -23,8 +23,8 @@ use std::sync::Wait;
 pub(crate) struct Books {
     totals: Totals,
     /// What the books of each server come to, from server 0 on.
-    nodes: Vec<Settled>,
-    verdict: Result<Verdict, Refusal>,
+    nodes: Vec<NodeSettled>,
+    verdict: Result<Verdict, BadEvidence>,
 }
 
 /// What each server holds, in order of receipt.
@@ -56,24 +56,22 @@ pub(crate) fn settle<F: Fleet, K: Ledgers, T: Wait>(
     fleet.settle(&mut nodes)?;
     let totals = book.totals(rt);
     let entries = book.entries(rt, alloc)?;
-    match judge(alloc, servers.count, entries.as_slice(), dumps.as_slice()) {
-        Err(Refusal::OutOfMemory) => Err(FleetFault::Memory),
-        verdict => Ok(Books {
-            totals,
-            nodes,
-            verdict,
-        }),
-    }
+    let verdict = judge(alloc, servers.count, &entries, &lend_dumps(&dumps))?;
+    Ok(Books {
+        totals,
+        nodes,
+        verdict,
+    })
 }
 
 /// Writes what the books of one server come to.
 fn write_one<W: Write>(
     alloc: Global,
     server: ServerId,
-    nodes: &[Settled],
+    nodes: &[NodeSettled],
     output: &mut Output<W>,
     waiting: &mut Waiting,
-) -> Result<(), Fault>
+) -> Result<(), RunFault>
     ensures told { Tells result (stage W.contents output.old waiting.old) (stage W.contents output.new waiting.new) }
     ensures ended { IfErr result (EndsWriting output.new.channel.write_failed output.new.channel.turns_left) }
     ensures ready { OnOk result (output.old.channel.turns_left ≤ output.new.channel.turns_left) }
@@ -89,10 +87,10 @@ fn write_one<W: Write>(
 fn write_nodes<W: Write>(
     alloc: Global,
     servers: Servers,
-    nodes: &[Settled],
+    nodes: &[NodeSettled],
     output: &mut Output<W>,
     waiting: &mut Waiting,
-) -> Result<(), Fault>
+) -> Result<(), RunFault>
     ensures told { Tells result (stage W.contents output.old waiting.old) (stage W.contents output.new waiting.new) }
     ensures ended { IfErr result (EndsWriting output.new.channel.write_failed output.new.channel.turns_left) }
     ensures ready { OnOk result (output.old.channel.turns_left ≤ output.new.channel.turns_left) }
@@ -110,7 +108,7 @@ pub(crate) fn write_books<W: Write>(
     books: Books,
     output: &mut Output<W>,
     waiting: &mut Waiting,
-) -> Result<Ended, Fault>
+) -> Result<Ended, RunFault>
     ensures told { Tells result (stage W.contents output.old waiting.old) (stage W.contents output.new waiting.new) }
     ensures ended { IfErr result (EndsWriting output.new.channel.write_failed output.new.channel.turns_left) }
     ensures ready { OnOk result (output.old.channel.turns_left ≤ output.new.channel.turns_left) }

@@ -14,19 +14,17 @@ ghost use Rattle.bayou_streams.specs.Account.{Takes, account};
 
 use crate::faults::in_run;
 use crate::journals::{Journaled, start_all};
-use crate::phases::{Course, run_phases};
+use crate::phases::{Agenda, run_phases};
 use crate::settling::{settle, write_books};
 use bayou_audit::{AuditBook, Blanks, Four, Ledgers, Share};
 use bayou_base::SESSIONS;
 use bayou_device::FileDevice;
-use bayou_fleet::{Fleet, FleetFault, FourServers, Member, Network, Seat, start_listeners};
-use bayou_machine::places_for;
+use bayou_fleet::{Fleet, FleetFault, FourServers, Network, RunSession, Seat, start_listeners};
 use bayou_net::Sockets;
 use bayou_node::Desks;
-use bayou_print::{Ended, Fault, Waiting};
-use bayou_script::{Part, Script, Servers};
+use bayou_print::{Ended, RunFault, Waiting};
+use bayou_script::{NetworkCommand, NetworkScript, Servers, places_for};
 use bayou_streams::Output;
-use bayou_text::Command;
 use std::alloc::{AllocError, Global};
 use std::collections::VecDeque;
 use std::fs::{File, Files};
@@ -48,7 +46,7 @@ struct Ready {
 #[derive(Drop)]
 struct Setting<K: Ledgers> {
     book: AuditBook<K>,
-    course: Course<K>,
+    agenda: Agenda<K>,
     /// The servers that aren't put there yet.
     servers: VecDeque<Box<Journaled>>,
 }
@@ -60,10 +58,10 @@ fn run_listened<'s, 'o, E, F, K, T, W>(
     rt: &'s T,
     alloc: Global,
     network: &'s Network<F, K>,
-    course: Course<K>,
+    agenda: Agenda<K>,
     output: &'o mut Output<W>,
     waiting: Waiting,
-) -> (Result<Ended, Fault>, &'o mut Output<W>, Waiting)
+) -> (Result<Ended, RunFault>, &'o mut Output<W>, Waiting)
 where
     F: Fleet + Send + Sync,
     K: Ledgers + Send + Sync,
@@ -75,20 +73,20 @@ where
     ensures ready { OnOk result.0 (output.entry.now.channel.turns_left ≤ result.1.now.channel.turns_left) }
 {
     let mut waiting = waiting;
-    let connections = course.connections as usize;
+    let connections = agenda.connections as usize;
     match start_listeners(scope, rt, alloc, network, connections) {
         Ok(_) => {
-            let passed = run_phases(rt, alloc, network, course, output, &mut waiting);
+            let passed = run_phases(rt, alloc, network, agenda, output, &mut waiting);
             network.stop(rt);
             (passed, output, waiting)
         }
         Err(FleetFault::Memory) => {
             network.stop(rt);
-            (Err(Fault::Memory), output, waiting)
+            (Err(RunFault::Memory), output, waiting)
         }
         Err(FleetFault::Network) => {
             network.stop(rt);
-            (Err(Fault::Network), output, waiting)
+            (Err(RunFault::Network), output, waiting)
         }
     }
 }
@@ -98,10 +96,10 @@ fn run_meanwhile<'o, F, K, T, W>(
     rt: &T,
     alloc: Global,
     network: &Network<F, K>,
-    course: Course<K>,
+    agenda: Agenda<K>,
     output: &'o mut Output<W>,
     waiting: Waiting,
-) -> (Result<Ended, Fault>, &'o mut Output<W>, Waiting)
+) -> (Result<Ended, RunFault>, &'o mut Output<W>, Waiting)
 where
     F: Fleet + Send + Sync,
     K: Ledgers + Send + Sync,
@@ -115,13 +113,13 @@ where
     thread::scope(
         thread::scope_env(),
         rt,
-        move |scope| -> (Result<Ended, Fault>, &mut Output<W>, Waiting)
+        move |scope| -> (Result<Ended, RunFault>, &mut Output<W>, Waiting)
             requires { IsSend F.row × IsSend K.row × IsSend T.row × IsSend K.Slips.row × IsSend K.Reads.row × IsSend K.Writes.row × IsSend K.Refusals.row }
             ensures name { result.1.ghost_name ≡ output.entry.ghost_name }
             ensures told { Tells result.0 (stage W.contents output.entry.now waiting) (stage W.contents result.1.now result.2) }
             ensures ended { IfErr result.0 (EndsWriting result.1.now.channel.write_failed result.1.now.channel.turns_left) }
             ensures ready { OnOk result.0 (output.entry.now.channel.turns_left ≤ result.1.now.channel.turns_left) }
-        { run_listened(scope, rt, alloc, network, course, output, waiting) },
+        { run_listened(scope, rt, alloc, network, agenda, output, waiting) },
     )
 }
 
@@ -130,9 +128,9 @@ fn pass<F, K, T, W>(
     rt: &T,
     alloc: Global,
     network: &Network<F, K>,
-    course: Course<K>,
+    agenda: Agenda<K>,
     output: &mut Output<W>,
-) -> Result<Ended, Fault>
+) -> Result<Ended, RunFault>
 where
     F: Fleet + Send + Sync,
     K: Ledgers + Send + Sync,
@@ -144,7 +142,7 @@ where
     ensures ready { OnOk result (output.old.channel.turns_left ≤ output.new.channel.turns_left) }
 {
     let waiting = Waiting::new(alloc)?;
-    let (passed, lent, waiting) = run_meanwhile(rt, alloc, network, course, output, waiting);
+    let (passed, lent, waiting) = run_meanwhile(rt, alloc, network, agenda, output, waiting);
     waiting.end(passed, lent)
 }
 
@@ -155,7 +153,7 @@ fn conclude<F: Fleet, K: Ledgers, T: Wait, W: Write>(
     network: Network<F, K>,
     servers: Servers,
     output: &mut Output<W>,
-) -> Result<Ended, Fault>
+) -> Result<Ended, RunFault>
     ensures took { (text : List ℕ) × Takes (account W.contents output.old) (account W.contents output.new) text }
     ensures fault { IfErr result IsPhaseFault }
     ensures ended { IfErr result (EndsWriting output.new.channel.write_failed output.new.channel.turns_left) }
@@ -172,9 +170,9 @@ fn run_at<F, K, T, W>(
     rt: &T,
     alloc: Global,
     network: Network<F, K>,
-    course: Course<K>,
+    agenda: Agenda<K>,
     output: &mut Output<W>,
-) -> Result<Ended, Fault>
+) -> Result<Ended, RunFault>
 where
     F: Fleet + Send + Sync,
     K: Ledgers + Send + Sync,
@@ -185,8 +183,8 @@ where
     ensures ended { IfErr result (EndsWriting output.new.channel.write_failed output.new.channel.turns_left) }
     ensures ready { OnOk result (output.old.channel.turns_left ≤ output.new.channel.turns_left) }
 {
-    let servers = course.servers;
-    let passed = pass(rt, alloc, &network, course, output)?;
+    let servers = agenda.servers;
+    let passed = pass(rt, alloc, &network, agenda, output)?;
     let told = conclude(rt, alloc, network, servers, output)?;
     Ok(passed.and(told))
 }
@@ -199,7 +197,7 @@ fn run_fleet<F, K, T, W>(
     fleet: F,
     setting: Setting<K>,
     output: &mut Output<W>,
-) -> Result<Ended, Fault>
+) -> Result<Ended, RunFault>
 where
     F: Fleet + Send + Sync,
     K: Ledgers + Send + Sync,
@@ -210,9 +208,9 @@ where
     ensures ended { IfErr result (EndsWriting output.new.channel.write_failed output.new.channel.turns_left) }
     ensures ready { OnOk result (output.old.channel.turns_left ≤ output.new.channel.turns_left) }
 {
-    let Setting { book, course, .. } = setting;
-    let network = in_run(Network::bind(rt, alloc, fleet, course.servers.count, book))?;
-    run_at(rt, alloc, network, course, output)
+    let Setting { book, agenda, .. } = setting;
+    let network = in_run(Network::bind(rt, alloc, fleet, agenda.servers.count, book))?;
+    run_at(rt, alloc, network, agenda, output)
 }
 
 /// The server behind a lock, with a desk for each connection.
@@ -253,7 +251,7 @@ fn run_seated<A, B, C, E, K, T, W>(
     third: Option<Ready>,
     fourth: Option<Ready>,
     output: &mut Output<W>,
-) -> Result<Ended, Fault>
+) -> Result<Ended, RunFault>
 where
     A: Desks + Send + Sync,
     B: Desks + Send + Sync,
@@ -262,27 +260,27 @@ where
     K: Ledgers + Send + Sync,
     T: Threads + Wait + Sockets + Send + Sync,
     W: Write,
-    requires first { IfSome first (λ ready. IsBlankOf ready.blank A.name A.parts setting.course.connections × (ready.server.value.core.id ≡ A.server) × (own_count ready.server.value.core ≡ A.stored)) }
-    requires second { IfSome second (λ ready. IsBlankOf ready.blank B.name B.parts setting.course.connections × (ready.server.value.core.id ≡ B.server) × (own_count ready.server.value.core ≡ B.stored)) }
-    requires third { IfSome third (λ ready. IsBlankOf ready.blank C.name C.parts setting.course.connections × (ready.server.value.core.id ≡ C.server) × (own_count ready.server.value.core ≡ C.stored)) }
-    requires fourth { IfSome fourth (λ ready. IsBlankOf ready.blank E.name E.parts setting.course.connections × (ready.server.value.core.id ≡ E.server) × (own_count ready.server.value.core ≡ E.stored)) }
+    requires first { IfSome first (λ ready. IsBlankOf ready.blank A.name A.parts setting.agenda.connections × (ready.server.value.core.id ≡ A.server) × (own_count ready.server.value.core ≡ A.stored)) }
+    requires second { IfSome second (λ ready. IsBlankOf ready.blank B.name B.parts setting.agenda.connections × (ready.server.value.core.id ≡ B.server) × (own_count ready.server.value.core ≡ B.stored)) }
+    requires third { IfSome third (λ ready. IsBlankOf ready.blank C.name C.parts setting.agenda.connections × (ready.server.value.core.id ≡ C.server) × (own_count ready.server.value.core ≡ C.stored)) }
+    requires fourth { IfSome fourth (λ ready. IsBlankOf ready.blank E.name E.parts setting.agenda.connections × (ready.server.value.core.id ≡ E.server) × (own_count ready.server.value.core ≡ E.stored)) }
     ensures took { (text : List ℕ) × Takes (account W.contents output.old) (account W.contents output.new) text }
     ensures fault { IfErr result IsPhaseFault }
     ensures ended { IfErr result (EndsWriting output.new.channel.write_failed output.new.channel.turns_left) }
     ensures ready { OnOk result (output.old.channel.turns_left ≤ output.new.channel.turns_left) }
 {
-    let connections = setting.course.connections;
+    let connections = setting.agenda.connections;
     let Ok(first) = seat_of::<A>(alloc, connections, first) else {
-        return Err(Fault::Memory);
+        return Err(RunFault::Memory);
     };
     let Ok(second) = seat_of::<B>(alloc, connections, second) else {
-        return Err(Fault::Memory);
+        return Err(RunFault::Memory);
     };
     let Ok(third) = seat_of::<C>(alloc, connections, third) else {
-        return Err(Fault::Memory);
+        return Err(RunFault::Memory);
     };
     let Ok(fourth) = seat_of::<E>(alloc, connections, fourth) else {
-        return Err(Fault::Memory);
+        return Err(RunFault::Memory);
     };
     let fleet = FourServers {
         first,
@@ -311,7 +309,7 @@ fn run_servers<K, T, W>(
     alloc: Global,
     setting: Setting<K>,
     output: &mut Output<W>,
-) -> Result<Ended, Fault>
+) -> Result<Ended, RunFault>
 where
     K: Ledgers + Send + Sync,
     T: Threads + Wait + Sockets + Send + Sync,
@@ -322,7 +320,7 @@ where
     ensures ready { OnOk result (output.old.channel.turns_left ≤ output.new.channel.turns_left) }
 {
     let mut setting = setting;
-    let desks = setting.course.connections;
+    let desks = setting.agenda.connections;
     let first = next_ready(&mut setting.servers, desks);
     let second = next_ready(&mut setting.servers, desks);
     let third = next_ready(&mut setting.servers, desks);
@@ -333,10 +331,10 @@ where
 }
 
 /// How many connections each server is reached by at the most: one by each session, one by each pull, and one for the rest.
-fn connections_for(commands: &VecDeque<Command>) -> u32 {
+fn connections_for(commands: &VecDeque<NetworkCommand>) -> u32 {
     let mut connections: u32 = 1;
     for at in 0..commands.len() {
-        if let Part::Opens | Part::Pull = Part::of(&commands[at]) {
+        if let NetworkCommand::Session { .. } | NetworkCommand::Pull { .. } = &commands[at] {
             connections = connections.saturating_add(1);
         }
     }
@@ -344,15 +342,15 @@ fn connections_for(commands: &VecDeque<Command>) -> u32 {
 }
 
 /// The sessions whose shares these are, none of which is open.
-fn members_of<K: Ledgers>(
+fn sessions_of<K: Ledgers>(
     alloc: Global,
     shares: Vec<Share<K>>,
-) -> Result<Vec<Member<K>>, AllocError> {
-    let mut members = Vec::with_capacity(alloc, shares.len())?;
+) -> Result<Vec<RunSession<K>>, AllocError> {
+    let mut sessions = Vec::with_capacity(alloc, shares.len())?;
     for share in shares {
-        members.push(Member::Absent(share))?;
+        sessions.push(RunSession::Unopened(share))?;
     }
-    Ok(members)
+    Ok(sessions)
 }
 
 /// Runs the script over these servers, with a book of what is served, and a ledger for each of its four totals.
@@ -362,9 +360,9 @@ fn run_booked<S, R, U, V, T, W>(
     alloc: Global,
     blanks: Blanks,
     servers: VecDeque<Box<Journaled>>,
-    script: Script,
+    script: NetworkScript,
     output: &mut Output<W>,
-) -> Result<Ended, Fault>
+) -> Result<Ended, RunFault>
 where
     S: Ledger + Send + Sync,
     R: Ledger + Send + Sync,
@@ -385,20 +383,20 @@ where
         SESSIONS as u8,
         places,
     ) else {
-        return Err(Fault::Memory);
+        return Err(RunFault::Memory);
     };
-    let Ok(members) = members_of(alloc, shares) else {
-        return Err(Fault::Memory);
+    let Ok(sessions) = sessions_of(alloc, shares) else {
+        return Err(RunFault::Memory);
     };
-    let course = Course {
+    let agenda = Agenda {
         servers: script.servers,
         connections: connections_for(&script.commands),
         commands: script.commands,
-        members,
+        sessions,
     };
     let setting = Setting {
         book,
-        course,
+        agenda,
         servers,
     };
     run_servers(rt, alloc, setting, output)
@@ -411,9 +409,9 @@ pub fn run_on_sockets<T, W>(
     rt: &T,
     alloc: Global,
     folder: &str,
-    script: Script,
+    script: NetworkScript,
     output: &mut Output<W>,
-) -> Result<Ended, Fault>
+) -> Result<Ended, RunFault>
 where
     T: Threads + Wait + Files<File = File> + Sockets + Send + Sync,
     W: Write,

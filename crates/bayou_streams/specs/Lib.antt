@@ -1,5 +1,6 @@
 pub mod Account
 pub mod Inner
+pub mod Laws
 pub mod Lines
 pub mod Turns
 pub mod Written

@@ -6,8 +6,19 @@ use Rattle.bayou_lang.specs.declared.program.Program.{Program}
 use Rattle.bayou_lang.specs.declared.write.Write.{Write}
 use Rattle.bayou_text.specs.declared.audit.AuditLine.{AuditLine}
 use Rattle.bayou_text.specs.declared.audit.AuditLine.TheVariants as audit
+use Rattle.bayou_text.specs.declared.command.Attempt.{Attempt}
+use Rattle.bayou_text.specs.declared.command.Attempt.TheVariants as attempt
 use Rattle.bayou_text.specs.declared.command.Command.{Command}
 use Rattle.bayou_text.specs.declared.command.Command.TheVariants as command
+use Rattle.bayou_text.specs.declared.command.Exchange.{Exchange}
+use Rattle.bayou_text.specs.declared.command.Extent.{Extent}
+use Rattle.bayou_text.specs.declared.command.Extent.TheVariants as extent
+use Rattle.bayou_text.specs.declared.command.Operation.{Operation}
+use Rattle.bayou_text.specs.declared.command.Question.{Question}
+use Rattle.bayou_text.specs.declared.command.Question.TheVariants as question
+use Rattle.bayou_text.specs.declared.command.Trial.{Trial}
+use Rattle.bayou_text.specs.declared.command.TrialKind.{TrialKind}
+use Rattle.bayou_text.specs.declared.command.TrialKind.TheVariants as kind
 use Rattle.bayou_text.specs.declared.line.Line.{Line}
 use Rattle.bayou_text.specs.declared.line.Line.TheVariants as line
 
@@ -32,22 +43,47 @@ pub data Said : Type 0 where
   entry : Entry → Option ℕ → Said
   held : ℕ → Write → ℕ → Said
 
--- what a command says
+-- what this session tries at this server
+abbrev pub attempt_said : ℕ → ℕ → Attempt → Said
+attempt_said who place (attempt.Write program) = write who place program
+attempt_said who place (attempt.Read key) = read who place key
+
+abbrev pub operation_said : Operation → Said
+operation_said operation = attempt_said operation.session.index operation.server.index operation.attempt
+
+-- what this server is put through
+abbrev pub trial_kind_said : ℕ → TrialKind → Said
+trial_kind_said place (kind.Fuse failure) = fuse place failure.calls failure.kept
+trial_kind_said place (kind.Lose count) = lose place count
+trial_kind_said place kind.Reopen = reopen place
+trial_kind_said place kind.Restart = restart place
+
+abbrev pub trial_said : Trial → Said
+trial_said trial = trial_kind_said trial.server.index trial.kind
+
+-- how much the first of these servers takes from the other
+abbrev pub extent_said : ℕ → ℕ → Extent → Said
+extent_said to source (extent.Lacking cut) = pull to source cut
+extent_said to source extent.All = resend to source
+
+abbrev pub exchange_said : Exchange → Said
+exchange_said exchange = extent_said exchange.to.index exchange.from.index exchange.extent
+
+-- what is asked
+abbrev pub question_said : Question → Said
+question_said (question.Log place) = log place.index
+question_said question.Totals = totals
+question_said question.Judge = judge
+question_said question.Survey = survey
+question_said question.Book = book
+
+-- what a command says, by its kind
 abbrev pub command_said : Command → Said
 command_said (command.Session who asks) = session who.index asks
-command_said (command.Write who place program) = write who.index place.index program
-command_said (command.Read who place key) = read who.index place.index key
-command_said (command.Log place) = log place.index
-command_said (command.Fuse place failure) = fuse place.index failure.calls failure.kept
-command_said (command.Lose place count) = lose place.index count
-command_said (command.Reopen place) = reopen place.index
-command_said (command.Restart place) = restart place.index
-command_said (command.Pull to source cut) = pull to.index source.index cut
-command_said (command.Resend to source) = resend to.index source.index
-command_said command.Totals = totals
-command_said command.Judge = judge
-command_said command.Survey = survey
-command_said command.Book = book
+command_said (command.Operation operation) = operation_said operation
+command_said (command.Trial trial) = trial_said trial
+command_said (command.Exchange exchange) = exchange_said exchange
+command_said (command.Question question) = question_said question
 command_said command.Phase = phase
 
 -- what a line of an audit file says

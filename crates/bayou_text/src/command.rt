@@ -17,57 +17,81 @@ pub struct PlannedFailure {
 #[derive(Debug, Drop)]
 pub enum Command {
     /// Opens a session that asks for these guarantees.
-    Session {
-        session: SessionId,
-        asks: Asks,
-    },
-    /// The session writes at the server.
-    Write {
-        session: SessionId,
-        server: ServerId,
-        program: RestingProgram,
-    },
-    /// The session reads the key at the server.
-    Read {
-        session: SessionId,
-        server: ServerId,
-        key: Key,
-    },
-    /// Lists the Writes that the server holds, with the outcome of each.
-    Log {
-        server: ServerId,
-    },
-    /// The server's device fails, once.
-    Fuse {
-        server: ServerId,
-        failure: PlannedFailure,
-    },
-    /// The server's device loses its last bytes.
-    Lose {
-        server: ServerId,
-        /// How many bytes.
-        count: usize,
-    },
-    /// A server that is down takes its journal up again.
-    Reopen {
-        server: ServerId,
-    },
-    /// The server is stopped, and started again on its device.
-    Restart {
-        server: ServerId,
-    },
-    /// The server `to` takes what it lacks of the Writes that the server `from` holds.
-    Pull {
-        to: ServerId,
-        from: ServerId,
+    Session { session: SessionId, asks: Asks },
+    /// A session tries to write or to read at a server.
+    Operation(Operation),
+    /// What a server's device, or its journal, is put through.
+    Trial(Trial),
+    /// A server is to take Writes from another.
+    Exchange(Exchange),
+    /// Something is asked, which changes nothing.
+    Question(Question),
+    /// A phase ends. A run in one process has none: there it changes nothing and tells nothing.
+    Phase,
+}
+
+/// What a session tries at a server.
+#[derive(Debug, Drop)]
+pub struct Operation {
+    pub session: SessionId,
+    pub server: ServerId,
+    pub attempt: Attempt,
+}
+
+/// What is tried.
+#[derive(Debug, Drop)]
+pub enum Attempt {
+    /// It writes.
+    Write(RestingProgram),
+    /// It reads the key.
+    Read(Key),
+}
+
+/// What a server is put through.
+#[derive(Clone, Copy, Debug, PartialEq, Eq)]
+pub struct Trial {
+    pub server: ServerId,
+    pub kind: TrialKind,
+}
+
+/// How a server is tried.
+#[derive(Clone, Copy, Debug, PartialEq, Eq)]
+pub enum TrialKind {
+    /// Its device fails, once.
+    Fuse(PlannedFailure),
+    /// Its device loses so many of its last bytes.
+    Lose(usize),
+    /// It takes its journal up again, if it is down.
+    Reopen,
+    /// It is stopped, and started again on its device.
+    Restart,
+}
+
+/// A server takes Writes from another.
+#[derive(Clone, Copy, Debug, PartialEq, Eq)]
+pub struct Exchange {
+    pub to: ServerId,
+    pub from: ServerId,
+    pub extent: Extent,
+}
+
+/// How much of what the other holds a server takes.
+#[derive(Clone, Copy, Debug, PartialEq, Eq)]
+pub enum Extent {
+    /// What it lacks.
+    Lacking {
         /// After how many Writes the stream is cut, if it is.
         cut: Option<u32>,
     },
-    /// The server `to` is sent all the Writes that the server `from` holds.
-    Resend {
-        to: ServerId,
-        from: ServerId,
-    },
+    /// All that the other holds.
+    All,
+}
+
+/// What is asked.
+#[derive(Clone, Copy, Debug, PartialEq, Eq)]
+pub enum Question {
+    /// The Writes that the server holds, with the outcome of each.
+    Log(ServerId),
     /// The numbers of reads, Writes and refusals that were filed so far, and of slips that are out.
     Totals,
     /// Whether some session wasn't given what it asked for: the first entry that shows it, among those filed so far.
@@ -76,6 +100,4 @@ pub enum Command {
     Survey,
     /// The audit file of what was filed so far, and of what the servers hold.
     Book,
-    /// A phase ends. A run in one process has none: there it changes nothing and tells nothing.
-    Phase,
 }

@@ -6,7 +6,7 @@ ghost use Rattle.bayou_text.specs.Lines as grammar;
 ghost use Rattle.bayou_text.specs.Lines.{IsRefusalOf};
 ghost use Rattle.bayou_text.specs.Table.{Spells};
 
-use crate::command::Command;
+use crate::command::{Attempt, Command, Operation, Question};
 use crate::line::{Line, LineFault, Shape};
 use crate::read::asks::asks_in;
 use crate::read::audit::{entry_in, held_in};
@@ -97,9 +97,7 @@ fn command_in(alloc: Global, word: &str, parts: &[Value]) -> Result<Line, LineFa
         return reading_in(parts);
     }
     if word == "log" {
-        return Ok(Line::Command(Command::Log {
-            server: alone_in(parts)?,
-        }));
+        return Ok(Line::Command(Command::Question(Question::Log(alone_in(parts)?))));
     }
     exchange_in(word, parts)
 }
@@ -141,11 +139,11 @@ fn writing_in(alloc: Global, parts: &[Value]) -> Result<Line, LineFault>
     let [session, server, program] = parts else {
         return Err(LineFault::BadShape(Shape::Arity));
     };
-    Ok(Line::Command(Command::Write {
+    Ok(Line::Command(Command::Operation(Operation {
         session: session_in(session)?,
         server: server_in(server)?,
-        program: program_in(alloc, program)?,
-    }))
+        attempt: Attempt::Write(program_in(alloc, program)?),
+    })))
 }
 
 #[tactic(auto, unfolding(crate::specs::Lines::reading_in))]
@@ -155,11 +153,11 @@ fn reading_in(parts: &[Value]) -> Result<Line, LineFault>
     let [session, server, key] = parts else {
         return Err(LineFault::BadShape(Shape::Arity));
     };
-    Ok(Line::Command(Command::Read {
+    Ok(Line::Command(Command::Operation(Operation {
         session: session_in(session)?,
         server: server_in(server)?,
-        key: key_in(key)?,
-    }))
+        attempt: Attempt::Read(key_in(key)?),
+    })))
 }
 
 /// The server that a command takes alone.

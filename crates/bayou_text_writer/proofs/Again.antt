@@ -28,7 +28,16 @@ use Rattle.bayou_lang.specs.declared.write.Write.{Write}
 use Rattle.bayou_lang.specs.declared.program.ProgramFault.{ProgramFault}
 use Rattle.bayou_lang.specs.declared.program.ProgramFault.TheVariants.{TooManyConds, TooManyOps, TooManyAlts}
 use Rattle.bayou_text.specs.declared.audit.AuditLine.TheVariants as audit
+use Rattle.bayou_text.specs.declared.command.Attempt.{Attempt}
+use Rattle.bayou_text.specs.declared.command.Attempt.TheVariants as attempt
+use Rattle.bayou_text.specs.declared.command.Command.{Command}
 use Rattle.bayou_text.specs.declared.command.Command.TheVariants as command
+use Rattle.bayou_text.specs.declared.command.Extent.{Extent}
+use Rattle.bayou_text.specs.declared.command.Extent.TheVariants as extent
+use Rattle.bayou_text.specs.declared.command.Question.{Question}
+use Rattle.bayou_text.specs.declared.command.Question.TheVariants as question
+use Rattle.bayou_text.specs.declared.command.TrialKind.{TrialKind}
+use Rattle.bayou_text.specs.declared.command.TrialKind.TheVariants as kind
 use Rattle.bayou_text.specs.declared.line.Line.{Line}
 use Rattle.bayou_text.specs.declared.line.Line.TheVariants as line
 use Rattle.bayou_text.proofs.LineTable.{line_read}
@@ -42,9 +51,9 @@ use Rattle.bayou_text.specs.Parts.{named_in, keyed_in, term_in, op_in, cond_in}
 use Rattle.bayou_text.specs.Programs.{few_in, alt_in, program_in}
 use Rattle.bayou_lang.specs.Ranges.{IsKey, IsValue, IsTerm, IsOp, IsCond, AreAtMost, IsAlt, IsProgram, IsWrite}
 use Rattle.bayou_text.specs.Ranges.{IsCutTo, IsToldBy, IsReadable}
-use Rattle.bayou_text_writer.specs.Inner.Kept.{IsWhat, IsLine}
+use Rattle.bayou_text_writer.specs.Inner.Kept.{IsAttempt, IsCommand, IsLine, IsTrialKind, IsWhat}
 use Rattle.bayou_text.specs.Reading.{Parsed, listed, all_in}
-use Rattle.bayou_text.specs.Said.{entry, held, said}
+use Rattle.bayou_text.specs.Said.{attempt_said, command_said, entry, extent_said, held, question_said, said, trial_kind_said}
 use Rattle.bayou_text.specs.Table.{EntryIs, ToldIs, HeldIs}
 use Rattle.bayou_text.specs.Spelling.{count_json, value_json, term_json, op_json, cond_json, alt_json, program_json, asks_json, vector_json, head_json, told_json, held_json, line_json}
 use Rattle.bayou_text.specs.Values.{key_in, value_in}
@@ -212,8 +221,59 @@ held_spelled place item n kept cut = record {
   program_is = program_found (program_json item.program) item.program (program_again item.program kept.1);
 }
 
+-- ---- commands
+
+operation_again : (who : SessionId) (place : ServerId) (tried : Attempt) → IsAttempt tried
+    → line_in (line_json (attempt_said who.index place.index tried)) ≡ Ok (attempt_said who.index place.index tried)
+unfolding line_in writing_in reading_in
+operation_again who place (attempt.Write program) kept = rw (session_again who, server_again place, program_again program kept)
+operation_again who place (attempt.Read key) kept = rw (session_again who, server_again place, key_again key kept)
+
+trial_again : (place : ServerId) (how : TrialKind) → IsTrialKind how → IsReadable (trial_kind_said place.index how)
+    → line_in (line_json (trial_kind_said place.index how)) ≡ Ok (trial_kind_said place.index how)
+unfolding line_in alone_in fusing_in losing_in trial_of asked_of exchange_of
+trial_again place (kind.Fuse failure) fits readable = rw (
+  server_again place,
+  number_again 1 MAX_FUSE_CALLS failure.calls readable.0.0 readable.0.1,
+  number_again 0 MAX_FUSE_KEPT failure.kept (omega arith) readable.1,
+)
+trial_again place (kind.Lose count) fits readable = rw (
+  server_again place,
+  number_again 0 MAX_LOST_BYTES count (omega arith) readable,
+)
+trial_again place kind.Reopen kept readable = rw (server_again place)
+trial_again place kind.Restart kept readable = rw (server_again place)
+
+exchange_again : (to source : ServerId) (much : Extent) → IsReadable (extent_said to.index source.index much)
+    → line_in (line_json (extent_said to.index source.index much)) ≡ Ok (extent_said to.index source.index much)
+unfolding line_in pulling_in resending_in exchange_of
+exchange_again to source (extent.Lacking None) readable = rw (server_again to, server_again source)
+exchange_again to source (extent.Lacking (Some items)) readable = rw (
+  server_again to,
+  server_again source,
+  number_again 0 MAX_WRITES items (omega arith) readable,
+)
+exchange_again to source extent.All readable = rw (server_again to, server_again source)
+
+question_again : (what : Question) → line_in (line_json (question_said what)) ≡ Ok (question_said what)
+unfolding line_in alone_in bare_in asked_of exchange_of
+question_again (question.Log place) = rw (server_again place)
+question_again question.Totals = refl
+question_again question.Judge = refl
+question_again question.Survey = refl
+question_again question.Book = refl
+
+command_again : (asked : Command) → IsCommand asked → IsReadable (command_said asked) → line_in (line_json (command_said asked)) ≡ Ok (command_said asked)
+unfolding line_in opening_in bare_in asked_of exchange_of
+command_again (command.Session who asks) kept readable = rw (session_again who, asks_again asks)
+command_again (command.Operation operation) kept readable = operation_again operation.session operation.server operation.attempt kept
+command_again (command.Trial trial) kept readable = trial_again trial.server trial.kind kept readable
+command_again (command.Exchange exchange) kept readable = exchange_again exchange.to exchange.from exchange.extent readable
+command_again (command.Question what) kept readable = question_again what
+command_again command.Phase kept readable = refl
+
 pub line_again : (l : Line) → IsLine l → IsReadable (said l) → line_in (line_json (said l)) ≡ Ok (said l)
-unfolding line_in servers_in opening_in writing_in reading_in alone_in fusing_in losing_in trial_of bare_in asked_of pulling_in resending_in exchange_of
+unfolding line_in servers_in
 line_again (line.Servers count None) kept readable = rw (
     number_again 1 SERVERS count readable.0.0 readable.0.1
     )
@@ -221,34 +281,7 @@ line_again (line.Servers count (Some limit)) kept readable = rw (
   number_again 1 SERVERS count readable.0.0 readable.0.1,
   number_again 1 MAX_WRITES limit readable.1.0 readable.1.1,
 )
-line_again (line.Command (command.Session who asks)) kept readable = rw (session_again who, asks_again asks)
-line_again (line.Command (command.Write who place program)) kept readable =
-    rw (session_again who, server_again place, program_again program kept)
-line_again (line.Command (command.Read who place key)) kept readable = rw (session_again who, server_again place, key_again key kept)
-line_again (line.Command (command.Log place)) kept readable = rw (server_again place)
-line_again (line.Command (command.Fuse place failure)) fits readable = rw (
-  server_again place,
-  number_again 1 MAX_FUSE_CALLS failure.calls readable.0.0 readable.0.1,
-  number_again 0 MAX_FUSE_KEPT failure.kept (omega arith) readable.1,
-)
-line_again (line.Command (command.Lose place count)) fits readable = rw (
-  server_again place,
-  number_again 0 MAX_LOST_BYTES count (omega arith) readable,
-)
-line_again (line.Command (command.Reopen place)) kept readable = rw (server_again place)
-line_again (line.Command (command.Restart place)) kept readable = rw (server_again place)
-line_again (line.Command (command.Pull to source None)) kept readable = rw (server_again to, server_again source)
-line_again (line.Command (command.Pull to source (Some items))) kept readable = rw (
-  server_again to,
-  server_again source,
-  number_again 0 MAX_WRITES items (omega arith) readable,
-)
-line_again (line.Command (command.Resend to source)) kept readable = rw (server_again to, server_again source)
-line_again (line.Command command.Totals) kept readable = refl
-line_again (line.Command command.Judge) kept readable = refl
-line_again (line.Command command.Survey) kept readable = refl
-line_again (line.Command command.Book) kept readable = refl
-line_again (line.Command command.Phase) kept readable = refl
+line_again (line.Command asked) kept readable = command_again asked kept readable
 line_again (line.Audit (audit.Entry told counts)) kept readable =
     line_read (told_json told told.what (unwrap_or counts 0)) (entry told counts) (told_spelled told told.what counts kept.0 kept.1 readable)
 line_again (line.Audit (audit.Held place item n)) kept readable =

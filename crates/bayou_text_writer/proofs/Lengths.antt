@@ -15,6 +15,7 @@ use Rattle.bayou_base.specs.declared.entry.What.{What}
 use Rattle.bayou_base.specs.declared.entry.What.TheVariants as what
 use Rattle.bayou_base.specs.declared.limits.TheConstants.{MAX_KEY_BYTES, MAX_CONDITIONS, MAX_OPS, MAX_ALTERNATIVES, MAX_LINE_BYTES, MAX_WRITES}
 use Rattle.bayou_base.specs.declared.server.ServerId.{ServerId}
+use Rattle.bayou_base.specs.declared.session.SessionId.{SessionId}
 use Rattle.bayou_base.specs.declared.value.Value.{Value}
 use Rattle.bayou_base.specs.declared.value.Value.TheVariants.{Num, Text}
 use Rattle.bayou_lang.specs.declared.program.Term.{Term}
@@ -29,12 +30,21 @@ use Rattle.bayou_lang.specs.declared.write.Write.{Write}
 use Rattle.std.specs.Int.{w64}
 use Rattle.std.specs.Int.RustNames.{FitsSigned}
 use Rattle.bayou_text.specs.declared.audit.AuditLine.TheVariants as audit
+use Rattle.bayou_text.specs.declared.command.Attempt.{Attempt}
+use Rattle.bayou_text.specs.declared.command.Attempt.TheVariants as attempt
+use Rattle.bayou_text.specs.declared.command.Command.{Command}
 use Rattle.bayou_text.specs.declared.command.Command.TheVariants as command
+use Rattle.bayou_text.specs.declared.command.Extent.{Extent}
+use Rattle.bayou_text.specs.declared.command.Extent.TheVariants as extent
+use Rattle.bayou_text.specs.declared.command.Question.{Question}
+use Rattle.bayou_text.specs.declared.command.Question.TheVariants as question
+use Rattle.bayou_text.specs.declared.command.TrialKind.{TrialKind}
+use Rattle.bayou_text.specs.declared.command.TrialKind.TheVariants as kind
 use Rattle.bayou_text.specs.declared.line.Line.{Line}
 use Rattle.bayou_text.specs.declared.line.Line.TheVariants as line
 use Rattle.bayou_lang.specs.Ranges.{IsKey, IsValue, IsTerm, IsOp, IsCond, IsAlt, AreAtMost, IsProgram, IsWrite}
-use Rattle.bayou_text_writer.specs.Inner.Kept.{IsLine, IsWhat}
-use Rattle.bayou_text.specs.Said.{said}
+use Rattle.bayou_text_writer.specs.Inner.Kept.{IsAttempt, IsCommand, IsExtent, IsLine, IsTrialKind, IsWhat}
+use Rattle.bayou_text.specs.Said.{attempt_said, command_said, extent_said, question_said, said, trial_kind_said}
 use Rattle.bayou_text_writer.proofs.Vectors.{taken}
 use Rattle.bayou_text.specs.Spelling.{form, count_json, value_json, term_json, op_json, cond_json, alt_json, program_json, asks_json, list_json, vector_json, head_json, told_json, write_json, line_json}
 
@@ -289,6 +299,90 @@ told_size told (what.Write wid stamp deps) n place kept =
     let brief = head_brief told (codes "write") others place (lit≤ tt) last in
     omega (arith, brief_size (head_json told (codes "write") ++ others) brief)
 
+-- ---- commands
+
+operation_size : (who : SessionId) (place : ServerId) (tried : Attempt) → IsAttempt tried → size (line_json (attempt_said who.index place.index tried)) ≤ MAX_LINE_BYTES
+operation_size who place (attempt.Write program) kept =
+    omega (
+      arith,
+      form_three (codes "write") (count_json who.index) (count_json place.index) (program_json program),
+      count_size who.index (omega (arith, who.in_range)),
+      count_size place.index (omega (arith, place.in_range)),
+      program_size program kept,
+    )
+operation_size who place (attempt.Read key) kept =
+    omega (
+      arith,
+      form_three (codes "read") (count_json who.index) (count_json place.index) (string key),
+      count_size who.index (omega (arith, who.in_range)),
+      count_size place.index (omega (arith, place.in_range)),
+      key_size key kept,
+    )
+
+trial_size : (place : ServerId) (how : TrialKind) → IsTrialKind how → size (line_json (trial_kind_said place.index how)) ≤ MAX_LINE_BYTES
+trial_size place (kind.Fuse failure) fits =
+    omega (
+      arith,
+      form_three (codes "fuse") (count_json place.index) (count_json failure.calls) (count_json failure.kept),
+      count_size place.index (omega (arith, place.in_range)),
+      count_size failure.calls fits.0,
+      wide_size failure.kept fits.1,
+    )
+trial_size place (kind.Lose count) fits =
+    omega (
+      arith,
+      form_two (codes "lose") (count_json place.index) (count_json count),
+      count_size place.index (omega (arith, place.in_range)),
+      wide_size count fits,
+    )
+trial_size place kind.Reopen kept = server_size (codes "reopen") place (lit≤ tt)
+trial_size place kind.Restart kept = server_size (codes "restart") place (lit≤ tt)
+
+exchange_size : (to source : ServerId) (much : Extent) → IsExtent much → size (line_json (extent_said to.index source.index much)) ≤ MAX_LINE_BYTES
+exchange_size to source (extent.Lacking None) kept =
+    omega (
+      arith,
+      form_two (codes "pull") (count_json to.index) (count_json source.index),
+      count_size to.index (omega (arith, to.in_range)),
+      count_size source.index (omega (arith, source.in_range)),
+    )
+exchange_size to source (extent.Lacking (Some items)) kept =
+    omega (
+      arith,
+      form_three (codes "pull") (count_json to.index) (count_json source.index) (count_json items),
+      count_size to.index (omega (arith, to.in_range)),
+      count_size source.index (omega (arith, source.in_range)),
+      count_size items kept,
+    )
+exchange_size to source extent.All kept =
+    omega (
+      arith,
+      form_two (codes "resend") (count_json to.index) (count_json source.index),
+      count_size to.index (omega (arith, to.in_range)),
+      count_size source.index (omega (arith, source.in_range)),
+    )
+
+question_size : (what : Question) → size (line_json (question_said what)) ≤ MAX_LINE_BYTES
+question_size (question.Log place) = server_size (codes "log") place (lit≤ tt)
+question_size question.Totals = omega (arith, form_none (codes "totals"))
+question_size question.Judge = omega (arith, form_none (codes "judge"))
+question_size question.Survey = omega (arith, form_none (codes "survey"))
+question_size question.Book = omega (arith, form_none (codes "book"))
+
+command_size : (asked : Command) → IsCommand asked → size (line_json (command_said asked)) ≤ MAX_LINE_BYTES
+command_size (command.Session who asks) kept =
+    omega (
+      arith,
+      form_two (codes "session") (count_json who.index) (asks_json asks),
+      count_size who.index (omega (arith, who.in_range)),
+      asks_size asks,
+    )
+command_size (command.Operation operation) kept = operation_size operation.session operation.server operation.attempt kept
+command_size (command.Trial trial) kept = trial_size trial.server trial.kind kept
+command_size (command.Exchange exchange) kept = exchange_size exchange.to exchange.from exchange.extent kept
+command_size (command.Question what) kept = question_size what
+command_size command.Phase kept = omega (arith, form_none (codes "phase"))
+
 -- no line that is written is too long to be read
 pub line_size : (l : Line) → IsLine l → size (line_json (said l)) ≤ MAX_LINE_BYTES
 line_size (line.Servers count None) kept = omega (
@@ -303,74 +397,7 @@ line_size (line.Servers count (Some limit)) kept =
       count_size count kept.0,
       count_size limit kept.1,
     )
-line_size (line.Command (command.Session who asks)) kept =
-    omega (
-      arith,
-      form_two (codes "session") (count_json who.index) (asks_json asks),
-      count_size who.index (omega (arith, who.in_range)),
-      asks_size asks,
-    )
-line_size (line.Command (command.Write who place program)) kept =
-    omega (
-      arith,
-      form_three (codes "write") (count_json who.index) (count_json place.index) (program_json program),
-      count_size who.index (omega (arith, who.in_range)),
-      count_size place.index (omega (arith, place.in_range)),
-      program_size program kept,
-    )
-line_size (line.Command (command.Read who place key)) kept =
-    omega (
-      arith,
-      form_three (codes "read") (count_json who.index) (count_json place.index) (string key),
-      count_size who.index (omega (arith, who.in_range)),
-      count_size place.index (omega (arith, place.in_range)),
-      key_size key kept,
-    )
-line_size (line.Command (command.Log place)) kept = server_size (codes "log") place (lit≤ tt)
-line_size (line.Command (command.Fuse place failure)) fits =
-    omega (
-      arith,
-      form_three (codes "fuse") (count_json place.index) (count_json failure.calls) (count_json failure.kept),
-      count_size place.index (omega (arith, place.in_range)),
-      count_size failure.calls fits.0,
-      wide_size failure.kept fits.1,
-    )
-line_size (line.Command (command.Lose place count)) fits =
-    omega (
-      arith,
-      form_two (codes "lose") (count_json place.index) (count_json count),
-      count_size place.index (omega (arith, place.in_range)),
-      wide_size count fits,
-    )
-line_size (line.Command (command.Reopen place)) kept = server_size (codes "reopen") place (lit≤ tt)
-line_size (line.Command (command.Restart place)) kept = server_size (codes "restart") place (lit≤ tt)
-line_size (line.Command (command.Pull to source None)) kept =
-    omega (
-      arith,
-      form_two (codes "pull") (count_json to.index) (count_json source.index),
-      count_size to.index (omega (arith, to.in_range)),
-      count_size source.index (omega (arith, source.in_range)),
-    )
-line_size (line.Command (command.Pull to source (Some items))) kept =
-    omega (
-      arith,
-      form_three (codes "pull") (count_json to.index) (count_json source.index) (count_json items),
-      count_size to.index (omega (arith, to.in_range)),
-      count_size source.index (omega (arith, source.in_range)),
-      count_size items kept,
-    )
-line_size (line.Command (command.Resend to source)) kept =
-    omega (
-      arith,
-      form_two (codes "resend") (count_json to.index) (count_json source.index),
-      count_size to.index (omega (arith, to.in_range)),
-      count_size source.index (omega (arith, source.in_range)),
-    )
-line_size (line.Command command.Totals) kept = omega (arith, form_none (codes "totals"))
-line_size (line.Command command.Judge) kept = omega (arith, form_none (codes "judge"))
-line_size (line.Command command.Survey) kept = omega (arith, form_none (codes "survey"))
-line_size (line.Command command.Book) kept = omega (arith, form_none (codes "book"))
-line_size (line.Command command.Phase) kept = omega (arith, form_none (codes "phase"))
+line_size (line.Command asked) kept = command_size asked kept
 line_size (line.Audit (audit.Entry told counts)) kept = told_size told told.what (unwrap_or counts 0) kept.0 kept.1
 line_size (line.Audit (audit.Held place item counts)) kept =
     omega (

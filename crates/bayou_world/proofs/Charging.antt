@@ -23,12 +23,12 @@ use Rattle.bayou_server.specs.Server.{ServerState}
 use Rattle.bayou_server.specs.Starts.{FailsToStart}
 use Rattle.bayou_server.specs.Stored.{ReopensJournal, StoresTaken, StoresWrite}
 use Rattle.bayou_world.specs.declared.event.Event.{Event}
-use Rattle.bayou_world.specs.declared.replica.Replica.{Replica}
+use Rattle.bayou_world.specs.declared.world_server.WorldServer.{WorldServer}
 use Rattle.bayou_world.specs.declared.reply.Reply.{Reply}
 use Rattle.bayou_world.specs.declared.reply.Reply.TheVariants as replies
 use Rattle.bayou_world.specs.Faults.{AreFused, is_of, number_at, tells_fault, tells_fuse}
 use Rattle.bayou_world.specs.Inner.Charges.{AreAmple, AreCharged, AreSpent, IsCharged, Spends, SpendsAt, one_if}
-use Rattle.bayou_world.specs.Inner.Replicas.{device_of}
+use Rattle.bayou_world.specs.Inner.WorldServers.{device_of}
 
 -- ---- of one device
 
@@ -102,7 +102,7 @@ start_spends id count limit old left starting.OutOfMemory calls (inr (bodies, op
 
 -- ---- of all servers
 
-pub none_spent : (servers : List Replica) (place : ℕ) → AreSpent place false false servers servers
+pub none_spent : (servers : List WorldServer) (place : ℕ) → AreSpent place false false servers servers
 none_spent servers place = record {
   many = refl;
   each = λ other d within. elim (other == place) as (λ t. Spends (cond t false false) (cond t false false) (device_of (get_or servers other d)) (device_of (get_or servers other d))) [
@@ -111,7 +111,7 @@ none_spent servers place = record {
   ];
 }
 
-pub one_spent : (servers : List Replica) (place : ℕ) (fault fused : Bool) (old new : Replica) → place < length servers → get_or servers place old ≡ old → Spends fault fused (device_of old) (device_of new)
+pub one_spent : (servers : List WorldServer) (place : ℕ) (fault fused : Bool) (old new : WorldServer) → place < length servers → get_or servers place old ≡ old → Spends fault fused (device_of old) (device_of new)
     → AreSpent place fault fused servers (set servers place new)
 one_spent servers place fault fused old new known stands spends = record {
   many = length-set servers place new;
@@ -131,7 +131,7 @@ one_spent servers place fault fused old new known stands spends = record {
 }
 
 -- an event of one server
-pub spent_as : (event : Event) (place : ℕ) (reply : Reply) (old new : List Replica) → ((other : ℕ) → is_of other event ≡ (other == place)) → AreSpent place (tells_fault reply) (tells_fuse reply) old new
+pub spent_as : (event : Event) (place : ℕ) (reply : Reply) (old new : List WorldServer) → ((other : ℕ) → is_of other event ≡ (other == place)) → AreSpent place (tells_fault reply) (tells_fuse reply) old new
     → SpendsAt event reply old new
 spent_as event place reply old new is spent = record {
   many = spent.many;
@@ -140,7 +140,7 @@ spent_as event place reply old new is spent = record {
 }
 
 -- an event that is of no server alone
-pub beside_spent : (event : Event) (reply : Reply) (old new : List Replica) → ((place : ℕ) → is_of place event ≡ false) → new ≡ old → SpendsAt event reply old new
+pub beside_spent : (event : Event) (reply : Reply) (old new : List WorldServer) → ((place : ℕ) → is_of place event ≡ false) → new ≡ old → SpendsAt event reply old new
 beside_spent event reply old new none same = subst (SpendsAt event reply old) (sym same) (record {
   many = refl;
   each = λ other d within.
@@ -178,7 +178,7 @@ as_one true true = refl
 as_one true false = refl
 as_one false b = refl
 
-pub charged_more : (many : ℕ) (events : List Event) (told : List Reply) (event : Event) (reply : Reply) (old new : List Replica) → length told < greatest_count
+pub charged_more : (many : ℕ) (events : List Event) (told : List Reply) (event : Event) (reply : Reply) (old new : List WorldServer) → length told < greatest_count
     → AreCharged many events told old → SpendsAt event reply old new → AreCharged many (events ++ event ∷ []) (told ++ reply ∷ []) new
 charged_more many events told event reply old new few charged spent = record {
   as_many = omega (arith, same, length-append events (event ∷ []), length-append told (reply ∷ []));
@@ -207,7 +207,7 @@ charged_more many events told event reply old new few charged spent = record {
     same : length events ≡ length told
     same = charged.as_many
 
-    now_at : (place : ℕ) (d : Replica) → place < many
+    now_at : (place : ℕ) (d : WorldServer) → place < many
         → IsCharged (number_at tells_fault place (events ++ event ∷ []) (told ++ reply ∷ [])) (number_at tells_fuse place (events ++ event ∷ []) (told ++ reply ∷ [])) (device_of (get_or new place d))
     now_at place d within =
         let was = charged.now place d within in
@@ -223,13 +223,13 @@ charged_more many events told event reply old new few charged spent = record {
           fuses = omega (arith, spends.fuses, was.fuses, fused, fuses);
         }
 
-pub charged_step : (many : ℕ) (events : List Event) (at : ℕ) (told : List Reply) (event : Event) (reply : Reply) (old new : List Replica) → at < length events → event ≡ get_or events at event
+pub charged_step : (many : ℕ) (events : List Event) (at : ℕ) (told : List Reply) (event : Event) (reply : Reply) (old new : List WorldServer) → at < length events → event ≡ get_or events at event
     → length told < greatest_count → AreCharged many (take at events) told old → SpendsAt event reply old new → AreCharged many (take (at + 1) events) (told ++ reply ∷ []) new
 charged_step many events at told event reply old new inside is few charged spent =
     let longer : take (at + 1) events ≡ take at events ++ event ∷ [] = take_more events at event inside ∙ ap (λ e. take at events ++ e ∷ []) (sym is) in
     subst (λ list. AreCharged many list (told ++ reply ∷ []) new) (sym longer) (charged_more many (take at events) told event reply old new few charged spent)
 
-pub fused : (many : ℕ) (events : List Event) (told : List Reply) (servers : List Replica) → AreCharged many events told servers → AreAmple servers → AreFused many events told
+pub fused : (many : ℕ) (events : List Event) (told : List Reply) (servers : List WorldServer) → AreCharged many events told servers → AreAmple servers → AreFused many events told
 fused many events [] servers charged ample = λ place at within. none_told place at
   where
     none_told : (place at : ℕ) → number_at tells_fault place (take at events) (take at []) ≤ number_at tells_fuse place (take at events) (take at [])
@@ -237,7 +237,7 @@ fused many events [] servers charged ample = λ place at within. none_told place
     none_told place (suc at) = omega (arith, number_most tells_fault place (take (suc at) events) [])
 fused many events (reply ∷ told) servers charged ample = λ place at within. at_place servers place at within charged ample
   where
-    at_place : (list : List Replica) (place at : ℕ) → place < many → AreCharged many events (reply ∷ told) list → AreAmple list
+    at_place : (list : List WorldServer) (place at : ℕ) → place < many → AreCharged many events (reply ∷ told) list → AreAmple list
         → number_at tells_fault place (take at events) (take at (reply ∷ told)) ≤ number_at tells_fuse place (take at events) (take at (reply ∷ told))
     at_place [] place at inside is none = absurd (omega (arith, inside, is.length_is))
     at_place (d ∷ list) place at inside is none =

@@ -18,10 +18,10 @@ use Rattle.bayou_world.specs.declared.event.Event.{Event}
 use Rattle.bayou_world.specs.declared.event.Event.TheVariants as events
 use Rattle.bayou_world.specs.declared.reply.Reply.{Reply}
 use Rattle.bayou_world.specs.declared.reply.Reply.TheVariants as replies
-use Rattle.bayou_world.specs.Inner.Good.{IsGood}
+use Rattle.bayou_world.specs.Inner.Good.{IsGoodMachine}
 use Rattle.bayou_world.specs.Machine.{IsWithin, Machine, Made, Offered, ServerSets, names, writes}
 use Rattle.bayou_world.specs.Runs.{Run}
-use Rattle.bayou_world.specs.Steps.{AreLacking, Collects, Delivers, Files, Fuses, Holds, Loses, Offers, Reads, RefusesItem, Reopens, Restarts, Step, Takes, Writes}
+use Rattle.bayou_world.specs.Steps.{AreLacking, CollectStep, DeliverStep, FileStep, FuseStep, HoldsName, LoseStep, OfferStep, ReadStep, RefusesItem, ReopenStep, RestartStep, Step, TakeStep, WriteStep}
 use Rattle.bayou_world.proofs.Growing.{HaveGrown, grown_by_doubt, grown_by_recovery, grown_by_stop, grown_by_write}
 use Rattle.bayou_world.proofs.Homes.{fitting_at, home_of_held, past_is_before, past_is_had}
 use Rattle.bayou_world.proofs.Lists.{Contains-map, Contains-map_from}
@@ -48,59 +48,59 @@ stays old new is same servers items = subst (HasGrown old) (sym same) (record {
 grows : (old new is : Machine) → new ≡ is → HaveGrown old.servers is.servers → is.items ≡ old.items → HasGrown old new
 grows old new is same servers items = subst (HasGrown old) (sym same) (record { servers = servers; items = ([], items ∙ sym (append-nil old.items)) })
 
-grown_by_read : (old : Machine) (who place : ℕ) (key : List ℕ) (reply : Reply) (new : Machine) → Reads old who place key reply new → HasGrown old new
-grown_by_read old who place key reply new (Reads.skipped cannot is same) = same_grown old new same
-grown_by_read old who place key reply new (Reads.behind session entry may not_may is entry_is same) = stays old new _ same refl refl
-grown_by_read old who place key reply new (Reads.served session entry seen may covered value vector is entry_is same) = stays old new _ same refl refl
+grown_by_read : (old : Machine) (who place : ℕ) (key : List ℕ) (reply : Reply) (new : Machine) → ReadStep old who place key reply new → HasGrown old new
+grown_by_read old who place key reply new (ReadStep.skipped cannot is same) = same_grown old new same
+grown_by_read old who place key reply new (ReadStep.behind session entry may not_may is entry_is same) = stays old new _ same refl refl
+grown_by_read old who place key reply new (ReadStep.served session entry seen may covered value vector is entry_is same) = stays old new _ same refl refl
 
-grown_by_program : (old : Machine) (who place : ℕ) (program : Program) (reply : Reply) (new : Machine) → Writes old who place program reply new → HasGrown old new
-grown_by_program old who place program reply new (Writes.skipped cannot is same) = same_grown old new same
-grown_by_program old who place program reply new (Writes.refused session entry fault may refused is entry_is same) = stays old new _ same refl refl
-grown_by_program old who place program reply new (Writes.doubted session entry made may makes is entry_is same) = grows old new _ same (grown_by_doubt old.servers place made) refl
-grown_by_program old who place program reply new (Writes.accepted session entry made accepted may makes told_is is entry_is same) = grows old new _ same (grown_by_write old.servers place made) refl
+grown_by_program : (old : Machine) (who place : ℕ) (program : Program) (reply : Reply) (new : Machine) → WriteStep old who place program reply new → HasGrown old new
+grown_by_program old who place program reply new (WriteStep.skipped cannot is same) = same_grown old new same
+grown_by_program old who place program reply new (WriteStep.refused session entry fault may refused is entry_is same) = stays old new _ same refl refl
+grown_by_program old who place program reply new (WriteStep.doubted session entry made may makes is entry_is same) = grows old new _ same (grown_by_doubt old.servers place made) refl
+grown_by_program old who place program reply new (WriteStep.accepted session entry made accepted may makes told_is is entry_is same) = grows old new _ same (grown_by_write old.servers place made) refl
 
-grown_by_delivery : (old : Machine) (who : ℕ) (reply : Reply) (new : Machine) → Delivers old who reply new → HasGrown old new
-grown_by_delivery old who reply new (Delivers.skipped none is same) = same_grown old new same
-grown_by_delivery old who reply new (Delivers.delivered session answered flies is same) = stays old new _ same refl refl
+grown_by_delivery : (old : Machine) (who : ℕ) (reply : Reply) (new : Machine) → DeliverStep old who reply new → HasGrown old new
+grown_by_delivery old who reply new (DeliverStep.skipped none is same) = same_grown old new same
+grown_by_delivery old who reply new (DeliverStep.delivered session answered flies is same) = stays old new _ same refl refl
 
-grown_by_loss : (old : Machine) (who : ℕ) (reply : Reply) (new : Machine) → Loses old who reply new → HasGrown old new
-grown_by_loss old who reply new (Loses.skipped none is same) = same_grown old new same
-grown_by_loss old who reply new (Loses.dropped session answered flies is same) = stays old new _ same refl refl
+grown_by_loss : (old : Machine) (who : ℕ) (reply : Reply) (new : Machine) → LoseStep old who reply new → HasGrown old new
+grown_by_loss old who reply new (LoseStep.skipped none is same) = same_grown old new same
+grown_by_loss old who reply new (LoseStep.dropped session answered flies is same) = stays old new _ same refl refl
 
-grown_by_offer : (old : Machine) (place : ℕ) (reply : Reply) (new : Machine) → Offers old place reply new → HasGrown old new
-grown_by_offer old place reply new (Offers.skipped none is same) = same_grown old new same
-grown_by_offer old place reply new (Offers.kept known few is same) = stays old new _ same refl refl
+grown_by_offer : (old : Machine) (place : ℕ) (reply : Reply) (new : Machine) → OfferStep old place reply new → HasGrown old new
+grown_by_offer old place reply new (OfferStep.skipped none is same) = same_grown old new same
+grown_by_offer old place reply new (OfferStep.kept known few is same) = stays old new _ same refl refl
 
-grown_by_collect : (old : Machine) (place offer : ℕ) (reply : Reply) (new : Machine) → Collects old place offer reply new → HasGrown old new
-grown_by_collect old place offer reply new (Collects.skipped none is same) = same_grown old new same
-grown_by_collect old place offer reply new (Collects.no_memory known there is same) = same_grown old new same
-grown_by_collect old place offer reply new (Collects.flown offered lacking may is same) =
+grown_by_collect : (old : Machine) (place offer : ℕ) (reply : Reply) (new : Machine) → CollectStep old place offer reply new → HasGrown old new
+grown_by_collect old place offer reply new (CollectStep.skipped none is same) = same_grown old new same
+grown_by_collect old place offer reply new (CollectStep.no_memory known there is same) = same_grown old new same
+grown_by_collect old place offer reply new (CollectStep.flown offered lacking may is same) =
     subst (HasGrown old) (sym same) (record { servers = λ place. ([], sym (append-nil (old.servers place).held)); items = (lacking, refl) })
 
-grown_by_take : (old : Machine) (place item : ℕ) (reply : Reply) (new : Machine) → Takes old place item reply new → HasGrown old new
-grown_by_take old place item reply new (Takes.skipped none is same) = same_grown old new same
-grown_by_take old place item reply new (Takes.had made given holds is same) = same_grown old new same
-grown_by_take old place item reply new (Takes.refused made fault given refused is same) = same_grown old new same
-grown_by_take old place item reply new (Takes.doubted made given next room is same) = grows old new _ same (grown_by_doubt old.servers place made) refl
-grown_by_take old place item reply new (Takes.taken made given next room is same) = grows old new _ same (grown_by_write old.servers place made) refl
+grown_by_take : (old : Machine) (place item : ℕ) (reply : Reply) (new : Machine) → TakeStep old place item reply new → HasGrown old new
+grown_by_take old place item reply new (TakeStep.skipped none is same) = same_grown old new same
+grown_by_take old place item reply new (TakeStep.had made given holds is same) = same_grown old new same
+grown_by_take old place item reply new (TakeStep.refused made fault given refused is same) = same_grown old new same
+grown_by_take old place item reply new (TakeStep.doubted made given next room is same) = grows old new _ same (grown_by_doubt old.servers place made) refl
+grown_by_take old place item reply new (TakeStep.taken made given next room is same) = grows old new _ same (grown_by_write old.servers place made) refl
 
-grown_by_file : (old : Machine) (who : ℕ) (reply : Reply) (new : Machine) → Files old who reply new → HasGrown old new
-grown_by_file old who reply new (Files.skipped none is same) = same_grown old new same
-grown_by_file old who reply new (Files.filed session entry later may is same) = stays old new _ same refl refl
+grown_by_file : (old : Machine) (who : ℕ) (reply : Reply) (new : Machine) → FileStep old who reply new → HasGrown old new
+grown_by_file old who reply new (FileStep.skipped none is same) = same_grown old new same
+grown_by_file old who reply new (FileStep.filed session entry later may is same) = stays old new _ same refl refl
 
-grown_by_fuse : (old : Machine) (place call : ℕ) (reply : Reply) (new : Machine) → Fuses old place call reply new → HasGrown old new
-grown_by_fuse old place call reply new (Fuses.skipped none is same) = same_grown old new same
-grown_by_fuse old place call reply new (Fuses.fused known some is same) = same_grown old new same
+grown_by_fuse : (old : Machine) (place call : ℕ) (reply : Reply) (new : Machine) → FuseStep old place call reply new → HasGrown old new
+grown_by_fuse old place call reply new (FuseStep.skipped none is same) = same_grown old new same
+grown_by_fuse old place call reply new (FuseStep.fused known some is same) = same_grown old new same
 
-grown_by_reopening : (old : Machine) (place : ℕ) (reply : Reply) (new : Machine) → Reopens old place reply new → HasGrown old new
-grown_by_reopening old place reply new (Reopens.skipped none is same) = same_grown old new same
-grown_by_reopening old place reply new (Reopens.refused fault runs refused is same) = same_grown old new same
-grown_by_reopening old place reply new (Reopens.reopened adopted server runs down recovers is same) = grows old new _ same (grown_by_recovery old.servers place adopted server recovers) refl
+grown_by_reopening : (old : Machine) (place : ℕ) (reply : Reply) (new : Machine) → ReopenStep old place reply new → HasGrown old new
+grown_by_reopening old place reply new (ReopenStep.skipped none is same) = same_grown old new same
+grown_by_reopening old place reply new (ReopenStep.refused fault runs refused is same) = same_grown old new same
+grown_by_reopening old place reply new (ReopenStep.reopened adopted server runs down recovers is same) = grows old new _ same (grown_by_recovery old.servers place adopted server recovers) refl
 
-grown_by_restart : (old : Machine) (place : ℕ) (reply : Reply) (new : Machine) → Restarts old place reply new → HasGrown old new
-grown_by_restart old place reply new (Restarts.skipped none is same) = same_grown old new same
-grown_by_restart old place reply new (Restarts.refused fault known refused is same) = grows old new _ same (grown_by_stop old.servers place) refl
-grown_by_restart old place reply new (Restarts.restarted adopted server known recovers is same) = grows old new _ same (grown_by_recovery old.servers place adopted server recovers) refl
+grown_by_restart : (old : Machine) (place : ℕ) (reply : Reply) (new : Machine) → RestartStep old place reply new → HasGrown old new
+grown_by_restart old place reply new (RestartStep.skipped none is same) = same_grown old new same
+grown_by_restart old place reply new (RestartStep.refused fault known refused is same) = grows old new _ same (grown_by_stop old.servers place) refl
+grown_by_restart old place reply new (RestartStep.restarted adopted server known recovers is same) = grows old new _ same (grown_by_recovery old.servers place adopted server recovers) refl
 
 grown_by_step : (old : Machine) (event : Event) (reply : Reply) (new : Machine) → Step old event reply new → HasGrown old new
 grown_by_step old (events.Read session server key) reply new step = grown_by_read old session.index server.index key reply new step
@@ -182,9 +182,9 @@ has_or_not count list name fitting =
     ]
 
 -- The past of an item is held by whoever made the offer, once the items before it are.
-past_is_held : (old now : Machine) → IsGood old → (place by : ℕ) (offered : List Write) (lacking : List Made) → IsFrontOf (writes (old.servers by).held) offered
+past_is_held : (old now : Machine) → IsGoodMachine old → (place by : ℕ) (offered : List Write) (lacking : List Made) → IsFrontOf (writes (old.servers by).held) offered
     → AreLacking offered (old.servers place).held lacking → HaveGrown old.servers now.servers → (at : ℕ) (made : Made) → slice_get lacking at ≡ Some made
-    → ((earlier : ℕ) (other : Made) → earlier < at → slice_get lacking earlier ≡ Some other → Holds (now.servers by) other)
+    → ((earlier : ℕ) (other : Made) → earlier < at → slice_get lacking earlier ≡ Some other → HoldsName (now.servers by) other)
     → IsWithin (names made.past) (names (writes (now.servers by).held))
 past_is_held old now good place by offered lacking front are grown at made got taken name has =
     let servers = old.servers in
@@ -219,13 +219,13 @@ past_is_held old now good place by offered lacking front are grown at made got t
     ]
 
 -- An item of a Collect isn't refused for a gap, where those before it are held.
-pub no_gap : (old next now : Machine) → IsGood old → (place offer number by : ℕ) (offered : List Write) → slice_get old.offers offer ≡ Some (record { server = by; database = offered })
-    → Collects old place offer (replies.Flown (length old.items) number) next → (events : List Event) (told : List Reply) → Run next events told now
-    → (at : ℕ) → at < number → ((earlier : ℕ) (made : Made) → earlier < at → slice_get now.items (length old.items + earlier) ≡ Some made → Holds (now.servers by) made)
-    → (reply : Reply) (last : Machine) → Takes now by (length old.items + at) reply last → reply ≢ replies.Took (Err taking.Gap)
-no_gap old next now good place offer number by offered there (Collects.skipped cannot is same) events told run at less taken reply last takes = absurd (cc)
-no_gap old next now good place offer number by offered there (Collects.no_memory known has is same) events told run at less taken reply last takes = absurd (cc)
-no_gap old next now good place offer number by offered there (Collects.flown same_offered lacking may is same) events told run at less taken reply last takes =
+pub no_gap : (old next now : Machine) → IsGoodMachine old → (place offer number by : ℕ) (offered : List Write) → slice_get old.offers offer ≡ Some (record { server = by; database = offered })
+    → CollectStep old place offer (replies.Flown (length old.items) number) next → (events : List Event) (told : List Reply) → Run next events told now
+    → (at : ℕ) → at < number → ((earlier : ℕ) (made : Made) → earlier < at → slice_get now.items (length old.items + earlier) ≡ Some made → HoldsName (now.servers by) made)
+    → (reply : Reply) (last : Machine) → TakeStep now by (length old.items + at) reply last → reply ≢ replies.Took (Err taking.Gap)
+no_gap old next now good place offer number by offered there (CollectStep.skipped cannot is same) events told run at less taken reply last takes = absurd (cc)
+no_gap old next now good place offer number by offered there (CollectStep.no_memory known has is same) events told run at less taken reply last takes = absurd (cc)
+no_gap old next now good place offer number by offered there (CollectStep.flown same_offered lacking may is same) events told run at less taken reply last takes =
     let grown_next = subst (HasGrown old) (sym same) (record { servers = λ p. ([], sym (append-nil (old.servers p).held)); items = (lacking, refl) }) in
     let all_grown = both_grown old next now grown_next (grown_by_run next events told now run) in
     let from_next = grown_by_run next events told now run in
@@ -243,16 +243,16 @@ no_gap old next now good place offer number by offered there (Collects.flown sam
     past_held takes (λ made got. past_is_held old now good place by offered lacking front are all_grown.servers at made got
     (λ earlier other before got_other. taken earlier other before (item earlier other got_other))) (λ made got. get_lacking within item made got)
   where
-    past_held : Takes now by (length old.items + at) reply last → ((made : Made) → slice_get lacking at ≡ Some made → IsWithin (names made.past) (names (writes (now.servers by).held)))
+    past_held : TakeStep now by (length old.items + at) reply last → ((made : Made) → slice_get lacking at ≡ Some made → IsWithin (names made.past) (names (writes (now.servers by).held)))
         → ((made : Made) → slice_get now.items (length old.items + at) ≡ Some made → slice_get lacking at ≡ Some made) → reply ≢ replies.Took (Err taking.Gap)
-    past_held (Takes.skipped none told_is new_is) held back = λ gap. absurd (cc)
-    past_held (Takes.had made given holds told_is new_is) held back = λ gap. absurd (cc)
-    past_held (Takes.refused made fault given refused told_is new_is) held back = λ gap.
+    past_held (TakeStep.skipped none told_is new_is) held back = λ gap. absurd (cc)
+    past_held (TakeStep.had made given holds told_is new_is) held back = λ gap. absurd (cc)
+    past_held (TakeStep.refused made fault given refused told_is new_is) held back = λ gap.
         let fault_is : fault ≡ taking.Gap = cc in
         let refuses = subst (RefusesItem now.limit (now.servers by) made) fault_is refused in
         refuses.1 (held made (back made given.there))
-    past_held (Takes.doubted made given fresh room told_is new_is) held back = λ gap. absurd (cc)
-    past_held (Takes.taken made given fresh room told_is new_is) held back = λ gap. absurd (cc)
+    past_held (TakeStep.doubted made given fresh room told_is new_is) held back = λ gap. absurd (cc)
+    past_held (TakeStep.taken made given fresh room told_is new_is) held back = λ gap. absurd (cc)
 
     get_lacking : at < length lacking → ((i : ℕ) (made : Made) → slice_get lacking i ≡ Some made → slice_get now.items (length old.items + i) ≡ Some made)
         → (made : Made) → slice_get now.items (length old.items + at) ≡ Some made → slice_get lacking at ≡ Some made

@@ -10,7 +10,7 @@ use Rattle.bayou_base.specs.Vector.{Covers}
 use Rattle.bayou_lang.specs.declared.write.Write.{Write}
 use Rattle.bayou_lang.specs.Laws.Fitting.{fitting_is_prefix_closed}
 use Rattle.bayou_lang.specs.Writes.{AreFitting, count_of}
-use Rattle.bayou_world.specs.Inner.Good.{IsGood, IsHome}
+use Rattle.bayou_world.specs.Inner.Good.{IsGoodMachine, IsHome}
 use Rattle.bayou_world.specs.Invariant.{IsConsistent, Stands, TestsAgree, made_by}
 use Rattle.bayou_world.specs.Machine.{Machine, Made, names, writes}
 use Rattle.bayou_world.proofs.Homes.{fitting_at, home_of_held, one_home, stands_behind}
@@ -29,7 +29,7 @@ pub record IsOwnDoubt (machine : Machine) (made : Made) : Type 0 where
   pub own : made.write.wid.origin.index ≡ place
   pub doubt : (machine.servers place).doubt ≡ Some made
 
-home_or_doubt : (machine : Machine) → IsGood machine → (made : Made) → Stands machine made → IsHome machine.servers made ⊎ IsOwnDoubt machine made
+home_or_doubt : (machine : Machine) → IsGoodMachine machine → (made : Made) → Stands machine made → IsHome machine.servers made ⊎ IsOwnDoubt machine made
 home_or_doubt machine good made (inl held) = inl (home_of_held machine.count machine.limit machine.servers good.servers held.0 made held.1)
 home_or_doubt machine good made (inr (inl doubt)) =
     elim (same_number made.write.wid.origin.index doubt.0) as (λ _. IsHome machine.servers made ⊎ IsOwnDoubt machine made) [
@@ -39,7 +39,7 @@ home_or_doubt machine good made (inr (inl doubt)) =
 home_or_doubt machine good made (inr (inr item)) = inl (All-contains (IsHome machine.servers) machine.items made good.items item)
 
 -- a server's own Write in doubt has a name that no Write at home has
-doubt_is_new : (machine : Machine) → IsGood machine → (doubt made : Made) → IsOwnDoubt machine doubt → IsHome machine.servers made → doubt.write.wid ≡ made.write.wid → ⊥
+doubt_is_new : (machine : Machine) → IsGoodMachine machine → (doubt made : Made) → IsOwnDoubt machine doubt → IsHome machine.servers made → doubt.write.wid ≡ made.write.wid → ⊥
 doubt_is_new machine good doubt made is home same =
     let place = doubt.write.wid.origin.index in
     let held = writes (machine.servers place).held in
@@ -56,7 +56,7 @@ one_doubt machine a b is_a is_b same =
     let both : Some a ≡ Some b = sym is_a.doubt ∙ ap (λ n. (machine.servers n).doubt) place ∙ is_b.doubt in
     cc
 
-one : (machine : Machine) → IsGood machine → (a b : Made) → Stands machine a → Stands machine b → a.write.wid ≡ b.write.wid → a ≡ b
+one : (machine : Machine) → IsGoodMachine machine → (a b : Made) → Stands machine a → Stands machine b → a.write.wid ≡ b.write.wid → a ≡ b
 one machine good a b stands_a stands_b same =
     elim (home_or_doubt machine good a stands_a) as (λ _. a ≡ b) [
       | inl home_a ↦ elim (home_or_doubt machine good b stands_b) as (λ _. a ≡ b) [
@@ -79,7 +79,7 @@ counts_past count made name fitting deps =
       λ has. subst (λ counts. Covers counts name.origin.index name.seq) (sym deps) (law.0 has),
     )
 
-deps_cover : (machine : Machine) → IsGood machine → (made : Made) → Stands machine made → (name : Wid) → Covers made.write.deps name.origin.index name.seq ↔ Contains (names made.past) name
+deps_cover : (machine : Machine) → IsGoodMachine machine → (made : Made) → Stands machine made → (name : Wid) → Covers made.write.deps name.origin.index name.seq ↔ Contains (names made.past) name
 deps_cover machine good made stands name =
     elim (home_or_doubt machine good made stands) as (λ _. Covers made.write.deps name.origin.index name.seq ↔ Contains (names made.past) name) [
       | inl home ↦
@@ -160,7 +160,7 @@ front_by_places {X} (x ∷ xs) (y ∷ ys) each =
     let rest = front_by_places xs ys (λ at z got. each (suc at) z got) in
     (rest.0, ap (λ z. z ∷ ys) one ∙ ap (λ zs. x ∷ zs) rest.1)
 
-prefix_at : CountLaw → (machine : Machine) → IsGood machine → (server other : ℕ) (at : ℕ) (write : Write)
+prefix_at : CountLaw → (machine : Machine) → IsGoodMachine machine → (server other : ℕ) (at : ℕ) (write : Write)
     → slice_get (made_by other (writes (machine.servers server).held)) at ≡ Some write → slice_get (made_by other (writes (machine.servers other).held)) at ≡ Some write
 prefix_at law machine good server other at write got =
     let servers = machine.servers in
@@ -183,7 +183,7 @@ prefix_at law machine good server other at write got =
     let same : found.0 ≡ at = omega (arith, place.0, number.0) in
     subst (λ n. slice_get (made_by other there) n ≡ Some write) same found_at
 
-pub consistent : CountLaw → (machine : Machine) → IsGood machine → IsConsistent machine
+pub consistent : CountLaw → (machine : Machine) → IsGoodMachine machine → IsConsistent machine
 consistent law machine good = record {
   one = one machine good;
   sound = λ server. (good.servers server).sound;
@@ -192,6 +192,6 @@ consistent law machine good = record {
   deps = deps_cover machine good;
 }
 
-pub agree : (machine : Machine) → IsGood machine → TestsAgree machine
+pub agree : (machine : Machine) → IsGoodMachine machine → TestsAgree machine
 agree machine good server vector set is =
     tests_agree machine.count (writes (machine.servers server).held) vector set (fitting_at machine.count machine.limit machine.servers good.servers server) is

@@ -7,9 +7,9 @@ use Rattle.bayou_base.specs.Vector.{Covers, Dominates}
 use Rattle.bayou_lang.specs.declared.write.Write.{Write}
 use Rattle.bayou_lang.specs.Laws.Fitting.{covered_by-fitting, greatest_clock-least}
 use Rattle.bayou_lang.specs.Writes.{Fits, HasNoGap, covered_by, count_of, greatest_clock}
-use Rattle.bayou_world.specs.Inner.Good.{AreGood, IsHome}
+use Rattle.bayou_world.specs.Inner.Good.{AreGoodServers, IsHome}
 use Rattle.bayou_world.specs.Machine.{IsWithin, Made, ServerSets, names, writes}
-use Rattle.bayou_world.specs.Steps.{Holds}
+use Rattle.bayou_world.specs.Steps.{HoldsName}
 use Rattle.bayou_world.proofs.Homes.{fitting_at, home_of_held, home_of_past, one_write, stands_behind}
 use Rattle.bayou_world.proofs.Lists.{Contains-filter, Contains-from_filter, Contains-map, Contains-map_from}
 use Rattle.bayou_world.proofs.Vectors.{named, within_dominates}
@@ -27,14 +27,14 @@ greatest_of_set xs ys within =
     greatest_most xs (greatest_clock ys) (λ write has. All-contains (λ (held : Write). held.stamp.clock ≤ greatest_clock ys) ys write (greatest_clock-least ys) (within write has))
 
 -- what is held has a Write at home of its own
-held_home : (count limit : ℕ) (servers : ℕ → ServerSets) → AreGood count limit servers → (place : ℕ) (write : Write) → Contains (writes (servers place).held) write
+held_home : (count limit : ℕ) (servers : ℕ → ServerSets) → AreGoodServers count limit servers → (place : ℕ) (write : Write) → Contains (writes (servers place).held) write
     → (made : Made) × (made.write ≡ write) × IsHome servers made
 held_home count limit servers good place write has =
     let at = Contains-map_from (λ (made : Made). made.write) (servers place).held write has in
     (at.0, at.2, home_of_held count limit servers good place at.0 at.1)
 
 -- Where the past is held, those of the Writes held that the Write covers are its past.
-covered_is_past : (count limit : ℕ) (servers : ℕ → ServerSets) → AreGood count limit servers → (place : ℕ) (made : Made) → IsHome servers made
+covered_is_past : (count limit : ℕ) (servers : ℕ → ServerSets) → AreGoodServers count limit servers → (place : ℕ) (made : Made) → IsHome servers made
     → (write : Write) → Contains (covered_by made.write.deps (writes (servers place).held)) write → Contains made.past write
 covered_is_past count limit servers good place made home write has =
     let held = writes (servers place).held in
@@ -48,7 +48,7 @@ covered_is_past count limit servers good place made home write has =
     let here = held_home count limit servers good place write both.0 in
     subst (Contains made.past) (one_write count limit servers good there.0 here.0 at.0 write there.2 here.2 there.1 here.1 at.2) at.1
 
-past_is_covered : (count limit : ℕ) (servers : ℕ → ServerSets) → AreGood count limit servers → (place : ℕ) (made : Made) → IsHome servers made
+past_is_covered : (count limit : ℕ) (servers : ℕ → ServerSets) → AreGoodServers count limit servers → (place : ℕ) (made : Made) → IsHome servers made
     → IsWithin (names made.past) (names (writes (servers place).held))
     → (write : Write) → Contains made.past write → Contains (covered_by made.write.deps (writes (servers place).held)) write
 past_is_covered count limit servers good place made home within write has =
@@ -66,8 +66,8 @@ past_is_covered count limit servers good place made home within write has =
     Contains-filter is_covered held write in_held is
 
 -- a Write that isn't held, and whose past is held, fits
-pub given_fits : (count limit : ℕ) (servers : ℕ → ServerSets) → AreGood count limit servers → (place : ℕ) (made : Made) → IsHome servers made
-    → (¬ Holds (servers place) made) → IsWithin (names made.past) (names (writes (servers place).held)) → Fits count (writes (servers place).held) made.write
+pub given_fits : (count limit : ℕ) (servers : ℕ → ServerSets) → AreGoodServers count limit servers → (place : ℕ) (made : Made) → IsHome servers made
+    → (¬ HoldsName (servers place) made) → IsWithin (names made.past) (names (writes (servers place).held)) → Fits count (writes (servers place).held) made.write
 given_fits count limit servers good place made home missing within =
     let held = writes (servers place).held in
     let origin = made.write.wid.origin.index in
@@ -96,7 +96,7 @@ given_fits count limit servers good place made home missing within =
     )
 
 -- where there is no gap, the past is held
-pub no_gap_within : (count limit : ℕ) (servers : ℕ → ServerSets) → AreGood count limit servers → (place : ℕ) (made : Made) → IsHome servers made
+pub no_gap_within : (count limit : ℕ) (servers : ℕ → ServerSets) → AreGoodServers count limit servers → (place : ℕ) (made : Made) → IsHome servers made
     → HasNoGap count (writes (servers place).held) made.write → IsWithin (names made.past) (names (writes (servers place).held))
 no_gap_within count limit servers good place made home none =
     let stands = stands_behind count limit servers good made home in

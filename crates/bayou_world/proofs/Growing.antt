@@ -6,7 +6,7 @@ use Rattle.bayou_lang.specs.declared.write.Write.{Write}
 use Rattle.bayou_lang.specs.Laws.Fitting.{IsSound-push}
 use Rattle.bayou_lang.specs.Writes.{IsSound}
 use Rattle.bayou_judge.specs.History.{IsFrontOf}
-use Rattle.bayou_world.specs.Inner.Good.{AreGood, AreOffers, HavePasts, IsGoodServer, IsHome, IsTrue, IsTrueAnswer, MayBeDoubted}
+use Rattle.bayou_world.specs.Inner.Good.{AreGoodServers, AreOffers, HavePasts, IsGoodServer, IsHome, WasSo, IsTrueAnswer, MayBeDoubted}
 use Rattle.bayou_world.specs.Machine.{Answered, Made, Offered, ServerSets, changed, writes}
 use Rattle.bayou_world.specs.Steps.{Recovers, stopped_now, with_doubt, with_write}
 use Rattle.bayou_base.specs.declared.entry.What.{What}
@@ -34,7 +34,7 @@ offers_grow old new grown offers all =
     All-weaker (λ (offer : Offered). IsFrontOf (writes (old offer.server).held) offer.database) (λ (offer : Offered). IsFrontOf (writes (new offer.server).held) offer.database)
     (λ offer front. front_grows old new grown offer.server offer.database front) offers all
 
-true_grows : (old new : ℕ → ServerSets) → HaveGrown old new → (what : What) (place : ℕ) (answered : Answered) → IsTrue old what place answered → IsTrue new what place answered
+true_grows : (old new : ℕ → ServerSets) → HaveGrown old new → (what : What) (place : ℕ) (answered : Answered) → WasSo old what place answered → WasSo new what place answered
 true_grows old new grown (whats.Read key vector) place answered (none, front, counts) = (none, front_grows old new grown place answered.database front, counts)
 true_grows old new grown (whats.Write wid stamp deps) place answered (made, is, home, name) = (made, is, home_grows old new grown made home, name)
 true_grows old new grown whats.Refused place answered none = none
@@ -100,9 +100,9 @@ pasts_more place held made pasts past before other after same own =
     ]
 
 -- behind what is held, where no Write is in doubt then
-add_behind : (count limit : ℕ) (servers : ℕ → ServerSets) → AreGood count limit servers → (place : ℕ) (made : Made) (doubt : Option Made) (stopped : Bool) → doubt ≡ None
+add_behind : (count limit : ℕ) (servers : ℕ → ServerSets) → AreGoodServers count limit servers → (place : ℕ) (made : Made) (doubt : Option Made) (stopped : Bool) → doubt ≡ None
     → MayBeDoubted count limit servers place (servers place).held made
-    → AreGood count limit (changed servers place (with_write (record (servers place) { doubt = doubt; stopped = stopped }) made))
+    → AreGoodServers count limit (changed servers place (with_write (record (servers place) { doubt = doubt; stopped = stopped }) made))
 add_behind count limit servers good place made doubt stopped up may =
     let server = servers place in
     let held = server.held in
@@ -130,12 +130,12 @@ add_behind count limit servers good place made doubt stopped up may =
     })
     (λ other. good_grows count limit servers new grown other (servers other) (good other))
 
-pub add_write : (count limit : ℕ) (servers : ℕ → ServerSets) → AreGood count limit servers → (place : ℕ) (made : Made) → (servers place).doubt ≡ None
-    → MayBeDoubted count limit servers place (servers place).held made → AreGood count limit (changed servers place (with_write (servers place) made))
+pub add_write : (count limit : ℕ) (servers : ℕ → ServerSets) → AreGoodServers count limit servers → (place : ℕ) (made : Made) → (servers place).doubt ≡ None
+    → MayBeDoubted count limit servers place (servers place).held made → AreGoodServers count limit (changed servers place (with_write (servers place) made))
 add_write count limit servers good place made up may = add_behind count limit servers good place made (servers place).doubt (servers place).stopped up may
 
-pub add_doubt : (count limit : ℕ) (servers : ℕ → ServerSets) → AreGood count limit servers → (place : ℕ) (made : Made)
-    → MayBeDoubted count limit servers place (servers place).held made → AreGood count limit (changed servers place (with_doubt (servers place) made))
+pub add_doubt : (count limit : ℕ) (servers : ℕ → ServerSets) → AreGoodServers count limit servers → (place : ℕ) (made : Made)
+    → MayBeDoubted count limit servers place (servers place).held made → AreGoodServers count limit (changed servers place (with_doubt (servers place) made))
 add_doubt count limit servers good place made may =
     let server = servers place in
     let after = with_doubt server made in
@@ -158,8 +158,8 @@ add_doubt count limit servers good place made may =
 -- ---- a server that is up again, or stopped
 
 -- it holds what it held, and what is in doubt there was so before
-as_held : (count limit : ℕ) (servers : ℕ → ServerSets) → AreGood count limit servers → (place : ℕ) (doubt : Option Made) (stopped : Bool) → ((made : Made) → doubt ≡ Some made → (servers place).doubt ≡ Some made)
-    → AreGood count limit (changed servers place (record (servers place) { doubt = doubt; stopped = stopped }))
+as_held : (count limit : ℕ) (servers : ℕ → ServerSets) → AreGoodServers count limit servers → (place : ℕ) (doubt : Option Made) (stopped : Bool) → ((made : Made) → doubt ≡ Some made → (servers place).doubt ≡ Some made)
+    → AreGoodServers count limit (changed servers place (record (servers place) { doubt = doubt; stopped = stopped }))
 as_held count limit servers good place doubt stopped was =
     let server = servers place in
     let after = record server { doubt = doubt; stopped = stopped } in
@@ -177,19 +177,19 @@ as_held count limit servers good place doubt stopped was =
     })
     (λ other. good_grows count limit servers new grown other (servers other) (good other))
 
-pub stop : (count limit : ℕ) (servers : ℕ → ServerSets) → AreGood count limit servers → (place : ℕ) → AreGood count limit (changed servers place (stopped_now (servers place)))
+pub stop : (count limit : ℕ) (servers : ℕ → ServerSets) → AreGoodServers count limit servers → (place : ℕ) → AreGoodServers count limit (changed servers place (stopped_now (servers place)))
 stop count limit servers good place = as_held count limit servers good place (servers place).doubt true (λ made is. is)
 
 pub grown_by_stop : (old : ℕ → ServerSets) (place : ℕ) → HaveGrown old (changed old place (stopped_now (old place)))
 grown_by_stop old place = grown_at old place (stopped_now (old place)) [] (sym (append-nil (old place).held))
 
-pub recover : (count limit : ℕ) (servers : ℕ → ServerSets) → AreGood count limit servers → (place : ℕ) (adopted : Option Made) (server : ServerSets) → Recovers (servers place) adopted server
-    → AreGood count limit (changed servers place server)
+pub recover : (count limit : ℕ) (servers : ℕ → ServerSets) → AreGoodServers count limit servers → (place : ℕ) (adopted : Option Made) (server : ServerSets) → Recovers (servers place) adopted server
+    → AreGoodServers count limit (changed servers place server)
 recover count limit servers good place None server is =
-    subst (λ s. AreGood count limit (changed servers place s)) (sym is)
+    subst (λ s. AreGoodServers count limit (changed servers place s)) (sym is)
     (as_held count limit servers good place None false (λ made some. let none : None ≡ Some made = some in absurd (cc)))
 recover count limit servers good place (Some made) server (doubted, is) =
-    subst (λ s. AreGood count limit (changed servers place s)) (sym is)
+    subst (λ s. AreGoodServers count limit (changed servers place s)) (sym is)
     (add_behind count limit servers good place made None false refl ((good place).doubt made doubted))
 
 pub grown_by_recovery : (old : ℕ → ServerSets) (place : ℕ) (adopted : Option Made) (server : ServerSets) → Recovers (old place) adopted server → HaveGrown old (changed old place server)

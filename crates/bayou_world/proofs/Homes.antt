@@ -11,7 +11,7 @@ use Rattle.bayou_lang.specs.declared.write.Write.{Write}
 use Rattle.bayou_lang.specs.Laws.Fitting.{covered_by-fitting, fitting-front, fitting_distinct_wids, greatest_clock-least}
 use Rattle.bayou_lang.specs.Writes.{AreFitting, Fits, covered_by, count_of, greatest_clock}
 use Rattle.bayou_judge.specs.History.{IsFrontOf}
-use Rattle.bayou_world.specs.Inner.Good.{AreGood, IsHome}
+use Rattle.bayou_world.specs.Inner.Good.{AreGoodServers, IsHome}
 use Rattle.bayou_world.specs.Machine.{IsWithin, Made, ServerSets, names, writes}
 use Rattle.bayou_world.proofs.Lists.{AllPairs-map, Contains-map, Contains-map_from, one_of_name, split_at}
 use Rattle.bayou_world.proofs.Vectors.{within_dominates}
@@ -23,11 +23,11 @@ abbrev pub wid_of : Write → Wid
 wid_of write = write.wid
 
 -- what is held is fitting
-pub fitting_at : (count limit : ℕ) (servers : ℕ → ServerSets) → AreGood count limit servers → (place : ℕ) → AreFitting count (writes (servers place).held)
+pub fitting_at : (count limit : ℕ) (servers : ℕ → ServerSets) → AreGoodServers count limit servers → (place : ℕ) → AreFitting count (writes (servers place).held)
 fitting_at count limit servers good place = (good place).sound.fitting
 
 -- a name is of one Write, and of one past
-pub one_home : (count limit : ℕ) (servers : ℕ → ServerSets) → AreGood count limit servers → (a b : Made) → IsHome servers a → IsHome servers b → a.write.wid ≡ b.write.wid → a ≡ b
+pub one_home : (count limit : ℕ) (servers : ℕ → ServerSets) → AreGoodServers count limit servers → (a b : Made) → IsHome servers a → IsHome servers b → a.write.wid ≡ b.write.wid → a ≡ b
 one_home count limit servers good a b home_a home_b same =
     let place = b.write.wid.origin.index in
     let there : Contains (servers place).held a = subst (λ (wid : Wid). Contains (servers wid.origin.index).held a) same home_a in
@@ -35,11 +35,11 @@ one_home count limit servers good a b home_a home_b same =
     one_of_name (λ (made : Made). made.write.wid) (servers place).held a b (AllPairs-map (λ x y. x.wid ≢ y.wid) (λ (made : Made). made.write) (servers place).held distinct) there home_b same
 
 -- what is held anywhere is at home
-pub home_of_held : (count limit : ℕ) (servers : ℕ → ServerSets) → AreGood count limit servers → (place : ℕ) (made : Made) → Contains (servers place).held made → IsHome servers made
+pub home_of_held : (count limit : ℕ) (servers : ℕ → ServerSets) → AreGoodServers count limit servers → (place : ℕ) (made : Made) → Contains (servers place).held made → IsHome servers made
 home_of_held count limit servers good place made has = All-contains (IsHome servers) (servers place).held made (good place).home has
 
 -- each Write of a database that a server had is at home
-pub home_of_had : (count limit : ℕ) (servers : ℕ → ServerSets) → AreGood count limit servers → (place : ℕ) (database : List Write) → IsFrontOf (writes (servers place).held) database
+pub home_of_had : (count limit : ℕ) (servers : ℕ → ServerSets) → AreGoodServers count limit servers → (place : ℕ) (database : List Write) → IsFrontOf (writes (servers place).held) database
     → (write : Write) → Contains database write → (made : Made) × (made.write ≡ write) × IsHome servers made
 home_of_had count limit servers good place database (rest, split) write has =
     let held : Contains (writes (servers place).held) write = subst (λ list. Contains list write) (sym split) (Contains-append_left database rest write has) in
@@ -47,7 +47,7 @@ home_of_had count limit servers good place database (rest, split) write has =
     (at.0, at.2, home_of_held count limit servers good place at.0 at.1)
 
 -- and so two of them that have one name are one
-pub one_write : (count limit : ℕ) (servers : ℕ → ServerSets) → AreGood count limit servers → (a b : Made) (x y : Write) → IsHome servers a → IsHome servers b → a.write ≡ x → b.write ≡ y → x.wid ≡ y.wid → x ≡ y
+pub one_write : (count limit : ℕ) (servers : ℕ → ServerSets) → AreGoodServers count limit servers → (a b : Made) (x y : Write) → IsHome servers a → IsHome servers b → a.write ≡ x → b.write ≡ y → x.wid ≡ y.wid → x ≡ y
 one_write count limit servers good a b x y home_a home_b is_x is_y same =
     let one = one_home count limit servers good a b home_a home_b (ap wid_of is_x ∙ same ∙ sym (ap wid_of is_y)) in
     sym is_x ∙ ap write_of one ∙ is_y
@@ -64,7 +64,7 @@ pub record StandsBehind (count : ℕ) (servers : ℕ → ServerSets) (made : Mad
   pub deps : made.write.deps ≡ count_of made.past
   pub fitting : AreFitting count made.past
 
-pub stands_behind : (count limit : ℕ) (servers : ℕ → ServerSets) → AreGood count limit servers → (made : Made) → IsHome servers made → StandsBehind count servers made
+pub stands_behind : (count limit : ℕ) (servers : ℕ → ServerSets) → AreGoodServers count limit servers → (made : Made) → IsHome servers made → StandsBehind count servers made
 stands_behind count limit servers good made home =
     let place = made.write.wid.origin.index in
     let at = split_at (servers place).held made home in
@@ -84,7 +84,7 @@ stands_behind count limit servers good made home =
     }
 
 -- each Write of it is at home
-pub home_of_past : (count limit : ℕ) (servers : ℕ → ServerSets) → AreGood count limit servers → (made : Made) → IsHome servers made
+pub home_of_past : (count limit : ℕ) (servers : ℕ → ServerSets) → AreGoodServers count limit servers → (made : Made) → IsHome servers made
     → (write : Write) → Contains made.past write → (earlier : Made) × (earlier.write ≡ write) × IsHome servers earlier
 home_of_past count limit servers good made home write has =
     let stands = stands_behind count limit servers good made home in
@@ -105,21 +105,21 @@ before_by_clock : (a b : Stamp) → a.clock < b.clock → is_before a b ≡ true
 before_by_clock a b less =
     let first : nat_lt a.clock b.clock ≡ true = grind (arith, nat_tests) in rw first refl
 
-pub past_is_before : (count limit : ℕ) (servers : ℕ → ServerSets) → AreGood count limit servers → (made : Made) → IsHome servers made
+pub past_is_before : (count limit : ℕ) (servers : ℕ → ServerSets) → AreGoodServers count limit servers → (made : Made) → IsHome servers made
     → (write : Write) → Contains made.past write → is_before write.stamp made.write.stamp ≡ true
 past_is_before count limit servers good made home write has =
     let stands = stands_behind count limit servers good made home in
     before_by_clock write.stamp made.write.stamp (early_clock count made.past made.write write stands.fitting stands.fits stands.deps has)
 
 -- Wherever the Write fits behind a part of a list, its past is in that part.
-past_within : (count limit : ℕ) (servers : ℕ → ServerSets) → AreGood count limit servers → (made : Made) → IsHome servers made
+past_within : (count limit : ℕ) (servers : ℕ → ServerSets) → AreGoodServers count limit servers → (made : Made) → IsHome servers made
     → (held : List Write) → AreFitting count held → Dominates (count_of held) made.write.deps → IsWithin (names made.past) (names held)
 past_within count limit servers good made home held fitting dominates =
     let stands = stands_behind count limit servers good made home in
     (within_dominates count made.past held stands.fitting fitting).1 (subst (Dominates (count_of held)) stands.deps dominates)
 
 -- Where a database that a server had has the Write, it has its past.
-pub past_is_had : (count limit : ℕ) (servers : ℕ → ServerSets) → AreGood count limit servers → (made : Made) → IsHome servers made
+pub past_is_had : (count limit : ℕ) (servers : ℕ → ServerSets) → AreGoodServers count limit servers → (made : Made) → IsHome servers made
     → (place : ℕ) (database : List Write) → IsFrontOf (writes (servers place).held) database → Contains database made.write
     → (write : Write) → Contains made.past write → Contains database write
 past_is_had count limit servers good made home place database front has write in_past =

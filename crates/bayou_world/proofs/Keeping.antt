@@ -7,19 +7,19 @@ use Rattle.bayou_base.specs.Order.{is_before}
 use Rattle.bayou_lang.specs.declared.write.Write.{Write}
 use Rattle.bayou_judge.specs.Guarantees.{Keeps, Precedes}
 use Rattle.bayou_judge.specs.History.{IsFrontOf}
-use Rattle.bayou_world.specs.Inner.Good.{IsGood, IsHome, IsMadeAt, IsTrue, IsTrueAnswer}
+use Rattle.bayou_world.specs.Inner.Good.{IsGoodMachine, IsHome, IsMadeAt, WasSo, IsTrueAnswer}
 use Rattle.bayou_world.specs.Machine.{Answered, Machine, Made, SessionSets, names, writes}
-use Rattle.bayou_world.specs.Runs.{IsRead, IsReadAt, IsWriteAt, history_of_run}
+use Rattle.bayou_world.specs.Runs.{IsRead, IsReadAt, IsWriteAt, history_of_machine}
 use Rattle.bayou_world.proofs.Homes.{home_of_had, home_of_past, one_write, past_is_before, past_is_had}
 use Rattle.bayou_world.proofs.Lists.{Contains-map, Contains-map_from}
 
 -- what was read is what its server had
-read_true : (machine : Machine) (what : What) (place : ℕ) (answered : Answered) → IsRead what → IsTrue machine.servers what place answered → IsFrontOf (writes (machine.servers place).held) answered.database
+read_true : (machine : Machine) (what : What) (place : ℕ) (answered : Answered) → IsRead what → WasSo machine.servers what place answered → IsFrontOf (writes (machine.servers place).held) answered.database
 read_true machine (whats.Read key vector) place answered read is = is.1
 read_true machine (whats.Write wid stamp deps) place answered read is = absurd read
 read_true machine whats.Refused place answered read is = absurd read
 
-read_had : (machine : Machine) → IsGood machine → (session place server : ℕ) (database : List Write) → IsReadAt machine.served session place server database
+read_had : (machine : Machine) → IsGoodMachine machine → (session place server : ℕ) (database : List Write) → IsReadAt machine.served session place server database
     → IsFrontOf (writes (machine.servers server).held) database
 read_had machine good session place server database is =
     let is_true = All-contains (IsTrueAnswer machine.servers) machine.served is.answered good.served is.among in
@@ -28,7 +28,7 @@ read_had machine good session place server database is =
     (read_true machine is.answered.entry.what is.answered.entry.server.index is.answered is.read is_true))
 
 -- what was made is at home
-made_true : (machine : Machine) (what : What) (place : ℕ) (answered : Answered) (made : Made) → answered.made ≡ Some made → IsTrue machine.servers what place answered → IsHome machine.servers made
+made_true : (machine : Machine) (what : What) (place : ℕ) (answered : Answered) (made : Made) → answered.made ≡ Some made → WasSo machine.servers what place answered → IsHome machine.servers made
 made_true machine (whats.Read key vector) place answered made accepted is = let both : None ≡ Some made = sym is.0 ∙ accepted in absurd (cc)
 made_true machine (whats.Write wid stamp deps) place answered made accepted (other, is, home, name) =
     let both : Some other ≡ Some made = sym is ∙ accepted in
@@ -36,7 +36,7 @@ made_true machine (whats.Write wid stamp deps) place answered made accepted (oth
     subst (IsHome machine.servers) one home
 made_true machine whats.Refused place answered made accepted is = let both : None ≡ Some made = sym is ∙ accepted in absurd (cc)
 
-made_home : (machine : Machine) → IsGood machine → (session place : ℕ) (made : Made) → IsMadeAt machine.served session place made → IsHome machine.servers made
+made_home : (machine : Machine) → IsGoodMachine machine → (session place : ℕ) (made : Made) → IsMadeAt machine.served session place made → IsHome machine.servers made
 made_home machine good session place made is =
     made_true machine is.answered.entry.what is.answered.entry.server.index is.answered made is.accepted
     (All-contains (IsTrueAnswer machine.servers) machine.served is.answered good.served is.among)
@@ -52,7 +52,7 @@ made_at machine session place write is = record {
 }
 
 -- a database that a server had has the Write whose name it has
-has_named : (machine : Machine) → IsGood machine → (place : ℕ) (database : List Write) → IsFrontOf (writes (machine.servers place).held) database
+has_named : (machine : Machine) → IsGoodMachine machine → (place : ℕ) (database : List Write) → IsFrontOf (writes (machine.servers place).held) database
     → (made : Made) (write : Write) → IsHome machine.servers made → made.write ≡ write → Contains (names database) write.wid → Contains database write
 has_named machine good place database front made write home is named =
     let at = Contains-map_from (λ (w : Write). w.wid) database write.wid named in
@@ -60,8 +60,8 @@ has_named machine good place database front made write home is named =
     subst (Contains database) (one_write machine.count machine.limit machine.servers good.servers there.0 made at.0 write there.2 home there.1 is at.2) at.1
 
 -- The Write's past has the other: so that precedes it everywhere.
-past_precedes : (machine : Machine) → IsGood machine → (made earlier : Made) (write other : Write) → IsHome machine.servers made → IsHome machine.servers earlier
-    → made.write ≡ write → earlier.write ≡ other → Contains (names made.past) other.wid → Precedes (history_of_run machine) other write
+past_precedes : (machine : Machine) → IsGoodMachine machine → (made earlier : Made) (write other : Write) → IsHome machine.servers made → IsHome machine.servers earlier
+    → made.write ≡ write → earlier.write ≡ other → Contains (names made.past) other.wid → Precedes (history_of_machine machine) other write
 past_precedes machine good made earlier write other home earlier_home is_write is_other named server database had has =
     let servers = machine.servers in
     let at = Contains-map_from (λ (w : Write). w.wid) made.past other.wid named in
@@ -74,7 +74,7 @@ past_precedes machine good made earlier write other home earlier_home is_write i
       subst (λ (w : Write). is_before other.stamp w.stamp ≡ true) is_write (past_is_before machine.count machine.limit servers good.servers made home other in_past),
     )
 
-pub keeps : (machine : Machine) → IsGood machine → (who : ℕ) (session : SessionSets) → machine.sessions who ≡ Some session → Keeps (history_of_run machine) session.asks who
+pub keeps : (machine : Machine) → IsGoodMachine machine → (who : ℕ) (session : SessionSets) → machine.sessions who ≡ Some session → Keeps (history_of_machine machine) session.asks who
 keeps machine good who session there =
     let mine = good.sessions who session there in
     record {

@@ -11,26 +11,26 @@ use Rattle.bayou_lang.specs.declared.write.Write.{Write}
 use Rattle.bayou_server.specs.Server.{Core}
 use Rattle.bayou_session.specs.Needs.{Told}
 use Rattle.bayou_session.specs.Needs as sessions
-use Rattle.bayou_world.specs.declared.client.Client.{Client}
+use Rattle.bayou_world.specs.declared.world_session.WorldSession.{WorldSession}
 use Rattle.bayou_world.specs.declared.event.Event.{Event}
 use Rattle.bayou_world.specs.declared.event.Event.TheVariants as events
-use Rattle.bayou_world.specs.declared.replica.Replica.{Replica}
+use Rattle.bayou_world.specs.declared.world_server.WorldServer.{WorldServer}
 use Rattle.bayou_world.specs.declared.reply.Reply.{Reply}
 use Rattle.bayou_world.specs.declared.state.State.{State}
 use Rattle.bayou_world.specs.Inner.Beginning.{AreFirstSeats, AreStarted, IsFirstSeat, IsFirstState, IsLeft, Leaves, SoFar}
-use Rattle.bayou_world.specs.Inner.Booking.{Booking, FollowsInBook, IsBookOf}
-use Rattle.bayou_world.specs.Inner.Good.{IsGood}
-use Rattle.bayou_world.specs.Inner.Replicas.{held_by}
+use Rattle.bayou_world.specs.Inner.WorldBooks.{Booking, FollowsInBook, IsBookOf}
+use Rattle.bayou_world.specs.Inner.Good.{IsGoodMachine}
+use Rattle.bayou_world.specs.Inner.WorldServers.{held_by}
 use Rattle.bayou_world.specs.Inner.Tie.{Follows, IsFlightOf, IsOf, IsSeatOf, IsTied, seat}
 use Rattle.bayou_world.specs.Invariant.{IsVectorOf}
 use Rattle.bayou_world.specs.Machine.{Machine, writes}
 use Rattle.bayou_world.specs.Runs.{Run, asks_of, first_machine, new_session, places_for}
-use Rattle.bayou_world.specs.Histories.{Begun, IsHistory}
-use Rattle.bayou_world.specs.declared.history.History.{History}
+use Rattle.bayou_world.specs.RunHistories.{Begun, IsRunHistory}
+use Rattle.bayou_world.specs.declared.run_history.RunHistory.{RunHistory}
 use Rattle.bayou_audit.specs.declared.totals.Totals.{Totals}
 use Rattle.bayou_audit.specs.Totals.{is_read, is_refusal, is_write, number_of, totals_of}
 use Rattle.std.specs.Global.{Vec}
-use Rattle.bayou_world.specs.Steps.{Collects, Delivers, Files, Fuses, Loses, Offers, Reads, Reopens, Restarts, Step, Takes, Writes}
+use Rattle.bayou_world.specs.Steps.{CollectStep, DeliverStep, FileStep, FuseStep, LoseStep, OfferStep, ReadStep, ReopenStep, RestartStep, Step, TakeStep, WriteStep}
 use Rattle.bayou_world.proofs.Starting.{first_good}
 use Rattle.bayou_world.proofs.Stepping.{step_good}
 use Rattle.bayou_world.proofs.Vectors.{IsVectorOf-none}
@@ -45,58 +45,58 @@ pub record Keeps (old new : Machine) : Type 0 where
 kept : (old new is : Machine) → new ≡ is → is.count ≡ old.count → is.places ≡ old.places → is.filed ≡ old.filed → Keeps old new
 kept old new is same count places filed = subst (Keeps old) (sym same) (record { count = count; places = places; filed = filed })
 
-read_keeps : (old : Machine) (who place : ℕ) (key : List ℕ) (reply : Reply) (new : Machine) → Reads old who place key reply new → Keeps old new
-read_keeps old who place key reply new (Reads.skipped cannot is same) = kept old new _ same refl refl refl
-read_keeps old who place key reply new (Reads.behind session entry may not_may is entry_is same) = kept old new _ same refl refl refl
-read_keeps old who place key reply new (Reads.served session entry seen may covered value vector is entry_is same) = kept old new _ same refl refl refl
+read_keeps : (old : Machine) (who place : ℕ) (key : List ℕ) (reply : Reply) (new : Machine) → ReadStep old who place key reply new → Keeps old new
+read_keeps old who place key reply new (ReadStep.skipped cannot is same) = kept old new _ same refl refl refl
+read_keeps old who place key reply new (ReadStep.behind session entry may not_may is entry_is same) = kept old new _ same refl refl refl
+read_keeps old who place key reply new (ReadStep.served session entry seen may covered value vector is entry_is same) = kept old new _ same refl refl refl
 
-write_keeps : (old : Machine) (who place : ℕ) (program : Program) (reply : Reply) (new : Machine) → Writes old who place program reply new → Keeps old new
-write_keeps old who place program reply new (Writes.skipped cannot is same) = kept old new _ same refl refl refl
-write_keeps old who place program reply new (Writes.refused session entry fault may refused is entry_is same) = kept old new _ same refl refl refl
-write_keeps old who place program reply new (Writes.doubted session entry made may makes is entry_is same) = kept old new _ same refl refl refl
-write_keeps old who place program reply new (Writes.accepted session entry made accepted may makes told_is is entry_is same) = kept old new _ same refl refl refl
+write_keeps : (old : Machine) (who place : ℕ) (program : Program) (reply : Reply) (new : Machine) → WriteStep old who place program reply new → Keeps old new
+write_keeps old who place program reply new (WriteStep.skipped cannot is same) = kept old new _ same refl refl refl
+write_keeps old who place program reply new (WriteStep.refused session entry fault may refused is entry_is same) = kept old new _ same refl refl refl
+write_keeps old who place program reply new (WriteStep.doubted session entry made may makes is entry_is same) = kept old new _ same refl refl refl
+write_keeps old who place program reply new (WriteStep.accepted session entry made accepted may makes told_is is entry_is same) = kept old new _ same refl refl refl
 
-deliver_keeps : (old : Machine) (who : ℕ) (reply : Reply) (new : Machine) → Delivers old who reply new → Keeps old new
-deliver_keeps old who reply new (Delivers.skipped none is same) = kept old new _ same refl refl refl
-deliver_keeps old who reply new (Delivers.delivered session answered flies is same) = kept old new _ same refl refl refl
+deliver_keeps : (old : Machine) (who : ℕ) (reply : Reply) (new : Machine) → DeliverStep old who reply new → Keeps old new
+deliver_keeps old who reply new (DeliverStep.skipped none is same) = kept old new _ same refl refl refl
+deliver_keeps old who reply new (DeliverStep.delivered session answered flies is same) = kept old new _ same refl refl refl
 
-lose_keeps : (old : Machine) (who : ℕ) (reply : Reply) (new : Machine) → Loses old who reply new → Keeps old new
-lose_keeps old who reply new (Loses.skipped none is same) = kept old new _ same refl refl refl
-lose_keeps old who reply new (Loses.dropped session answered flies is same) = kept old new _ same refl refl refl
+lose_keeps : (old : Machine) (who : ℕ) (reply : Reply) (new : Machine) → LoseStep old who reply new → Keeps old new
+lose_keeps old who reply new (LoseStep.skipped none is same) = kept old new _ same refl refl refl
+lose_keeps old who reply new (LoseStep.dropped session answered flies is same) = kept old new _ same refl refl refl
 
-offer_keeps : (old : Machine) (place : ℕ) (reply : Reply) (new : Machine) → Offers old place reply new → Keeps old new
-offer_keeps old place reply new (Offers.skipped none is same) = kept old new _ same refl refl refl
-offer_keeps old place reply new (Offers.kept known few is same) = kept old new _ same refl refl refl
+offer_keeps : (old : Machine) (place : ℕ) (reply : Reply) (new : Machine) → OfferStep old place reply new → Keeps old new
+offer_keeps old place reply new (OfferStep.skipped none is same) = kept old new _ same refl refl refl
+offer_keeps old place reply new (OfferStep.kept known few is same) = kept old new _ same refl refl refl
 
-collect_keeps : (old : Machine) (place offer : ℕ) (reply : Reply) (new : Machine) → Collects old place offer reply new → Keeps old new
-collect_keeps old place offer reply new (Collects.skipped none is same) = kept old new _ same refl refl refl
-collect_keeps old place offer reply new (Collects.no_memory known there is same) = kept old new _ same refl refl refl
-collect_keeps old place offer reply new (Collects.flown offered lacking may is same) = kept old new _ same refl refl refl
+collect_keeps : (old : Machine) (place offer : ℕ) (reply : Reply) (new : Machine) → CollectStep old place offer reply new → Keeps old new
+collect_keeps old place offer reply new (CollectStep.skipped none is same) = kept old new _ same refl refl refl
+collect_keeps old place offer reply new (CollectStep.no_memory known there is same) = kept old new _ same refl refl refl
+collect_keeps old place offer reply new (CollectStep.flown offered lacking may is same) = kept old new _ same refl refl refl
 
-take_keeps : (old : Machine) (place item : ℕ) (reply : Reply) (new : Machine) → Takes old place item reply new → Keeps old new
-take_keeps old place item reply new (Takes.skipped none is same) = kept old new _ same refl refl refl
-take_keeps old place item reply new (Takes.had made given holds is same) = kept old new _ same refl refl refl
-take_keeps old place item reply new (Takes.refused made fault given refused is same) = kept old new _ same refl refl refl
-take_keeps old place item reply new (Takes.doubted made given next room is same) = kept old new _ same refl refl refl
-take_keeps old place item reply new (Takes.taken made given next room is same) = kept old new _ same refl refl refl
+take_keeps : (old : Machine) (place item : ℕ) (reply : Reply) (new : Machine) → TakeStep old place item reply new → Keeps old new
+take_keeps old place item reply new (TakeStep.skipped none is same) = kept old new _ same refl refl refl
+take_keeps old place item reply new (TakeStep.had made given holds is same) = kept old new _ same refl refl refl
+take_keeps old place item reply new (TakeStep.refused made fault given refused is same) = kept old new _ same refl refl refl
+take_keeps old place item reply new (TakeStep.doubted made given next room is same) = kept old new _ same refl refl refl
+take_keeps old place item reply new (TakeStep.taken made given next room is same) = kept old new _ same refl refl refl
 
-fuse_keeps : (old : Machine) (place call : ℕ) (reply : Reply) (new : Machine) → Fuses old place call reply new → Keeps old new
-fuse_keeps old place call reply new (Fuses.skipped none is same) = kept old new _ same refl refl refl
-fuse_keeps old place call reply new (Fuses.fused known some is same) = kept old new _ same refl refl refl
+fuse_keeps : (old : Machine) (place call : ℕ) (reply : Reply) (new : Machine) → FuseStep old place call reply new → Keeps old new
+fuse_keeps old place call reply new (FuseStep.skipped none is same) = kept old new _ same refl refl refl
+fuse_keeps old place call reply new (FuseStep.fused known some is same) = kept old new _ same refl refl refl
 
-reopen_keeps : (old : Machine) (place : ℕ) (reply : Reply) (new : Machine) → Reopens old place reply new → Keeps old new
-reopen_keeps old place reply new (Reopens.skipped none is same) = kept old new _ same refl refl refl
-reopen_keeps old place reply new (Reopens.refused fault runs refused is same) = kept old new _ same refl refl refl
-reopen_keeps old place reply new (Reopens.reopened adopted server runs down recovers is same) = kept old new _ same refl refl refl
+reopen_keeps : (old : Machine) (place : ℕ) (reply : Reply) (new : Machine) → ReopenStep old place reply new → Keeps old new
+reopen_keeps old place reply new (ReopenStep.skipped none is same) = kept old new _ same refl refl refl
+reopen_keeps old place reply new (ReopenStep.refused fault runs refused is same) = kept old new _ same refl refl refl
+reopen_keeps old place reply new (ReopenStep.reopened adopted server runs down recovers is same) = kept old new _ same refl refl refl
 
-restart_keeps : (old : Machine) (place : ℕ) (reply : Reply) (new : Machine) → Restarts old place reply new → Keeps old new
-restart_keeps old place reply new (Restarts.skipped none is same) = kept old new _ same refl refl refl
-restart_keeps old place reply new (Restarts.refused fault known refused is same) = kept old new _ same refl refl refl
-restart_keeps old place reply new (Restarts.restarted adopted server known recovers is same) = kept old new _ same refl refl refl
+restart_keeps : (old : Machine) (place : ℕ) (reply : Reply) (new : Machine) → RestartStep old place reply new → Keeps old new
+restart_keeps old place reply new (RestartStep.skipped none is same) = kept old new _ same refl refl refl
+restart_keeps old place reply new (RestartStep.refused fault known refused is same) = kept old new _ same refl refl refl
+restart_keeps old place reply new (RestartStep.restarted adopted server known recovers is same) = kept old new _ same refl refl refl
 
-file_count : (old : Machine) (who : ℕ) (reply : Reply) (new : Machine) → Files old who reply new → new.count ≡ old.count
-file_count old who reply new (Files.skipped none is same) = ap (λ (m : Machine). m.count) same
-file_count old who reply new (Files.filed session entry later may is same) = ap (λ (m : Machine). m.count) same
+file_count : (old : Machine) (who : ℕ) (reply : Reply) (new : Machine) → FileStep old who reply new → new.count ≡ old.count
+file_count old who reply new (FileStep.skipped none is same) = ap (λ (m : Machine). m.count) same
+file_count old who reply new (FileStep.filed session entry later may is same) = ap (λ (m : Machine). m.count) same
 
 step_count : (old : Machine) (event : Event) (reply : Reply) (new : Machine) → Step old event reply new → new.count ≡ old.count
 step_count old (events.Read session server key) reply new step = (read_keeps old session.index server.index key reply new step).count
@@ -119,45 +119,45 @@ beside old new booking Does keeps follows machine good tied book =
     let same = keeps machine step.0 step.1 in
     (step.0, step.1, step.2, record { places = book.places ∙ sym same.places; entries = book.entries ∙ sym same.filed })
 
-pub read_beside : (old new : State) (booking : Booking) (who place : ℕ) (key : List ℕ) (reply : Reply) → Follows old (λ machine next. Reads machine who place key reply next) new
-    → FollowsInBook old booking (λ machine next. Reads machine who place key reply next) new booking
-read_beside old new booking who place key reply = beside old new booking (λ machine next. Reads machine who place key reply next) (λ machine next does. read_keeps machine who place key reply next does)
+pub read_beside : (old new : State) (booking : Booking) (who place : ℕ) (key : List ℕ) (reply : Reply) → Follows old (λ machine next. ReadStep machine who place key reply next) new
+    → FollowsInBook old booking (λ machine next. ReadStep machine who place key reply next) new booking
+read_beside old new booking who place key reply = beside old new booking (λ machine next. ReadStep machine who place key reply next) (λ machine next does. read_keeps machine who place key reply next does)
 
-pub write_beside : (old new : State) (booking : Booking) (who place : ℕ) (program : Program) (reply : Reply) → Follows old (λ machine next. Writes machine who place program reply next) new
-    → FollowsInBook old booking (λ machine next. Writes machine who place program reply next) new booking
-write_beside old new booking who place program reply = beside old new booking (λ machine next. Writes machine who place program reply next) (λ machine next does. write_keeps machine who place program reply next does)
+pub write_beside : (old new : State) (booking : Booking) (who place : ℕ) (program : Program) (reply : Reply) → Follows old (λ machine next. WriteStep machine who place program reply next) new
+    → FollowsInBook old booking (λ machine next. WriteStep machine who place program reply next) new booking
+write_beside old new booking who place program reply = beside old new booking (λ machine next. WriteStep machine who place program reply next) (λ machine next does. write_keeps machine who place program reply next does)
 
-pub deliver_beside : (old new : State) (booking : Booking) (who : ℕ) (reply : Reply) → Follows old (λ machine next. Delivers machine who reply next) new
-    → FollowsInBook old booking (λ machine next. Delivers machine who reply next) new booking
-deliver_beside old new booking who reply = beside old new booking (λ machine next. Delivers machine who reply next) (λ machine next does. deliver_keeps machine who reply next does)
+pub deliver_beside : (old new : State) (booking : Booking) (who : ℕ) (reply : Reply) → Follows old (λ machine next. DeliverStep machine who reply next) new
+    → FollowsInBook old booking (λ machine next. DeliverStep machine who reply next) new booking
+deliver_beside old new booking who reply = beside old new booking (λ machine next. DeliverStep machine who reply next) (λ machine next does. deliver_keeps machine who reply next does)
 
-pub lose_beside : (old new : State) (booking : Booking) (who : ℕ) (reply : Reply) → Follows old (λ machine next. Loses machine who reply next) new
-    → FollowsInBook old booking (λ machine next. Loses machine who reply next) new booking
-lose_beside old new booking who reply = beside old new booking (λ machine next. Loses machine who reply next) (λ machine next does. lose_keeps machine who reply next does)
+pub lose_beside : (old new : State) (booking : Booking) (who : ℕ) (reply : Reply) → Follows old (λ machine next. LoseStep machine who reply next) new
+    → FollowsInBook old booking (λ machine next. LoseStep machine who reply next) new booking
+lose_beside old new booking who reply = beside old new booking (λ machine next. LoseStep machine who reply next) (λ machine next does. lose_keeps machine who reply next does)
 
-pub offer_beside : (old new : State) (booking : Booking) (place : ℕ) (reply : Reply) → Follows old (λ machine next. Offers machine place reply next) new
-    → FollowsInBook old booking (λ machine next. Offers machine place reply next) new booking
-offer_beside old new booking place reply = beside old new booking (λ machine next. Offers machine place reply next) (λ machine next does. offer_keeps machine place reply next does)
+pub offer_beside : (old new : State) (booking : Booking) (place : ℕ) (reply : Reply) → Follows old (λ machine next. OfferStep machine place reply next) new
+    → FollowsInBook old booking (λ machine next. OfferStep machine place reply next) new booking
+offer_beside old new booking place reply = beside old new booking (λ machine next. OfferStep machine place reply next) (λ machine next does. offer_keeps machine place reply next does)
 
-pub collect_beside : (old new : State) (booking : Booking) (place offer : ℕ) (reply : Reply) → Follows old (λ machine next. Collects machine place offer reply next) new
-    → FollowsInBook old booking (λ machine next. Collects machine place offer reply next) new booking
-collect_beside old new booking place offer reply = beside old new booking (λ machine next. Collects machine place offer reply next) (λ machine next does. collect_keeps machine place offer reply next does)
+pub collect_beside : (old new : State) (booking : Booking) (place offer : ℕ) (reply : Reply) → Follows old (λ machine next. CollectStep machine place offer reply next) new
+    → FollowsInBook old booking (λ machine next. CollectStep machine place offer reply next) new booking
+collect_beside old new booking place offer reply = beside old new booking (λ machine next. CollectStep machine place offer reply next) (λ machine next does. collect_keeps machine place offer reply next does)
 
-pub take_beside : (old new : State) (booking : Booking) (place item : ℕ) (reply : Reply) → Follows old (λ machine next. Takes machine place item reply next) new
-    → FollowsInBook old booking (λ machine next. Takes machine place item reply next) new booking
-take_beside old new booking place item reply = beside old new booking (λ machine next. Takes machine place item reply next) (λ machine next does. take_keeps machine place item reply next does)
+pub take_beside : (old new : State) (booking : Booking) (place item : ℕ) (reply : Reply) → Follows old (λ machine next. TakeStep machine place item reply next) new
+    → FollowsInBook old booking (λ machine next. TakeStep machine place item reply next) new booking
+take_beside old new booking place item reply = beside old new booking (λ machine next. TakeStep machine place item reply next) (λ machine next does. take_keeps machine place item reply next does)
 
-pub fuse_beside : (old new : State) (booking : Booking) (place call : ℕ) (reply : Reply) → Follows old (λ machine next. Fuses machine place call reply next) new
-    → FollowsInBook old booking (λ machine next. Fuses machine place call reply next) new booking
-fuse_beside old new booking place call reply = beside old new booking (λ machine next. Fuses machine place call reply next) (λ machine next does. fuse_keeps machine place call reply next does)
+pub fuse_beside : (old new : State) (booking : Booking) (place call : ℕ) (reply : Reply) → Follows old (λ machine next. FuseStep machine place call reply next) new
+    → FollowsInBook old booking (λ machine next. FuseStep machine place call reply next) new booking
+fuse_beside old new booking place call reply = beside old new booking (λ machine next. FuseStep machine place call reply next) (λ machine next does. fuse_keeps machine place call reply next does)
 
-pub reopen_beside : (old new : State) (booking : Booking) (place : ℕ) (reply : Reply) → Follows old (λ machine next. Reopens machine place reply next) new
-    → FollowsInBook old booking (λ machine next. Reopens machine place reply next) new booking
-reopen_beside old new booking place reply = beside old new booking (λ machine next. Reopens machine place reply next) (λ machine next does. reopen_keeps machine place reply next does)
+pub reopen_beside : (old new : State) (booking : Booking) (place : ℕ) (reply : Reply) → Follows old (λ machine next. ReopenStep machine place reply next) new
+    → FollowsInBook old booking (λ machine next. ReopenStep machine place reply next) new booking
+reopen_beside old new booking place reply = beside old new booking (λ machine next. ReopenStep machine place reply next) (λ machine next does. reopen_keeps machine place reply next does)
 
-pub restart_beside : (old new : State) (booking : Booking) (place : ℕ) (reply : Reply) → Follows old (λ machine next. Restarts machine place reply next) new
-    → FollowsInBook old booking (λ machine next. Restarts machine place reply next) new booking
-restart_beside old new booking place reply = beside old new booking (λ machine next. Restarts machine place reply next) (λ machine next does. restart_keeps machine place reply next does)
+pub restart_beside : (old new : State) (booking : Booking) (place : ℕ) (reply : Reply) → Follows old (λ machine next. RestartStep machine place reply next) new
+    → FollowsInBook old booking (λ machine next. RestartStep machine place reply next) new booking
+restart_beside old new booking place reply = beside old new booking (λ machine next. RestartStep machine place reply next) (λ machine next does. restart_keeps machine place reply next does)
 
 -- ---- a run grows
 
@@ -190,12 +190,12 @@ if_ok P Q each (Err error) is = is
 
 -- ---- as a run begins
 
-new_client : (who : ℕ) (asks : Option Asks) (client : Option Client) → IsFirstSeat who asks client → IsSeatOf who client (option_map new_session asks)
-new_client who None None is = tt
-new_client who None (Some client) is = absurd is
-new_client who (Some asks) None is = absurd is
-new_client who (Some asks) (Some client) is =
-    let zero_counts = sessions.new_session client.session.id asks in record {
+new_world_session : (who : ℕ) (asks : Option Asks) (world_session : Option WorldSession) → IsFirstSeat who asks world_session → IsSeatOf who world_session (option_map new_session asks)
+new_world_session who None None is = tt
+new_world_session who None (Some world_session) is = absurd is
+new_world_session who (Some asks) None is = absurd is
+new_world_session who (Some asks) (Some world_session) is =
+    let zero_counts = sessions.new_session world_session.session.id asks in record {
       name = is.name;
       asks = ap (λ (t : Told). t.asks) is.session;
       begun = ap (λ (t : Told). t.begun) is.session;
@@ -207,14 +207,14 @@ new_client who (Some asks) (Some client) is =
       own = All-nil (λ (entry : Entry). entry.session.index ≡ who);
     }
 
-pub begins_tied : (servers : List Replica) (clients : List (Option Client)) (count limit places : ℕ) (list : List Told) → AreStarted count count limit servers → AreFirstSeats SESSIONS list clients
-    → IsTied servers clients [] [] [] (first_machine count limit places (asks_of list))
-begins_tied servers clients count limit places list started seated = record {
+pub begins_tied : (servers : List WorldServer) (world_sessions : List (Option WorldSession)) (count limit places : ℕ) (list : List Told) → AreStarted count count limit servers → AreFirstSeats SESSIONS list world_sessions
+    → IsTied servers world_sessions [] [] [] (first_machine count limit places (asks_of list))
+begins_tied servers world_sessions count limit places list started seated = record {
   many = started.many;
   servers_are = λ place d inside.
       let fresh = started.fresh place d inside in record { stopped = sym fresh.runs; core = record { is = fresh.core }; kept = fresh.kept };
   seats = seated.many;
-  clients_are = λ who inside. new_client who (asks_of list who) (seat clients who) (seated.each who inside);
+  sessions_are = λ who inside. new_world_session who (asks_of list who) (seat world_sessions who) (seated.each who inside);
   offers_are = refl;
   items_are = refl;
   served_are = refl;
@@ -222,8 +222,8 @@ begins_tied servers clients count limit places list started seated = record {
 
 -- ---- as a run ends
 
-dump_at : {E : Type 0} (f : E → List Write) (dumps : List E) (servers : List Replica) (place : ℕ) (d : E) (held : List Write) → map f dumps ≡ map held_by servers → place < length servers
-    → ((e : Replica) → held_by (get_or servers place e) ≡ held) → f (get_or dumps place d) ≡ held
+dump_at : {E : Type 0} (f : E → List Write) (dumps : List E) (servers : List WorldServer) (place : ℕ) (d : E) (held : List Write) → map f dumps ≡ map held_by servers → place < length servers
+    → ((e : WorldServer) → held_by (get_or servers place e) ≡ held) → f (get_or dumps place d) ≡ held
 dump_at f dumps [] place d held same inside each = absurd (omega (arith, inside))
 dump_at f dumps (server ∷ servers) place d held same inside each =
     let as_many : length dumps ≡ length (server ∷ servers) = sym (length-map dumps f) ∙ ap length same ∙ length-map (server ∷ servers) held_by in
@@ -231,7 +231,7 @@ dump_at f dumps (server ∷ servers) place d held same inside each =
     let there : get_or (map held_by (server ∷ servers)) place (held_by server) ≡ held_by (get_or (server ∷ servers) place server) = get_or-map held_by (server ∷ servers) place server (held_by server) inside in
     sym here ∙ ap (λ list. get_or list place (held_by server)) same ∙ there ∙ each server
 
-leaves : (first : Machine) (events : List Event) (state : State) (booking : Booking) (replies : List Reply) (totals : Totals) (history : History) → SoFar first events replies state booking
+leaves : (first : Machine) (events : List Event) (state : State) (booking : Booking) (replies : List Reply) (totals : Totals) (history : RunHistory) → SoFar first events replies state booking
     → IsLeft state.servers.items state.served.items replies totals history
     → totals ≡ totals_of 0 (number_of is_read booking.entries) (number_of is_write booking.entries) (number_of is_refusal booking.entries) → Leaves first events history
 leaves first events state booking replies totals history so_far left counted =
@@ -252,20 +252,20 @@ leaves first events state booking replies totals history so_far left counted =
     }
 
 -- from the beginning
-pub history_is : (begun : Begun) (state new : State) (booking new_booking : Booking) (events : List Event) (replies : List Reply) (totals : Totals) (history : History)
+pub history_is : (begun : Begun) (state new : State) (booking new_booking : Booking) (events : List Event) (replies : List Reply) (totals : Totals) (history : RunHistory)
     → IsFirstState begun state → booking ≡ record { places = places_for events; entries = [] }
-    → ((first : Machine) → IsGood first → IsOf state first → IsBookOf booking first → SoFar first events replies new new_booking)
+    → ((first : Machine) → IsGoodMachine first → IsOf state first → IsBookOf booking first → SoFar first events replies new new_booking)
     → IsLeft new.servers.items new.served.items replies totals history
-    → totals ≡ totals_of 0 (number_of is_read new_booking.entries) (number_of is_write new_booking.entries) (number_of is_refusal new_booking.entries) → IsHistory begun events history
+    → totals ≡ totals_of 0 (number_of is_read new_booking.entries) (number_of is_write new_booking.entries) (number_of is_refusal new_booking.entries) → IsRunHistory begun events history
 history_is begun state new booking new_booking events replies totals history begins book plays left counted =
     let servers = state.servers.items in
-    let clients = state.clients.items in
+    let world_sessions = state.sessions.items in
     let first = first_machine begun.count begun.limit (places_for events) (asks_of begun.sessions) in
-    let tied = begins_tied servers clients begun.count begun.limit (places_for events) begun.sessions begins.started begins.seated in
-    let is_of : IsTied servers clients state.offers.items state.items.items state.served.items first =
-    subst (λ x. IsTied servers clients x state.items.items state.served.items first) (sym begins.offers)
-    (subst (λ x. IsTied servers clients [] x state.served.items first) (sym begins.items)
-    (subst (λ x. IsTied servers clients [] [] x first) (sym begins.served) tied)) in
+    let tied = begins_tied servers world_sessions begun.count begun.limit (places_for events) begun.sessions begins.started begins.seated in
+    let is_of : IsTied servers world_sessions state.offers.items state.items.items state.served.items first =
+    subst (λ x. IsTied servers world_sessions x state.items.items state.served.items first) (sym begins.offers)
+    (subst (λ x. IsTied servers world_sessions [] x state.served.items first) (sym begins.items)
+    (subst (λ x. IsTied servers world_sessions [] [] x first) (sym begins.served) tied)) in
     let so_far = plays first (first_good begun.count begun.limit (places_for events) (asks_of begun.sessions)) is_of
     (record { places = ap (λ (b : Booking). b.places) book; entries = ap (λ (b : Booking). b.entries) book }) in
     let told = leaves first events new new_booking replies totals history so_far left counted in

@@ -17,7 +17,7 @@ use Rattle.bayou_world.specs.declared.reply.Reply.TheVariants as replies
 use Rattle.bayou_world.specs.Invariant.{IsImpossible}
 use Rattle.bayou_world.specs.Machine.{Machine, Made, ServerSets}
 use Rattle.bayou_world.specs.Runs.{Run}
-use Rattle.bayou_world.specs.Steps.{Collects, Delivers, Files, Fuses, Loses, Offers, Reads, RefusesItem, RefusesReopening, Reopens, Restarts, Step, Takes, Writes}
+use Rattle.bayou_world.specs.Steps.{CollectStep, DeliverStep, FileStep, FuseStep, LoseStep, OfferStep, ReadStep, RefusesItem, RefusesReopening, ReopenStep, RestartStep, Step, TakeStep, WriteStep}
 
 -- a reply that isn't of that kind
 is : (reply other : Reply) → reply ≡ other → (¬ IsImpossible other) → ¬ IsImpossible reply
@@ -33,40 +33,40 @@ refused_possible limit server made taking.LogFull refused = λ no. no
 refused_possible limit server made taking.OutOfMemory refused = λ no. no
 refused_possible limit server made taking.Journal refused = absurd refused
 
-read_possible : (old : Machine) (who place : ℕ) (key : List ℕ) (reply : Reply) (new : Machine) → Reads old who place key reply new → ¬ IsImpossible reply
-read_possible old who place key reply new (Reads.skipped cannot told_is same) = is reply _ told_is (λ no. no)
-read_possible old who place key reply new (Reads.behind session entry may not_may told_is entry_is same) = is reply _ told_is (λ no. no)
-read_possible old who place key reply new (Reads.served session entry seen may covered value vector told_is entry_is same) = is reply _ told_is (λ no. no)
+read_possible : (old : Machine) (who place : ℕ) (key : List ℕ) (reply : Reply) (new : Machine) → ReadStep old who place key reply new → ¬ IsImpossible reply
+read_possible old who place key reply new (ReadStep.skipped cannot told_is same) = is reply _ told_is (λ no. no)
+read_possible old who place key reply new (ReadStep.behind session entry may not_may told_is entry_is same) = is reply _ told_is (λ no. no)
+read_possible old who place key reply new (ReadStep.served session entry seen may covered value vector told_is entry_is same) = is reply _ told_is (λ no. no)
 
-write_possible : (old : Machine) (who place : ℕ) (program : Program) (reply : Reply) (new : Machine) → Writes old who place program reply new → ¬ IsImpossible reply
-write_possible old who place program reply new (Writes.skipped cannot told_is same) = is reply _ told_is (λ no. no)
-write_possible old who place program reply new (Writes.refused session entry fault may refused told_is entry_is same) = is reply _ told_is (λ no. no)
-write_possible old who place program reply new (Writes.doubted session entry made may makes told_is entry_is same) = is reply _ told_is (λ no. no)
-write_possible old who place program reply new (Writes.accepted session entry made accepted may makes accepted_is told_is entry_is same) = is reply _ told_is (λ no. no)
+write_possible : (old : Machine) (who place : ℕ) (program : Program) (reply : Reply) (new : Machine) → WriteStep old who place program reply new → ¬ IsImpossible reply
+write_possible old who place program reply new (WriteStep.skipped cannot told_is same) = is reply _ told_is (λ no. no)
+write_possible old who place program reply new (WriteStep.refused session entry fault may refused told_is entry_is same) = is reply _ told_is (λ no. no)
+write_possible old who place program reply new (WriteStep.doubted session entry made may makes told_is entry_is same) = is reply _ told_is (λ no. no)
+write_possible old who place program reply new (WriteStep.accepted session entry made accepted may makes accepted_is told_is entry_is same) = is reply _ told_is (λ no. no)
 
-deliver_possible : (old : Machine) (who : ℕ) (reply : Reply) (new : Machine) → Delivers old who reply new → ¬ IsImpossible reply
-deliver_possible old who reply new (Delivers.skipped none told_is same) = is reply _ told_is (λ no. no)
-deliver_possible old who reply new (Delivers.delivered session answered flies told_is same) = is reply _ told_is (λ no. no)
+deliver_possible : (old : Machine) (who : ℕ) (reply : Reply) (new : Machine) → DeliverStep old who reply new → ¬ IsImpossible reply
+deliver_possible old who reply new (DeliverStep.skipped none told_is same) = is reply _ told_is (λ no. no)
+deliver_possible old who reply new (DeliverStep.delivered session answered flies told_is same) = is reply _ told_is (λ no. no)
 
-lose_possible : (old : Machine) (who : ℕ) (reply : Reply) (new : Machine) → Loses old who reply new → ¬ IsImpossible reply
-lose_possible old who reply new (Loses.skipped none told_is same) = is reply _ told_is (λ no. no)
-lose_possible old who reply new (Loses.dropped session answered flies told_is same) = is reply _ told_is (λ no. no)
+lose_possible : (old : Machine) (who : ℕ) (reply : Reply) (new : Machine) → LoseStep old who reply new → ¬ IsImpossible reply
+lose_possible old who reply new (LoseStep.skipped none told_is same) = is reply _ told_is (λ no. no)
+lose_possible old who reply new (LoseStep.dropped session answered flies told_is same) = is reply _ told_is (λ no. no)
 
-offer_possible : (old : Machine) (place : ℕ) (reply : Reply) (new : Machine) → Offers old place reply new → ¬ IsImpossible reply
-offer_possible old place reply new (Offers.skipped none told_is same) = is reply _ told_is (λ no. no)
-offer_possible old place reply new (Offers.kept known few told_is same) = is reply _ told_is (λ no. no)
+offer_possible : (old : Machine) (place : ℕ) (reply : Reply) (new : Machine) → OfferStep old place reply new → ¬ IsImpossible reply
+offer_possible old place reply new (OfferStep.skipped none told_is same) = is reply _ told_is (λ no. no)
+offer_possible old place reply new (OfferStep.kept known few told_is same) = is reply _ told_is (λ no. no)
 
-collect_possible : (old : Machine) (place offer : ℕ) (reply : Reply) (new : Machine) → Collects old place offer reply new → ¬ IsImpossible reply
-collect_possible old place offer reply new (Collects.skipped none told_is same) = is reply _ told_is (λ no. no)
-collect_possible old place offer reply new (Collects.no_memory known there told_is same) = is reply _ told_is (λ no. no)
-collect_possible old place offer reply new (Collects.flown offered lacking may told_is same) = is reply _ told_is (λ no. no)
+collect_possible : (old : Machine) (place offer : ℕ) (reply : Reply) (new : Machine) → CollectStep old place offer reply new → ¬ IsImpossible reply
+collect_possible old place offer reply new (CollectStep.skipped none told_is same) = is reply _ told_is (λ no. no)
+collect_possible old place offer reply new (CollectStep.no_memory known there told_is same) = is reply _ told_is (λ no. no)
+collect_possible old place offer reply new (CollectStep.flown offered lacking may told_is same) = is reply _ told_is (λ no. no)
 
-take_possible : (old : Machine) (place item : ℕ) (reply : Reply) (new : Machine) → Takes old place item reply new → ¬ IsImpossible reply
-take_possible old place item reply new (Takes.skipped none told_is same) = is reply _ told_is (λ no. no)
-take_possible old place item reply new (Takes.had made given holds told_is same) = is reply _ told_is (λ no. no)
-take_possible old place item reply new (Takes.refused made fault given refused told_is same) = is reply _ told_is (refused_possible old.limit (old.servers place) made fault refused)
-take_possible old place item reply new (Takes.doubted made given next room told_is same) = is reply _ told_is (λ no. no)
-take_possible old place item reply new (Takes.taken made given next room told_is same) = is reply _ told_is (λ no. no)
+take_possible : (old : Machine) (place item : ℕ) (reply : Reply) (new : Machine) → TakeStep old place item reply new → ¬ IsImpossible reply
+take_possible old place item reply new (TakeStep.skipped none told_is same) = is reply _ told_is (λ no. no)
+take_possible old place item reply new (TakeStep.had made given holds told_is same) = is reply _ told_is (λ no. no)
+take_possible old place item reply new (TakeStep.refused made fault given refused told_is same) = is reply _ told_is (refused_possible old.limit (old.servers place) made fault refused)
+take_possible old place item reply new (TakeStep.doubted made given next room told_is same) = is reply _ told_is (λ no. no)
+take_possible old place item reply new (TakeStep.taken made given next room told_is same) = is reply _ told_is (λ no. no)
 
 reopening_possible : (server : ServerSets) (fault : ReopenFault) → RefusesReopening server fault → ¬ IsImpossible (replies.Reopened (Err fault))
 reopening_possible server reopening.NotDown refused = λ no. no
@@ -86,23 +86,23 @@ start_possible (starting.Gap at) refused = absurd refused
 start_possible starting.LogFull refused = absurd refused
 start_possible starting.OutOfMemory refused = λ no. no
 
-fuse_possible : (old : Machine) (place call : ℕ) (reply : Reply) (new : Machine) → Fuses old place call reply new → ¬ IsImpossible reply
-fuse_possible old place call reply new (Fuses.skipped none told_is same) = is reply _ told_is (λ no. no)
-fuse_possible old place call reply new (Fuses.fused known some told_is same) = is reply _ told_is (λ no. no)
+fuse_possible : (old : Machine) (place call : ℕ) (reply : Reply) (new : Machine) → FuseStep old place call reply new → ¬ IsImpossible reply
+fuse_possible old place call reply new (FuseStep.skipped none told_is same) = is reply _ told_is (λ no. no)
+fuse_possible old place call reply new (FuseStep.fused known some told_is same) = is reply _ told_is (λ no. no)
 
-reopen_possible : (old : Machine) (place : ℕ) (reply : Reply) (new : Machine) → Reopens old place reply new → ¬ IsImpossible reply
-reopen_possible old place reply new (Reopens.skipped none told_is same) = is reply _ told_is (λ no. no)
-reopen_possible old place reply new (Reopens.refused fault runs refused told_is same) = is reply _ told_is (reopening_possible (old.servers place) fault refused)
-reopen_possible old place reply new (Reopens.reopened adopted server runs down recovers told_is same) = is reply _ told_is (λ no. no)
+reopen_possible : (old : Machine) (place : ℕ) (reply : Reply) (new : Machine) → ReopenStep old place reply new → ¬ IsImpossible reply
+reopen_possible old place reply new (ReopenStep.skipped none told_is same) = is reply _ told_is (λ no. no)
+reopen_possible old place reply new (ReopenStep.refused fault runs refused told_is same) = is reply _ told_is (reopening_possible (old.servers place) fault refused)
+reopen_possible old place reply new (ReopenStep.reopened adopted server runs down recovers told_is same) = is reply _ told_is (λ no. no)
 
-restart_possible : (old : Machine) (place : ℕ) (reply : Reply) (new : Machine) → Restarts old place reply new → ¬ IsImpossible reply
-restart_possible old place reply new (Restarts.skipped none told_is same) = is reply _ told_is (λ no. no)
-restart_possible old place reply new (Restarts.refused fault known refused told_is same) = is reply _ told_is (start_possible fault refused)
-restart_possible old place reply new (Restarts.restarted adopted server known recovers told_is same) = is reply _ told_is (λ no. no)
+restart_possible : (old : Machine) (place : ℕ) (reply : Reply) (new : Machine) → RestartStep old place reply new → ¬ IsImpossible reply
+restart_possible old place reply new (RestartStep.skipped none told_is same) = is reply _ told_is (λ no. no)
+restart_possible old place reply new (RestartStep.refused fault known refused told_is same) = is reply _ told_is (start_possible fault refused)
+restart_possible old place reply new (RestartStep.restarted adopted server known recovers told_is same) = is reply _ told_is (λ no. no)
 
-file_possible : (old : Machine) (who : ℕ) (reply : Reply) (new : Machine) → Files old who reply new → ¬ IsImpossible reply
-file_possible old who reply new (Files.skipped none told_is same) = is reply _ told_is (λ no. no)
-file_possible old who reply new (Files.filed session entry later may told_is same) = is reply _ told_is (λ no. no)
+file_possible : (old : Machine) (who : ℕ) (reply : Reply) (new : Machine) → FileStep old who reply new → ¬ IsImpossible reply
+file_possible old who reply new (FileStep.skipped none told_is same) = is reply _ told_is (λ no. no)
+file_possible old who reply new (FileStep.filed session entry later may told_is same) = is reply _ told_is (λ no. no)
 
 step_possible : (old : Machine) (event : Event) (reply : Reply) (new : Machine) → Step old event reply new → ¬ IsImpossible reply
 step_possible old (events.Read session server key) reply new step = read_possible old session.index server.index key reply new step

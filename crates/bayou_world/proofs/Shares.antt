@@ -13,11 +13,11 @@ use Rattle.bayou_base.specs.declared.limits.TheConstants.{SESSIONS}
 use Rattle.bayou_base.specs.declared.session.SessionId.{SessionId}
 use Rattle.bayou_world.specs.declared.reply.Reply.TheVariants as replies
 use Rattle.bayou_world.specs.declared.state.State.{State}
-use Rattle.bayou_world.specs.Inner.Booking.{AreOfSessions, Booking, IsBookOf, TakesOldest}
-use Rattle.bayou_world.specs.Inner.Good.{IsGood}
+use Rattle.bayou_world.specs.Inner.WorldBooks.{AreOfSessions, Booking, IsBookOf, TakesOldest}
+use Rattle.bayou_world.specs.Inner.Good.{IsGoodMachine}
 use Rattle.bayou_world.specs.Inner.Tie.{IsOf}
 use Rattle.bayou_world.specs.Machine.{Machine, with_session}
-use Rattle.bayou_world.specs.Steps.{Files}
+use Rattle.bayou_world.specs.Steps.{FileStep}
 use Rattle.bayou_world.proofs.Lists.{same_number}
 
 -- the share that is found at its place is of the session of that number
@@ -45,8 +45,8 @@ put_back shares at old new are within found same = record {
 -- an entry is entered
 pub files : (old new : State) (who : ℕ) (entry : Entry) (booking : Booking) (inside claimed filed : Booked) → TakesOldest old who (Some entry) new → record { places = inside.places; entries = inside.entries } ≡ booking
     → inside.totals.slips ≡ 0 → IsExact inside → ¬ (length inside.entries + inside.totals.slips ≡ inside.places) → claimed ≡ with_claim inside → filed ≡ with_entry claimed entry
-    → (machine : Machine) → IsGood machine → IsOf old machine → IsBookOf booking machine
-    → (next : Machine) × Files machine who replies.Filed next × IsOf new next × IsBookOf (record { places = filed.places; entries = filed.entries }) next
+    → (machine : Machine) → IsGoodMachine machine → IsOf old machine → IsBookOf booking machine
+    → (next : Machine) × FileStep machine who replies.Filed next × IsOf new next × IsBookOf (record { places = filed.places; entries = filed.entries }) next
 files old new who entry booking inside claimed filed takes view none exact not_full claims is machine good tied book =
     let there = takes machine good tied in
     let session = there.0 in
@@ -56,7 +56,7 @@ files old new who entry booking inside claimed filed takes view none exact not_f
     let less : length inside.entries < inside.places = less_than (length inside.entries) inside.places (omega (arith, exact.room, none)) (λ same. not_full (omega (arith, same, none))) in
     let room : length machine.filed < machine.places = omega (arith, less, places, ap length entries) in (
       record (with_session machine who (record session { waiting = later })) { filed = machine.filed ++ entry ∷ [] },
-      Files.filed session entry later (record { there = there.2; waits = there.3; room = room }) refl refl,
+      FileStep.filed session entry later (record { there = there.2; waits = there.3; room = room }) refl refl,
       of_filed (with_session machine who (record session { waiting = later })) there.5,
       record {
         places = ap (λ (b : Booked). b.places) is ∙ ap (λ (b : Booked). b.places) claims ∙ places;
@@ -75,7 +75,7 @@ files old new who entry booking inside claimed filed takes view none exact not_f
       many = is_of.many;
       servers_are = is_of.servers_are;
       seats = is_of.seats;
-      clients_are = is_of.clients_are;
+      sessions_are = is_of.sessions_are;
       offers_are = is_of.offers_are;
       items_are = is_of.items_are;
       served_are = is_of.served_are;
@@ -84,12 +84,12 @@ files old new who entry booking inside claimed filed takes view none exact not_f
 -- nothing waits, and the book is as it was
 pub none_files : (old new : State) (who : ℕ) (booking : Booking) (inside claimed voided : Booked) → TakesOldest old who None new → record { places = inside.places; entries = inside.entries } ≡ booking
     → claimed ≡ with_claim inside → voided ≡ with_void claimed
-    → (machine : Machine) → IsGood machine → IsOf old machine → IsBookOf booking machine
-    → (next : Machine) × Files machine who replies.Skipped next × IsOf new next × IsBookOf (record { places = voided.places; entries = voided.entries }) next
+    → (machine : Machine) → IsGoodMachine machine → IsOf old machine → IsBookOf booking machine
+    → (next : Machine) × FileStep machine who replies.Skipped next × IsOf new next × IsBookOf (record { places = voided.places; entries = voided.entries }) next
 none_files old new who booking inside claimed voided takes view claims is machine good tied book =
     let there = takes machine good tied in (
       machine,
-      Files.skipped (λ session entry later may. there.0 session entry later may.there may.waits) refl refl,
+      FileStep.skipped (λ session entry later may. there.0 session entry later may.there may.waits) refl refl,
       there.1,
       record {
         places = ap (λ (b : Booked). b.places) is ∙ ap (λ (b : Booked). b.places) claims ∙ ap (λ (b : Booking). b.places) view ∙ book.places;
@@ -100,19 +100,19 @@ none_files old new who booking inside claimed voided takes view claims is machin
 -- the book is full, and as it was
 pub full_files : (state : State) (who : ℕ) (booking : Booking) (inside claimed : Booked) → record { places = inside.places; entries = inside.entries } ≡ booking
     → length inside.entries + inside.totals.slips ≡ inside.places → inside.totals.slips ≡ 0 → claimed ≡ inside → (machine : Machine) → IsOf state machine → IsBookOf booking machine
-    → (next : Machine) × Files machine who replies.Skipped next × IsOf state next × IsBookOf (record { places = claimed.places; entries = claimed.entries }) next
+    → (next : Machine) × FileStep machine who replies.Skipped next × IsOf state next × IsBookOf (record { places = claimed.places; entries = claimed.entries }) next
 full_files state who booking inside claimed view full none same machine tied book =
     let places : inside.places ≡ machine.places = ap (λ (b : Booking). b.places) view ∙ book.places in
     let entries : inside.entries ≡ machine.filed = ap (λ (b : Booking). b.entries) view ∙ book.entries in (
       machine,
-      Files.skipped (λ session entry later may. omega (arith, full, none, may.room, places, ap length entries)) refl refl,
+      FileStep.skipped (λ session entry later may. omega (arith, full, none, may.room, places, ap length entries)) refl refl,
       tied,
       record { places = ap (λ (b : Booked). b.places) same ∙ places; entries = ap (λ (b : Booked). b.entries) same ∙ entries },
     )
 
 -- what waits is the session's own
 pub never : (old new : State) (who : ℕ) (entry : Entry) (id : SessionId) → TakesOldest old who (Some entry) new → id.index ≡ who → true ≡ not (entry.session.index == id.index)
-    → (machine : Machine) → IsGood machine → IsOf old machine → ⊥
+    → (machine : Machine) → IsGoodMachine machine → IsOf old machine → ⊥
 never old new who entry id takes named differs machine good tied =
     let there = takes machine good tied in
     let same : entry.session.index ≡ id.index = there.4 ∙ sym named in

@@ -11,10 +11,10 @@ use Rattle.bayou_judge.specs.History.{IsFrontOf}
 use Rattle.bayou_world.specs.declared.event.Event.{Event}
 use Rattle.bayou_world.specs.declared.event.Event.TheVariants as events
 use Rattle.bayou_world.specs.declared.reply.Reply.{Reply}
-use Rattle.bayou_world.specs.Inner.Good.{IsGood, IsGoodSession, IsHome, IsTrueAnswer}
+use Rattle.bayou_world.specs.Inner.Good.{IsGoodMachine, IsGoodSession, IsHome, IsTrueAnswer}
 use Rattle.bayou_world.specs.Machine.{Answered, Machine, Offered, SessionSets, changed, writes}
 use Rattle.bayou_world.specs.Runs.{Run, first_machine, new_server, new_session}
-use Rattle.bayou_world.specs.Steps.{Collects, Delivers, Files, Fuses, Loses, Offers, Reads, Reopens, Restarts, Step, Takes, Writes, told}
+use Rattle.bayou_world.specs.Steps.{CollectStep, DeliverStep, FileStep, FuseStep, LoseStep, OfferStep, ReadStep, ReopenStep, RestartStep, Step, TakeStep, WriteStep, told}
 use Rattle.bayou_world.proofs.Lists.{Contains-none, at_changed}
 use Rattle.bayou_world.proofs.Stepping.{run_good}
 
@@ -39,7 +39,7 @@ no_flight (Some asks) session answered is flies =
     let one : new_session asks ≡ session = cc in
     let none : None ≡ Some answered = ap (λ (s : SessionSets). s.flight) one ∙ flies in absurd (cc)
 
-pub first_good : (count limit places : ℕ) (asks : ℕ → Option Asks) → IsGood (first_machine count limit places asks)
+pub first_good : (count limit places : ℕ) (asks : ℕ → Option Asks) → IsGoodMachine (first_machine count limit places asks)
 first_good count limit places asks =
     let servers = λ (place : ℕ). new_server in
     record {
@@ -59,7 +59,7 @@ first_good count limit places asks =
     }
 
 pub run_is_good : (count limit places : ℕ) (asks : ℕ → Option Asks) (events : List Event) (replies : List Reply) (last : Machine)
-    → Run (first_machine count limit places asks) events replies last → IsGood last
+    → Run (first_machine count limit places asks) events replies last → IsGoodMachine last
 run_is_good count limit places asks events replies last run = run_good (first_machine count limit places asks) events replies last (first_good count limit places asks) run
 
 -- ---- what sessions ask for
@@ -93,59 +93,59 @@ told_asks whats.Refused answered session = refl
 becomes : (old new is : Machine) → new ≡ is → KeepAsking old.sessions is.sessions → KeepAsking old.sessions new.sessions
 becomes old new is same keep = subst (λ (m : Machine). KeepAsking old.sessions m.sessions) (sym same) keep
 
-read_asks : (old : Machine) (who place : ℕ) (key : List ℕ) (reply : Reply) (new : Machine) → Reads old who place key reply new → KeepAsking old.sessions new.sessions
-read_asks old who place key reply new (Reads.skipped cannot is same) = same_asks old new same
-read_asks old who place key reply new (Reads.behind session entry may not_may is entry_is same) = becomes old new _ same (changed_asks old.sessions who session _ may.there refl)
-read_asks old who place key reply new (Reads.served session entry seen may covered value vector is entry_is same) = becomes old new _ same (changed_asks old.sessions who session _ may.there refl)
+read_asks : (old : Machine) (who place : ℕ) (key : List ℕ) (reply : Reply) (new : Machine) → ReadStep old who place key reply new → KeepAsking old.sessions new.sessions
+read_asks old who place key reply new (ReadStep.skipped cannot is same) = same_asks old new same
+read_asks old who place key reply new (ReadStep.behind session entry may not_may is entry_is same) = becomes old new _ same (changed_asks old.sessions who session _ may.there refl)
+read_asks old who place key reply new (ReadStep.served session entry seen may covered value vector is entry_is same) = becomes old new _ same (changed_asks old.sessions who session _ may.there refl)
 
-write_asks : (old : Machine) (who place : ℕ) (program : Program) (reply : Reply) (new : Machine) → Writes old who place program reply new → KeepAsking old.sessions new.sessions
-write_asks old who place program reply new (Writes.skipped cannot is same) = same_asks old new same
-write_asks old who place program reply new (Writes.refused session entry fault may refused is entry_is same) = becomes old new _ same (changed_asks old.sessions who session _ may.there refl)
-write_asks old who place program reply new (Writes.doubted session entry made may makes is entry_is same) = becomes old new _ same (changed_asks old.sessions who session _ may.there refl)
-write_asks old who place program reply new (Writes.accepted session entry made accepted may makes told_is is entry_is same) = becomes old new _ same (changed_asks old.sessions who session _ may.there refl)
+write_asks : (old : Machine) (who place : ℕ) (program : Program) (reply : Reply) (new : Machine) → WriteStep old who place program reply new → KeepAsking old.sessions new.sessions
+write_asks old who place program reply new (WriteStep.skipped cannot is same) = same_asks old new same
+write_asks old who place program reply new (WriteStep.refused session entry fault may refused is entry_is same) = becomes old new _ same (changed_asks old.sessions who session _ may.there refl)
+write_asks old who place program reply new (WriteStep.doubted session entry made may makes is entry_is same) = becomes old new _ same (changed_asks old.sessions who session _ may.there refl)
+write_asks old who place program reply new (WriteStep.accepted session entry made accepted may makes told_is is entry_is same) = becomes old new _ same (changed_asks old.sessions who session _ may.there refl)
 
-deliver_asks : (old : Machine) (who : ℕ) (reply : Reply) (new : Machine) → Delivers old who reply new → KeepAsking old.sessions new.sessions
-deliver_asks old who reply new (Delivers.skipped none is same) = same_asks old new same
-deliver_asks old who reply new (Delivers.delivered session answered flies is same) =
+deliver_asks : (old : Machine) (who : ℕ) (reply : Reply) (new : Machine) → DeliverStep old who reply new → KeepAsking old.sessions new.sessions
+deliver_asks old who reply new (DeliverStep.skipped none is same) = same_asks old new same
+deliver_asks old who reply new (DeliverStep.delivered session answered flies is same) =
     becomes old new _ same (changed_asks old.sessions who session _ flies.there (told_asks answered.entry.what answered session))
 
-lose_asks : (old : Machine) (who : ℕ) (reply : Reply) (new : Machine) → Loses old who reply new → KeepAsking old.sessions new.sessions
-lose_asks old who reply new (Loses.skipped none is same) = same_asks old new same
-lose_asks old who reply new (Loses.dropped session answered flies is same) = becomes old new _ same (changed_asks old.sessions who session _ flies.there refl)
+lose_asks : (old : Machine) (who : ℕ) (reply : Reply) (new : Machine) → LoseStep old who reply new → KeepAsking old.sessions new.sessions
+lose_asks old who reply new (LoseStep.skipped none is same) = same_asks old new same
+lose_asks old who reply new (LoseStep.dropped session answered flies is same) = becomes old new _ same (changed_asks old.sessions who session _ flies.there refl)
 
-offer_asks : (old : Machine) (place : ℕ) (reply : Reply) (new : Machine) → Offers old place reply new → KeepAsking old.sessions new.sessions
-offer_asks old place reply new (Offers.skipped none is same) = same_asks old new same
-offer_asks old place reply new (Offers.kept known few is same) = becomes old new _ same (λ who asks found. found)
+offer_asks : (old : Machine) (place : ℕ) (reply : Reply) (new : Machine) → OfferStep old place reply new → KeepAsking old.sessions new.sessions
+offer_asks old place reply new (OfferStep.skipped none is same) = same_asks old new same
+offer_asks old place reply new (OfferStep.kept known few is same) = becomes old new _ same (λ who asks found. found)
 
-collect_asks : (old : Machine) (place offer : ℕ) (reply : Reply) (new : Machine) → Collects old place offer reply new → KeepAsking old.sessions new.sessions
-collect_asks old place offer reply new (Collects.skipped none is same) = same_asks old new same
-collect_asks old place offer reply new (Collects.no_memory known there is same) = same_asks old new same
-collect_asks old place offer reply new (Collects.flown offered lacking may is same) = becomes old new _ same (λ who asks found. found)
+collect_asks : (old : Machine) (place offer : ℕ) (reply : Reply) (new : Machine) → CollectStep old place offer reply new → KeepAsking old.sessions new.sessions
+collect_asks old place offer reply new (CollectStep.skipped none is same) = same_asks old new same
+collect_asks old place offer reply new (CollectStep.no_memory known there is same) = same_asks old new same
+collect_asks old place offer reply new (CollectStep.flown offered lacking may is same) = becomes old new _ same (λ who asks found. found)
 
-take_asks : (old : Machine) (place item : ℕ) (reply : Reply) (new : Machine) → Takes old place item reply new → KeepAsking old.sessions new.sessions
-take_asks old place item reply new (Takes.skipped none is same) = same_asks old new same
-take_asks old place item reply new (Takes.had made given holds is same) = same_asks old new same
-take_asks old place item reply new (Takes.refused made fault given refused is same) = same_asks old new same
-take_asks old place item reply new (Takes.doubted made given next room is same) = becomes old new _ same (λ who asks found. found)
-take_asks old place item reply new (Takes.taken made given next room is same) = becomes old new _ same (λ who asks found. found)
+take_asks : (old : Machine) (place item : ℕ) (reply : Reply) (new : Machine) → TakeStep old place item reply new → KeepAsking old.sessions new.sessions
+take_asks old place item reply new (TakeStep.skipped none is same) = same_asks old new same
+take_asks old place item reply new (TakeStep.had made given holds is same) = same_asks old new same
+take_asks old place item reply new (TakeStep.refused made fault given refused is same) = same_asks old new same
+take_asks old place item reply new (TakeStep.doubted made given next room is same) = becomes old new _ same (λ who asks found. found)
+take_asks old place item reply new (TakeStep.taken made given next room is same) = becomes old new _ same (λ who asks found. found)
 
-file_asks : (old : Machine) (who : ℕ) (reply : Reply) (new : Machine) → Files old who reply new → KeepAsking old.sessions new.sessions
-file_asks old who reply new (Files.skipped none is same) = same_asks old new same
-file_asks old who reply new (Files.filed session entry later may is same) = becomes old new _ same (changed_asks old.sessions who session _ may.there refl)
+file_asks : (old : Machine) (who : ℕ) (reply : Reply) (new : Machine) → FileStep old who reply new → KeepAsking old.sessions new.sessions
+file_asks old who reply new (FileStep.skipped none is same) = same_asks old new same
+file_asks old who reply new (FileStep.filed session entry later may is same) = becomes old new _ same (changed_asks old.sessions who session _ may.there refl)
 
-fuse_asks : (old : Machine) (place call : ℕ) (reply : Reply) (new : Machine) → Fuses old place call reply new → KeepAsking old.sessions new.sessions
-fuse_asks old place call reply new (Fuses.skipped none is same) = same_asks old new same
-fuse_asks old place call reply new (Fuses.fused known some is same) = same_asks old new same
+fuse_asks : (old : Machine) (place call : ℕ) (reply : Reply) (new : Machine) → FuseStep old place call reply new → KeepAsking old.sessions new.sessions
+fuse_asks old place call reply new (FuseStep.skipped none is same) = same_asks old new same
+fuse_asks old place call reply new (FuseStep.fused known some is same) = same_asks old new same
 
-reopen_asks : (old : Machine) (place : ℕ) (reply : Reply) (new : Machine) → Reopens old place reply new → KeepAsking old.sessions new.sessions
-reopen_asks old place reply new (Reopens.skipped none is same) = same_asks old new same
-reopen_asks old place reply new (Reopens.refused fault runs refused is same) = same_asks old new same
-reopen_asks old place reply new (Reopens.reopened adopted server runs down recovers is same) = becomes old new _ same (λ who asks found. found)
+reopen_asks : (old : Machine) (place : ℕ) (reply : Reply) (new : Machine) → ReopenStep old place reply new → KeepAsking old.sessions new.sessions
+reopen_asks old place reply new (ReopenStep.skipped none is same) = same_asks old new same
+reopen_asks old place reply new (ReopenStep.refused fault runs refused is same) = same_asks old new same
+reopen_asks old place reply new (ReopenStep.reopened adopted server runs down recovers is same) = becomes old new _ same (λ who asks found. found)
 
-restart_asks : (old : Machine) (place : ℕ) (reply : Reply) (new : Machine) → Restarts old place reply new → KeepAsking old.sessions new.sessions
-restart_asks old place reply new (Restarts.skipped none is same) = same_asks old new same
-restart_asks old place reply new (Restarts.refused fault known refused is same) = becomes old new _ same (λ who asks found. found)
-restart_asks old place reply new (Restarts.restarted adopted server known recovers is same) = becomes old new _ same (λ who asks found. found)
+restart_asks : (old : Machine) (place : ℕ) (reply : Reply) (new : Machine) → RestartStep old place reply new → KeepAsking old.sessions new.sessions
+restart_asks old place reply new (RestartStep.skipped none is same) = same_asks old new same
+restart_asks old place reply new (RestartStep.refused fault known refused is same) = becomes old new _ same (λ who asks found. found)
+restart_asks old place reply new (RestartStep.restarted adopted server known recovers is same) = becomes old new _ same (λ who asks found. found)
 
 step_asks : (old : Machine) (event : Event) (reply : Reply) (new : Machine) → Step old event reply new → KeepAsking old.sessions new.sessions
 step_asks old (events.Read session server key) reply new step = read_asks old session.index server.index key reply new step

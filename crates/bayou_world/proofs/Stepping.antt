@@ -14,10 +14,10 @@ use Rattle.bayou_judge.specs.History.{IsFrontOf}
 use Rattle.bayou_world.specs.declared.event.Event.{Event}
 use Rattle.bayou_world.specs.declared.event.Event.TheVariants as events
 use Rattle.bayou_world.specs.declared.reply.Reply.{Reply}
-use Rattle.bayou_world.specs.Inner.Good.{AreGood, IsCovered, IsCoveredWrite, IsGood, IsGoodFlight, IsGoodSession, IsHome, IsTrue, IsTrueAnswer, MayBeDoubted}
+use Rattle.bayou_world.specs.Inner.Good.{AreGoodServers, IsCovered, IsCoveredWrite, IsGoodMachine, IsGoodFlight, IsGoodSession, IsHome, WasSo, IsTrueAnswer, MayBeDoubted}
 use Rattle.bayou_world.specs.Machine.{Answered, IsWithin, Machine, Made, Offered, ServerSets, SessionSets, changed, names, with_session, writes}
 use Rattle.bayou_world.specs.Runs.{IsRead, Run}
-use Rattle.bayou_world.specs.Steps.{Collects, Delivers, Files, Fuses, IsEntry, IsGiven, IsInFlight, IsNext, Loses, Makes, MayBegin, Offers, Reads, Reopens, Restarts, Step, Takes, Writes, landed, refusal, served_by, stopped_now, told, with_answer, with_doubt, with_write}
+use Rattle.bayou_world.specs.Steps.{CollectStep, DeliverStep, FileStep, FuseStep, IsEntry, IsGiven, IsInFlight, IsNext, LoseStep, Makes, MayBegin, OfferStep, ReadStep, ReopenStep, RestartStep, Step, TakeStep, WriteStep, landed, refusal, served_by, stopped_now, told, with_answer, with_doubt, with_write}
 use Rattle.bayou_world.proofs.Delivering.{heard_read, heard_write, more_of_other}
 use Rattle.bayou_world.proofs.Given.{given_fits}
 use Rattle.bayou_world.proofs.Growing.{HaveGrown, add_doubt, add_write, answer_grows, grown_by_doubt, grown_by_recovery, grown_by_stop, grown_by_write, home_grows, offers_grow, recover, stop}
@@ -52,15 +52,15 @@ item_at items item made got = (item, slice_get_within items item made got, get_o
 -- ---- an operation begins
 
 -- the answer goes in flight, over servers that may hold more
-begin_good : (old : Machine) → IsGood old → (servers : ℕ → ServerSets) → HaveGrown old.servers servers → AreGood old.count old.limit servers
+begin_good : (old : Machine) → IsGoodMachine old → (servers : ℕ → ServerSets) → HaveGrown old.servers servers → AreGoodServers old.count old.limit servers
     → (who place : ℕ) (session : SessionSets) (what : What) (answered : Answered) → MayBegin old who place session → IsEntry who place session what answered.entry
-    → IsTrue servers what place answered → IsCovered session what answered
-    → IsGood (with_answer (record old { servers = servers }) who session answered)
+    → WasSo servers what place answered → IsCovered session what answered
+    → IsGoodMachine (with_answer (record old { servers = servers }) who session answered)
 begin_good old good servers grown are_good who place session what answered may entry is_true covered =
     let new = record session { begun = session.begun + 1; flight = Some answered } in
     let mine = good.sessions who session may.there in
     let true_answer : IsTrueAnswer servers answered =
-    subst (λ w. IsTrue servers w answered.entry.server.index answered) (sym entry.what_is) (subst (λ n. IsTrue servers what n answered) (sym entry.server_is) is_true) in
+    subst (λ w. WasSo servers w answered.entry.server.index answered) (sym entry.what_is) (subst (λ n. WasSo servers what n answered) (sym entry.server_is) is_true) in
     let still : IsCovered new answered.entry.what answered = subst (λ w. IsCovered new w answered) (sym entry.what_is) (covers what covered) in
     record {
       servers = are_good;
@@ -98,7 +98,7 @@ begin_good old good servers grown are_good who place session what answered may e
     covers whats.Refused c = tt
 
 -- what the server makes may be held next
-pub made_may : (old : Machine) → IsGood old → (place : ℕ) (session : SessionSets) (program : Program) (made : Made) → place < old.count
+pub made_may : (old : Machine) → IsGoodMachine old → (place : ℕ) (session : SessionSets) (program : Program) (made : Made) → place < old.count
     → Makes old.limit place session (old.servers place) program made → MayBeDoubted old.count old.limit old.servers place (old.servers place).held made
 made_may old good place session program made known makes = record {
   room = makes.room;
@@ -117,29 +117,29 @@ added_home servers place made own =
     let here : (new place).held ≡ (servers place).held ++ made ∷ [] = ap (λ (s : ServerSets). s.held) (changed-same servers place after) in
     subst (λ n. Contains (new n).held made) (sym own) (subst (λ list. Contains list made) (sym here) has)
 
-read_good : (old : Machine) (who place : ℕ) (key : List ℕ) (reply : Reply) (new : Machine) → IsGood old → Reads old who place key reply new → IsGood new
-read_good old who place key reply new good (Reads.skipped cannot is same) = subst IsGood (sym same) good
-read_good old who place key reply new good (Reads.behind session entry may not_may is entry_is same) =
-    subst IsGood (sym same) (begin_good old good old.servers (no_growth old.servers) good.servers who place session whats.Refused (refusal entry) may entry_is refl tt)
-read_good old who place key reply new good (Reads.served session entry seen may covered value vector is entry_is same) =
+read_good : (old : Machine) (who place : ℕ) (key : List ℕ) (reply : Reply) (new : Machine) → IsGoodMachine old → ReadStep old who place key reply new → IsGoodMachine new
+read_good old who place key reply new good (ReadStep.skipped cannot is same) = subst IsGoodMachine (sym same) good
+read_good old who place key reply new good (ReadStep.behind session entry may not_may is entry_is same) =
+    subst IsGoodMachine (sym same) (begin_good old good old.servers (no_growth old.servers) good.servers who place session whats.Refused (refusal entry) may entry_is refl tt)
+read_good old who place key reply new good (ReadStep.served session entry seen may covered value vector is entry_is same) =
     let database = writes (old.servers place).held in
-    subst IsGood (sym same)
+    subst IsGoodMachine (sym same)
     (begin_good old good old.servers (no_growth old.servers) good.servers who place session (whats.Read key seen.vector) (record { entry = entry; database = database; made = None }) may entry_is
     (refl, whole_front database, vector) (record { ryw = covered.ryw; mr = covered.mr }))
 
-write_good : (old : Machine) (who place : ℕ) (program : Program) (reply : Reply) (new : Machine) → IsGood old → Writes old who place program reply new → IsGood new
-write_good old who place program reply new good (Writes.skipped cannot is same) = subst IsGood (sym same) good
-write_good old who place program reply new good (Writes.refused session entry fault may refused is entry_is same) =
-    subst IsGood (sym same) (begin_good old good old.servers (no_growth old.servers) good.servers who place session whats.Refused (refusal entry) may entry_is refl tt)
-write_good old who place program reply new good (Writes.doubted session entry made may makes is entry_is same) =
+write_good : (old : Machine) (who place : ℕ) (program : Program) (reply : Reply) (new : Machine) → IsGoodMachine old → WriteStep old who place program reply new → IsGoodMachine new
+write_good old who place program reply new good (WriteStep.skipped cannot is same) = subst IsGoodMachine (sym same) good
+write_good old who place program reply new good (WriteStep.refused session entry fault may refused is entry_is same) =
+    subst IsGoodMachine (sym same) (begin_good old good old.servers (no_growth old.servers) good.servers who place session whats.Refused (refusal entry) may entry_is refl tt)
+write_good old who place program reply new good (WriteStep.doubted session entry made may makes is entry_is same) =
     let may_be = made_may old good place session program made may.server.there makes in
-    subst IsGood (sym same)
+    subst IsGoodMachine (sym same)
     (begin_good old good (changed old.servers place (with_doubt (old.servers place) made)) (grown_by_doubt old.servers place made)
     (add_doubt old.count old.limit old.servers good.servers place made may_be) who place session whats.Refused (refusal entry) may entry_is refl tt)
-write_good old who place program reply new good (Writes.accepted session entry made accepted may makes told_is is entry_is same) =
+write_good old who place program reply new good (WriteStep.accepted session entry made accepted may makes told_is is entry_is same) =
     let may_be = made_may old good place session program made may.server.there makes in
     let covered = makes.ready.covered in
-    subst IsGood (sym same)
+    subst IsGoodMachine (sym same)
     (begin_good old good (changed old.servers place (with_write (old.servers place) made)) (grown_by_write old.servers place made)
     (add_write old.count old.limit old.servers good.servers place made makes.ready.up may_be) who place session (whats.Write accepted.wid accepted.stamp accepted.deps)
     (record { entry = entry; database = made.past; made = Some made }) may entry_is
@@ -150,15 +150,15 @@ write_good old who place program reply new good (Writes.accepted session entry m
 -- ---- the answer in flight
 
 -- of the other sessions what was good stays so
-others_hear : (old : Machine) → IsGood old → (who : ℕ) (session : SessionSets) (answered : Answered) → IsInFlight old who session answered → (other : ℕ) (found : SessionSets)
+others_hear : (old : Machine) → IsGoodMachine old → (who : ℕ) (session : SessionSets) (answered : Answered) → IsInFlight old who session answered → (other : ℕ) (found : SessionSets)
     → other ≢ who → old.sessions other ≡ Some found → IsGoodSession (old.served ++ answered ∷ []) other found
 others_hear old good who session answered flies other found differs there =
     let flight = subst (λ f. IfSome f (IsGoodFlight old.served who session)) flies.flight (good.sessions who session flies.there).flight in
     more_of_other old.served answered other found (λ is. differs (sym is ∙ flight.session_is)) (good.sessions other found there)
 
-hear_good : (old : Machine) → IsGood old → (who : ℕ) (session new : SessionSets) (answered : Answered) → IsInFlight old who session answered
+hear_good : (old : Machine) → IsGoodMachine old → (who : ℕ) (session new : SessionSets) (answered : Answered) → IsInFlight old who session answered
     → IsGoodSession (old.served ++ answered ∷ []) who new → new.flight ≡ None
-    → IsGood (record (with_session old who new) { served = old.served ++ answered ∷ [] })
+    → IsGoodMachine (record (with_session old who new) { served = old.served ++ answered ∷ [] })
 hear_good old good who session new answered flies mine none = record {
   servers = good.servers;
   offers = good.offers;
@@ -178,9 +178,9 @@ hear_good old good who session new answered flies mine none = record {
 }
 
 -- nothing is served: the session's flight ends
-land_good : (old : Machine) → IsGood old → (who : ℕ) (session new : SessionSets) → old.sessions who ≡ Some session
+land_good : (old : Machine) → IsGoodMachine old → (who : ℕ) (session new : SessionSets) → old.sessions who ≡ Some session
     → new.asks ≡ session.asks → new.begun ≡ session.begun → new.reads ≡ session.reads → new.writes ≡ session.writes → new.flight ≡ None
-    → IsGood (with_session old who new)
+    → IsGoodMachine (with_session old who new)
 land_good old good who session new there asks begun reads same_writes none =
     let mine = good.sessions who session there in
     record {
@@ -206,18 +206,18 @@ land_good old good who session new there asks begun reads same_writes none =
           (λ o s found_is a flies. good.flights o s a found_is flies) other found is flying in_flight;
     }
 
-deliver_as : (old : Machine) → IsGood old → (who : ℕ) (session : SessionSets) (answered : Answered) → IsInFlight old who session answered → (what : What) → answered.entry.what ≡ what
-    → IsGood (record (with_session old who (record (told what answered session) { flight = None; waiting = session.waiting ++ answered.entry ∷ [] })) { served = old.served ++ served_by what answered })
+deliver_as : (old : Machine) → IsGoodMachine old → (who : ℕ) (session : SessionSets) (answered : Answered) → IsInFlight old who session answered → (what : What) → answered.entry.what ≡ what
+    → IsGoodMachine (record (with_session old who (record (told what answered session) { flight = None; waiting = session.waiting ++ answered.entry ∷ [] })) { served = old.served ++ served_by what answered })
 deliver_as old good who session answered flies (whats.Read key vector) is =
     let flight = subst (λ f. IfSome f (IsGoodFlight old.served who session)) flies.flight (good.sessions who session flies.there).flight in
-    let is_true = subst (λ w. IsTrue old.servers w answered.entry.server.index answered) is (good.flights who session answered flies.there flies.flight) in
+    let is_true = subst (λ w. WasSo old.servers w answered.entry.server.index answered) is (good.flights who session answered flies.there flies.flight) in
     let covered = subst (λ w. IsCovered session w answered) is flight.covered in
     let new = record (told (whats.Read key vector) answered session) { flight = None; waiting = session.waiting ++ answered.entry ∷ [] } in
     hear_good old good who session new answered flies
     (heard_read old.served who session new answered (good.sessions who session flies.there) flight is_true.0 covered refl refl refl refl refl) refl
 deliver_as old good who session answered flies (whats.Write wid stamp deps) is =
     let flight = subst (λ f. IfSome f (IsGoodFlight old.served who session)) flies.flight (good.sessions who session flies.there).flight in
-    let is_true = subst (λ w. IsTrue old.servers w answered.entry.server.index answered) is (good.flights who session answered flies.there flies.flight) in
+    let is_true = subst (λ w. WasSo old.servers w answered.entry.server.index answered) is (good.flights who session answered flies.there flies.flight) in
     let covered = subst (λ w. IsCovered session w answered) is flight.covered in
     let new = record (told (whats.Write wid stamp deps) answered session) { flight = None; waiting = session.waiting ++ answered.entry ∷ [] } in
     hear_good old good who session new answered flies
@@ -227,25 +227,25 @@ deliver_as old good who session answered flies (whats.Write wid stamp deps) is =
     (ap (λ (m : Made). m.write.wid) (sym one) ∙ is_true.3, covered made accepted)) refl refl refl refl refl) refl
 deliver_as old good who session answered flies whats.Refused is =
     let new = record (told whats.Refused answered session) { flight = None; waiting = session.waiting ++ answered.entry ∷ [] } in
-    subst (λ list. IsGood (record (with_session old who new) { served = list })) (sym (append-nil old.served))
+    subst (λ list. IsGoodMachine (record (with_session old who new) { served = list })) (sym (append-nil old.served))
     (land_good old good who session new flies.there refl refl refl refl refl)
 
-deliver_good : (old : Machine) (who : ℕ) (reply : Reply) (new : Machine) → IsGood old → Delivers old who reply new → IsGood new
-deliver_good old who reply new good (Delivers.skipped none is same) = subst IsGood (sym same) good
-deliver_good old who reply new good (Delivers.delivered session answered flies is same) =
-    subst IsGood (sym same) (deliver_as old good who session answered flies answered.entry.what refl)
+deliver_good : (old : Machine) (who : ℕ) (reply : Reply) (new : Machine) → IsGoodMachine old → DeliverStep old who reply new → IsGoodMachine new
+deliver_good old who reply new good (DeliverStep.skipped none is same) = subst IsGoodMachine (sym same) good
+deliver_good old who reply new good (DeliverStep.delivered session answered flies is same) =
+    subst IsGoodMachine (sym same) (deliver_as old good who session answered flies answered.entry.what refl)
 
-lose_good : (old : Machine) (who : ℕ) (reply : Reply) (new : Machine) → IsGood old → Loses old who reply new → IsGood new
-lose_good old who reply new good (Loses.skipped none is same) = subst IsGood (sym same) good
-lose_good old who reply new good (Loses.dropped session answered flies is same) =
-    subst IsGood (sym same) (land_good old good who session (landed session) flies.there refl refl refl refl refl)
+lose_good : (old : Machine) (who : ℕ) (reply : Reply) (new : Machine) → IsGoodMachine old → LoseStep old who reply new → IsGoodMachine new
+lose_good old who reply new good (LoseStep.skipped none is same) = subst IsGoodMachine (sym same) good
+lose_good old who reply new good (LoseStep.dropped session answered flies is same) =
+    subst IsGoodMachine (sym same) (land_good old good who session (landed session) flies.there refl refl refl refl refl)
 
 -- ---- anti-entropy
 
-offer_good : (old : Machine) (place : ℕ) (reply : Reply) (new : Machine) → IsGood old → Offers old place reply new → IsGood new
-offer_good old place reply new good (Offers.skipped none is same) = subst IsGood (sym same) good
-offer_good old place reply new good (Offers.kept known few is same) =
-    subst IsGood (sym same) (record {
+offer_good : (old : Machine) (place : ℕ) (reply : Reply) (new : Machine) → IsGoodMachine old → OfferStep old place reply new → IsGoodMachine new
+offer_good old place reply new good (OfferStep.skipped none is same) = subst IsGoodMachine (sym same) good
+offer_good old place reply new good (OfferStep.kept known few is same) =
+    subst IsGoodMachine (sym same) (record {
       servers = good.servers;
       offers = All-push (λ (offer : Offered). IsFrontOf (writes (old.servers offer.server).held) offer.database) old.offers
           (record { server = place; database = writes (old.servers place).held }) good.offers (whole_front (writes (old.servers place).held));
@@ -255,11 +255,11 @@ offer_good old place reply new good (Offers.kept known few is same) =
       flights = good.flights;
     })
 
-collect_good : (old : Machine) (place offer : ℕ) (reply : Reply) (new : Machine) → IsGood old → Collects old place offer reply new → IsGood new
-collect_good old place offer reply new good (Collects.skipped none is same) = subst IsGood (sym same) good
-collect_good old place offer reply new good (Collects.no_memory known there is same) = subst IsGood (sym same) good
-collect_good old place offer reply new good (Collects.flown offered lacking may is same) =
-    subst IsGood (sym same) (record {
+collect_good : (old : Machine) (place offer : ℕ) (reply : Reply) (new : Machine) → IsGoodMachine old → CollectStep old place offer reply new → IsGoodMachine new
+collect_good old place offer reply new good (CollectStep.skipped none is same) = subst IsGoodMachine (sym same) good
+collect_good old place offer reply new good (CollectStep.no_memory known there is same) = subst IsGoodMachine (sym same) good
+collect_good old place offer reply new good (CollectStep.flown offered lacking may is same) =
+    subst IsGoodMachine (sym same) (record {
       servers = good.servers;
       offers = good.offers;
       items = All-append (IsHome old.servers) old.items lacking good.items
@@ -270,7 +270,7 @@ collect_good old place offer reply new good (Collects.flown offered lacking may 
     })
 
 -- an item that is the server's next may be held next
-pub given_may : (old : Machine) → IsGood old → (place item : ℕ) (made : Made) → IsGiven old place item made → IsNext (old.servers place) made
+pub given_may : (old : Machine) → IsGoodMachine old → (place item : ℕ) (made : Made) → IsGiven old place item made → IsNext (old.servers place) made
     → length (old.servers place).held < old.limit → MayBeDoubted old.count old.limit old.servers place (old.servers place).held made
 given_may old good place item made given next room =
     let home = All-contains (IsHome old.servers) old.items made good.items (item_at old.items item made given.there) in
@@ -286,7 +286,7 @@ given_may old good place item made given next room =
     }
 
 -- a server holds more, or is down
-server_good : (old : Machine) → IsGood old → (servers : ℕ → ServerSets) → HaveGrown old.servers servers → AreGood old.count old.limit servers → IsGood (record old { servers = servers })
+server_good : (old : Machine) → IsGoodMachine old → (servers : ℕ → ServerSets) → HaveGrown old.servers servers → AreGoodServers old.count old.limit servers → IsGoodMachine (record old { servers = servers })
 server_good old good servers grown are_good = record {
   servers = are_good;
   offers = offers_grow old.servers servers grown old.offers good.offers;
@@ -296,37 +296,37 @@ server_good old good servers grown are_good = record {
   flights = λ who session answered there flies. answer_grows old.servers servers grown answered (good.flights who session answered there flies);
 }
 
-take_good : (old : Machine) (place item : ℕ) (reply : Reply) (new : Machine) → IsGood old → Takes old place item reply new → IsGood new
-take_good old place item reply new good (Takes.skipped none is same) = subst IsGood (sym same) good
-take_good old place item reply new good (Takes.had made given holds is same) = subst IsGood (sym same) good
-take_good old place item reply new good (Takes.refused made fault given refused is same) = subst IsGood (sym same) good
-take_good old place item reply new good (Takes.doubted made given next room is same) =
-    subst IsGood (sym same) (server_good old good (changed old.servers place (with_doubt (old.servers place) made)) (grown_by_doubt old.servers place made)
+take_good : (old : Machine) (place item : ℕ) (reply : Reply) (new : Machine) → IsGoodMachine old → TakeStep old place item reply new → IsGoodMachine new
+take_good old place item reply new good (TakeStep.skipped none is same) = subst IsGoodMachine (sym same) good
+take_good old place item reply new good (TakeStep.had made given holds is same) = subst IsGoodMachine (sym same) good
+take_good old place item reply new good (TakeStep.refused made fault given refused is same) = subst IsGoodMachine (sym same) good
+take_good old place item reply new good (TakeStep.doubted made given next room is same) =
+    subst IsGoodMachine (sym same) (server_good old good (changed old.servers place (with_doubt (old.servers place) made)) (grown_by_doubt old.servers place made)
     (add_doubt old.count old.limit old.servers good.servers place made (given_may old good place item made given next room)))
-take_good old place item reply new good (Takes.taken made given next room is same) =
-    subst IsGood (sym same) (server_good old good (changed old.servers place (with_write (old.servers place) made)) (grown_by_write old.servers place made)
+take_good old place item reply new good (TakeStep.taken made given next room is same) =
+    subst IsGoodMachine (sym same) (server_good old good (changed old.servers place (with_write (old.servers place) made)) (grown_by_write old.servers place made)
     (add_write old.count old.limit old.servers good.servers place made next.fresh.up (given_may old good place item made given next room)))
 
 -- ---- failures
 
-fuse_good : (old : Machine) (place call : ℕ) (reply : Reply) (new : Machine) → IsGood old → Fuses old place call reply new → IsGood new
-fuse_good old place call reply new good (Fuses.skipped none is same) = subst IsGood (sym same) good
-fuse_good old place call reply new good (Fuses.fused known some is same) = subst IsGood (sym same) good
+fuse_good : (old : Machine) (place call : ℕ) (reply : Reply) (new : Machine) → IsGoodMachine old → FuseStep old place call reply new → IsGoodMachine new
+fuse_good old place call reply new good (FuseStep.skipped none is same) = subst IsGoodMachine (sym same) good
+fuse_good old place call reply new good (FuseStep.fused known some is same) = subst IsGoodMachine (sym same) good
 
-reopen_good : (old : Machine) (place : ℕ) (reply : Reply) (new : Machine) → IsGood old → Reopens old place reply new → IsGood new
-reopen_good old place reply new good (Reopens.skipped none is same) = subst IsGood (sym same) good
-reopen_good old place reply new good (Reopens.refused fault runs refused is same) = subst IsGood (sym same) good
-reopen_good old place reply new good (Reopens.reopened adopted server runs down recovers is same) =
-    subst IsGood (sym same) (server_good old good (changed old.servers place server) (grown_by_recovery old.servers place adopted server recovers)
+reopen_good : (old : Machine) (place : ℕ) (reply : Reply) (new : Machine) → IsGoodMachine old → ReopenStep old place reply new → IsGoodMachine new
+reopen_good old place reply new good (ReopenStep.skipped none is same) = subst IsGoodMachine (sym same) good
+reopen_good old place reply new good (ReopenStep.refused fault runs refused is same) = subst IsGoodMachine (sym same) good
+reopen_good old place reply new good (ReopenStep.reopened adopted server runs down recovers is same) =
+    subst IsGoodMachine (sym same) (server_good old good (changed old.servers place server) (grown_by_recovery old.servers place adopted server recovers)
     (recover old.count old.limit old.servers good.servers place adopted server recovers))
 
-restart_good : (old : Machine) (place : ℕ) (reply : Reply) (new : Machine) → IsGood old → Restarts old place reply new → IsGood new
-restart_good old place reply new good (Restarts.skipped none is same) = subst IsGood (sym same) good
-restart_good old place reply new good (Restarts.refused fault known refused is same) =
-    subst IsGood (sym same) (server_good old good (changed old.servers place (stopped_now (old.servers place))) (grown_by_stop old.servers place)
+restart_good : (old : Machine) (place : ℕ) (reply : Reply) (new : Machine) → IsGoodMachine old → RestartStep old place reply new → IsGoodMachine new
+restart_good old place reply new good (RestartStep.skipped none is same) = subst IsGoodMachine (sym same) good
+restart_good old place reply new good (RestartStep.refused fault known refused is same) =
+    subst IsGoodMachine (sym same) (server_good old good (changed old.servers place (stopped_now (old.servers place))) (grown_by_stop old.servers place)
     (stop old.count old.limit old.servers good.servers place))
-restart_good old place reply new good (Restarts.restarted adopted server known recovers is same) =
-    subst IsGood (sym same) (server_good old good (changed old.servers place server) (grown_by_recovery old.servers place adopted server recovers)
+restart_good old place reply new good (RestartStep.restarted adopted server known recovers is same) =
+    subst IsGoodMachine (sym same) (server_good old good (changed old.servers place server) (grown_by_recovery old.servers place adopted server recovers)
     (recover old.count old.limit old.servers good.servers place adopted server recovers))
 
 -- ---- the book
@@ -341,12 +341,12 @@ flight_waits served who session later (Some answered) good = record { session_is
     covers (whats.Write wid stamp deps) c = λ made is. let d = c made is in record { wfr = d.wfr; mw = d.mw }
     covers whats.Refused c = tt
 
-file_good : (old : Machine) (who : ℕ) (reply : Reply) (new : Machine) → IsGood old → Files old who reply new → IsGood new
-file_good old who reply new good (Files.skipped none is same) = subst IsGood (sym same) good
-file_good old who reply new good (Files.filed session entry later may is same) =
+file_good : (old : Machine) (who : ℕ) (reply : Reply) (new : Machine) → IsGoodMachine old → FileStep old who reply new → IsGoodMachine new
+file_good old who reply new good (FileStep.skipped none is same) = subst IsGoodMachine (sym same) good
+file_good old who reply new good (FileStep.filed session entry later may is same) =
     let mine = good.sessions who session may.there in
     let waits = record session { waiting = later } in
-    subst IsGood (sym same) (record {
+    subst IsGoodMachine (sym same) (record {
       servers = good.servers;
       offers = good.offers;
       items = good.items;
@@ -371,7 +371,7 @@ file_good old who reply new good (Files.filed session entry later may is same) =
 
 -- ---- an event, and a run
 
-pub step_good : (old : Machine) (event : Event) (reply : Reply) (new : Machine) → IsGood old → Step old event reply new → IsGood new
+pub step_good : (old : Machine) (event : Event) (reply : Reply) (new : Machine) → IsGoodMachine old → Step old event reply new → IsGoodMachine new
 step_good old (events.Read session server key) reply new good step = read_good old session.index server.index key reply new good step
 step_good old (events.Write session server program) reply new good step = write_good old session.index server.index program reply new good step
 step_good old (events.Deliver session) reply new good step = deliver_good old session.index reply new good step
@@ -384,8 +384,8 @@ step_good old (events.Reopen server) reply new good step = reopen_good old serve
 step_good old (events.Restart server) reply new good step = restart_good old server.index reply new good step
 step_good old (events.File session) reply new good step = file_good old session.index reply new good step
 
-pub run_good : (old : Machine) (events : List Event) (replies : List Reply) (new : Machine) → IsGood old → Run old events replies new → IsGood new
-run_good old [] [] new good run = subst IsGood (sym run) good
+pub run_good : (old : Machine) (events : List Event) (replies : List Reply) (new : Machine) → IsGoodMachine old → Run old events replies new → IsGoodMachine new
+run_good old [] [] new good run = subst IsGoodMachine (sym run) good
 run_good old [] (reply ∷ replies) new good run = absurd run
 run_good old (event ∷ events) [] new good run = absurd run
 run_good old (event ∷ events) (reply ∷ replies) new good (mid, step, rest) = run_good mid events replies new (step_good old event reply mid good step) rest

@@ -20,17 +20,17 @@ use Rattle.bayou_device.specs.MemoryDevice.{memory_device}
 use Rattle.bayou_server.specs.Honest.{IsHonestServer}
 use Rattle.bayou_server.specs.Server.{Core, ServerState}
 use Rattle.bayou_session.specs.Needs.{HasCounts, Told, read_need, write_need}
-use Rattle.bayou_world.specs.declared.client.Client.{Client}
-use Rattle.bayou_world.specs.declared.client.Flight.{Flight}
-use Rattle.bayou_world.specs.declared.replica.Replica.{Replica}
-use Rattle.bayou_world.specs.declared.replica.Replica.TheVariants.{Running}
+use Rattle.bayou_world.specs.declared.world_session.WorldSession.{WorldSession}
+use Rattle.bayou_world.specs.declared.world_session.Flight.{Flight}
+use Rattle.bayou_world.specs.declared.world_server.WorldServer.{WorldServer}
+use Rattle.bayou_world.specs.declared.world_server.WorldServer.TheVariants.{Running}
 use Rattle.bayou_world.specs.declared.reply.Reply.TheVariants as replies
-use Rattle.bayou_world.specs.Inner.Clients.{Begins, seen_as}
-use Rattle.bayou_world.specs.Inner.Good.{IsGood}
-use Rattle.bayou_world.specs.Inner.Replicas.{is_stopped}
-use Rattle.bayou_world.specs.Inner.Tie.{IsAcceptedIn, IsClientOf, IsFlightOf, IsSeatOf, IsReplicaOf, IsServerOf, IsTied, seat}
+use Rattle.bayou_world.specs.Inner.WorldSessions.{Begins, seen_as}
+use Rattle.bayou_world.specs.Inner.Good.{IsGoodMachine}
+use Rattle.bayou_world.specs.Inner.WorldServers.{is_stopped}
+use Rattle.bayou_world.specs.Inner.Tie.{IsAcceptedIn, IsWorldSessionOf, IsFlightOf, IsSeatOf, IsWorldServerOf, IsServerOf, IsTied, seat}
 use Rattle.bayou_world.specs.Machine.{Answered, Machine, ServerSets, SessionSets, changed, with_server, with_session, writes}
-use Rattle.bayou_world.specs.Steps.{CannotBegin, IsEntry, IsRunning, MayBegin, MayRead, Reads, refusal, with_answer}
+use Rattle.bayou_world.specs.Steps.{CannotBegin, IsEntry, IsRunning, MayBegin, MayRead, ReadStep, refusal, with_answer}
 use Rattle.bayou_world.proofs.Homes.{fitting_at}
 use Rattle.bayou_world.proofs.Lists.{changed-other, changed-same, same_number}
 use Rattle.bayou_world.proofs.Vectors.{tests_agree}
@@ -46,20 +46,20 @@ WriteLaw = (session : Told) (held : List ℕ) → length session.reads ≡ SERVE
 
 -- ---- seats
 
-pub session_of_seat : (who : ℕ) (o : Option Client) (s : Option SessionSets) (client : Client) → IsSeatOf who o s → o ≡ Some client → (session : SessionSets) × (s ≡ Some session) × IsClientOf who client session
-session_of_seat who None s client is at = let both : None ≡ Some client = at in absurd (cc)
-session_of_seat who (Some other) None client is at = absurd is
-session_of_seat who (Some other) (Some session) client is at = let one : other ≡ client = cc in (session, refl, subst (λ c. IsClientOf who c session) one is)
+pub session_of_seat : (who : ℕ) (o : Option WorldSession) (s : Option SessionSets) (world_session : WorldSession) → IsSeatOf who o s → o ≡ Some world_session → (session : SessionSets) × (s ≡ Some session) × IsWorldSessionOf who world_session session
+session_of_seat who None s world_session is at = let both : None ≡ Some world_session = at in absurd (cc)
+session_of_seat who (Some other) None world_session is at = absurd is
+session_of_seat who (Some other) (Some session) world_session is at = let one : other ≡ world_session = cc in (session, refl, subst (λ c. IsWorldSessionOf who c session) one is)
 
-pub seat_of_session : (who : ℕ) (o : Option Client) (s : Option SessionSets) (session : SessionSets) → IsSeatOf who o s → s ≡ Some session → (client : Client) × (o ≡ Some client) × IsClientOf who client session
+pub seat_of_session : (who : ℕ) (o : Option WorldSession) (s : Option SessionSets) (session : SessionSets) → IsSeatOf who o s → s ≡ Some session → (world_session : WorldSession) × (o ≡ Some world_session) × IsWorldSessionOf who world_session session
 seat_of_session who o None session is at = let both : None ≡ Some session = at in absurd (cc)
 seat_of_session who None (Some other) session is at = absurd is
-seat_of_session who (Some client) (Some other) session is at = let one : other ≡ session = cc in (client, refl, subst (IsClientOf who client) one is)
+seat_of_session who (Some world_session) (Some other) session is at = let one : other ≡ session = cc in (world_session, refl, subst (IsWorldSessionOf who world_session) one is)
 
 -- the server that is found at its place stands there
-pub stands_at : (servers : List Replica) (place at : ℕ) (replica is : Replica) → replica ≡ get_or servers at replica → at ≡ place → replica ≡ is → get_or servers place is ≡ is
-stands_at servers place at replica is found here same =
-    subst (λ (r : Replica). get_or servers place r ≡ r) same (subst (λ n. get_or servers n replica ≡ replica) here (sym found))
+pub stands_at : (servers : List WorldServer) (place at : ℕ) (world_server is : WorldServer) → world_server ≡ get_or servers at world_server → at ≡ place → world_server ≡ is → get_or servers place is ≡ is
+stands_at servers place at world_server is found here same =
+    subst (λ (r : WorldServer). get_or servers place r ≡ r) same (subst (λ n. get_or servers n world_server ≡ world_server) here (sym found))
 
 -- a server that runs at its place is the machine's, and over an honest device
 pub record IsRunningServer (machine : Machine) (place : ℕ) (server : ServerState Memory) : Type 0 where
@@ -68,28 +68,28 @@ pub record IsRunningServer (machine : Machine) (place : ℕ) (server : ServerSta
   pub honest : IsHonestServer memory_device server
 
 -- and the other way round
-pub running_replica : (count limit place : ℕ) (new : ServerState Memory) (server : ServerSets) → server.stopped ≡ false → IsServerOf count limit place new.core server → IsHonestServer memory_device new
-    → IsReplicaOf count limit place (Running new) server
-running_replica count limit place new server runs core honest = record { stopped = runs; core = core; kept = honest }
+pub running_server : (count limit place : ℕ) (new : ServerState Memory) (server : ServerSets) → server.stopped ≡ false → IsServerOf count limit place new.core server → IsHonestServer memory_device new
+    → IsWorldServerOf count limit place (Running new) server
+running_server count limit place new server runs core honest = record { stopped = runs; core = core; kept = honest }
 
-module _ (servers : List Replica) (clients : List (Option Client)) (offers : List (List ℕ)) (items : List Write) (told : List Entry) where
+module _ (servers : List WorldServer) (world_sessions : List (Option WorldSession)) (offers : List (List ℕ)) (items : List Write) (told : List Entry) where
   -- a seat and its session change together
-  pub with_seat : (machine : Machine) → IsTied servers clients offers items told machine → (who : ℕ) (client : Client) (session : SessionSets) → who < SESSIONS → IsClientOf who client session
-      → IsTied servers (set clients who (Some client)) offers items told (with_session machine who session)
-  with_seat machine tied who client session inside is = record {
+  pub with_seat : (machine : Machine) → IsTied servers world_sessions offers items told machine → (who : ℕ) (world_session : WorldSession) (session : SessionSets) → who < SESSIONS → IsWorldSessionOf who world_session session
+      → IsTied servers (set world_sessions who (Some world_session)) offers items told (with_session machine who session)
+  with_seat machine tied who world_session session inside is = record {
     many = tied.many;
     servers_are = tied.servers_are;
-    seats = length-set clients who (Some client) ∙ tied.seats;
-    clients_are = λ other within. elim (same_number other who) as (λ _. IsSeatOf other (seat (set clients who (Some client)) other) (changed machine.sessions who (Some session) other)) [
+    seats = length-set world_sessions who (Some world_session) ∙ tied.seats;
+    sessions_are = λ other within. elim (same_number other who) as (λ _. IsSeatOf other (seat (set world_sessions who (Some world_session)) other) (changed machine.sessions who (Some session) other)) [
       | inl same ↦
-          let here : seat (set clients who (Some client)) who ≡ Some client = get_or-set_same clients who (Some client) None (omega (arith, inside, tied.seats)) in
-          subst (λ n. IsSeatOf n (seat (set clients who (Some client)) n) (changed machine.sessions who (Some session) n)) (sym same)
+          let here : seat (set world_sessions who (Some world_session)) who ≡ Some world_session = get_or-set_same world_sessions who (Some world_session) None (omega (arith, inside, tied.seats)) in
+          subst (λ n. IsSeatOf n (seat (set world_sessions who (Some world_session)) n) (changed machine.sessions who (Some session) n)) (sym same)
           (subst (λ o. IsSeatOf who o (changed machine.sessions who (Some session) who)) (sym here)
-          (subst (IsSeatOf who (Some client)) (sym (changed-same machine.sessions who (Some session))) is))
+          (subst (IsSeatOf who (Some world_session)) (sym (changed-same machine.sessions who (Some session))) is))
       | inr differs ↦
-          let there : seat (set clients who (Some client)) other ≡ seat clients other = get_or-set_other clients who other (Some client) None (λ same. differs (same)) in
+          let there : seat (set world_sessions who (Some world_session)) other ≡ seat world_sessions other = get_or-set_other world_sessions who other (Some world_session) None (λ same. differs (same)) in
           subst (λ o. IsSeatOf other o (changed machine.sessions who (Some session) other)) (sym there)
-          (subst (IsSeatOf other (seat clients other)) (sym (changed-other machine.sessions who (Some session) other differs)) (tied.clients_are other within))
+          (subst (IsSeatOf other (seat world_sessions other)) (sym (changed-other machine.sessions who (Some session) other differs)) (tied.sessions_are other within))
     ];
     offers_are = tied.offers_are;
     items_are = tied.items_are;
@@ -97,65 +97,65 @@ module _ (servers : List Replica) (clients : List (Option Client)) (offers : Lis
   }
 
   -- and so do a server and the machine's
-  pub with_place : (machine : Machine) → IsTied servers clients offers items told machine → (place : ℕ) (new : Replica) (server : ServerSets) → place < machine.count
-      → IsReplicaOf machine.count machine.limit place new server
-      → IsTied (set servers place new) clients offers items told (with_server machine place server)
+  pub with_place : (machine : Machine) → IsTied servers world_sessions offers items told machine → (place : ℕ) (new : WorldServer) (server : ServerSets) → place < machine.count
+      → IsWorldServerOf machine.count machine.limit place new server
+      → IsTied (set servers place new) world_sessions offers items told (with_server machine place server)
   with_place machine tied place new server inside is = record {
     many = length-set servers place new ∙ tied.many;
-    servers_are = λ other d within. elim (same_number other place) as (λ _. IsReplicaOf machine.count machine.limit other (get_or (set servers place new) other d) (changed machine.servers place server other)) [
+    servers_are = λ other d within. elim (same_number other place) as (λ _. IsWorldServerOf machine.count machine.limit other (get_or (set servers place new) other d) (changed machine.servers place server other)) [
       | inl same ↦
           let here : get_or (set servers place new) place d ≡ new = get_or-set_same servers place new d (omega (arith, inside, tied.many)) in
-          subst (λ n. IsReplicaOf machine.count machine.limit n (get_or (set servers place new) n d) (changed machine.servers place server n)) (sym same)
-          (subst (λ (x : Replica). IsReplicaOf machine.count machine.limit place x (changed machine.servers place server place)) (sym here)
-          (subst (IsReplicaOf machine.count machine.limit place new) (sym (changed-same machine.servers place server)) is))
+          subst (λ n. IsWorldServerOf machine.count machine.limit n (get_or (set servers place new) n d) (changed machine.servers place server n)) (sym same)
+          (subst (λ (x : WorldServer). IsWorldServerOf machine.count machine.limit place x (changed machine.servers place server place)) (sym here)
+          (subst (IsWorldServerOf machine.count machine.limit place new) (sym (changed-same machine.servers place server)) is))
       | inr differs ↦
           let there : get_or (set servers place new) other d ≡ get_or servers other d = get_or-set_other servers place other new d (λ same. differs (same)) in
-          subst (λ (x : Replica). IsReplicaOf machine.count machine.limit other x (changed machine.servers place server other)) (sym there)
-          (subst (IsReplicaOf machine.count machine.limit other (get_or servers other d)) (sym (changed-other machine.servers place server other differs)) (tied.servers_are other d within))
+          subst (λ (x : WorldServer). IsWorldServerOf machine.count machine.limit other x (changed machine.servers place server other)) (sym there)
+          (subst (IsWorldServerOf machine.count machine.limit other (get_or servers other d)) (sym (changed-other machine.servers place server other differs)) (tied.servers_are other d within))
     ];
     seats = tied.seats;
-    clients_are = tied.clients_are;
+    sessions_are = tied.sessions_are;
     offers_are = tied.offers_are;
     items_are = tied.items_are;
     served_are = tied.served_are;
   }
 
   -- a server is another of which the same is known
-  pub same_place : (machine : Machine) → IsTied servers clients offers items told machine → (place : ℕ) (new : Replica) → place < machine.count
-      → IsReplicaOf machine.count machine.limit place new (machine.servers place) → IsTied (set servers place new) clients offers items told machine
+  pub same_place : (machine : Machine) → IsTied servers world_sessions offers items told machine → (place : ℕ) (new : WorldServer) → place < machine.count
+      → IsWorldServerOf machine.count machine.limit place new (machine.servers place) → IsTied (set servers place new) world_sessions offers items told machine
   same_place machine tied place new inside is = record {
     many = length-set servers place new ∙ tied.many;
-    servers_are = λ other d within. elim (same_number other place) as (λ _. IsReplicaOf machine.count machine.limit other (get_or (set servers place new) other d) (machine.servers other)) [
+    servers_are = λ other d within. elim (same_number other place) as (λ _. IsWorldServerOf machine.count machine.limit other (get_or (set servers place new) other d) (machine.servers other)) [
       | inl same ↦
           let here : get_or (set servers place new) place d ≡ new = get_or-set_same servers place new d (omega (arith, inside, tied.many)) in
-          subst (λ n. IsReplicaOf machine.count machine.limit n (get_or (set servers place new) n d) (machine.servers n)) (sym same)
-          (subst (λ (x : Replica). IsReplicaOf machine.count machine.limit place x (machine.servers place)) (sym here) is)
+          subst (λ n. IsWorldServerOf machine.count machine.limit n (get_or (set servers place new) n d) (machine.servers n)) (sym same)
+          (subst (λ (x : WorldServer). IsWorldServerOf machine.count machine.limit place x (machine.servers place)) (sym here) is)
       | inr differs ↦
           let there : get_or (set servers place new) other d ≡ get_or servers other d = get_or-set_other servers place other new d (λ same. differs (same)) in
-          subst (λ (x : Replica). IsReplicaOf machine.count machine.limit other x (machine.servers other)) (sym there) (tied.servers_are other d within)
+          subst (λ (x : WorldServer). IsWorldServerOf machine.count machine.limit other x (machine.servers other)) (sym there) (tied.servers_are other d within)
     ];
     seats = tied.seats;
-    clients_are = tied.clients_are;
+    sessions_are = tied.sessions_are;
     offers_are = tied.offers_are;
     items_are = tied.items_are;
     served_are = tied.served_are;
   }
 
   -- a seat is another's of whom the same is known
-  pub same_seat : (machine : Machine) → IsTied servers clients offers items told machine → (who : ℕ) (client : Client) (session : SessionSets) → who < SESSIONS → machine.sessions who ≡ Some session
-      → IsClientOf who client session → IsTied servers (set clients who (Some client)) offers items told machine
-  same_seat machine tied who client session inside there is = record {
+  pub same_seat : (machine : Machine) → IsTied servers world_sessions offers items told machine → (who : ℕ) (world_session : WorldSession) (session : SessionSets) → who < SESSIONS → machine.sessions who ≡ Some session
+      → IsWorldSessionOf who world_session session → IsTied servers (set world_sessions who (Some world_session)) offers items told machine
+  same_seat machine tied who world_session session inside there is = record {
     many = tied.many;
     servers_are = tied.servers_are;
-    seats = length-set clients who (Some client) ∙ tied.seats;
-    clients_are = λ other within. elim (same_number other who) as (λ _. IsSeatOf other (seat (set clients who (Some client)) other) (machine.sessions other)) [
+    seats = length-set world_sessions who (Some world_session) ∙ tied.seats;
+    sessions_are = λ other within. elim (same_number other who) as (λ _. IsSeatOf other (seat (set world_sessions who (Some world_session)) other) (machine.sessions other)) [
       | inl same ↦
-          let here : seat (set clients who (Some client)) who ≡ Some client = get_or-set_same clients who (Some client) None (omega (arith, inside, tied.seats)) in
-          subst (λ n. IsSeatOf n (seat (set clients who (Some client)) n) (machine.sessions n)) (sym same)
-          (subst (λ o. IsSeatOf who o (machine.sessions who)) (sym here) (subst (IsSeatOf who (Some client)) (sym there) is))
+          let here : seat (set world_sessions who (Some world_session)) who ≡ Some world_session = get_or-set_same world_sessions who (Some world_session) None (omega (arith, inside, tied.seats)) in
+          subst (λ n. IsSeatOf n (seat (set world_sessions who (Some world_session)) n) (machine.sessions n)) (sym same)
+          (subst (λ o. IsSeatOf who o (machine.sessions who)) (sym here) (subst (IsSeatOf who (Some world_session)) (sym there) is))
       | inr differs ↦
-          let elsewhere : seat (set clients who (Some client)) other ≡ seat clients other = get_or-set_other clients who other (Some client) None (λ same. differs (same)) in
-          subst (λ o. IsSeatOf other o (machine.sessions other)) (sym elsewhere) (tied.clients_are other within)
+          let elsewhere : seat (set world_sessions who (Some world_session)) other ≡ seat world_sessions other = get_or-set_other world_sessions who other (Some world_session) None (λ same. differs (same)) in
+          subst (λ o. IsSeatOf other o (machine.sessions other)) (sym elsewhere) (tied.sessions_are other within)
     ];
     offers_are = tied.offers_are;
     items_are = tied.items_are;
@@ -163,24 +163,24 @@ module _ (servers : List Replica) (clients : List (Option Client)) (offers : Lis
   }
 
   -- what is known of a server that runs
-  pub runs_at : (machine : Machine) → IsTied servers clients offers items told machine → (place : ℕ) (server : ServerState Memory) → place < length servers
+  pub runs_at : (machine : Machine) → IsTied servers world_sessions offers items told machine → (place : ℕ) (server : ServerState Memory) → place < length servers
       → get_or servers place (Running server) ≡ Running server → IsRunningServer machine place server
   runs_at machine tied place server known stands =
       let in_count : place < machine.count = omega (arith, known, tied.many) in
-      let is = subst (λ (r : Replica). IsReplicaOf machine.count machine.limit place r (machine.servers place)) stands (tied.servers_are place (Running server) in_count) in
+      let is = subst (λ (r : WorldServer). IsWorldServerOf machine.count machine.limit place r (machine.servers place)) stands (tied.servers_are place (Running server) in_count) in
       record { running = record { there = in_count; runs = is.stopped }; core = is.core; honest = is.kept }
 
   -- a server that runs in the machine does
-  pub runs_there : (machine : Machine) → IsTied servers clients offers items told machine → (place : ℕ) (replica : Replica) → get_or servers place replica ≡ replica → IsRunning machine place
-      → is_stopped replica ≡ false
-  runs_there machine tied place replica stands running =
-      sym (subst (λ (r : Replica). IsReplicaOf machine.count machine.limit place r (machine.servers place)) stands (tied.servers_are place replica running.there)).stopped ∙ running.runs
+  pub runs_there : (machine : Machine) → IsTied servers world_sessions offers items told machine → (place : ℕ) (world_server : WorldServer) → get_or servers place world_server ≡ world_server → IsRunning machine place
+      → is_stopped world_server ≡ false
+  runs_there machine tied place world_server stands running =
+      sym (subst (λ (r : WorldServer). IsWorldServerOf machine.count machine.limit place r (machine.servers place)) stands (tied.servers_are place world_server running.there)).stopped ∙ running.runs
 
   -- who may begin has a seat and may begin there
-  pub begins_there : (machine : Machine) → IsTied servers clients offers items told machine → (who place : ℕ) (session : SessionSets) → who < SESSIONS → MayBegin machine who place session
-      → (client : Client) × (seat clients who ≡ Some client) × (client.flight ≡ None) × (client.session.begun < MAX_PLACES) × (place < length servers)
+  pub begins_there : (machine : Machine) → IsTied servers world_sessions offers items told machine → (who place : ℕ) (session : SessionSets) → who < SESSIONS → MayBegin machine who place session
+      → (world_session : WorldSession) × (seat world_sessions who ≡ Some world_session) × (world_session.flight ≡ None) × (world_session.session.begun < MAX_PLACES) × (place < length servers)
   begins_there machine tied who place session inside may =
-      let at = seat_of_session who (seat clients who) (machine.sessions who) session (tied.clients_are who inside) may.there in
+      let at = seat_of_session who (seat world_sessions who) (machine.sessions who) session (tied.sessions_are who inside) may.there in
       (at.0, at.1, no_flight at.0.flight session.flight at.2.flight may.idle, omega (arith, at.2.begun, may.left), omega (arith, may.server.there, tied.many))
     where
       no_flight : (f : Option Flight) (a : Option Answered) → IsFlightOf f a → a ≡ None → f ≡ None
@@ -189,8 +189,8 @@ module _ (servers : List Replica) (clients : List (Option Client)) (offers : Lis
       no_flight (Some flight) (Some answered) is none = let both : Some answered ≡ None = none in absurd (cc)
 
   -- who has no seat at which it may, or asks no server that runs, doesn't begin
-  pub cannot_begin : (machine : Machine) → IsTied servers clients offers items told machine → (who place : ℕ) → who < SESSIONS
-      → ((client : Client) → seat clients who ≡ Some client → client.flight ≡ None → client.session.begun < MAX_PLACES → place < length servers → ¬ IsRunning machine place)
+  pub cannot_begin : (machine : Machine) → IsTied servers world_sessions offers items told machine → (who place : ℕ) → who < SESSIONS
+      → ((world_session : WorldSession) → seat world_sessions who ≡ Some world_session → world_session.flight ≡ None → world_session.session.begun < MAX_PLACES → place < length servers → ¬ IsRunning machine place)
       → CannotBegin machine who place
   cannot_begin machine tied who place inside never = λ session may.
       let begins = begins_there machine tied who place session inside may in
@@ -203,11 +203,11 @@ idle (Some flight) a is none = let both : Some flight ≡ None = none in absurd 
 
 -- ---- an operation begins
 
--- the client begins as its session does
-pub began : (who place : ℕ) (client new : Client) (session : SessionSets) (what : What) (accepted : Option Accepted) (answered : Answered) → IsClientOf who client session
-    → (begins : Begins client place what accepted new) → answered.entry ≡ begins.entry → IsAcceptedIn what accepted
-    → IsClientOf who new (record session { begun = session.begun + 1; flight = Some answered })
-began who place client new session what accepted answered is begins entry_is tells = record {
+-- the session that runs begins as the machine's does
+pub began : (who place : ℕ) (world_session new : WorldSession) (session : SessionSets) (what : What) (accepted : Option Accepted) (answered : Answered) → IsWorldSessionOf who world_session session
+    → (begins : Begins world_session place what accepted new) → answered.entry ≡ begins.entry → IsAcceptedIn what accepted
+    → IsWorldSessionOf who new (record session { begun = session.begun + 1; flight = Some answered })
+began who place world_session new session what accepted answered is begins entry_is tells = record {
   name = ap (λ (t : Told). t.id.index) begins.session ∙ is.name;
   asks = ap (λ (t : Told). t.asks) begins.session ∙ is.asks;
   begun = ap (λ (t : Told). t.begun) begins.session ∙ ap (λ n. n + 1) is.begun;
@@ -220,9 +220,9 @@ began who place client new session what accepted answered is begins entry_is tel
   own = is.own;
 }
 
-pub entry_of : (who place : ℕ) (client new : Client) (session : SessionSets) (what : What) (accepted : Option Accepted) → IsClientOf who client session
-    → (begins : Begins client place what accepted new) → IsEntry who place session what begins.entry
-entry_of who place client new session what accepted is begins = record {
+pub entry_of : (who place : ℕ) (world_session new : WorldSession) (session : SessionSets) (what : What) (accepted : Option Accepted) → IsWorldSessionOf who world_session session
+    → (begins : Begins world_session place what accepted new) → IsEntry who place session what begins.entry
+entry_of who place world_session new session what accepted is begins = record {
   session_is = ap (λ (id : _). id.index) begins.session_is ∙ is.name;
   place_is = begins.place_is ∙ ap (λ n. n + 1) is.begun;
   asks_are = begins.asks_are ∙ is.asks;
@@ -230,26 +230,26 @@ entry_of who place client new session what accepted is begins = record {
   what_is = begins.what_is;
 }
 
-pub may_begin : (machine : Machine) (who place : ℕ) (client : Client) (session : SessionSets) → machine.sessions who ≡ Some session → IsClientOf who client session
-    → client.flight ≡ None → client.session.begun < MAX_PLACES → IsRunning machine place → MayBegin machine who place session
-may_begin machine who place client session there is none left running = record {
+pub may_begin : (machine : Machine) (who place : ℕ) (world_session : WorldSession) (session : SessionSets) → machine.sessions who ≡ Some session → IsWorldSessionOf who world_session session
+    → world_session.flight ≡ None → world_session.session.begun < MAX_PLACES → IsRunning machine place → MayBegin machine who place session
+may_begin machine who place world_session session there is none left running = record {
   there = there;
   server = running;
-  idle = idle client.flight session.flight is.flight none;
+  idle = idle world_session.flight session.flight is.flight none;
   left = omega (arith, left, is.begun);
 }
 
 -- ---- a read
 
 -- what the session needs is held exactly where the vector dominates the need
-read_covered : ReadLaw → (machine : Machine) → IsGood machine → (who place : ℕ) (client : Client) (session : SessionSets) → IsClientOf who client session → HasCounts client.session
-    → Dominates (count_of (writes (machine.servers place).held)) (read_need client.session) ↔ MayRead session (machine.servers place).held
-read_covered law machine good who place client session is counts =
+read_covered : ReadLaw → (machine : Machine) → IsGoodMachine machine → (who place : ℕ) (world_session : WorldSession) (session : SessionSets) → IsWorldSessionOf who world_session session → HasCounts world_session.session
+    → Dominates (count_of (writes (machine.servers place).held)) (read_need world_session.session) ↔ MayRead session (machine.servers place).held
+read_covered law machine good who place world_session session is counts =
     let held = writes (machine.servers place).held in
     let fitting = fitting_at machine.count machine.limit machine.servers good.servers place in
-    let all = law client.session (count_of held) counts.0.one_each counts.1.one_each in
-    let reads = tests_agree machine.count held client.session.reads session.reads fitting is.reads in
-    let wrote = tests_agree machine.count held client.session.writes session.writes fitting is.writes in (
+    let all = law world_session.session (count_of held) counts.0.one_each counts.1.one_each in
+    let reads = tests_agree machine.count held world_session.session.reads session.reads fitting is.reads in
+    let wrote = tests_agree machine.count held world_session.session.writes session.writes fitting is.writes in (
       λ dominates. record {
         ryw = λ asked. wrote.1 ((all.0 dominates).0 (ap (λ (a : _). a.ryw) is.asks ∙ asked));
         mr = λ asked. reads.1 ((all.0 dominates).1 (ap (λ (a : _). a.mr) is.asks ∙ asked));
@@ -260,52 +260,52 @@ read_covered law machine good who place client session is counts =
       ),
     )
 
-pub read_tied : ReadLaw → (servers : List Replica) (clients : List (Option Client)) (offers : List (List ℕ)) (items : List Write) (told : List Entry) (machine : Machine) → IsGood machine
-    → IsTied servers clients offers items told machine → (who place : ℕ) (key : List ℕ) (client new : Client) (server : ServerState Memory) (answer : Result Seen Behind) → who < SESSIONS → seat clients who ≡ Some client
-    → client.flight ≡ None → client.session.begun < MAX_PLACES → place < length servers → get_or servers place (Running server) ≡ Running server → HasCounts client.session → served.Reads server.core (read_need client.session) key answer
-    → Begins client server.core.id (seen_as key answer) None new
-    → (next : Machine) × Reads machine who place key (replies.Read answer) next × IsTied servers (set clients who (Some new)) offers items told next
-read_tied law servers clients offers items told machine good tied who place key client new server (Ok seen) inside at none left known stands counts serves begins =
-    let seat_is = session_of_seat who (seat clients who) (machine.sessions who) client (tied.clients_are who inside) at in
+pub read_tied : ReadLaw → (servers : List WorldServer) (world_sessions : List (Option WorldSession)) (offers : List (List ℕ)) (items : List Write) (told : List Entry) (machine : Machine) → IsGoodMachine machine
+    → IsTied servers world_sessions offers items told machine → (who place : ℕ) (key : List ℕ) (world_session new : WorldSession) (server : ServerState Memory) (answer : Result Seen Behind) → who < SESSIONS → seat world_sessions who ≡ Some world_session
+    → world_session.flight ≡ None → world_session.session.begun < MAX_PLACES → place < length servers → get_or servers place (Running server) ≡ Running server → HasCounts world_session.session → served.Reads server.core (read_need world_session.session) key answer
+    → Begins world_session server.core.id (seen_as key answer) None new
+    → (next : Machine) × ReadStep machine who place key (replies.Read answer) next × IsTied servers (set world_sessions who (Some new)) offers items told next
+read_tied law servers world_sessions offers items told machine good tied who place key world_session new server (Ok seen) inside at none left known stands counts serves begins =
+    let seat_is = session_of_seat who (seat world_sessions who) (machine.sessions who) world_session (tied.sessions_are who inside) at in
     let session = seat_is.0 in
     let is = seat_is.2 in
-    let here = runs_at servers clients offers items told machine tied place server known stands in
+    let here = runs_at servers world_sessions offers items told machine tied place server known stands in
     let core = here.core in
     let held_is : server.core.held ≡ writes (machine.servers place).held = ap (λ (c : Core). c.held) core.is in
-    let begins_at = subst (λ n. Begins client n (whats.Read key seen.vector) None new) (ap (λ (c : Core). c.id) core.is) begins in
-    let may = may_begin machine who place client session seat_is.1 is none left here.running in
+    let begins_at = subst (λ n. Begins world_session n (whats.Read key seen.vector) None new) (ap (λ (c : Core). c.id) core.is) begins in
+    let may = may_begin machine who place world_session session seat_is.1 is none left here.running in
     let answered : Answered = record { entry = begins_at.entry; database = writes (machine.servers place).held; made = None } in
-    let covered = (read_covered law machine good who place client session is counts).0 (subst (λ h. Dominates (count_of h) (read_need client.session)) held_is serves.covered) in (
+    let covered = (read_covered law machine good who place world_session session is counts).0 (subst (λ h. Dominates (count_of h) (read_need world_session.session)) held_is serves.covered) in (
       with_answer machine who session answered,
-      Reads.served session begins_at.entry seen may covered (serves.value ∙ ap (λ h. value_at (replay h) key) held_is) (serves.vector ∙ ap count_of held_is) refl
-          (entry_of who place client new session (whats.Read key seen.vector) None is begins_at) refl,
-      with_seat servers clients offers items told machine tied who new (record session { begun = session.begun + 1; flight = Some answered }) inside
-          (began who place client new session (whats.Read key seen.vector) None answered is begins_at refl refl),
+      ReadStep.served session begins_at.entry seen may covered (serves.value ∙ ap (λ h. value_at (replay h) key) held_is) (serves.vector ∙ ap count_of held_is) refl
+          (entry_of who place world_session new session (whats.Read key seen.vector) None is begins_at) refl,
+      with_seat servers world_sessions offers items told machine tied who new (record session { begun = session.begun + 1; flight = Some answered }) inside
+          (began who place world_session new session (whats.Read key seen.vector) None answered is begins_at refl refl),
     )
-read_tied law servers clients offers items told machine good tied who place key client new server (Err behind) inside at none left known stands counts serves begins =
-    let seat_is = session_of_seat who (seat clients who) (machine.sessions who) client (tied.clients_are who inside) at in
+read_tied law servers world_sessions offers items told machine good tied who place key world_session new server (Err behind) inside at none left known stands counts serves begins =
+    let seat_is = session_of_seat who (seat world_sessions who) (machine.sessions who) world_session (tied.sessions_are who inside) at in
     let session = seat_is.0 in
     let is = seat_is.2 in
-    let here = runs_at servers clients offers items told machine tied place server known stands in
+    let here = runs_at servers world_sessions offers items told machine tied place server known stands in
     let core = here.core in
     let held_is : server.core.held ≡ writes (machine.servers place).held = ap (λ (c : Core). c.held) core.is in
-    let begins_at = subst (λ n. Begins client n whats.Refused None new) (ap (λ (c : Core). c.id) core.is) begins in
-    let may = may_begin machine who place client session seat_is.1 is none left here.running in
+    let begins_at = subst (λ n. Begins world_session n whats.Refused None new) (ap (λ (c : Core). c.id) core.is) begins in
+    let may = may_begin machine who place world_session session seat_is.1 is none left here.running in
     let vector : behind.vector ≡ count_of (writes (machine.servers place).held) = serves.held ∙ ap count_of held_is in (
       with_answer machine who session (refusal begins_at.entry),
-      Reads.behind session begins_at.entry may
-          (λ covered. serves.not_covered (subst (λ h. Dominates (count_of h) (read_need client.session)) (sym held_is) ((read_covered law machine good who place client session is counts).1 covered)))
-          (ap (λ v. replies.Read (Err (record { vector = v }))) vector) (entry_of who place client new session whats.Refused None is begins_at) refl,
-      with_seat servers clients offers items told machine tied who new (record session { begun = session.begun + 1; flight = Some (refusal begins_at.entry) }) inside
-          (began who place client new session whats.Refused None (refusal begins_at.entry) is begins_at refl refl),
+      ReadStep.behind session begins_at.entry may
+          (λ covered. serves.not_covered (subst (λ h. Dominates (count_of h) (read_need world_session.session)) (sym held_is) ((read_covered law machine good who place world_session session is counts).1 covered)))
+          (ap (λ v. replies.Read (Err (record { vector = v }))) vector) (entry_of who place world_session new session whats.Refused None is begins_at) refl,
+      with_seat servers world_sessions offers items told machine tied who new (record session { begun = session.begun + 1; flight = Some (refusal begins_at.entry) }) inside
+          (began who place world_session new session whats.Refused None (refusal begins_at.entry) is begins_at refl refl),
     )
 
 -- what can't be
-pub no_client : (client : Client) → Some client ≡ None → ⊥
-no_client client both = cc
+pub no_world_session : (world_session : WorldSession) → Some world_session ≡ None → ⊥
+no_world_session world_session both = cc
 
-pub same_client : (a b : Client) → Some a ≡ Some b → a ≡ b
-same_client a b both = cc
+pub same_world_session : (a b : WorldSession) → Some a ≡ Some b → a ≡ b
+same_world_session a b both = cc
 
 pub not_true : false ≡ true → ⊥
 not_true both = cc

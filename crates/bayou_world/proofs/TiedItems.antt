@@ -22,43 +22,43 @@ use Rattle.bayou_server.specs.declared.fault.TakeFault.TheVariants as taking
 use Rattle.bayou_device.specs.Memory.{Memory}
 use Rattle.bayou_server.specs.Server.{Core, ServerState}
 use Rattle.bayou_server.specs.Takes as takes
-use Rattle.bayou_world.specs.declared.client.Client.{Client}
-use Rattle.bayou_world.specs.declared.replica.Replica.{Replica}
-use Rattle.bayou_world.specs.declared.replica.Replica.TheVariants.{Running}
+use Rattle.bayou_world.specs.declared.world_session.WorldSession.{WorldSession}
+use Rattle.bayou_world.specs.declared.world_server.WorldServer.{WorldServer}
+use Rattle.bayou_world.specs.declared.world_server.WorldServer.TheVariants.{Running}
 use Rattle.bayou_world.specs.declared.reply.Reply.TheVariants as replies
-use Rattle.bayou_world.specs.Inner.Good.{IsGood, IsHome}
-use Rattle.bayou_world.specs.Inner.Replicas.{StaysHonest}
+use Rattle.bayou_world.specs.Inner.Good.{IsGoodMachine, IsHome}
+use Rattle.bayou_world.specs.Inner.WorldServers.{StaysHonest}
 use Rattle.bayou_world.specs.Inner.Tie.{IsServerOf, IsTied, write_of}
 use Rattle.bayou_world.specs.Machine.{Machine, Made, Offered, ServerSets, with_server, writes}
-use Rattle.bayou_world.specs.Steps.{AreLacking, Collects, Holds, IsGiven, IsNext, IsRunning, Offers, Takes, with_doubt, with_write}
+use Rattle.bayou_world.specs.Steps.{AreLacking, CollectStep, HoldsName, IsGiven, IsNext, IsRunning, OfferStep, TakeStep, with_doubt, with_write}
 use Rattle.bayou_base.specs.declared.limits.TheConstants.{MAX_NUMBER}
 use Rattle.bayou_world.proofs.Given.{given_fits, no_gap_within}
 use Rattle.bayou_world.proofs.Homes.{fitting_at, home_of_held, one_home, one_write}
 use Rattle.bayou_world.proofs.Lists.{AllPairs-map, Contains-filter, Contains-from_filter, Contains-here, Contains-later, Contains-map, Contains-map_from, Contains-none}
-use Rattle.bayou_world.proofs.Tied.{running_replica, runs_at, same_place, with_place}
+use Rattle.bayou_world.proofs.Tied.{running_server, runs_at, same_place, with_place}
 use Rattle.bayou_world.proofs.Vectors.{named}
 use Rattle.bayou_world.proofs.TiedWrites.{doubted_there, held_more, no_doubt, some_doubt}
 
 -- ---- an offer
 
-pub offer_tied : (servers : List Replica) (clients : List (Option Client)) (offers : List (List ℕ)) (items : List Write) (told : List Entry) (machine : Machine)
-    → IsTied servers clients offers items told machine → (place : ℕ) (server : ServerState Memory) (vector : List ℕ) → place < length servers → get_or servers place (Running server) ≡ Running server → length offers ≤ MAX_NUMBER
+pub offer_tied : (servers : List WorldServer) (world_sessions : List (Option WorldSession)) (offers : List (List ℕ)) (items : List Write) (told : List Entry) (machine : Machine)
+    → IsTied servers world_sessions offers items told machine → (place : ℕ) (server : ServerState Memory) (vector : List ℕ) → place < length servers → get_or servers place (Running server) ≡ Running server → length offers ≤ MAX_NUMBER
     → vector ≡ count_of server.core.held
-    → (next : Machine) × Offers machine place (replies.Kept (length offers)) next × IsTied servers clients (offers ++ vector ∷ []) items told next
-offer_tied servers clients offers items told machine tied place server vector known stands few counts =
-    let here = runs_at servers clients offers items told machine tied place server known stands in
+    → (next : Machine) × OfferStep machine place (replies.Kept (length offers)) next × IsTied servers world_sessions (offers ++ vector ∷ []) items told next
+offer_tied servers world_sessions offers items told machine tied place server vector known stands few counts =
+    let here = runs_at servers world_sessions offers items told machine tied place server known stands in
     let core = here.core in
     let held_is : server.core.held ≡ writes (machine.servers place).held = ap (λ (c : Core). c.held) core.is in
     let offered : Offered = record { server = place; database = writes (machine.servers place).held } in
     let count_offer : Offered → List ℕ = λ offer. count_of offer.database in
     let as_many : length offers ≡ length machine.offers = ap length tied.offers_are ∙ length-map machine.offers count_offer in (
       record machine { offers = machine.offers ++ offered ∷ [] },
-      Offers.kept here.running (omega (arith, few, as_many)) (ap replies.Kept as_many) refl,
+      OfferStep.kept here.running (omega (arith, few, as_many)) (ap replies.Kept as_many) refl,
       record {
         many = tied.many;
         servers_are = tied.servers_are;
         seats = tied.seats;
-        clients_are = tied.clients_are;
+        sessions_are = tied.sessions_are;
         offers_are = ap (λ list. list ++ vector ∷ []) tied.offers_are ∙ ap (λ v. map count_offer machine.offers ++ v ∷ []) (counts ∙ ap count_of held_is)
             ∙ sym (map-append count_offer machine.offers (offered ∷ []));
         items_are = tied.items_are;
@@ -75,19 +75,19 @@ item_there (made ∷ items) zero write inside is = (made, refl, is)
 item_there (made ∷ items) (suc item) write inside is = item_there items item write (omega (arith, inside)) is
 
 -- none of its name is held, as the code says it
-is_missing : (server : ServerSets) (made : Made) → takes.IsMissing (writes server.held) made.write → ¬ Holds server made
+is_missing : (server : ServerSets) (made : Made) → takes.IsMissing (writes server.held) made.write → ¬ HoldsName server made
 is_missing server made missing holds =
     let at = Contains-map_from (λ (w : Write). w.wid) (writes server.held) made.write.wid holds in
     All-contains (λ (w : Write). w.wid ≢ made.write.wid) (writes server.held) at.0 missing at.1 at.2
 
 -- an item that a server made is held there
-own_held : (machine : Machine) → (place : ℕ) (made : Made) → IsHome machine.servers made → made.write.wid.origin.index ≡ place → Holds (machine.servers place) made
+own_held : (machine : Machine) → (place : ℕ) (made : Made) → IsHome machine.servers made → made.write.wid.origin.index ≡ place → HoldsName (machine.servers place) made
 own_held machine place made home own =
     Contains-map (λ (w : Write). w.wid) (writes (machine.servers place).held) made.write
     (Contains-map (λ (m : Made). m.write) (machine.servers place).held made (subst (λ n. Contains (machine.servers n).held made) own home))
 
 -- what fits there is the server's next
-next_there : (machine : Machine) → IsGood machine → (place : ℕ) (made : Made) → IsHome machine.servers made → (core : Core) → IsServerOf machine.count machine.limit place core (machine.servers place)
+next_there : (machine : Machine) → IsGoodMachine machine → (place : ℕ) (made : Made) → IsHome machine.servers made → (core : Core) → IsServerOf machine.count machine.limit place core (machine.servers place)
     → takes.IsFit core made.write → IsNext (machine.servers place) made
 next_there machine good place made home core at fit =
     let there = subst (λ (c : Core). takes.IsFit c made.write) at.is fit in record {
@@ -100,13 +100,13 @@ room_there machine place core at room =
     omega (arith, room, length-map (machine.servers place).held write_of, ap length (ap (λ (c : Core). c.held) at.is), ap (λ (c : Core). c.limit) at.is)
 
 -- what the code says of an item, the machine says
-took : (machine : Machine) → IsGood machine → (place item : ℕ) (made : Made) → IsGiven machine place item made → IsHome machine.servers made → (core new : Core) (answer : Result Took TakeFault)
+took : (machine : Machine) → IsGoodMachine machine → (place item : ℕ) (made : Made) → IsGiven machine place item made → IsHome machine.servers made → (core new : Core) (answer : Result Took TakeFault)
     → IsServerOf machine.count machine.limit place core (machine.servers place) → takes.Takes core made.write answer new
-    → (next : Machine) × Takes machine place item (replies.Took answer) next × ((next ≡ machine) × (new ≡ core)
+    → (next : Machine) × TakeStep machine place item (replies.Took answer) next × ((next ≡ machine) × (new ≡ core)
     ⊎ ((server : ServerSets) × (next ≡ with_server machine place server) × (server.stopped ≡ (machine.servers place).stopped) × IsServerOf machine.count machine.limit place new server))
 took machine good place item made given home core new (Ok Had) at (has, same) =
     let held : Contains (writes (machine.servers place).held) made.write = subst (λ (c : Core). Contains c.held made.write) at.is has in
-    (machine, Takes.had made given (Contains-map (λ (w : Write). w.wid) (writes (machine.servers place).held) made.write held) refl refl, inl (refl, same))
+    (machine, TakeStep.had made given (Contains-map (λ (w : Write). w.wid) (writes (machine.servers place).held) made.write held) refl refl, inl (refl, same))
 took machine good place item made given home core new (Err taking.Conflict) at (another, same) =
     let held : Contains (writes (machine.servers place).held) another.other = subst (λ (c : Core). Contains c.held another.other) at.is another.among in
     let as_made = Contains-map_from (λ (m : Made). m.write) (machine.servers place).held another.other held in
@@ -114,7 +114,7 @@ took machine good place item made given home core new (Err taking.Conflict) at (
     absurd (another.differs (one_write machine.count machine.limit machine.servers good.servers as_made.0 made another.other made.write other_home home as_made.2 refl another.name))
 took machine good place item made given home core new (Err taking.Down) at (missing, down, same) = (
   machine,
-  Takes.refused made taking.Down given (
+  TakeStep.refused made taking.Down given (
     is_missing (machine.servers place) made (subst (λ (c : Core). takes.IsMissing c.held made.write) at.is missing),
     some_doubt (machine.servers place).doubt (subst IsSome (ap (λ (c : Core). c.doubt) at.is) down),
   ) refl refl,
@@ -128,7 +128,7 @@ took machine good place item made given home core new (Err taking.Gap) at (comes
     let no_gap = subst (λ (c : Core). ¬ HasNoGap c.count c.held made.write) at.is gap in
     let missing = is_missing (machine.servers place) made there.missing in (
       machine,
-      Takes.refused made taking.Gap given (
+      TakeStep.refused made taking.Gap given (
         record { missing = missing; up = no_doubt (machine.servers place).doubt there.up },
         (λ within. no_gap (given_fits machine.count machine.limit machine.servers good.servers place made home missing within).0),
       ) refl refl,
@@ -142,7 +142,7 @@ took machine good place item made given home core new (Err taking.BadStamp) at (
     absurd (subst (λ (c : Core). ¬ IsWellStamped c.held made.write) at.is wrong (given_fits machine.count machine.limit machine.servers good.servers place made home missing within).1)
 took machine good place item made given home core new (Err taking.LogFull) at (fit, full, same) = (
   machine,
-  Takes.refused made taking.LogFull given (
+  TakeStep.refused made taking.LogFull given (
     next_there machine good place made home core at fit,
     sym (length-map (machine.servers place).held write_of) ∙ ap length (sym (ap (λ (c : Core). c.held) at.is)) ∙ full ∙ ap (λ (c : Core). c.limit) at.is,
   ) refl refl,
@@ -150,7 +150,7 @@ took machine good place item made given home core new (Err taking.LogFull) at (f
 )
 took machine good place item made given home core new (Err taking.OutOfMemory) at (takable, same) = (
   machine,
-  Takes.refused made taking.OutOfMemory given (
+  TakeStep.refused made taking.OutOfMemory given (
     next_there machine good place made home core at takable.fit,
     room_there machine place core at takable.room,
   ) refl refl,
@@ -158,7 +158,7 @@ took machine good place item made given home core new (Err taking.OutOfMemory) a
 )
 took machine good place item made given home core new (Err taking.Journal) at (takable, spelled, same) = (
   with_server machine place (with_doubt (machine.servers place) made),
-  Takes.doubted made given (next_there machine good place made home core at takable.fit) (room_there machine place core at takable.room) refl refl,
+  TakeStep.doubted made given (next_there machine good place made home core at takable.fit) (room_there machine place core at takable.room) refl refl,
   inr (
     with_doubt (machine.servers place) made,
     refl,
@@ -169,7 +169,7 @@ took machine good place item made given home core new (Err taking.Journal) at (t
 )
 took machine good place item made given home core new (Ok New) at (takable, spelled, same) = (
   with_server machine place (with_write (machine.servers place) made),
-  Takes.taken made given (next_there machine good place made home core at takable.fit) (room_there machine place core at takable.room) refl refl,
+  TakeStep.taken made given (next_there machine good place made home core at takable.fit) (room_there machine place core at takable.room) refl refl,
   inr (
     with_write (machine.servers place) made,
     refl,
@@ -179,12 +179,12 @@ took machine good place item made given home core new (Ok New) at (takable, spel
   ),
 )
 
-pub take_tied : (servers : List Replica) (clients : List (Option Client)) (offers : List (List ℕ)) (items : List Write) (told : List Entry) (machine : Machine) → IsGood machine
-    → IsTied servers clients offers items told machine → (place item : ℕ) (old new : ServerState Memory) (write : Write) (answer : Result Took TakeFault) → place < length servers → get_or servers place (Running old) ≡ Running old
+pub take_tied : (servers : List WorldServer) (world_sessions : List (Option WorldSession)) (offers : List (List ℕ)) (items : List Write) (told : List Entry) (machine : Machine) → IsGoodMachine machine
+    → IsTied servers world_sessions offers items told machine → (place item : ℕ) (old new : ServerState Memory) (write : Write) (answer : Result Took TakeFault) → place < length servers → get_or servers place (Running old) ≡ Running old
     → StaysHonest old new → item < length items → write ≡ get_or items item write → takes.Takes old.core write answer new.core
-    → (next : Machine) × Takes machine place item (replies.Took answer) next × IsTied (set servers place (Running new)) clients offers items told next
-take_tied servers clients offers items told machine good tied place item old new write answer known stands stays inside is takes_it =
-    let here = runs_at servers clients offers items told machine tied place old known stands in
+    → (next : Machine) × TakeStep machine place item (replies.Took answer) next × IsTied (set servers place (Running new)) world_sessions offers items told next
+take_tied servers world_sessions offers items told machine good tied place item old new write answer known stands stays inside is takes_it =
+    let here = runs_at servers world_sessions offers items told machine tied place old known stands in
     let core = here.core in
     let number : length items ≡ length machine.items = ap length tied.items_are ∙ length-map machine.items write_of in
     let there = item_there machine.items item write (omega (arith, inside, number)) (ap (λ list. get_or list item write) (sym tied.items_are) ∙ sym is) in
@@ -192,19 +192,19 @@ take_tied servers clients offers items told machine good tied place item old new
     let given : IsGiven machine place item made = record { server = here.running; there = there.1 } in
     let home = All-contains (IsHome machine.servers) machine.items made good.items (item, slice_get_within machine.items item made there.1, get_or_from_slice_get machine.items item made made there.1) in
     let step = took machine good place item made given home old.core new.core answer core (subst (λ w. takes.Takes old.core w answer new.core) (sym there.2) takes_it) in
-    elim step.2 as (λ _. (next : Machine) × Takes machine place item (replies.Took answer) next × IsTied (set servers place (Running new)) clients offers items told next) [
+    elim step.2 as (λ _. (next : Machine) × TakeStep machine place item (replies.Took answer) next × IsTied (set servers place (Running new)) world_sessions offers items told next) [
       | inl same ↦ (
         machine,
-        subst (Takes machine place item (replies.Took answer)) same.0 step.1,
-        same_place servers clients offers items told machine tied place (Running new) here.running.there
-            (running_replica machine.count machine.limit place new (machine.servers place) here.running.runs
+        subst (TakeStep machine place item (replies.Took answer)) same.0 step.1,
+        same_place servers world_sessions offers items told machine tied place (Running new) here.running.there
+            (running_server machine.count machine.limit place new (machine.servers place) here.running.runs
             (subst (λ (c : Core). IsServerOf machine.count machine.limit place c (machine.servers place)) (sym same.1) core) (stays here.honest)),
       )
       | inr changed ↦ (
         with_server machine place changed.0,
-        subst (Takes machine place item (replies.Took answer)) changed.1 step.1,
-        with_place servers clients offers items told machine tied place (Running new) changed.0 here.running.there
-            (running_replica machine.count machine.limit place new changed.0 (changed.2 ∙ here.running.runs) changed.3 (stays here.honest)),
+        subst (TakeStep machine place item (replies.Took answer)) changed.1 step.1,
+        with_place servers world_sessions offers items told machine tied place (Running new) changed.0 here.running.there
+            (running_server machine.count machine.limit place new changed.0 (changed.2 ∙ here.running.runs) changed.3 (stays here.honest)),
       )
     ]
 
@@ -263,7 +263,7 @@ lacking_in_order count held counts fitting =
     let is_missed = λ (w : Write). nat_lt (slice_index counts w.wid.origin.index) w.wid.seq in
     AllPairs-filter (λ (a b : Write). is_before a.stamp b.stamp ≡ true) is_missed (in_stamp_order held) (pairs_of_strict (in_stamp_order held) (IsStrict-in_stamp_order held (fitting_distinct_stamps count held fitting)))
 
-pub are_lacking : (machine : Machine) → IsGood machine → (place : ℕ) (offered : Offered) → Contains machine.offers offered → (pasts : List Made)
+pub are_lacking : (machine : Machine) → IsGoodMachine machine → (place : ℕ) (offered : Offered) → Contains machine.offers offered → (pasts : List Made)
     → writes pasts ≡ lacking_of (count_of offered.database) (writes (machine.servers place).held) → ((made : Made) → Contains pasts made → Contains (machine.servers place).held made)
     → AreLacking offered.database (machine.servers place).held pasts
 are_lacking machine good place offered among pasts is within =
@@ -335,13 +335,13 @@ pub record Lacks (machine : Machine) (place offer : ℕ) (lacking : List Write) 
   pub are : writes pasts ≡ lacking
   pub those : AreLacking offered.database (machine.servers place).held pasts
 
-pub collect_lacks : (servers : List Replica) (clients : List (Option Client)) (offers : List (List ℕ)) (items : List Write) (told : List Entry) (machine : Machine) → IsGood machine
-    → IsTied servers clients offers items told machine → (place offer most : ℕ) (server : ServerState Memory) (vector : List ℕ) (lacking : List Write) → place < length servers → get_or servers place (Running server) ≡ Running server → offer < length offers → vector ≡ get_or offers offer vector
+pub collect_lacks : (servers : List WorldServer) (world_sessions : List (Option WorldSession)) (offers : List (List ℕ)) (items : List Write) (told : List Entry) (machine : Machine) → IsGoodMachine machine
+    → IsTied servers world_sessions offers items told machine → (place offer most : ℕ) (server : ServerState Memory) (vector : List ℕ) (lacking : List Write) → place < length servers → get_or servers place (Running server) ≡ Running server → offer < length offers → vector ≡ get_or offers offer vector
     → most ≡ server.core.limit → lacking ≡ take most (lacking_of vector server.core.held)
     → Lacks machine place offer lacking
-collect_lacks servers clients offers items told machine good tied place offer most server vector lacking known stands inside is most_is lacks_it =
+collect_lacks servers world_sessions offers items told machine good tied place offer most server vector lacking known stands inside is most_is lacks_it =
     let count_offer : Offered → List ℕ = λ o. count_of o.database in
-    let here = runs_at servers clients offers items told machine tied place server known stands in
+    let here = runs_at servers world_sessions offers items told machine tied place server known stands in
     let core = here.core in
     let held = writes (machine.servers place).held in
     let held_is : server.core.held ≡ held = ap (λ (c : Core). c.held) core.is in
@@ -365,22 +365,22 @@ collect_lacks servers clients offers items told machine good tied place offer mo
     }
 
 -- it goes in flight, where there is a number for each
-pub collect_flown : (servers : List Replica) (clients : List (Option Client)) (offers : List (List ℕ)) (items : List Write) (told : List Entry) (machine : Machine)
-    → IsTied servers clients offers items told machine → (place offer : ℕ) (lacking : List Write) → Lacks machine place offer lacking
+pub collect_flown : (servers : List WorldServer) (world_sessions : List (Option WorldSession)) (offers : List (List ℕ)) (items : List Write) (told : List Entry) (machine : Machine)
+    → IsTied servers world_sessions offers items told machine → (place offer : ℕ) (lacking : List Write) → Lacks machine place offer lacking
     → length items + max (length lacking) 1 ≤ MAX_NUMBER + 1
-    → (next : Machine) × Collects machine place offer (replies.Flown (length items) (length lacking)) next × IsTied servers clients offers (items ++ lacking) told next
-collect_flown servers clients offers items told machine tied place offer lacking those few =
+    → (next : Machine) × CollectStep machine place offer (replies.Flown (length items) (length lacking)) next × IsTied servers world_sessions offers (items ++ lacking) told next
+collect_flown servers world_sessions offers items told machine tied place offer lacking those few =
     let number : length items ≡ length machine.items = ap length tied.items_are ∙ length-map machine.items write_of in
     let as_many : length lacking ≡ length those.pasts = ap length (sym those.are) ∙ length-map those.pasts write_of in (
       record machine { items = machine.items ++ those.pasts },
-      Collects.flown those.offered.database those.pasts
+      CollectStep.flown those.offered.database those.pasts
           (record { server = those.running; by = those.offered.server; there = those.there; those = those.those; numbered = subst (λ n. n + max (length those.pasts) 1 ≤ MAX_NUMBER + 1) number (subst (λ n. length items + max n 1 ≤ MAX_NUMBER + 1) as_many few) })
           (ap (λ n. replies.Flown n (length lacking)) number ∙ ap (replies.Flown (length machine.items)) as_many) refl,
       record {
         many = tied.many;
         servers_are = tied.servers_are;
         seats = tied.seats;
-        clients_are = tied.clients_are;
+        sessions_are = tied.sessions_are;
         offers_are = tied.offers_are;
         items_are = ap (λ list. list ++ lacking) tied.items_are ∙ ap (λ list. writes machine.items ++ list) (sym those.are) ∙ sym (map-append write_of machine.items those.pasts);
         served_are = tied.served_are;
@@ -391,12 +391,12 @@ same_offer : (a b : Offered) → Some a ≡ Some b → a ≡ b
 same_offer a b same = cc
 
 -- and else nothing does
-pub collect_beyond : (servers : List Replica) (clients : List (Option Client)) (offers : List (List ℕ)) (items : List Write) (told : List Entry) (machine : Machine)
-    → IsTied servers clients offers items told machine → (place offer : ℕ) (lacking : List Write) → Lacks machine place offer lacking → MAX_NUMBER + 1 < length items + max (length lacking) 1
-    → (next : Machine) × Collects machine place offer replies.Skipped next × IsTied servers clients offers items told next
-collect_beyond servers clients offers items told machine tied place offer lacking those beyond = (
+pub collect_beyond : (servers : List WorldServer) (world_sessions : List (Option WorldSession)) (offers : List (List ℕ)) (items : List Write) (told : List Entry) (machine : Machine)
+    → IsTied servers world_sessions offers items told machine → (place offer : ℕ) (lacking : List Write) → Lacks machine place offer lacking → MAX_NUMBER + 1 < length items + max (length lacking) 1
+    → (next : Machine) × CollectStep machine place offer replies.Skipped next × IsTied servers world_sessions offers items told next
+collect_beyond servers world_sessions offers items told machine tied place offer lacking those beyond = (
   machine,
-  Collects.skipped (λ offered others may.
+  CollectStep.skipped (λ offered others may.
       let other : Offered = record { server = may.by; database = offered } in
       let one : offered ≡ those.offered.database = ap (λ (o : Offered). o.database) (same_offer other those.offered (sym may.there ∙ those.there)) in
       let number : length items ≡ length machine.items = ap length tied.items_are ∙ length-map machine.items write_of in

@@ -16,22 +16,22 @@ use Rattle.bayou_server.specs.declared.fault.StartFault.{StartFault}
 use Rattle.bayou_server.specs.Honest.{AreHonest, IsHonestAnswer, IsHonestServer}
 use Rattle.bayou_server.specs.Reopens as opened
 use Rattle.bayou_server.specs.Server.{Core, ServerState}
-use Rattle.bayou_world.specs.declared.client.Client.{Client}
-use Rattle.bayou_world.specs.declared.replica.Replica.{Replica}
-use Rattle.bayou_world.specs.declared.replica.Replica.TheVariants.{Running}
+use Rattle.bayou_world.specs.declared.world_session.WorldSession.{WorldSession}
+use Rattle.bayou_world.specs.declared.world_server.WorldServer.{WorldServer}
+use Rattle.bayou_world.specs.declared.world_server.WorldServer.TheVariants.{Running}
 use Rattle.bayou_world.specs.declared.reply.Reply.TheVariants as replies
-use Rattle.bayou_world.specs.Inner.Replicas.{IsKept, Starts, StaysHonest, core_of, is_stopped}
-use Rattle.bayou_world.specs.Inner.Tie.{IsReplicaOf, IsServerOf, IsTied, write_of}
+use Rattle.bayou_world.specs.Inner.WorldServers.{IsKept, Starts, StaysHonest, core_of, is_stopped}
+use Rattle.bayou_world.specs.Inner.Tie.{IsWorldServerOf, IsServerOf, IsTied, write_of}
 use Rattle.bayou_world.specs.Machine.{Machine, Made, ServerSets, with_server, writes}
-use Rattle.bayou_world.specs.Steps.{Fuses, Recovers, RefusesReopening, Reopens, Restarts, stopped_now, up_again, wid_of, with_write}
-use Rattle.bayou_world.proofs.Tied.{IsRunningServer, running_replica, runs_at, same_place, with_place}
+use Rattle.bayou_world.specs.Steps.{FuseStep, Recovers, RefusesReopening, ReopenStep, RestartStep, stopped_now, up_again, wid_of, with_write}
+use Rattle.bayou_world.proofs.Tied.{IsRunningServer, running_server, runs_at, same_place, with_place}
 use Rattle.bayou_world.proofs.TiedWrites.{no_doubt, some_doubt}
 
 -- what is taken out of its place and put back there, changed
-pub put_back : (servers : List Replica) (place : ℕ) (replica : Replica) → place < length servers → insert (remove servers place) place replica ≡ set servers place replica
-put_back [] place replica within = absurd (omega arith)
-put_back (first ∷ servers) zero replica within = refl
-put_back (first ∷ servers) (suc place) replica within = ap (λ (list : List Replica). first ∷ list) (put_back servers place replica (omega arith))
+pub put_back : (servers : List WorldServer) (place : ℕ) (world_server : WorldServer) → place < length servers → insert (remove servers place) place world_server ≡ set servers place world_server
+put_back [] place world_server within = absurd (omega arith)
+put_back (first ∷ servers) zero world_server within = refl
+put_back (first ∷ servers) (suc place) world_server within = ap (λ (list : List WorldServer). first ∷ list) (put_back servers place world_server (omega arith))
 
 -- the Write in doubt has its past
 some_made : (doubt : Option Made) (write : Write) → option_map write_of doubt ≡ Some write → (made : Made) × (doubt ≡ Some made) × (made.write ≡ write)
@@ -58,16 +58,16 @@ adopted_there count limit place core new server made at is held = record {
 
 -- ---- a fuse
 
-pub fuse_tied : (servers : List Replica) (clients : List (Option Client)) (offers : List (List ℕ)) (items : List Write) (told : List Entry) (machine : Machine)
-    → IsTied servers clients offers items told machine → (place call : ℕ) (old new : Replica) → place < length servers → get_or servers place old ≡ old → 0 < call
+pub fuse_tied : (servers : List WorldServer) (world_sessions : List (Option WorldSession)) (offers : List (List ℕ)) (items : List Write) (told : List Entry) (machine : Machine)
+    → IsTied servers world_sessions offers items told machine → (place call : ℕ) (old new : WorldServer) → place < length servers → get_or servers place old ≡ old → 0 < call
     → core_of new ≡ core_of old → is_stopped new ≡ is_stopped old → (IsKept old → IsKept new)
-    → (next : Machine) × Fuses machine place call replies.Fused next × IsTied (set servers place new) clients offers items told next
-fuse_tied servers clients offers items told machine tied place call old new known stands some same runs keeps =
+    → (next : Machine) × FuseStep machine place call replies.Fused next × IsTied (set servers place new) world_sessions offers items told next
+fuse_tied servers world_sessions offers items told machine tied place call old new known stands some same runs keeps =
     let in_count : place < machine.count = omega (arith, known, tied.many) in
-    let is = subst (λ (r : Replica). IsReplicaOf machine.count machine.limit place r (machine.servers place)) stands (tied.servers_are place old in_count) in (
+    let is = subst (λ (r : WorldServer). IsWorldServerOf machine.count machine.limit place r (machine.servers place)) stands (tied.servers_are place old in_count) in (
       machine,
-      Fuses.fused in_count some refl refl,
-      same_place servers clients offers items told machine tied place new in_count (record {
+      FuseStep.fused in_count some refl refl,
+      same_place servers world_sessions offers items told machine tied place new in_count (record {
         stopped = is.stopped ∙ sym runs;
         core = same_core machine.count machine.limit place (core_of old) (core_of new) (machine.servers place) is.core same;
         kept = keeps is.kept;
@@ -83,7 +83,7 @@ record IsUpAgain (machine : Machine) (place : ℕ) (adopted : Option Wid) (new :
   down : IsSome (machine.servers place).doubt
   recovers : Recovers (machine.servers place) made server
   name : adopted ≡ option_map wid_of made
-  replica : IsReplicaOf machine.count machine.limit place (Running new) server
+  world_server : IsWorldServerOf machine.count machine.limit place (Running new) server
 
 up_again_there : (machine : Machine) (place : ℕ) (old new : ServerState Memory) (adopted : Option Wid) → IsRunningServer machine place old → IsHonestServer memory_device new
     → opened.Recovers old.core adopted new.core → IsUpAgain machine place adopted new
@@ -94,7 +94,7 @@ up_again_there machine place old new None here honest (down, is) =
       down = some_doubt server.doubt (subst IsSome (ap (λ (c : Core). c.doubt) here.core.is) down);
       recovers = refl;
       name = refl;
-      replica = running_replica machine.count machine.limit place new (up_again server) refl
+      world_server = running_server machine.count machine.limit place new (up_again server) refl
           (forgotten_there machine.count machine.limit place old.core new.core server here.core
           (is ∙ ap (λ (c : Core). record old.core { held = c.held; doubt = None }) (sym is)) (ap (λ (c : Core). c.held) is ∙ ap (λ (c : Core). c.held) here.core.is)) honest;
     }
@@ -108,7 +108,7 @@ up_again_there machine place old new (Some wid) here honest (doubt, doubted, nam
       down = subst IsSome (sym there.1) refl;
       recovers = (there.1, refl);
       name = ap Some (name ∙ ap (λ (w : Write). w.wid) (sym there.2));
-      replica = running_replica machine.count machine.limit place new (with_write (up_again server) there.0) refl
+      world_server = running_server machine.count machine.limit place new (with_write (up_again server) there.0) refl
           (adopted_there machine.count machine.limit place old.core new.core server there.0 here.core
           (is ∙ ap (λ (c : Core). record old.core { held = c.held; doubt = None }) (sym is)) held) honest;
     }
@@ -124,24 +124,24 @@ refused_there machine place old new reopening.Lost at honest refused = absurd ho
 refused_there machine place old new (reopening.BadRecord entry) at honest refused = absurd honest
 refused_there machine place old new reopening.OutOfMemory at honest (down, same) = (some_doubt (machine.servers place).doubt (subst IsSome (ap (λ (c : Core). c.doubt) at.is) down), same)
 
-pub reopen_tied : (servers : List Replica) (clients : List (Option Client)) (offers : List (List ℕ)) (items : List Write) (told : List Entry) (machine : Machine)
-    → IsTied servers clients offers items told machine → (place : ℕ) (old new : ServerState Memory) (answer : Result Reopened ReopenFault) → place < length servers → get_or servers place (Running old) ≡ Running old
+pub reopen_tied : (servers : List WorldServer) (world_sessions : List (Option WorldSession)) (offers : List (List ℕ)) (items : List Write) (told : List Entry) (machine : Machine)
+    → IsTied servers world_sessions offers items told machine → (place : ℕ) (old new : ServerState Memory) (answer : Result Reopened ReopenFault) → place < length servers → get_or servers place (Running old) ≡ Running old
     → opened.Reopens old.core answer new.core → (IsHonestServer memory_device old → IsHonestAnswer answer) → StaysHonest old new
-    → (next : Machine) × Reopens machine place (replies.Reopened answer) next × IsTied (set servers place (Running new)) clients offers items told next
-reopen_tied servers clients offers items told machine tied place old new (Ok reopened) known stands reopens answers stays =
-    let here = runs_at servers clients offers items told machine tied place old known stands in
+    → (next : Machine) × ReopenStep machine place (replies.Reopened answer) next × IsTied (set servers place (Running new)) world_sessions offers items told next
+reopen_tied servers world_sessions offers items told machine tied place old new (Ok reopened) known stands reopens answers stays =
+    let here = runs_at servers world_sessions offers items told machine tied place old known stands in
     let there = up_again_there machine place old new reopened.adopted here (stays here.honest) reopens in (
       with_server machine place there.server,
-      Reopens.reopened there.made there.server here.running there.down there.recovers (ap (λ a. replies.Reopened (Ok (record { adopted = a }))) there.name) refl,
-      with_place servers clients offers items told machine tied place (Running new) there.server here.running.there there.replica,
+      ReopenStep.reopened there.made there.server here.running there.down there.recovers (ap (λ a. replies.Reopened (Ok (record { adopted = a }))) there.name) refl,
+      with_place servers world_sessions offers items told machine tied place (Running new) there.server here.running.there there.world_server,
     )
-reopen_tied servers clients offers items told machine tied place old new (Err fault) known stands reopens answers stays =
-    let here = runs_at servers clients offers items told machine tied place old known stands in
+reopen_tied servers world_sessions offers items told machine tied place old new (Err fault) known stands reopens answers stays =
+    let here = runs_at servers world_sessions offers items told machine tied place old known stands in
     let refused = refused_there machine place old.core new.core fault here.core (answers here.honest) reopens in (
       machine,
-      Reopens.refused fault here.running refused.0 refl refl,
-      same_place servers clients offers items told machine tied place (Running new) here.running.there
-          (running_replica machine.count machine.limit place new (machine.servers place) here.running.runs
+      ReopenStep.refused fault here.running refused.0 refl refl,
+      same_place servers world_sessions offers items told machine tied place (Running new) here.running.there
+          (running_server machine.count machine.limit place new (machine.servers place) here.running.runs
           (same_core machine.count machine.limit place old.core new.core (machine.servers place) here.core refused.1) (stays here.honest)),
     )
 
@@ -154,23 +154,23 @@ honest_is held None list is = inl is
 honest_is held (Some made) list (inl is) = inl is
 honest_is held (Some made) list (inr is) = inr (made, refl, is)
 
-pub restart_tied : (servers : List Replica) (clients : List (Option Client)) (offers : List (List ℕ)) (items : List Write) (told : List Entry) (machine : Machine)
-    → IsTied servers clients offers items told machine → (place : ℕ) (old new : Replica) (answer : Result ℕ StartFault) → place < length servers → get_or servers place old ≡ old
+pub restart_tied : (servers : List WorldServer) (world_sessions : List (Option WorldSession)) (offers : List (List ℕ)) (items : List Write) (told : List Entry) (machine : Machine)
+    → IsTied servers world_sessions offers items told machine → (place : ℕ) (old new : WorldServer) (answer : Result ℕ StartFault) → place < length servers → get_or servers place old ≡ old
     → (IsKept old → Starts old answer new × IsKept new)
-    → (next : Machine) × Restarts machine place (replies.Restarted answer) next × IsTied (set servers place new) clients offers items told next
-restart_tied servers clients offers items told machine tied place old new (Ok holds) known stands starts =
+    → (next : Machine) × RestartStep machine place (replies.Restarted answer) next × IsTied (set servers place new) world_sessions offers items told next
+restart_tied servers world_sessions offers items told machine tied place old new (Ok holds) known stands starts =
     let server = machine.servers place in
     let in_count : place < machine.count = omega (arith, known, tied.many) in
-    let was = subst (λ (r : Replica). IsReplicaOf machine.count machine.limit place r server) stands (tied.servers_are place old in_count) in
+    let was = subst (λ (r : WorldServer). IsWorldServerOf machine.count machine.limit place r server) stands (tied.servers_are place old in_count) in
     let both = starts was.kept in
     let core_is = both.0.2 in
     let honest = subst (λ (c : Core). AreHonest c.held c.doubt (core_of new).held) was.core.is both.0.3 in
     elim (honest_is server.held server.doubt (core_of new).held honest)
-    as (λ _. (next : Machine) × Restarts machine place (replies.Restarted (Ok holds)) next × IsTied (set servers place new) clients offers items told next) [
+    as (λ _. (next : Machine) × RestartStep machine place (replies.Restarted (Ok holds)) next × IsTied (set servers place new) world_sessions offers items told next) [
       | inl held ↦ (
         with_server machine place (up_again server),
-        Restarts.restarted None (up_again server) in_count refl (ap (λ n. replies.Restarted (Ok n)) (both.0.1 ∙ ap length held ∙ length-map server.held write_of)) refl,
-        with_place servers clients offers items told machine tied place new (up_again server) in_count (record {
+        RestartStep.restarted None (up_again server) in_count refl (ap (λ n. replies.Restarted (Ok n)) (both.0.1 ∙ ap length held ∙ length-map server.held write_of)) refl,
+        with_place servers world_sessions offers items told machine tied place new (up_again server) in_count (record {
           stopped = sym both.0.0;
           core = forgotten_there machine.count machine.limit place (core_of old) (core_of new) server was.core core_is held;
           kept = both.1;
@@ -178,23 +178,23 @@ restart_tied servers clients offers items told machine tied place old new (Ok ho
       )
       | inr more ↦ (
         with_server machine place (with_write (up_again server) more.0),
-        Restarts.restarted (Some more.0) (with_write (up_again server) more.0) in_count (more.1, refl)
+        RestartStep.restarted (Some more.0) (with_write (up_again server) more.0) in_count (more.1, refl)
             (ap (λ n. replies.Restarted (Ok n)) (both.0.1 ∙ ap length (more.2 ∙ sym (map-append write_of server.held (more.0 ∷ []))) ∙ length-map (server.held ++ more.0 ∷ []) write_of)) refl,
-        with_place servers clients offers items told machine tied place new (with_write (up_again server) more.0) in_count (record {
+        with_place servers world_sessions offers items told machine tied place new (with_write (up_again server) more.0) in_count (record {
           stopped = sym both.0.0;
           core = adopted_there machine.count machine.limit place (core_of old) (core_of new) server more.0 was.core core_is more.2;
           kept = both.1;
         }),
       )
     ]
-restart_tied servers clients offers items told machine tied place old new (Err fault) known stands starts =
+restart_tied servers world_sessions offers items told machine tied place old new (Err fault) known stands starts =
     let server = machine.servers place in
     let in_count : place < machine.count = omega (arith, known, tied.many) in
-    let was = subst (λ (r : Replica). IsReplicaOf machine.count machine.limit place r server) stands (tied.servers_are place old in_count) in
+    let was = subst (λ (r : WorldServer). IsWorldServerOf machine.count machine.limit place r server) stands (tied.servers_are place old in_count) in
     let both = starts was.kept in (
       with_server machine place (stopped_now server),
-      Restarts.refused fault in_count both.0.1 refl refl,
-      with_place servers clients offers items told machine tied place new (stopped_now server) in_count (record {
+      RestartStep.refused fault in_count both.0.1 refl refl,
+      with_place servers world_sessions offers items told machine tied place new (stopped_now server) in_count (record {
         stopped = sym both.0.0;
         core = record { is = both.0.2 ∙ was.core.is };
         kept = both.1;

@@ -16,28 +16,28 @@ use Rattle.bayou_server.specs.Writes as accepts
 use Rattle.bayou_device.specs.Memory.{Memory}
 use Rattle.bayou_server.specs.Server.{Core, ServerState}
 use Rattle.bayou_session.specs.Needs.{HasCounts, write_need}
-use Rattle.bayou_world.specs.declared.client.Client.{Client}
-use Rattle.bayou_world.specs.declared.replica.Replica.{Replica}
-use Rattle.bayou_world.specs.declared.replica.Replica.TheVariants.{Running}
+use Rattle.bayou_world.specs.declared.world_session.WorldSession.{WorldSession}
+use Rattle.bayou_world.specs.declared.world_server.WorldServer.{WorldServer}
+use Rattle.bayou_world.specs.declared.world_server.WorldServer.TheVariants.{Running}
 use Rattle.bayou_world.specs.declared.reply.Reply.TheVariants as replies
-use Rattle.bayou_world.specs.Inner.Clients.{Begins, accepted_as, accepted_of}
-use Rattle.bayou_world.specs.Inner.Good.{IsGood}
-use Rattle.bayou_world.specs.Inner.Replicas.{StaysHonest}
-use Rattle.bayou_world.specs.Inner.Tie.{IsClientOf, IsServerOf, IsTied, seat, write_of}
+use Rattle.bayou_world.specs.Inner.WorldSessions.{Begins, accepted_as, accepted_of}
+use Rattle.bayou_world.specs.Inner.Good.{IsGoodMachine}
+use Rattle.bayou_world.specs.Inner.WorldServers.{StaysHonest}
+use Rattle.bayou_world.specs.Inner.Tie.{IsWorldSessionOf, IsServerOf, IsTied, seat, write_of}
 use Rattle.bayou_world.specs.Machine.{Answered, Machine, Made, ServerSets, SessionSets, with_server, writes}
-use Rattle.bayou_world.specs.Steps.{IsReady, Makes, MayWrite, RefusesWrite, Writes, refusal, with_answer, with_doubt, with_write}
+use Rattle.bayou_world.specs.Steps.{IsReady, Makes, MayWrite, RefusesWrite, WriteStep, refusal, with_answer, with_doubt, with_write}
 use Rattle.bayou_world.proofs.Homes.{fitting_at}
-use Rattle.bayou_world.proofs.Tied.{IsRunningServer, WriteLaw, began, entry_of, may_begin, running_replica, runs_at, same_place, session_of_seat, with_place, with_seat}
+use Rattle.bayou_world.proofs.Tied.{IsRunningServer, WriteLaw, began, entry_of, may_begin, running_server, runs_at, same_place, session_of_seat, with_place, with_seat}
 use Rattle.bayou_world.proofs.Vectors.{tests_agree}
 
-write_covered : WriteLaw → (machine : Machine) → IsGood machine → (who place : ℕ) (client : Client) (session : SessionSets) → IsClientOf who client session → HasCounts client.session
-    → Dominates (count_of (writes (machine.servers place).held)) (write_need client.session) ↔ MayWrite session (machine.servers place).held
-write_covered law machine good who place client session is counts =
+write_covered : WriteLaw → (machine : Machine) → IsGoodMachine machine → (who place : ℕ) (world_session : WorldSession) (session : SessionSets) → IsWorldSessionOf who world_session session → HasCounts world_session.session
+    → Dominates (count_of (writes (machine.servers place).held)) (write_need world_session.session) ↔ MayWrite session (machine.servers place).held
+write_covered law machine good who place world_session session is counts =
     let held = writes (machine.servers place).held in
     let fitting = fitting_at machine.count machine.limit machine.servers good.servers place in
-    let all = law client.session (count_of held) counts.0.one_each counts.1.one_each in
-    let reads = tests_agree machine.count held client.session.reads session.reads fitting is.reads in
-    let wrote = tests_agree machine.count held client.session.writes session.writes fitting is.writes in (
+    let all = law world_session.session (count_of held) counts.0.one_each counts.1.one_each in
+    let reads = tests_agree machine.count held world_session.session.reads session.reads fitting is.reads in
+    let wrote = tests_agree machine.count held world_session.session.writes session.writes fitting is.writes in (
       λ dominates. record {
         wfr = λ asked. reads.1 ((all.0 dominates).0 (ap (λ (a : _). a.wfr) is.asks ∙ asked));
         mw = λ asked. wrote.1 ((all.0 dominates).1 (ap (λ (a : _). a.mw) is.asks ∙ asked));
@@ -59,55 +59,55 @@ some_doubt None is = is
 some_doubt (Some made) is = refl
 
 -- no Write is in doubt there, and what the session needs is held
-ready_there : WriteLaw → (machine : Machine) → IsGood machine → (who place : ℕ) (client : Client) (session : SessionSets) → IsClientOf who client session → HasCounts client.session
-    → (core : Core) → IsServerOf machine.count machine.limit place core (machine.servers place) → accepts.IsReady core (write_need client.session) → IsReady session (machine.servers place)
-ready_there law machine good who place client session is counts core at ready = record {
+ready_there : WriteLaw → (machine : Machine) → IsGoodMachine machine → (who place : ℕ) (world_session : WorldSession) (session : SessionSets) → IsWorldSessionOf who world_session session → HasCounts world_session.session
+    → (core : Core) → IsServerOf machine.count machine.limit place core (machine.servers place) → accepts.IsReady core (write_need world_session.session) → IsReady session (machine.servers place)
+ready_there law machine good who place world_session session is counts core at ready = record {
   up = no_doubt (machine.servers place).doubt (sym (ap (λ (c : Core). c.doubt) at.is) ∙ ready.up);
-  covered = (write_covered law machine good who place client session is counts).0
-      (subst (λ h. Dominates (count_of h) (write_need client.session)) (ap (λ (c : Core). c.held) at.is) ready.covered);
+  covered = (write_covered law machine good who place world_session session is counts).0
+      (subst (λ h. Dominates (count_of h) (write_need world_session.session)) (ap (λ (c : Core). c.held) at.is) ready.covered);
 }
 
 -- what is refused is refused there
-refuses : WriteLaw → (machine : Machine) → IsGood machine → (who place : ℕ) (client : Client) (session : SessionSets) → IsClientOf who client session → HasCounts client.session
+refuses : WriteLaw → (machine : Machine) → IsGoodMachine machine → (who place : ℕ) (world_session : WorldSession) (session : SessionSets) → IsWorldSessionOf who world_session session → HasCounts world_session.session
     → (program : Program) (core new : Core) (fault : WriteFault) → IsServerOf machine.count machine.limit place core (machine.servers place)
-    → fault ≢ writing.Journal → accepts.Writes core (write_need client.session) program (Err fault) new → RefusesWrite machine.limit session (machine.servers place) fault × (new ≡ core)
-refuses law machine good who place client session is counts program core new writing.Down at no_fault (down, same) =
+    → fault ≢ writing.Journal → accepts.Writes core (write_need world_session.session) program (Err fault) new → RefusesWrite machine.limit session (machine.servers place) fault × (new ≡ core)
+refuses law machine good who place world_session session is counts program core new writing.Down at no_fault (down, same) =
     (some_doubt (machine.servers place).doubt (subst IsSome (ap (λ (c : Core). c.doubt) at.is) down), same)
-refuses law machine good who place client session is counts program core new (writing.Behind vector) at no_fault (up, behind, same) =
+refuses law machine good who place world_session session is counts program core new (writing.Behind vector) at no_fault (up, behind, same) =
     let held_is = ap (λ (c : Core). c.held) at.is in (
       (
         no_doubt (machine.servers place).doubt (sym (ap (λ (c : Core). c.doubt) at.is) ∙ up),
-        (λ may. behind.not_covered (subst (λ h. Dominates (count_of h) (write_need client.session)) (sym held_is) ((write_covered law machine good who place client session is counts).1 may))),
+        (λ may. behind.not_covered (subst (λ h. Dominates (count_of h) (write_need world_session.session)) (sym held_is) ((write_covered law machine good who place world_session session is counts).1 may))),
         behind.held ∙ ap count_of held_is,
       ),
       same,
     )
-refuses law machine good who place client session is counts program core new writing.LogFull at no_fault (ready, full, same) = (
+refuses law machine good who place world_session session is counts program core new writing.LogFull at no_fault (ready, full, same) = (
   (
-    (ready_there law machine good who place client session is counts core at ready),
+    (ready_there law machine good who place world_session session is counts core at ready),
     (
         sym (length-map (machine.servers place).held write_of) ∙ ap length (sym (ap (λ (c : Core). c.held) at.is)) ∙ full ∙ ap (λ (c : Core). c.limit) at.is),
   ),
   same,
 )
-refuses law machine good who place client session is counts program core new writing.OutOfMemory at no_fault (ready, room, same) = (
+refuses law machine good who place world_session session is counts program core new writing.OutOfMemory at no_fault (ready, room, same) = (
   (
-    (ready_there law machine good who place client session is counts core at ready),
+    (ready_there law machine good who place world_session session is counts core at ready),
     omega (arith, room, length-map (machine.servers place).held write_of, ap length (ap (λ (c : Core). c.held) at.is), ap (λ (c : Core). c.limit) at.is),
   ),
   same,
 )
-refuses law machine good who place client session is counts program core new writing.Journal at no_fault doubts = absurd (no_fault refl)
+refuses law machine good who place world_session session is counts program core new writing.Journal at no_fault doubts = absurd (no_fault refl)
 
 -- the Write that is made is made there
-makes_there : WriteLaw → (machine : Machine) → IsGood machine → (who place : ℕ) (client : Client) (session : SessionSets) → IsClientOf who client session → HasCounts client.session
+makes_there : WriteLaw → (machine : Machine) → IsGoodMachine machine → (who place : ℕ) (world_session : WorldSession) (session : SessionSets) → IsWorldSessionOf who world_session session → HasCounts world_session.session
     → (program : Program) (core : Core) (write : Write) → IsServerOf machine.count machine.limit place core (machine.servers place)
-    → accepts.Makes core (write_need client.session) program write → Makes machine.limit place session (machine.servers place) program (record { write = write; past = writes (machine.servers place).held })
-makes_there law machine good who place client session is counts program core write at makes =
+    → accepts.Makes core (write_need world_session.session) program write → Makes machine.limit place session (machine.servers place) program (record { write = write; past = writes (machine.servers place).held })
+makes_there law machine good who place world_session session is counts program core write at makes =
     let next : IsNextWrite (writes (machine.servers place).held) place program write =
     subst (λ (c : Core). IsNextWrite c.held c.id program write) at.is makes.next in
     record {
-      ready = ready_there law machine good who place client session is counts core at makes.ready;
+      ready = ready_there law machine good who place world_session session is counts core at makes.ready;
       room = omega (arith, makes.room, length-map (machine.servers place).held write_of, ap length (ap (λ (c : Core). c.held) at.is), ap (λ (c : Core). c.limit) at.is);
       next = next;
       past = refl;
@@ -124,95 +124,95 @@ pub doubted_there : (count limit place : ℕ) (core : Core) (server : ServerSets
     → IsServerOf count limit place (record core { doubt = Some made.write }) (with_doubt server made)
 doubted_there count limit place core server made at = record { is = ap (λ (c : Core). record c { doubt = Some made.write }) at.is }
 
-refused_entry : (servers : List Replica) (clients : List (Option Client)) (offers : List (List ℕ)) (items : List Write) (told : List Entry) → WriteLaw → (machine : Machine) → IsGood machine
-    → IsTied servers clients offers items told machine → (who place : ℕ) (program : Program) (client new : Client) (old_server new_server : ServerState Memory) (fault : WriteFault) → who < SESSIONS → seat clients who ≡ Some client
-    → client.flight ≡ None → client.session.begun < MAX_PLACES → IsRunningServer machine place old_server → StaysHonest old_server new_server → HasCounts client.session
-    → fault ≢ writing.Journal → accepts.Writes old_server.core (write_need client.session) program (Err fault) new_server.core → Begins client place whats.Refused None new
-    → (next : Machine) × Writes machine who place program (replies.Wrote (Err fault)) next × IsTied (set servers place (Running new_server)) (set clients who (Some new)) offers items told next
-refused_entry servers clients offers items told law machine good tied who place program client new old_server new_server fault inside at none left here stays counts no_fault refused begins =
-    let seat_is = session_of_seat who (seat clients who) (machine.sessions who) client (tied.clients_are who inside) at in
+refused_entry : (servers : List WorldServer) (world_sessions : List (Option WorldSession)) (offers : List (List ℕ)) (items : List Write) (told : List Entry) → WriteLaw → (machine : Machine) → IsGoodMachine machine
+    → IsTied servers world_sessions offers items told machine → (who place : ℕ) (program : Program) (world_session new : WorldSession) (old_server new_server : ServerState Memory) (fault : WriteFault) → who < SESSIONS → seat world_sessions who ≡ Some world_session
+    → world_session.flight ≡ None → world_session.session.begun < MAX_PLACES → IsRunningServer machine place old_server → StaysHonest old_server new_server → HasCounts world_session.session
+    → fault ≢ writing.Journal → accepts.Writes old_server.core (write_need world_session.session) program (Err fault) new_server.core → Begins world_session place whats.Refused None new
+    → (next : Machine) × WriteStep machine who place program (replies.Wrote (Err fault)) next × IsTied (set servers place (Running new_server)) (set world_sessions who (Some new)) offers items told next
+refused_entry servers world_sessions offers items told law machine good tied who place program world_session new old_server new_server fault inside at none left here stays counts no_fault refused begins =
+    let seat_is = session_of_seat who (seat world_sessions who) (machine.sessions who) world_session (tied.sessions_are who inside) at in
     let session = seat_is.0 in
     let is = seat_is.2 in
     let core = here.core in
-    let may = may_begin machine who place client session seat_is.1 is none left here.running in
-    let both = refuses law machine good who place client session is counts program old_server.core new_server.core fault core no_fault refused in
+    let may = may_begin machine who place world_session session seat_is.1 is none left here.running in
+    let both = refuses law machine good who place world_session session is counts program old_server.core new_server.core fault core no_fault refused in
     let same_server : IsServerOf machine.count machine.limit place new_server.core (machine.servers place) = subst (λ (c : Core). IsServerOf machine.count machine.limit place c (machine.servers place)) (sym both.1) core in (
       with_answer machine who session (refusal begins.entry),
-      Writes.refused session begins.entry fault may both.0 refl (entry_of who place client new session whats.Refused None is begins) refl,
-      with_seat (set servers place (Running new_server)) clients offers items told machine (same_place servers clients offers items told machine tied place (Running new_server) here.running.there
-          (running_replica machine.count machine.limit place new_server (machine.servers place) here.running.runs same_server (stays here.honest))) who new
+      WriteStep.refused session begins.entry fault may both.0 refl (entry_of who place world_session new session whats.Refused None is begins) refl,
+      with_seat (set servers place (Running new_server)) world_sessions offers items told machine (same_place servers world_sessions offers items told machine tied place (Running new_server) here.running.there
+          (running_server machine.count machine.limit place new_server (machine.servers place) here.running.runs same_server (stays here.honest))) who new
           (record session { begun = session.begun + 1; flight = Some (refusal begins.entry) }) inside
-          (began who place client new session whats.Refused None (refusal begins.entry) is begins refl refl),
+          (began who place world_session new session whats.Refused None (refusal begins.entry) is begins refl refl),
     )
 
-pub write_tied : WriteLaw → (servers : List Replica) (clients : List (Option Client)) (offers : List (List ℕ)) (items : List Write) (told : List Entry) (machine : Machine) → IsGood machine
-    → IsTied servers clients offers items told machine → (who place : ℕ) (program : Program) (client new : Client) (old_server new_server : ServerState Memory) (answer : Result Accepted WriteFault) → who < SESSIONS → seat clients who ≡ Some client
-    → client.flight ≡ None → client.session.begun < MAX_PLACES → place < length servers → get_or servers place (Running old_server) ≡ Running old_server → StaysHonest old_server new_server → HasCounts client.session
-    → accepts.Writes old_server.core (write_need client.session) program answer new_server.core
-    → Begins client old_server.core.id (accepted_as answer) (accepted_of answer) new
-    → (next : Machine) × Writes machine who place program (replies.Wrote answer) next × IsTied (set servers place (Running new_server)) (set clients who (Some new)) offers items told next
-write_tied law servers clients offers items told machine good tied who place program client new old_server new_server (Ok accepted) inside at none left known stands stays counts accepts_it begins =
-    let seat_is = session_of_seat who (seat clients who) (machine.sessions who) client (tied.clients_are who inside) at in
+pub write_tied : WriteLaw → (servers : List WorldServer) (world_sessions : List (Option WorldSession)) (offers : List (List ℕ)) (items : List Write) (told : List Entry) (machine : Machine) → IsGoodMachine machine
+    → IsTied servers world_sessions offers items told machine → (who place : ℕ) (program : Program) (world_session new : WorldSession) (old_server new_server : ServerState Memory) (answer : Result Accepted WriteFault) → who < SESSIONS → seat world_sessions who ≡ Some world_session
+    → world_session.flight ≡ None → world_session.session.begun < MAX_PLACES → place < length servers → get_or servers place (Running old_server) ≡ Running old_server → StaysHonest old_server new_server → HasCounts world_session.session
+    → accepts.Writes old_server.core (write_need world_session.session) program answer new_server.core
+    → Begins world_session old_server.core.id (accepted_as answer) (accepted_of answer) new
+    → (next : Machine) × WriteStep machine who place program (replies.Wrote answer) next × IsTied (set servers place (Running new_server)) (set world_sessions who (Some new)) offers items told next
+write_tied law servers world_sessions offers items told machine good tied who place program world_session new old_server new_server (Ok accepted) inside at none left known stands stays counts accepts_it begins =
+    let seat_is = session_of_seat who (seat world_sessions who) (machine.sessions who) world_session (tied.sessions_are who inside) at in
     let session = seat_is.0 in
     let is = seat_is.2 in
-    let here = runs_at servers clients offers items told machine tied place old_server known stands in
+    let here = runs_at servers world_sessions offers items told machine tied place old_server known stands in
     let core = here.core in
     let what = whats.Write accepted.wid accepted.stamp accepted.deps in
-    let begins_at = subst (λ n. Begins client n what (Some accepted) new) (ap (λ (c : Core). c.id) core.is) begins in
-    let may = may_begin machine who place client session seat_is.1 is none left here.running in
+    let begins_at = subst (λ n. Begins world_session n what (Some accepted) new) (ap (λ (c : Core). c.id) core.is) begins in
+    let may = may_begin machine who place world_session session seat_is.1 is none left here.running in
     let made : Made = record { write = accepts_it.made; past = writes (machine.servers place).held } in
-    let makes = makes_there law machine good who place client session is counts program old_server.core accepts_it.made core accepts_it.makes in
+    let makes = makes_there law machine good who place world_session session is counts program old_server.core accepts_it.made core accepts_it.makes in
     let answered : Answered = record { entry = begins_at.entry; database = made.past; made = Some made } in
     let server_is = subst (λ (c : Core). IsServerOf machine.count machine.limit place c (with_write (machine.servers place) made)) (sym accepts_it.is)
     (held_more machine.count machine.limit place old_server.core (machine.servers place) made core) in
     let machine_then = with_server machine place (with_write (machine.servers place) made) in (
       with_answer machine_then who session answered,
-      Writes.accepted session begins_at.entry made accepted may makes (record { wid = accepts_it.wid; stamp = accepts_it.stamp; deps = accepts_it.deps ∙ makes.next.deps }) refl
-          (entry_of who place client new session what (Some accepted) is begins_at) refl,
-      with_seat (set servers place (Running new_server)) clients offers items told machine_then
-          (with_place servers clients offers items told machine tied place (Running new_server) (with_write (machine.servers place) made) here.running.there
-          (running_replica machine.count machine.limit place new_server (with_write (machine.servers place) made) here.running.runs server_is (stays here.honest))) who new
+      WriteStep.accepted session begins_at.entry made accepted may makes (record { wid = accepts_it.wid; stamp = accepts_it.stamp; deps = accepts_it.deps ∙ makes.next.deps }) refl
+          (entry_of who place world_session new session what (Some accepted) is begins_at) refl,
+      with_seat (set servers place (Running new_server)) world_sessions offers items told machine_then
+          (with_place servers world_sessions offers items told machine tied place (Running new_server) (with_write (machine.servers place) made) here.running.there
+          (running_server machine.count machine.limit place new_server (with_write (machine.servers place) made) here.running.runs server_is (stays here.honest))) who new
           (record session { begun = session.begun + 1; flight = Some answered }) inside
-          (began who place client new session what (Some accepted) answered is begins_at refl (accepted, refl, refl)),
+          (began who place world_session new session what (Some accepted) answered is begins_at refl (accepted, refl, refl)),
     )
-write_tied law servers clients offers items told machine good tied who place program client new old_server new_server (Err writing.Journal) inside at none left known stands stays counts doubts begins =
-    let seat_is = session_of_seat who (seat clients who) (machine.sessions who) client (tied.clients_are who inside) at in
+write_tied law servers world_sessions offers items told machine good tied who place program world_session new old_server new_server (Err writing.Journal) inside at none left known stands stays counts doubts begins =
+    let seat_is = session_of_seat who (seat world_sessions who) (machine.sessions who) world_session (tied.sessions_are who inside) at in
     let session = seat_is.0 in
     let is = seat_is.2 in
-    let here = runs_at servers clients offers items told machine tied place old_server known stands in
+    let here = runs_at servers world_sessions offers items told machine tied place old_server known stands in
     let core = here.core in
-    let begins_at = subst (λ n. Begins client n whats.Refused None new) (ap (λ (c : Core). c.id) core.is) begins in
-    let may = may_begin machine who place client session seat_is.1 is none left here.running in
+    let begins_at = subst (λ n. Begins world_session n whats.Refused None new) (ap (λ (c : Core). c.id) core.is) begins in
+    let may = may_begin machine who place world_session session seat_is.1 is none left here.running in
     let made : Made = record { write = doubts.made; past = writes (machine.servers place).held } in
-    let makes = makes_there law machine good who place client session is counts program old_server.core doubts.made core doubts.makes in
+    let makes = makes_there law machine good who place world_session session is counts program old_server.core doubts.made core doubts.makes in
     let server_is = subst (λ (c : Core). IsServerOf machine.count machine.limit place c (with_doubt (machine.servers place) made)) (sym doubts.is)
     (doubted_there machine.count machine.limit place old_server.core (machine.servers place) made core) in
     let machine_then = with_server machine place (with_doubt (machine.servers place) made) in (
       with_answer machine_then who session (refusal begins_at.entry),
-      Writes.doubted session begins_at.entry made may makes refl (entry_of who place client new session whats.Refused None is begins_at) refl,
-      with_seat (set servers place (Running new_server)) clients offers items told machine_then
-          (with_place servers clients offers items told machine tied place (Running new_server) (with_doubt (machine.servers place) made) here.running.there
-          (running_replica machine.count machine.limit place new_server (with_doubt (machine.servers place) made) here.running.runs server_is (stays here.honest))) who new
+      WriteStep.doubted session begins_at.entry made may makes refl (entry_of who place world_session new session whats.Refused None is begins_at) refl,
+      with_seat (set servers place (Running new_server)) world_sessions offers items told machine_then
+          (with_place servers world_sessions offers items told machine tied place (Running new_server) (with_doubt (machine.servers place) made) here.running.there
+          (running_server machine.count machine.limit place new_server (with_doubt (machine.servers place) made) here.running.runs server_is (stays here.honest))) who new
           (record session { begun = session.begun + 1; flight = Some (refusal begins_at.entry) }) inside
-          (began who place client new session whats.Refused None (refusal begins_at.entry) is begins_at refl refl),
+          (began who place world_session new session whats.Refused None (refusal begins_at.entry) is begins_at refl refl),
     )
-write_tied law servers clients offers items told machine good tied who place program client new old_server new_server (Err writing.Down) inside at none left known stands stays counts refused begins =
-    let here = runs_at servers clients offers items told machine tied place old_server known stands in
+write_tied law servers world_sessions offers items told machine good tied who place program world_session new old_server new_server (Err writing.Down) inside at none left known stands stays counts refused begins =
+    let here = runs_at servers world_sessions offers items told machine tied place old_server known stands in
     let core = here.core in
-    refused_entry servers clients offers items told law machine good tied who place program client new old_server new_server writing.Down inside at none left here stays counts (λ same. absurd (cc)) refused
-    (subst (λ n. Begins client n whats.Refused None new) (ap (λ (c : Core). c.id) core.is) begins)
-write_tied law servers clients offers items told machine good tied who place program client new old_server new_server (Err (writing.Behind vector)) inside at none left known stands stays counts refused begins =
-    let here = runs_at servers clients offers items told machine tied place old_server known stands in
+    refused_entry servers world_sessions offers items told law machine good tied who place program world_session new old_server new_server writing.Down inside at none left here stays counts (λ same. absurd (cc)) refused
+    (subst (λ n. Begins world_session n whats.Refused None new) (ap (λ (c : Core). c.id) core.is) begins)
+write_tied law servers world_sessions offers items told machine good tied who place program world_session new old_server new_server (Err (writing.Behind vector)) inside at none left known stands stays counts refused begins =
+    let here = runs_at servers world_sessions offers items told machine tied place old_server known stands in
     let core = here.core in
-    refused_entry servers clients offers items told law machine good tied who place program client new old_server new_server (writing.Behind vector) inside at none left here stays counts (λ same. absurd (cc)) refused
-    (subst (λ n. Begins client n whats.Refused None new) (ap (λ (c : Core). c.id) core.is) begins)
-write_tied law servers clients offers items told machine good tied who place program client new old_server new_server (Err writing.LogFull) inside at none left known stands stays counts refused begins =
-    let here = runs_at servers clients offers items told machine tied place old_server known stands in
+    refused_entry servers world_sessions offers items told law machine good tied who place program world_session new old_server new_server (writing.Behind vector) inside at none left here stays counts (λ same. absurd (cc)) refused
+    (subst (λ n. Begins world_session n whats.Refused None new) (ap (λ (c : Core). c.id) core.is) begins)
+write_tied law servers world_sessions offers items told machine good tied who place program world_session new old_server new_server (Err writing.LogFull) inside at none left known stands stays counts refused begins =
+    let here = runs_at servers world_sessions offers items told machine tied place old_server known stands in
     let core = here.core in
-    refused_entry servers clients offers items told law machine good tied who place program client new old_server new_server writing.LogFull inside at none left here stays counts (λ same. absurd (cc)) refused
-    (subst (λ n. Begins client n whats.Refused None new) (ap (λ (c : Core). c.id) core.is) begins)
-write_tied law servers clients offers items told machine good tied who place program client new old_server new_server (Err writing.OutOfMemory) inside at none left known stands stays counts refused begins =
-    let here = runs_at servers clients offers items told machine tied place old_server known stands in
+    refused_entry servers world_sessions offers items told law machine good tied who place program world_session new old_server new_server writing.LogFull inside at none left here stays counts (λ same. absurd (cc)) refused
+    (subst (λ n. Begins world_session n whats.Refused None new) (ap (λ (c : Core). c.id) core.is) begins)
+write_tied law servers world_sessions offers items told machine good tied who place program world_session new old_server new_server (Err writing.OutOfMemory) inside at none left known stands stays counts refused begins =
+    let here = runs_at servers world_sessions offers items told machine tied place old_server known stands in
     let core = here.core in
-    refused_entry servers clients offers items told law machine good tied who place program client new old_server new_server writing.OutOfMemory inside at none left here stays counts (λ same. absurd (cc)) refused
-    (subst (λ n. Begins client n whats.Refused None new) (ap (λ (c : Core). c.id) core.is) begins)
+    refused_entry servers world_sessions offers items told law machine good tied who place program world_session new old_server new_server writing.OutOfMemory inside at none left here stays counts (λ same. absurd (cc)) refused
+    (subst (λ n. Begins world_session n whats.Refused None new) (ap (λ (c : Core). c.id) core.is) begins)

@@ -1,6 +1,6 @@
 -- How often device calls of a server failed, as the replies tell, and how often they were to: this project's own.
-use Rattle.std.specs.Prelude.{ℕ, ◌+◌, ◌<◌, ◌≤◌, ◌==◌, Bool, true, false, List, [], ◌∷◌, Err, take, if◌then◌else◌}
-use Rattle.bayou_server.specs.declared.fault.JournalFault.TheVariants.{Device}
+use Rattle.std.specs.Prelude.{ℕ, ◌+◌, ◌<◌, ◌≤◌, ◌==◌, Bool, true, false, List, [], ◌∷◌, Ok, Err, take, if◌then◌else◌}
+use Rattle.bayou_server.specs.declared.fault.JournalFault.TheVariants.{Device, NotAJournal, OtherServer}
 use Rattle.bayou_server.specs.declared.fault.ReopenFault.TheVariants as reopening
 use Rattle.bayou_server.specs.declared.fault.StartFault.TheVariants as starting
 use Rattle.bayou_server.specs.declared.fault.TakeFault.TheVariants as taking
@@ -13,15 +13,61 @@ use Rattle.bayou_world.specs.declared.reply.Reply.TheVariants as replies
 -- a device call failed
 abbrev pub tells_fault : Reply → Bool
 tells_fault (replies.Wrote (Err writing.Journal)) = true
+tells_fault (replies.Wrote (Err writing.Down)) = false
+tells_fault (replies.Wrote (Err (writing.Behind vector))) = false
+tells_fault (replies.Wrote (Err writing.LogFull)) = false
+tells_fault (replies.Wrote (Err writing.OutOfMemory)) = false
+tells_fault (replies.Wrote (Ok accepted)) = false
 tells_fault (replies.Took (Err taking.Journal)) = true
+tells_fault (replies.Took (Err taking.Conflict)) = false
+tells_fault (replies.Took (Err taking.Down)) = false
+tells_fault (replies.Took (Err taking.OwnLost)) = false
+tells_fault (replies.Took (Err taking.Gap)) = false
+tells_fault (replies.Took (Err taking.BadStamp)) = false
+tells_fault (replies.Took (Err taking.LogFull)) = false
+tells_fault (replies.Took (Err taking.OutOfMemory)) = false
+tells_fault (replies.Took (Ok took)) = false
 tells_fault (replies.Reopened (Err (reopening.Journal Device))) = true
+tells_fault (replies.Reopened (Err (reopening.Journal NotAJournal))) = false
+tells_fault (replies.Reopened (Err (reopening.Journal OtherServer))) = false
+tells_fault (replies.Reopened (Err reopening.NotDown)) = false
+tells_fault (replies.Reopened (Err reopening.Lost)) = false
+tells_fault (replies.Reopened (Err (reopening.BadRecord at))) = false
+tells_fault (replies.Reopened (Err reopening.OutOfMemory)) = false
+tells_fault (replies.Reopened (Ok reopened)) = false
 tells_fault (replies.Restarted (Err (starting.Journal Device))) = true
-tells_fault _ = false
+tells_fault (replies.Restarted (Err (starting.Journal NotAJournal))) = false
+tells_fault (replies.Restarted (Err (starting.Journal OtherServer))) = false
+tells_fault (replies.Restarted (Err (starting.BadRecord at))) = false
+tells_fault (replies.Restarted (Err (starting.Gap at))) = false
+tells_fault (replies.Restarted (Err starting.LogFull)) = false
+tells_fault (replies.Restarted (Err starting.OutOfMemory)) = false
+tells_fault (replies.Restarted (Ok holds)) = false
+tells_fault (replies.Read answer) = false
+tells_fault (replies.Kept offer) = false
+tells_fault (replies.Flown first number) = false
+tells_fault replies.Delivered = false
+tells_fault replies.Dropped = false
+tells_fault replies.Fused = false
+tells_fault replies.Filed = false
+tells_fault replies.NoMemory = false
+tells_fault replies.Skipped = false
 
 -- one is to fail
 abbrev pub tells_fuse : Reply → Bool
 tells_fuse replies.Fused = true
-tells_fuse _ = false
+tells_fuse (replies.Read answer) = false
+tells_fuse (replies.Wrote answer) = false
+tells_fuse (replies.Took answer) = false
+tells_fuse (replies.Kept offer) = false
+tells_fuse (replies.Flown first number) = false
+tells_fuse replies.Delivered = false
+tells_fuse replies.Dropped = false
+tells_fuse (replies.Reopened answer) = false
+tells_fuse (replies.Restarted answer) = false
+tells_fuse replies.Filed = false
+tells_fuse replies.NoMemory = false
+tells_fuse replies.Skipped = false
 
 -- the event may make device calls of that server, or have one fail
 abbrev pub is_of : ℕ → Event → Bool

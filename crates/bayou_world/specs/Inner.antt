@@ -1,7 +1,7 @@
 pub mod Good
-pub mod Replicas
+pub mod WorldServers
 pub mod Charges
-pub mod Clients
+pub mod WorldSessions
 pub mod Tie
-pub mod Booking
+pub mod WorldBooks
 pub mod Beginning

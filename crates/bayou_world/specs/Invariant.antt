@@ -1,11 +1,11 @@
 -- What is true of all servers together, over every run.
-use Rattle.std.specs.Prelude.{◌≡◌, ℕ, ◌+◌, ◌<◌, ◌==◌, ◌↔◌, ◌⊎◌, List, ◌++◌, Some, Err, Contains, filter, length}
+use Rattle.std.specs.Prelude.{◌≡◌, ℕ, ◌+◌, ◌<◌, ◌==◌, ◌↔◌, ◌⊎◌, List, ◌++◌, Some, Ok, Err, Contains, filter, length}
 use Rattle.std.specs.List.{slice_get}
 use Rattle.bayou_base.specs.declared.wid.Wid.{Wid}
 use Rattle.bayou_base.specs.Vector.{Covers, Dominates}
 use Rattle.bayou_lang.specs.declared.write.Write.{Write}
 use Rattle.bayou_lang.specs.Writes.{IsPrefixClosed, IsSound, count_of}
-use Rattle.bayou_server.specs.declared.fault.JournalFault.TheVariants.{NotAJournal, OtherServer}
+use Rattle.bayou_server.specs.declared.fault.JournalFault.TheVariants.{Device, NotAJournal, OtherServer}
 use Rattle.bayou_server.specs.declared.fault.ReopenFault.TheVariants as reopening
 use Rattle.bayou_server.specs.declared.fault.StartFault.TheVariants as starting
 use Rattle.bayou_server.specs.declared.fault.TakeFault.TheVariants as taking
@@ -14,7 +14,7 @@ use Rattle.bayou_world.specs.declared.reply.Reply.{Reply}
 use Rattle.bayou_world.specs.declared.reply.Reply.TheVariants as replies
 use Rattle.bayou_world.specs.Machine.{IsWithin, Machine, Made, names, writes}
 use Rattle.bayou_world.specs.Runs.{Run}
-use Rattle.bayou_world.specs.Steps.{Collects, Holds}
+use Rattle.bayou_world.specs.Steps.{CollectStep, HoldsName}
 
 -- the Write stands somewhere: it is held by a server, or in doubt at one, or an item in flight
 abbrev pub Stands : Machine → Made → Type 0
@@ -52,16 +52,38 @@ abbrev pub IsImpossible : Reply → Type 0
 IsImpossible (replies.Took (Err taking.Conflict)) = Unit {0}
 IsImpossible (replies.Took (Err taking.OwnLost)) = Unit {0}
 IsImpossible (replies.Took (Err taking.BadStamp)) = Unit {0}
+IsImpossible (replies.Took (Err taking.Down)) = ⊥
+IsImpossible (replies.Took (Err taking.Gap)) = ⊥
+IsImpossible (replies.Took (Err taking.LogFull)) = ⊥
+IsImpossible (replies.Took (Err taking.OutOfMemory)) = ⊥
+IsImpossible (replies.Took (Err taking.Journal)) = ⊥
+IsImpossible (replies.Took (Ok took)) = ⊥
 IsImpossible (replies.Reopened (Err reopening.Lost)) = Unit {0}
 IsImpossible (replies.Reopened (Err (reopening.BadRecord at))) = Unit {0}
 IsImpossible (replies.Reopened (Err (reopening.Journal NotAJournal))) = Unit {0}
 IsImpossible (replies.Reopened (Err (reopening.Journal OtherServer))) = Unit {0}
+IsImpossible (replies.Reopened (Err (reopening.Journal Device))) = ⊥
+IsImpossible (replies.Reopened (Err reopening.NotDown)) = ⊥
+IsImpossible (replies.Reopened (Err reopening.OutOfMemory)) = ⊥
+IsImpossible (replies.Reopened (Ok reopened)) = ⊥
 IsImpossible (replies.Restarted (Err (starting.Journal NotAJournal))) = Unit {0}
 IsImpossible (replies.Restarted (Err (starting.Journal OtherServer))) = Unit {0}
 IsImpossible (replies.Restarted (Err (starting.BadRecord at))) = Unit {0}
 IsImpossible (replies.Restarted (Err (starting.Gap at))) = Unit {0}
 IsImpossible (replies.Restarted (Err starting.LogFull)) = Unit {0}
-IsImpossible _ = ⊥
+IsImpossible (replies.Restarted (Err (starting.Journal Device))) = ⊥
+IsImpossible (replies.Restarted (Err starting.OutOfMemory)) = ⊥
+IsImpossible (replies.Restarted (Ok holds)) = ⊥
+IsImpossible (replies.Read answer) = ⊥
+IsImpossible (replies.Wrote answer) = ⊥
+IsImpossible (replies.Kept offer) = ⊥
+IsImpossible (replies.Flown first number) = ⊥
+IsImpossible replies.Delivered = ⊥
+IsImpossible replies.Dropped = ⊥
+IsImpossible replies.Fused = ⊥
+IsImpossible replies.Filed = ⊥
+IsImpossible replies.NoMemory = ⊥
+IsImpossible replies.Skipped = ⊥
 
 -- By a Collect of an offer that this server made, so many items went in flight, and behind other events the server holds those of them
 -- that come before one.
@@ -70,9 +92,9 @@ pub record IsTakenUpTo (old now : Machine) (server offer number at : ℕ) : Type
   pub offered : slice_get old.offers offer ≡ Some (record { server = server; database = database })
   pub from : ℕ
   pub next : Machine
-  pub collects : Collects old from offer (replies.Flown (length old.items) number) next
+  pub collects : CollectStep old from offer (replies.Flown (length old.items) number) next
   pub events : List Event
   pub replies_are : List Reply
   pub run : Run next events replies_are now
   pub among : at < number
-  pub taken : (earlier : ℕ) (made : Made) → earlier < at → slice_get now.items (length old.items + earlier) ≡ Some made → Holds (now.servers server) made
+  pub taken : (earlier : ℕ) (made : Made) → earlier < at → slice_get now.items (length old.items + earlier) ≡ Some made → HoldsName (now.servers server) made

@@ -2,6 +2,6 @@ pub mod Machine
 pub mod Steps
 pub mod Runs
 pub mod Faults
-pub mod Histories
+pub mod RunHistories
 pub mod Invariant
 pub mod Inner

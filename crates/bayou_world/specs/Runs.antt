@@ -98,8 +98,8 @@ pub record IsReadAt (served : List Answered) (session place server : ℕ) (datab
   pub from : answered.database ≡ database
 
 -- What was served, and every database that a server had: of this history the four guarantees speak.
-abbrev pub history_of_run : Machine → History
-history_of_run machine = record {
+abbrev pub history_of_machine : Machine → History
+history_of_machine machine = record {
   Wrote = λ session place write. IsWriteAt machine.served session place write;
   Read = λ session place server database. IsReadAt machine.served session place server database;
   Had = λ server database. Contains (machine.servers server).had database;

@@ -79,15 +79,15 @@ refusal entry = record { entry = entry; database = []; made = None }
 
 -- ---- a read
 
-pub data Reads (old : Machine) (who place : ℕ) (key : List ℕ) (reply : Reply) (new : Machine) : Type 0 where
-  skipped : CannotBegin old who place → reply ≡ replies.Skipped → new ≡ old → Reads old who place key reply new
+pub data ReadStep (old : Machine) (who place : ℕ) (key : List ℕ) (reply : Reply) (new : Machine) : Type 0 where
+  skipped : CannotBegin old who place → reply ≡ replies.Skipped → new ≡ old → ReadStep old who place key reply new
   behind : (session : SessionSets) (entry : Entry) → MayBegin old who place session → (¬ MayRead session (old.servers place).held)
       → reply ≡ replies.Read (Err (record { vector = count_of (writes (old.servers place).held) }))
-      → IsEntry who place session whats.Refused entry → new ≡ with_answer old who session (refusal entry) → Reads old who place key reply new
+      → IsEntry who place session whats.Refused entry → new ≡ with_answer old who session (refusal entry) → ReadStep old who place key reply new
   served : (session : SessionSets) (entry : Entry) (seen : Seen) → MayBegin old who place session → MayRead session (old.servers place).held
       → seen.value ≡ value_at (replay (writes (old.servers place).held)) key → seen.vector ≡ count_of (writes (old.servers place).held) → reply ≡ replies.Read (Ok seen)
       → IsEntry who place session (whats.Read key seen.vector) entry
-      → new ≡ with_answer old who session (record { entry = entry; database = writes (old.servers place).held; made = None }) → Reads old who place key reply new
+      → new ≡ with_answer old who session (record { entry = entry; database = writes (old.servers place).held; made = None }) → ReadStep old who place key reply new
 
 -- ---- a Write
 
@@ -125,17 +125,17 @@ with_write server made = record server { held = server.held ++ made ∷ []; had 
 abbrev pub with_doubt : ServerSets → Made → ServerSets
 with_doubt server made = record server { doubt = Some made }
 
-pub data Writes (old : Machine) (who place : ℕ) (program : Program) (reply : Reply) (new : Machine) : Type 0 where
-  skipped : CannotBegin old who place → reply ≡ replies.Skipped → new ≡ old → Writes old who place program reply new
+pub data WriteStep (old : Machine) (who place : ℕ) (program : Program) (reply : Reply) (new : Machine) : Type 0 where
+  skipped : CannotBegin old who place → reply ≡ replies.Skipped → new ≡ old → WriteStep old who place program reply new
   refused : (session : SessionSets) (entry : Entry) (fault : WriteFault) → MayBegin old who place session → RefusesWrite old.limit session (old.servers place) fault
-      → reply ≡ replies.Wrote (Err fault) → IsEntry who place session whats.Refused entry → new ≡ with_answer old who session (refusal entry) → Writes old who place program reply new
+      → reply ≡ replies.Wrote (Err fault) → IsEntry who place session whats.Refused entry → new ≡ with_answer old who session (refusal entry) → WriteStep old who place program reply new
   doubted : (session : SessionSets) (entry : Entry) (made : Made) → MayBegin old who place session → Makes old.limit place session (old.servers place) program made
       → reply ≡ replies.Wrote (Err writing.Journal) → IsEntry who place session whats.Refused entry
-      → new ≡ with_answer (with_server old place (with_doubt (old.servers place) made)) who session (refusal entry) → Writes old who place program reply new
+      → new ≡ with_answer (with_server old place (with_doubt (old.servers place) made)) who session (refusal entry) → WriteStep old who place program reply new
   accepted : (session : SessionSets) (entry : Entry) (made : Made) (accepted : Accepted) → MayBegin old who place session → Makes old.limit place session (old.servers place) program made
       → IsAccepted made accepted → reply ≡ replies.Wrote (Ok accepted) → IsEntry who place session (whats.Write accepted.wid accepted.stamp accepted.deps) entry
       → new ≡ with_answer (with_server old place (with_write (old.servers place) made)) who session (record { entry = entry; database = made.past; made = Some made })
-      → Writes old who place program reply new
+      → WriteStep old who place program reply new
 
 -- ---- the answer in flight
 
@@ -167,22 +167,22 @@ pub record IsInFlight (old : Machine) (who : ℕ) (session : SessionSets) (answe
 abbrev pub NothingIsInFlight : Machine → ℕ → Type 0
 NothingIsInFlight old who = (session : SessionSets) (answered : Answered) → ¬ IsInFlight old who session answered
 
-pub data Delivers (old : Machine) (who : ℕ) (reply : Reply) (new : Machine) : Type 0 where
-  skipped : NothingIsInFlight old who → reply ≡ replies.Skipped → new ≡ old → Delivers old who reply new
+pub data DeliverStep (old : Machine) (who : ℕ) (reply : Reply) (new : Machine) : Type 0 where
+  skipped : NothingIsInFlight old who → reply ≡ replies.Skipped → new ≡ old → DeliverStep old who reply new
   delivered : (session : SessionSets) (answered : Answered) → IsInFlight old who session answered → reply ≡ replies.Delivered
-      → new ≡ record (with_session old who (heard answered session)) { served = old.served ++ served_by answered.entry.what answered } → Delivers old who reply new
+      → new ≡ record (with_session old who (heard answered session)) { served = old.served ++ served_by answered.entry.what answered } → DeliverStep old who reply new
 
-pub data Loses (old : Machine) (who : ℕ) (reply : Reply) (new : Machine) : Type 0 where
-  skipped : NothingIsInFlight old who → reply ≡ replies.Skipped → new ≡ old → Loses old who reply new
+pub data LoseStep (old : Machine) (who : ℕ) (reply : Reply) (new : Machine) : Type 0 where
+  skipped : NothingIsInFlight old who → reply ≡ replies.Skipped → new ≡ old → LoseStep old who reply new
   dropped : (session : SessionSets) (answered : Answered) → IsInFlight old who session answered → reply ≡ replies.Dropped
-      → new ≡ with_session old who (landed session) → Loses old who reply new
+      → new ≡ with_session old who (landed session) → LoseStep old who reply new
 
 -- ---- anti-entropy
 
-pub data Offers (old : Machine) (place : ℕ) (reply : Reply) (new : Machine) : Type 0 where
-  skipped : (¬ IsRunning old place) ⊎ (MAX_NUMBER < length old.offers) → reply ≡ replies.Skipped → new ≡ old → Offers old place reply new
+pub data OfferStep (old : Machine) (place : ℕ) (reply : Reply) (new : Machine) : Type 0 where
+  skipped : (¬ IsRunning old place) ⊎ (MAX_NUMBER < length old.offers) → reply ≡ replies.Skipped → new ≡ old → OfferStep old place reply new
   kept : IsRunning old place → length old.offers ≤ MAX_NUMBER → reply ≡ replies.Kept (length old.offers)
-      → new ≡ record old { offers = old.offers ++ record { server = place; database = writes (old.servers place).held } ∷ [] } → Offers old place reply new
+      → new ≡ record old { offers = old.offers ++ record { server = place; database = writes (old.servers place).held } ∷ [] } → OfferStep old place reply new
 
 -- just those that the server holds and the offer hasn't, in stamp order
 pub record AreLacking (offered : List Write) (held lacking : List Made) : Type 0 where
@@ -200,19 +200,19 @@ pub record MayCollect (old : Machine) (place offer : ℕ) (offered : List Write)
 abbrev pub CannotCollect : Machine → (place offer : ℕ) → Type 0
 CannotCollect old place offer = (offered : List Write) (lacking : List Made) → ¬ MayCollect old place offer offered lacking
 
-pub data Collects (old : Machine) (place offer : ℕ) (reply : Reply) (new : Machine) : Type 0 where
-  skipped : CannotCollect old place offer → reply ≡ replies.Skipped → new ≡ old → Collects old place offer reply new
-  no_memory : IsRunning old place → offer < length old.offers → reply ≡ replies.NoMemory → new ≡ old → Collects old place offer reply new
+pub data CollectStep (old : Machine) (place offer : ℕ) (reply : Reply) (new : Machine) : Type 0 where
+  skipped : CannotCollect old place offer → reply ≡ replies.Skipped → new ≡ old → CollectStep old place offer reply new
+  no_memory : IsRunning old place → offer < length old.offers → reply ≡ replies.NoMemory → new ≡ old → CollectStep old place offer reply new
   flown : (offered : List Write) (lacking : List Made) → MayCollect old place offer offered lacking → reply ≡ replies.Flown (length old.items) (length lacking)
-      → new ≡ record old { items = old.items ++ lacking } → Collects old place offer reply new
+      → new ≡ record old { items = old.items ++ lacking } → CollectStep old place offer reply new
 
 -- a Write of its name is held
-abbrev pub Holds : ServerSets → Made → Type 0
-Holds server made = Contains (names (writes server.held)) made.write.wid
+abbrev pub HoldsName : ServerSets → Made → Type 0
+HoldsName server made = Contains (names (writes server.held)) made.write.wid
 
 -- the server is up, and the Write is new to it
 pub record IsNew (server : ServerSets) (made : Made) : Type 0 where
-  pub missing : ¬ Holds server made
+  pub missing : ¬ HoldsName server made
   pub up : server.doubt ≡ None
 
 -- and all of its past is held (the prefix property, Petersen et al. 1997)
@@ -223,7 +223,7 @@ pub record IsNext (server : ServerSets) (made : Made) : Type 0 where
 -- Why an item isn't taken. The cases stand in their order: each says that those before it don't hold.
 abbrev pub RefusesItem : ℕ → ServerSets → Made → TakeFault → Type 0
 RefusesItem limit server made taking.Conflict = ⊥
-RefusesItem limit server made taking.Down = (¬ Holds server made) × IsSome server.doubt
+RefusesItem limit server made taking.Down = (¬ HoldsName server made) × IsSome server.doubt
 RefusesItem limit server made taking.OwnLost = ⊥
 RefusesItem limit server made taking.Gap = IsNew server made × (¬ IsWithin (names made.past) (names (writes server.held)))
 RefusesItem limit server made taking.BadStamp = ⊥
@@ -236,22 +236,22 @@ pub record IsGiven (old : Machine) (place item : ℕ) (made : Made) : Type 0 whe
   pub server : IsRunning old place
   pub there : slice_get old.items item ≡ Some made
 
-pub data Takes (old : Machine) (place item : ℕ) (reply : Reply) (new : Machine) : Type 0 where
-  skipped : ((made : Made) → ¬ IsGiven old place item made) → reply ≡ replies.Skipped → new ≡ old → Takes old place item reply new
-  had : (made : Made) → IsGiven old place item made → Holds (old.servers place) made → reply ≡ replies.Took (Ok Had) → new ≡ old → Takes old place item reply new
+pub data TakeStep (old : Machine) (place item : ℕ) (reply : Reply) (new : Machine) : Type 0 where
+  skipped : ((made : Made) → ¬ IsGiven old place item made) → reply ≡ replies.Skipped → new ≡ old → TakeStep old place item reply new
+  had : (made : Made) → IsGiven old place item made → HoldsName (old.servers place) made → reply ≡ replies.Took (Ok Had) → new ≡ old → TakeStep old place item reply new
   refused : (made : Made) (fault : TakeFault) → IsGiven old place item made → RefusesItem old.limit (old.servers place) made fault
-      → reply ≡ replies.Took (Err fault) → new ≡ old → Takes old place item reply new
+      → reply ≡ replies.Took (Err fault) → new ≡ old → TakeStep old place item reply new
   doubted : (made : Made) → IsGiven old place item made → IsNext (old.servers place) made → length (old.servers place).held < old.limit
-      → reply ≡ replies.Took (Err taking.Journal) → new ≡ with_server old place (with_doubt (old.servers place) made) → Takes old place item reply new
+      → reply ≡ replies.Took (Err taking.Journal) → new ≡ with_server old place (with_doubt (old.servers place) made) → TakeStep old place item reply new
   taken : (made : Made) → IsGiven old place item made → IsNext (old.servers place) made → length (old.servers place).held < old.limit
-      → reply ≡ replies.Took (Ok New) → new ≡ with_server old place (with_write (old.servers place) made) → Takes old place item reply new
+      → reply ≡ replies.Took (Ok New) → new ≡ with_server old place (with_write (old.servers place) made) → TakeStep old place item reply new
 
 -- ---- failures
 
 -- a device call of the server is to fail: nothing here
-pub data Fuses (old : Machine) (place call : ℕ) (reply : Reply) (new : Machine) : Type 0 where
-  skipped : (old.count ≤ place) ⊎ (call ≡ 0) → reply ≡ replies.Skipped → new ≡ old → Fuses old place call reply new
-  fused : place < old.count → 0 < call → reply ≡ replies.Fused → new ≡ old → Fuses old place call reply new
+pub data FuseStep (old : Machine) (place call : ℕ) (reply : Reply) (new : Machine) : Type 0 where
+  skipped : (old.count ≤ place) ⊎ (call ≡ 0) → reply ≡ replies.Skipped → new ≡ old → FuseStep old place call reply new
+  fused : place < old.count → 0 < call → reply ≡ replies.Fused → new ≡ old → FuseStep old place call reply new
 
 -- up, with what was held
 abbrev pub up_again : ServerSets → ServerSets
@@ -281,20 +281,20 @@ RefusesReopening server reopening.Lost = ⊥
 RefusesReopening server (reopening.BadRecord at) = ⊥
 RefusesReopening server reopening.OutOfMemory = IsSome server.doubt
 
-pub data Reopens (old : Machine) (place : ℕ) (reply : Reply) (new : Machine) : Type 0 where
-  skipped : (¬ IsRunning old place) → reply ≡ replies.Skipped → new ≡ old → Reopens old place reply new
-  refused : (fault : ReopenFault) → IsRunning old place → RefusesReopening (old.servers place) fault → reply ≡ replies.Reopened (Err fault) → new ≡ old → Reopens old place reply new
+pub data ReopenStep (old : Machine) (place : ℕ) (reply : Reply) (new : Machine) : Type 0 where
+  skipped : (¬ IsRunning old place) → reply ≡ replies.Skipped → new ≡ old → ReopenStep old place reply new
+  refused : (fault : ReopenFault) → IsRunning old place → RefusesReopening (old.servers place) fault → reply ≡ replies.Reopened (Err fault) → new ≡ old → ReopenStep old place reply new
   reopened : (adopted : Option Made) (server : ServerSets) → IsRunning old place → IsSome (old.servers place).doubt → Recovers (old.servers place) adopted server
-      → reply ≡ replies.Reopened (Ok (record { adopted = option_map wid_of adopted })) → new ≡ with_server old place server → Reopens old place reply new
+      → reply ≡ replies.Reopened (Ok (record { adopted = option_map wid_of adopted })) → new ≡ with_server old place server → ReopenStep old place reply new
 
 -- The server is stopped and started on what its device has, be it up, down or stopped; a start is refused for a device call or for memory
 -- alone.
-pub data Restarts (old : Machine) (place : ℕ) (reply : Reply) (new : Machine) : Type 0 where
-  skipped : old.count ≤ place → reply ≡ replies.Skipped → new ≡ old → Restarts old place reply new
+pub data RestartStep (old : Machine) (place : ℕ) (reply : Reply) (new : Machine) : Type 0 where
+  skipped : old.count ≤ place → reply ≡ replies.Skipped → new ≡ old → RestartStep old place reply new
   refused : (fault : StartFault) → place < old.count → IsHonestRefusal fault → reply ≡ replies.Restarted (Err fault)
-      → new ≡ with_server old place (stopped_now (old.servers place)) → Restarts old place reply new
+      → new ≡ with_server old place (stopped_now (old.servers place)) → RestartStep old place reply new
   restarted : (adopted : Option Made) (server : ServerSets) → place < old.count → Recovers (old.servers place) adopted server
-      → reply ≡ replies.Restarted (Ok (length server.held)) → new ≡ with_server old place server → Restarts old place reply new
+      → reply ≡ replies.Restarted (Ok (length server.held)) → new ≡ with_server old place server → RestartStep old place reply new
 
 -- ---- the book
 
@@ -304,23 +304,23 @@ pub record MayFile (old : Machine) (who : ℕ) (session : SessionSets) (entry : 
   pub waits : session.waiting ≡ entry ∷ later
   pub room : length old.filed < old.places
 
-pub data Files (old : Machine) (who : ℕ) (reply : Reply) (new : Machine) : Type 0 where
-  skipped : ((session : SessionSets) (entry : Entry) (later : List Entry) → ¬ MayFile old who session entry later) → reply ≡ replies.Skipped → new ≡ old → Files old who reply new
+pub data FileStep (old : Machine) (who : ℕ) (reply : Reply) (new : Machine) : Type 0 where
+  skipped : ((session : SessionSets) (entry : Entry) (later : List Entry) → ¬ MayFile old who session entry later) → reply ≡ replies.Skipped → new ≡ old → FileStep old who reply new
   filed : (session : SessionSets) (entry : Entry) (later : List Entry) → MayFile old who session entry later → reply ≡ replies.Filed
-      → new ≡ record (with_session old who (record session { waiting = later })) { filed = old.filed ++ entry ∷ [] } → Files old who reply new
+      → new ≡ record (with_session old who (record session { waiting = later })) { filed = old.filed ++ entry ∷ [] } → FileStep old who reply new
 
 -- ---- an event
 
 -- From old, the event may get this reply and leave new.
 abbrev pub Step : Machine → Event → Reply → Machine → Type 0
-Step old (events.Read session server key) reply new = Reads old session.index server.index key reply new
-Step old (events.Write session server program) reply new = Writes old session.index server.index program reply new
-Step old (events.Deliver session) reply new = Delivers old session.index reply new
-Step old (events.Lose session) reply new = Loses old session.index reply new
-Step old (events.Offer server) reply new = Offers old server.index reply new
-Step old (events.Collect server offer) reply new = Collects old server.index offer reply new
-Step old (events.Take server item) reply new = Takes old server.index item reply new
-Step old (events.Fuse server call front) reply new = Fuses old server.index call reply new
-Step old (events.Reopen server) reply new = Reopens old server.index reply new
-Step old (events.Restart server) reply new = Restarts old server.index reply new
-Step old (events.File session) reply new = Files old session.index reply new
+Step old (events.Read session server key) reply new = ReadStep old session.index server.index key reply new
+Step old (events.Write session server program) reply new = WriteStep old session.index server.index program reply new
+Step old (events.Deliver session) reply new = DeliverStep old session.index reply new
+Step old (events.Lose session) reply new = LoseStep old session.index reply new
+Step old (events.Offer server) reply new = OfferStep old server.index reply new
+Step old (events.Collect server offer) reply new = CollectStep old server.index offer reply new
+Step old (events.Take server item) reply new = TakeStep old server.index item reply new
+Step old (events.Fuse server call front) reply new = FuseStep old server.index call reply new
+Step old (events.Reopen server) reply new = ReopenStep old server.index reply new
+Step old (events.Restart server) reply new = RestartStep old server.index reply new
+Step old (events.File session) reply new = FileStep old session.index reply new

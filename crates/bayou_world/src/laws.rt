@@ -8,15 +8,15 @@ ghost use Rattle.bayou_world.specs.declared.reply.Reply.{Reply};
 ghost use Rattle.bayou_world.specs.declared.reply.Reply.TheVariants.{Took};
 ghost use Rattle.bayou_world.specs.Invariant.{IsConsistent, IsImpossible, IsTakenUpTo, TestsAgree};
 ghost use Rattle.bayou_world.specs.Machine.{Machine};
-ghost use Rattle.bayou_world.specs.Runs.{Run, first_machine, history_of_run};
-ghost use Rattle.bayou_world.specs.Steps.{Takes};
+ghost use Rattle.bayou_world.specs.Runs.{Run, first_machine, history_of_machine};
+ghost use Rattle.bayou_world.specs.Steps.{TakeStep};
 
 use bayou_lang::laws::count_is_the_number_of_writes;
 
 /// Over every run each served operation of a session has every guarantee that the session asked for (Terry et al. 1994).
 pub fn every_run_keeps_what_was_asked_for()
     ensures { (count limit places : ℕ) (asks : ℕ → Option Asks) (events : List Event) (replies : List Reply) (last : Machine) → Run (first_machine count limit places asks) events replies last
-        → (session : ℕ) (wants : Asks) → asks session ≡ Some wants → Keeps (history_of_run last) wants session }
+        → (session : ℕ) (wants : Asks) → asks session ≡ Some wants → Keeps (history_of_machine last) wants session }
 {}
 
 /// Over every run a name is of one Write, what each server holds is sound and prefix-closed, of another server's Writes it holds the
@@ -46,5 +46,5 @@ pub fn no_item_is_impossible()
 pub fn items_in_order_leave_no_gap()
     ensures { (count limit places : ℕ) (asks : ℕ → Option Asks) (events : List Event) (replies : List Reply) (old now : Machine) → Run (first_machine count limit places asks) events replies old
         → (server offer number at : ℕ) → IsTakenUpTo old now server offer number at
-        → (reply : Reply) (last : Machine) → Takes now server (length old.items + at) reply last → reply ≢ Took (Err Gap) }
+        → (reply : Reply) (last : Machine) → TakeStep now server (length old.items + at) reply last → reply ≢ Took (Err Gap) }
 {}

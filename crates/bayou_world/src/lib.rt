@@ -2,7 +2,7 @@
 //! over every run of it.
 //!
 //! [`World`] leads real servers on devices in memory, real sessions and a book through a list of events, and what that leaves is a
-//! run of a machine of sets (`IsHistory` in `specs/Histories`). Callers see that machine (`specs/Machine`): what each server holds and
+//! run of a machine of sets (`IsRunHistory` in `specs/RunHistories`). Callers see that machine (`specs/Machine`): what each server holds and
 //! ever had, each session's read-set and write-set, what is in flight, and what was served. An event does to it what `specs/Steps`
 //! says, with each answer that it may have; nothing there counts Writes. The laws say what is true of every run: a name is of one
 //! Write, what each server holds is prefix-closed, a vector stands for a set, and each served operation has every guarantee that its
@@ -12,18 +12,18 @@
 //! equal, nor that a session is ever served.
 #![tactic(auto)]
 
-mod client;
 pub mod event;
-mod filing;
-pub mod history;
 pub mod laws;
-mod replica;
 pub mod reply;
 mod role;
+pub mod run_history;
 mod state;
 pub mod world;
+mod world_book;
+mod world_server;
+mod world_session;
 
 pub use event::Event;
-pub use history::History;
 pub use reply::Reply;
+pub use run_history::RunHistory;
 pub use world::World;

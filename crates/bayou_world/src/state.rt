@@ -1,15 +1,15 @@
 //! The servers and the sessions as they run.
 ghost use Rattle.std.specs.Prelude.{◌≡◌, ◌++◌, IfOk, OnOk};
-ghost use Rattle.bayou_world.specs.Inner.Clients.{served_entries};
-ghost use Rattle.bayou_world.specs.Inner.Booking.{TakesOldest};
+ghost use Rattle.bayou_world.specs.Inner.WorldSessions.{served_entries};
+ghost use Rattle.bayou_world.specs.Inner.WorldBooks.{TakesOldest};
 ghost use Rattle.bayou_world.specs.Faults.{tells_fault, tells_fuse};
 ghost use Rattle.bayou_world.specs.Inner.Charges.{AreSpent};
 ghost use Rattle.bayou_world.specs.Inner.Tie.{Follows};
-ghost use Rattle.bayou_world.specs.Steps.{Collects, Delivers, Fuses, Loses, Offers, Reads, Reopens, Restarts, Takes, Writes};
+ghost use Rattle.bayou_world.specs.Steps.{CollectStep, DeliverStep, FuseStep, LoseStep, OfferStep, ReadStep, ReopenStep, RestartStep, TakeStep, WriteStep};
 
-use crate::client::Client;
-use crate::replica::{Replica, reopen_server, take_write};
 use crate::reply::Reply;
+use crate::world_server::{WorldServer, reopen_server, take_write};
+use crate::world_session::WorldSession;
 use bayou_base::{Entry, Key, MAX_NUMBER, ServerId, SessionId, Vector, What};
 use bayou_lang::{RestingProgram, RestingWrite};
 use bayou_session::laws::{read_need_is_what_is_asked, write_need_is_what_is_asked};
@@ -18,9 +18,9 @@ use std::alloc::{AllocError, Global};
 /// Servers on devices in memory, sessions, and what is in flight between them.
 #[derive(Drop)]
 pub struct State {
-    pub servers: Vec<Replica>,
+    pub servers: Vec<WorldServer>,
     // One place for each session that there may be.
-    pub clients: Vec<Option<Client>>,
+    pub sessions: Vec<Option<WorldSession>>,
     pub offers: Vec<Vector>,
     pub items: Vec<RestingWrite>,
     pub served: Vec<Entry>,
@@ -40,24 +40,24 @@ fn keep_served(served: &mut Vec<Entry>, entry: Entry) -> Result<(), AllocError>
 impl State {
     /// The session asks the server what the key has.
     pub fn read(&mut self, who: SessionId, place: ServerId, key: &Key) -> Reply
-        ensures follows { Follows self.old (λ machine next. Reads machine who.index place.index key.now result next) self.new }
+        ensures follows { Follows self.old (λ machine next. ReadStep machine who.index place.index key.now result next) self.new }
         ensures same { self.new.servers ≡ self.old.servers }
     {
         read_need_is_what_is_asked();
         let (seat, at) = (usize::from(who.index), usize::from(place.index));
-        if seat >= self.clients.len() || at >= self.servers.len() {
+        if seat >= self.sessions.len() || at >= self.servers.len() {
             return Reply::Skipped;
         }
-        let Some(client) = &mut self.clients[seat] else {
+        let Some(session) = &mut self.sessions[seat] else {
             return Reply::Skipped;
         };
-        if !client.may_begin() {
+        if !session.may_begin() {
             return Reply::Skipped;
         }
-        let Replica::Running(server) = &self.servers[at] else {
+        let WorldServer::Running(server) = &self.servers[at] else {
             return Reply::Skipped;
         };
-        Reply::Read(client.read(server, key))
+        Reply::Read(session.read(server, key))
     }
 
     /// The session asks the server to make a Write of the program.
@@ -68,39 +68,39 @@ impl State {
         place: ServerId,
         program: RestingProgram,
     ) -> Reply
-        ensures follows { Follows self.old (λ machine next. Writes machine who.index place.index program result next) self.new }
+        ensures follows { Follows self.old (λ machine next. WriteStep machine who.index place.index program result next) self.new }
         ensures spent { AreSpent place.index (tells_fault result) (tells_fuse result) self.old.servers.items self.new.servers.items }
     {
         write_need_is_what_is_asked();
         let (seat, at) = (usize::from(who.index), usize::from(place.index));
-        if seat >= self.clients.len() || at >= self.servers.len() {
+        if seat >= self.sessions.len() || at >= self.servers.len() {
             return Reply::Skipped;
         }
-        let Some(client) = &mut self.clients[seat] else {
+        let Some(session) = &mut self.sessions[seat] else {
             return Reply::Skipped;
         };
-        if !client.may_begin() {
+        if !session.may_begin() {
             return Reply::Skipped;
         }
-        let Replica::Running(server) = &mut self.servers[at] else {
+        let WorldServer::Running(server) = &mut self.servers[at] else {
             return Reply::Skipped;
         };
-        Reply::Wrote(client.write(alloc, server, program))
+        Reply::Wrote(session.write(alloc, server, program))
     }
 
     /// The answer on its way reaches the session. Want of memory leaves it half told.
     pub fn deliver(&mut self, who: SessionId) -> Result<Reply, AllocError>
-        ensures follows { IfOk result (λ reply. Follows self.old (λ machine next. Delivers machine who.index reply next) self.new) }
+        ensures follows { IfOk result (λ reply. Follows self.old (λ machine next. DeliverStep machine who.index reply next) self.new) }
         ensures same { OnOk result (self.new.servers ≡ self.old.servers) }
     {
         let seat = usize::from(who.index);
-        if seat >= self.clients.len() {
+        if seat >= self.sessions.len() {
             return Ok(Reply::Skipped);
         }
-        let Some(client) = &mut self.clients[seat] else {
+        let Some(session) = &mut self.sessions[seat] else {
             return Ok(Reply::Skipped);
         };
-        let Some(entry) = client.hear()? else {
+        let Some(entry) = session.hear()? else {
             return Ok(Reply::Skipped);
         };
         keep_served(&mut self.served, entry)?;
@@ -109,17 +109,17 @@ impl State {
 
     /// The answer on its way is lost.
     pub fn lose(&mut self, who: SessionId) -> Reply
-        ensures follows { Follows self.old (λ machine next. Loses machine who.index result next) self.new }
+        ensures follows { Follows self.old (λ machine next. LoseStep machine who.index result next) self.new }
         ensures same { self.new.servers ≡ self.old.servers }
     {
         let seat = usize::from(who.index);
-        if seat >= self.clients.len() {
+        if seat >= self.sessions.len() {
             return Reply::Skipped;
         }
-        let Some(client) = &mut self.clients[seat] else {
+        let Some(session) = &mut self.sessions[seat] else {
             return Reply::Skipped;
         };
-        if client.lose() {
+        if session.lose() {
             Reply::Dropped
         } else {
             Reply::Skipped
@@ -128,7 +128,7 @@ impl State {
 
     /// What the server holds is kept as an offer.
     pub fn offer(&mut self, place: ServerId) -> Result<Reply, AllocError>
-        ensures follows { IfOk result (λ reply. Follows self.old (λ machine next. Offers machine place.index reply next) self.new) }
+        ensures follows { IfOk result (λ reply. Follows self.old (λ machine next. OfferStep machine place.index reply next) self.new) }
         ensures same { OnOk result (self.new.servers ≡ self.old.servers) }
     {
         let at = usize::from(place.index);
@@ -136,7 +136,7 @@ impl State {
         if at >= self.servers.len() || number > MAX_NUMBER as usize {
             return Ok(Reply::Skipped);
         }
-        let Replica::Running(server) = &self.servers[at] else {
+        let WorldServer::Running(server) = &self.servers[at] else {
             return Ok(Reply::Skipped);
         };
         self.offers.push(server.vector())?;
@@ -150,14 +150,14 @@ impl State {
         place: ServerId,
         offer: u32,
     ) -> Result<Reply, AllocError>
-        ensures follows { IfOk result (λ reply. Follows self.old (λ machine next. Collects machine place.index offer reply next) self.new) }
+        ensures follows { IfOk result (λ reply. Follows self.old (λ machine next. CollectStep machine place.index offer reply next) self.new) }
         ensures same { OnOk result (self.new.servers ≡ self.old.servers) }
     {
         let (at, offer) = (usize::from(place.index), offer as usize);
         if at >= self.servers.len() || offer >= self.offers.len() {
             return Ok(Reply::Skipped);
         }
-        let Replica::Running(server) = &self.servers[at] else {
+        let WorldServer::Running(server) = &self.servers[at] else {
             return Ok(Reply::Skipped);
         };
         let most = server.limit() as usize;
@@ -179,14 +179,14 @@ impl State {
 
     /// The server is given the item, a copy of which is made first.
     pub fn take(&mut self, alloc: Global, place: ServerId, item: u32) -> Result<Reply, AllocError>
-        ensures follows { IfOk result (λ reply. Follows self.old (λ machine next. Takes machine place.index item reply next) self.new) }
+        ensures follows { IfOk result (λ reply. Follows self.old (λ machine next. TakeStep machine place.index item reply next) self.new) }
         ensures spent { IfOk result (λ reply. AreSpent place.index (tells_fault reply) (tells_fuse reply) self.old.servers.items self.new.servers.items) }
     {
         let (at, item) = (usize::from(place.index), item as usize);
         if at >= self.servers.len() || item >= self.items.len() {
             return Ok(Reply::Skipped);
         }
-        let Replica::Running(server) = &mut self.servers[at] else {
+        let WorldServer::Running(server) = &mut self.servers[at] else {
             return Ok(Reply::Skipped);
         };
         let write = self.items[item].copy(alloc)?;
@@ -195,7 +195,7 @@ impl State {
 
     /// A device call of the server is to fail.
     pub fn fuse(&mut self, place: ServerId, call: u32, kept: usize) -> Reply
-        ensures follows { Follows self.old (λ machine next. Fuses machine place.index call result next) self.new }
+        ensures follows { Follows self.old (λ machine next. FuseStep machine place.index call result next) self.new }
         ensures spent { AreSpent place.index (tells_fault result) (tells_fuse result) self.old.servers.items self.new.servers.items }
     {
         let at = usize::from(place.index);
@@ -208,14 +208,14 @@ impl State {
 
     /// The server opens its journal again.
     pub fn reopen(&mut self, alloc: Global, place: ServerId) -> Reply
-        ensures follows { Follows self.old (λ machine next. Reopens machine place.index result next) self.new }
+        ensures follows { Follows self.old (λ machine next. ReopenStep machine place.index result next) self.new }
         ensures spent { AreSpent place.index (tells_fault result) (tells_fuse result) self.old.servers.items self.new.servers.items }
     {
         let at = usize::from(place.index);
         if at >= self.servers.len() {
             return Reply::Skipped;
         }
-        let Replica::Running(server) = &mut self.servers[at] else {
+        let WorldServer::Running(server) = &mut self.servers[at] else {
             return Reply::Skipped;
         };
         Reply::Reopened(reopen_server(alloc, server))
@@ -223,15 +223,15 @@ impl State {
 
     /// The server is stopped, and started on what its device has.
     pub fn restart(&mut self, alloc: Global, place: ServerId) -> Reply
-        ensures follows { Follows self.old (λ machine next. Restarts machine place.index result next) self.new }
+        ensures follows { Follows self.old (λ machine next. RestartStep machine place.index result next) self.new }
         ensures spent { AreSpent place.index (tells_fault result) (tells_fuse result) self.old.servers.items self.new.servers.items }
     {
         let at = usize::from(place.index);
         if at >= self.servers.len() {
             return Reply::Skipped;
         }
-        let (replica, answer) = self.servers.remove(at).restart(alloc);
-        let Ok(()) = self.servers.insert(at, replica) else {
+        let (server, answer) = self.servers.remove(at).restart(alloc);
+        let Ok(()) = self.servers.insert(at, server) else {
             unreachable!();
         };
         Reply::Restarted(answer)
@@ -243,12 +243,12 @@ impl State {
         ensures same { self.new.servers ≡ self.old.servers }
     {
         let seat = usize::from(who.index);
-        if seat >= self.clients.len() {
+        if seat >= self.sessions.len() {
             return None;
         }
-        let Some(client) = &mut self.clients[seat] else {
+        let Some(session) = &mut self.sessions[seat] else {
             return None;
         };
-        client.oldest()
+        session.oldest()
     }
 }

@@ -3,25 +3,25 @@ ghost use Rattle.std.specs.Prelude.{◌≡◌, ◌<◌, ◌≤◌, [], IfOk, IsT
 ghost use Rattle.bayou_audit.specs.Blanks.{AreBlanksOf, named};
 ghost use Rattle.bayou_base.specs.declared.limits.TheConstants.{MAX_WRITES, SERVERS as SERVERS_NUMBER, SESSIONS as SESSIONS_NUMBER};
 ghost use Rattle.bayou_world.specs.Faults.{AreFused};
-ghost use Rattle.bayou_world.specs.Histories.{IsHistory};
 ghost use Rattle.bayou_world.specs.Inner.Beginning.{AreFirstSeats, AreStarted, IsBooked, IsFirstSeat, IsFirstState, IsLeft, SoFar};
-ghost use Rattle.bayou_world.specs.Inner.Booking.{FollowsInBook, IsBookOf};
 ghost use Rattle.bayou_world.specs.Inner.Charges.{AreAmple, AreCharged, SpendsAt};
-ghost use Rattle.bayou_world.specs.Inner.Good.{IsGood};
-ghost use Rattle.bayou_world.specs.Inner.Replicas.{held_by};
+ghost use Rattle.bayou_world.specs.Inner.Good.{IsGoodMachine};
 ghost use Rattle.bayou_world.specs.Inner.Tie.{IsOf};
+ghost use Rattle.bayou_world.specs.Inner.WorldBooks.{FollowsInBook, IsBookOf};
+ghost use Rattle.bayou_world.specs.Inner.WorldServers.{held_by};
 ghost use Rattle.bayou_world.specs.Machine.{Machine};
+ghost use Rattle.bayou_world.specs.RunHistories.{IsRunHistory};
 ghost use Rattle.bayou_world.specs.Runs.{asks_of, is_file as is_file_said, places_for as places_of};
 ghost use Rattle.bayou_world.specs.Steps.{Step};
 
-use crate::client::Client;
 use crate::event::Event;
-use crate::filing::Filing;
-use crate::history::History;
-use crate::replica::Replica;
 use crate::reply::Reply;
 use crate::role::Role;
+use crate::run_history::RunHistory;
 use crate::state::State;
+use crate::world_book::WorldBook;
+use crate::world_server::WorldServer;
+use crate::world_session::WorldSession;
 use bayou_audit::{Blanks, Four, Ledgers, Totals};
 use bayou_base::{MAX_ENTRIES, SESSIONS, ServerId};
 use bayou_lang::RestingWrite;
@@ -35,12 +35,12 @@ use std::sync::ledger::{Blank, Ledger};
 pub struct World {
     count: u8,
     limit: u32,
-    servers: Vec<Replica>,
+    servers: Vec<WorldServer>,
     sessions: Vec<Session>,
 }
 
 impl Model for World {
-    ghost use Rattle.bayou_world.specs.Histories.{Begun};
+    ghost use Rattle.bayou_world.specs.RunHistories.{Begun};
     ghost use Rattle.bayou_world.specs.Inner.Beginning.{AreStarted};
 
     ghost Value = { Begun };
@@ -50,28 +50,28 @@ impl Model for World {
     ghost invariant = { λ w. AreStarted w.count w.count w.limit w.servers.items };
 }
 
-/// The client of the first session of this number, if there is one.
-fn client_of(alloc: Global, sessions: &[Session], who: usize) -> Option<Client>
+/// The first session of this number, as one to which nothing has happened, if there is one.
+fn world_session_of(alloc: Global, sessions: &[Session], who: usize) -> Option<WorldSession>
     ensures { IsFirstSeat who (asks_of sessions.now who) result }
 {
     for session in sessions {
         let id = session.id();
         if usize::from(id.index) == who {
-            return Some(Client::new(alloc, Session::new(id, session.asks())));
+            return Some(WorldSession::new(alloc, Session::new(id, session.asks())));
         }
     }
     None
 }
 
 /// A seat for each session that there may be.
-fn seats(alloc: Global, sessions: &[Session]) -> Result<Vec<Option<Client>>, AllocError>
-    ensures { IfOk result (λ clients. AreFirstSeats SESSIONS_NUMBER sessions.now clients.items) }
+fn seats(alloc: Global, sessions: &[Session]) -> Result<Vec<Option<WorldSession>>, AllocError>
+    ensures { IfOk result (λ world_sessions. AreFirstSeats SESSIONS_NUMBER sessions.now world_sessions.items) }
 {
-    let mut clients = Vec::new(alloc);
+    let mut world_sessions = Vec::new(alloc);
     for who in 0..SESSIONS {
-        clients.push(client_of(alloc, sessions, who))?;
+        world_sessions.push(world_session_of(alloc, sessions, who))?;
     }
-    Ok(clients)
+    Ok(world_sessions)
 }
 
 fn is_file(event: &Event) -> bool
@@ -106,7 +106,7 @@ fn places_for(events: &[Event]) -> usize
 }
 
 /// What each server holds.
-fn dumps_of(alloc: Global, servers: &[Replica]) -> Result<Vec<Vec<RestingWrite>>, AllocError>
+fn dumps_of(alloc: Global, servers: &[WorldServer]) -> Result<Vec<Vec<RestingWrite>>, AllocError>
     ensures { IfOk result (λ dumps. map (λ (dump : _). dump.items) dumps.items ≡ map held_by servers.now) }
 {
     let mut dumps = Vec::new(alloc);
@@ -117,7 +117,7 @@ fn dumps_of(alloc: Global, servers: &[Replica]) -> Result<Vec<Vec<RestingWrite>>
 }
 
 /// Whether none of their appends found no memory.
-fn are_ample(servers: &mut Vec<Replica>) -> bool
+fn are_ample(servers: &mut Vec<WorldServer>) -> bool
     ensures { IsTrue result → AreAmple servers.old.items }
 {
     for at in 0..servers.len() {
@@ -132,10 +132,10 @@ fn are_ample(servers: &mut Vec<Replica>) -> bool
 fn step<K: Ledgers>(
     alloc: Global,
     state: &mut State,
-    filing: &mut Filing<K>,
+    book: &mut WorldBook<K>,
     event: &Event,
 ) -> Result<Reply, AllocError>
-    ensures follows { IfOk result (λ reply. FollowsInBook state.old filing.old (λ machine next. Step machine event.now reply next) state.new filing.new) }
+    ensures follows { IfOk result (λ reply. FollowsInBook state.old book.old (λ machine next. Step machine event.now reply next) state.new book.new) }
     ensures spent { IfOk result (λ reply. SpendsAt event.now reply state.old.servers.items state.new.servers.items) }
 {
     match event {
@@ -160,7 +160,7 @@ fn step<K: Ledgers>(
         Event::Fuse { server, call, kept } => Ok(state.fuse(*server, *call, *kept)),
         Event::Reopen(server) => Ok(state.reopen(alloc, *server)),
         Event::Restart(server) => Ok(state.restart(alloc, *server)),
-        Event::File(session) => Ok(filing.file(state, *session)),
+        Event::File(session) => Ok(book.file(state, *session)),
     }
 }
 
@@ -168,15 +168,15 @@ fn step<K: Ledgers>(
 fn play<K: Ledgers>(
     alloc: Global,
     state: &mut State,
-    filing: &mut Filing<K>,
+    book: &mut WorldBook<K>,
     events: &[Event],
 ) -> Result<Vec<Reply>, AllocError>
-    ensures so_far { IfOk result (λ replies. (first : Machine) → IsGood first → IsOf state.old first → IsBookOf filing.old first → SoFar first events.now replies.items state.new filing.new) }
+    ensures so_far { IfOk result (λ replies. (first : Machine) → IsGoodMachine first → IsOf state.old first → IsBookOf book.old first → SoFar first events.now replies.items state.new book.new) }
     ensures charged { IfOk result (λ replies. AreCharged (length state.old.servers.items) [] [] state.old.servers.items → AreCharged (length state.old.servers.items) events.now replies.items state.new.servers.items) }
 {
     let mut replies = Vec::new(alloc);
     for event in events {
-        replies.push(step(alloc, state, filing, event)?)?;
+        replies.push(step(alloc, state, book, event)?)?;
     }
     Ok(replies)
 }
@@ -187,7 +187,7 @@ fn leave(
     state: State,
     replies: Vec<Reply>,
     totals: Totals,
-) -> Result<History, AllocError>
+) -> Result<RunHistory, AllocError>
     ensures { IfOk result (λ history. IsLeft state.servers.items state.served.items replies.items totals history) }
 {
     let State {
@@ -199,7 +199,7 @@ fn leave(
     if !are_ample(&mut servers) {
         return Err(AllocError);
     }
-    Ok(History {
+    Ok(RunHistory {
         replies,
         served,
         dumps,
@@ -218,7 +218,7 @@ fn first_state(alloc: Global, world: World) -> Result<State, AllocError>
     } = world;
     Ok(State {
         servers,
-        clients: seats(alloc, &sessions)?,
+        sessions: seats(alloc, &sessions)?,
         offers: Vec::new(alloc),
         items: Vec::new(alloc),
         served: Vec::new(alloc),
@@ -236,9 +236,9 @@ fn play_in_book<K: Ledgers>(
     ensures booked { IfOk result (λ played. IsBooked state.old events.now played.0.items played.1 state.new) }
     ensures charged { IfOk result (λ played. AreCharged (length state.old.servers.items) [] [] state.old.servers.items → AreCharged (length state.old.servers.items) events.now played.0.items state.new.servers.items) }
 {
-    let mut filing = Filing::<K>::new(alloc, blanks, places_for(events))?;
-    let replies = play(alloc, state, &mut filing, events)?;
-    Ok((replies, filing.totals()))
+    let mut book = WorldBook::<K>::new(alloc, blanks, places_for(events))?;
+    let replies = play(alloc, state, &mut book, events)?;
+    Ok((replies, book.totals()))
 }
 
 /// A run whose book counts in these ledgers.
@@ -247,9 +247,9 @@ fn run_with<K: Ledgers>(
     blanks: Blanks,
     world: World,
     events: &[Event],
-) -> Result<History, AllocError>
+) -> Result<RunHistory, AllocError>
     requires blanks { AreBlanksOf blanks (named K.Slips.name K.Slips.parts) (named K.Reads.name K.Reads.parts) (named K.Writes.name K.Writes.parts) (named K.Refusals.name K.Refusals.parts) SESSIONS_NUMBER }
-    ensures history { IfOk result (IsHistory world events.now) }
+    ensures history { IfOk result (IsRunHistory world events.now) }
     ensures fused { IfOk result (λ history. AreFused world.count events.now history.replies.items) }
 {
     let mut state = first_state(alloc, world)?;
@@ -263,14 +263,14 @@ fn run_over<S, T, U, V>(
     blanks: Blanks,
     world: World,
     events: &[Event],
-) -> Result<History, AllocError>
+) -> Result<RunHistory, AllocError>
 where
     S: Ledger + Send + Sync,
     T: Ledger + Send + Sync,
     U: Ledger + Send + Sync,
     V: Ledger + Send + Sync,
     requires blanks { AreBlanksOf blanks (named S.name S.parts) (named T.name T.parts) (named U.name U.parts) (named V.name V.parts) SESSIONS_NUMBER }
-    ensures history { IfOk result (IsHistory world events.now) }
+    ensures history { IfOk result (IsRunHistory world events.now) }
     ensures fused { IfOk result (λ history. AreFused world.count events.now history.replies.items) }
 {
     run_with::<Four<S, T, U, V>>(alloc, blanks, world, events)
@@ -292,7 +292,7 @@ impl World {
         let mut servers = Vec::new(alloc);
         for index in 0..count {
             let id = ServerId { index };
-            servers.push(Replica::begin(alloc, Role { id, count, limit })?)?;
+            servers.push(WorldServer::begin(alloc, Role { id, count, limit })?)?;
         }
         Ok(World {
             count,
@@ -304,8 +304,8 @@ impl World {
 
     /// Runs the events, and gives what they leave. Where memory is refused, the world is gone; that of an operation, an item or a
     /// Collect is a reply, but where an append found none: so a failed device call is one for which a fuse was set.
-    pub fn run(self, alloc: Global, events: &[Event]) -> Result<History, AllocError>
-        ensures history { IfOk result (IsHistory self events.now) }
+    pub fn run(self, alloc: Global, events: &[Event]) -> Result<RunHistory, AllocError>
+        ensures history { IfOk result (IsRunHistory self events.now) }
         ensures fused { IfOk result (λ history. AreFused self.count events.now history.replies.items) }
     {
         let blanks = Blanks {

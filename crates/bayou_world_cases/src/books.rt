@@ -5,7 +5,8 @@ ghost use Rattle.bayou_base.specs.declared.limits.TheConstants.{SESSIONS};
 
 use crate::fixtures::must_be_so;
 use bayou_audit::{
-    AuditBook, Blanks, Book, Four, Full, Ledgers, SettleFault, Settled, Share, Totals, Unsettled,
+    AuditBook, Blanks, Book, BookSettled, Four, Full, Ledgers, SettleFault, Share, Totals,
+    Unsettled,
 };
 use bayou_base::{Asks, Entry, Key, SERVERS, ServerId, Stamp, Vector, What, Wid};
 use std::alloc::{AllocError, Global};
@@ -96,7 +97,11 @@ fn file_reads<K: Ledgers, R: Wait + Abort>(
     count: u32,
 ) {
     for number in 0..count {
-        assert!(rt; files(rt, book, share, (number % 1000) * 3));
+        must_be_so(
+            rt,
+            files(rt, book, share, (number % 1000) * 3),
+            number as usize,
+        );
     }
 }
 
@@ -140,7 +145,7 @@ where
 }
 
 /// What the book comes to with these shares.
-fn settled<K: Ledgers>(rt: &impl Abort, book: AuditBook<K>, shares: Vec<Share<K>>) -> Settled {
+fn settled<K: Ledgers>(rt: &impl Abort, book: AuditBook<K>, shares: Vec<Share<K>>) -> BookSettled {
     match book.settle(shares) {
         Ok(settled) => settled,
         Err(_) => rt.abort(),
@@ -148,7 +153,7 @@ fn settled<K: Ledgers>(rt: &impl Abort, book: AuditBook<K>, shares: Vec<Share<K>
 }
 
 /// What a book of eight places comes to at which two threads filed, three reads and two, and a slip was voided.
-fn file_at_once<S, T, U, V, R>(rt: &R, alloc: Global, blanks: Blanks) -> Settled
+fn file_at_once<S, T, U, V, R>(rt: &R, alloc: Global, blanks: Blanks) -> BookSettled
 where
     S: Ledger + Send + Sync,
     T: Ledger + Send + Sync,
@@ -221,7 +226,7 @@ fn settle_twice<K: Ledgers, R: Wait + Abort>(
     rt: &R,
     book: AuditBook<K>,
     shares: Vec<Share<K>>,
-) -> (SettleFault, Settled)
+) -> (SettleFault, BookSettled)
     requires { length shares.items ≡ 1 }
 {
     let mut shares = shares;
@@ -241,7 +246,11 @@ fn settle_twice<K: Ledgers, R: Wait + Abort>(
 }
 
 /// The same of a new book.
-fn settle_with_slip<S, T, U, V, R>(rt: &R, alloc: Global, blanks: Blanks) -> (SettleFault, Settled)
+fn settle_with_slip<S, T, U, V, R>(
+    rt: &R,
+    alloc: Global,
+    blanks: Blanks,
+) -> (SettleFault, BookSettled)
 where
     S: Ledger + Send + Sync,
     T: Ledger + Send + Sync,

@@ -6,7 +6,7 @@ use crate::twin;
 use Guarantee::{MonotonicReads, MonotonicWrites, ReadYourWrites, WritesFollowReads};
 use Told::{Read, Refused, Wrote};
 use bayou_base::Wid;
-use bayou_judge::{Breach, Guarantee, Refusal, Surveyed, Verdict};
+use bayou_judge::{BadEvidence, Breach, Guarantee, Surveyed, Verdict};
 use std::alloc::Global;
 use std::process::Abort;
 
@@ -193,7 +193,7 @@ fn breach_of(rt: &impl Abort, guarantee: Guarantee, at: At) -> Breach {
 }
 
 /// Whether the survey of one session has that breach.
-fn is_surveyed(survey: Result<Vec<Surveyed>, Refusal>, breach: Breach) -> bool {
+fn is_surveyed(survey: Result<Vec<Surveyed>, BadEvidence>, breach: Breach) -> bool {
     match survey {
         Ok(list) => has_alone(list.as_slice(), breach),
         Err(_) => false,

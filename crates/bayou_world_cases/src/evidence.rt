@@ -2,7 +2,7 @@
 use crate::fixtures::{boxed, put_at, room_for};
 pub use crate::fixtures::{server_id, session_id};
 use bayou_base::{Asks, Entry, Key, SERVERS, Stamp, Vector, What, Wid};
-use bayou_judge::{Refusal, Surveyed, Verdict, judge, survey};
+use bayou_judge::{BadEvidence, Surveyed, Verdict, judge, lend_dumps, survey};
 use bayou_lang::{RestingProgram, RestingWrite};
 use std::alloc::Global;
 use std::process::Abort;
@@ -106,11 +106,15 @@ pub fn asked(
     alloc: Global,
     entries: &[Entry],
     dumps: &[Vec<RestingWrite>],
-) -> (Result<Verdict, Refusal>, Result<Vec<Surveyed>, Refusal>) {
+) -> (
+    Result<Verdict, BadEvidence>,
+    Result<Vec<Surveyed>, BadEvidence>,
+) {
     assert!(rt; dumps.len() == usize::from(COUNT));
+    let lent = lend_dumps(dumps);
     (
-        judge(alloc, COUNT, entries, dumps),
-        survey(alloc, COUNT, entries, dumps),
+        judge(alloc, COUNT, entries, lent.as_slice()).expect(rt, "no memory"),
+        survey(alloc, COUNT, entries, lent.as_slice()).expect(rt, "no memory"),
     )
 }
 

@@ -1,13 +1,15 @@
 //! Servers whose device calls fail: what each event is answered then, and that each run is clean.
 use crate::fixtures::{history, must_be_so};
-use crate::scripts::{ALL, Act, NOTHING, Said, add, are_said, events_of, has_names};
+use crate::scripts::{
+    ALL, Act, NOTHING, Said, add, are_said, events_of, has_names, must_all_be_said,
+};
 use Said::{
     Accepted, Delivered, Doubted, Down, Fused, Holds, Kept, NotDown, NotReopened, NotRestarted,
     Seen, Skipped, Up,
 };
-use bayou_judge::{Verdict, judge};
+use bayou_judge::{Verdict, judge, lend_dumps};
 use bayou_server::{JournalFault, ReopenFault, StartFault, TakeFault, WriteFault};
-use bayou_world::{Event, History, Reply};
+use bayou_world::{Event, Reply, RunHistory};
 use std::alloc::Global;
 use std::process::Abort;
 
@@ -155,14 +157,16 @@ static ROWS: [Row; 10] = [
     },
 ];
 
-fn is_answered(rt: &impl Abort, alloc: Global, row: &Row) -> bool {
+/// Whether the server holds what the row of this number says, if each reply is as it says.
+fn is_answered(rt: &impl Abort, alloc: Global, row: &Row, number: usize) -> bool {
     let events = events_of(rt, alloc, row.acts);
     let history = history(rt, alloc, (1, 100), &[NOTHING], events.as_slice());
+    must_all_be_said(rt, history.replies.as_slice(), row.acts, number);
     is_of(&history, row)
 }
 
 /// Whether these are the answers, and the dump, of the row.
-fn is_of(history: &History, row: &Row) -> bool {
+fn is_of(history: &RunHistory, row: &Row) -> bool {
     let Some(dump) = history.dumps.first() else {
         return false;
     };
@@ -171,8 +175,8 @@ fn is_of(history: &History, row: &Row) -> bool {
 
 #[test]
 fn servers_fail_and_are_recovered(rt: HostRuntime) {
-    for (at, row) in ROWS.iter().enumerate() {
-        must_be_so(&rt, is_answered(&rt, rt.alloc(), row), at);
+    for (number, row) in ROWS.iter().enumerate() {
+        must_be_so(&rt, is_answered(&rt, rt.alloc(), row, number), number);
     }
 }
 
@@ -230,7 +234,10 @@ pub fn is_fault(reply: &Reply) -> bool {
         Reply::Wrote(Err(WriteFault::Journal)) | Reply::Took(Err(TakeFault::Journal)) => true,
         Reply::Reopened(Err(ReopenFault::Journal(JournalFault::Device))) => true,
         Reply::Restarted(Err(StartFault::Journal(JournalFault::Device))) => true,
-        _ => false,
+        Reply::Wrote(_) | Reply::Took(_) | Reply::Reopened(_) | Reply::Restarted(_) => false,
+        Reply::Read(_) | Reply::Kept(_) | Reply::Flown { .. } => false,
+        Reply::Delivered | Reply::Dropped | Reply::Filed | Reply::Fused => false,
+        Reply::NoMemory | Reply::Skipped => false,
     }
 }
 
@@ -244,58 +251,59 @@ fn faults_in(replies: &[Reply]) -> u32 {
     faults
 }
 
-fn is_clean(alloc: Global, history: &History) -> bool {
+fn is_clean(alloc: Global, history: &RunHistory) -> bool {
     if history.dumps.len() != 2 {
         return false;
     }
-    judge(
-        alloc,
-        2,
-        history.served.as_slice(),
-        history.dumps.as_slice(),
-    ) == Ok(Verdict::Clean)
+    let lent = lend_dumps(history.dumps.as_slice());
+    judge(alloc, 2, history.served.as_slice(), lent.as_slice()) == Ok(Ok(Verdict::Clean))
 }
 
+/// A call of a server's device that is to fail, of whose piece so much is kept.
+type Failing = (u8, u32, usize);
+
 /// How many faults the run had in which that call fails, if it is clean.
-fn faults_of(rt: &impl Abort, alloc: Global, server: u8, call: u32, kept: usize) -> Option<u32> {
+fn faults_of(rt: &impl Abort, alloc: Global, (server, call, kept): Failing) -> Option<u32> {
     let events = fused_events(rt, alloc, server, call, kept);
     let history = history(rt, alloc, (2, 100), &[ALL], events.as_slice());
     clean_faults_in(alloc, &history)
 }
 
-fn clean_faults_in(alloc: Global, history: &History) -> Option<u32> {
+fn clean_faults_in(alloc: Global, history: &RunHistory) -> Option<u32> {
     if !is_clean(alloc, history) {
         return None;
     }
     Some(faults_in(history.replies.as_slice()))
 }
 
-/// Whether all is clean where that call of the server fails, whatever it keeps of its piece. Just one fault is told.
-fn is_clean_at(rt: &impl Abort, alloc: Global, server: u8, call: u32, faults: u32) -> bool {
-    let mut is_each = true;
-    for kept in 0..LONGEST {
-        is_each = is_each && faults_of(rt, alloc, server, call, kept) == Some(faults);
-    }
-    is_each
+/// Stops the test where the run is not clean, or has another number of faults, and says which call failed.
+fn must_have(rt: &impl Abort, faults: u32, found: Option<u32>, (server, call, kept): Failing) {
+    let is_so = found == Some(faults);
+    assert!(rt;
+        is_so,
+        "not so at server {server}, call {call}, with {kept} kept: faults {found:?}"
+    );
 }
 
-/// Whether each of its calls may fail, and none behind them does.
-fn is_clean_whatever_fails(rt: &impl Abort, alloc: Global, server: u8) -> bool {
-    let mut is_each = true;
+/// All is clean where that call of the server fails, whatever it keeps of its piece. So many faults are told.
+fn must_be_clean_at(rt: &impl Abort, alloc: Global, server: u8, call: u32, faults: u32) {
+    for kept in 0..LONGEST {
+        let failing = (server, call, kept);
+        must_have(rt, faults, faults_of(rt, alloc, failing), failing);
+    }
+}
+
+/// Each call of the server's may fail, and none behind them does.
+fn must_be_clean(rt: &impl Abort, alloc: Global, server: u8) {
     for call in 1..CALLS + 3 {
         let faults = if call <= CALLS { 1 } else { 0 };
-        is_each = is_each && is_clean_at(rt, alloc, server, call, faults);
+        must_be_clean_at(rt, alloc, server, call, faults);
     }
-    is_each
 }
 
 #[test]
 fn whichever_device_call_fails_the_run_is_clean(rt: HostRuntime) {
     for server in 0..2 {
-        must_be_so(
-            &rt,
-            is_clean_whatever_fails(&rt, rt.alloc(), server),
-            usize::from(server),
-        );
+        must_be_clean(&rt, rt.alloc(), server);
     }
 }

@@ -3,7 +3,7 @@ use bayou_base::{Asks, Key, ServerId, SessionId, Value};
 use bayou_lang::{Op, Program, RestingProgram, Term};
 use bayou_session::Session;
 use bayou_world::world::World;
-use bayou_world::{Event, History};
+use bayou_world::{Event, Reply, RunHistory};
 use std::alloc::{AllocError, Global};
 use std::process::Abort;
 
@@ -19,9 +19,15 @@ pub fn room(rt: &impl Abort) -> Key {
     Key::new("room").expect(rt, "no key")
 }
 
-/// Stops the test where it isn't so, and says at which number: the one assert of all loops over tables, since each costs.
+/// Stops the test where it isn't so, and says at which number, that of a row for example: the one assert of all loops over tables, since
+/// each costs.
 pub fn must_be_so(rt: &impl Abort, is_so: bool, number: usize) {
-    assert!(rt; is_so, "{number}");
+    assert!(rt; is_so, "not so at {number}");
+}
+
+/// The same at an event of a row, of a script for example: it says what the reply was.
+pub fn must_be_said(rt: &impl Abort, is_so: bool, (row, event): (usize, usize), reply: &Reply) {
+    assert!(rt; is_so, "not so in row {row}, at event {event}: {reply:?}");
 }
 
 /// A list with room for so many, also where one allocation is refused: nothing that is pushed to it then wants memory.
@@ -78,7 +84,7 @@ pub fn history(
     size: (u8, u32),
     asks: &[Asks],
     events: &[Event],
-) -> Box<History> {
+) -> Box<RunHistory> {
     history_of(rt, alloc, size, asks, events).expect(rt, "no memory")
 }
 
@@ -90,7 +96,7 @@ pub fn history_of(
     (count, limit): (u8, u32),
     asks: &[Asks],
     events: &[Event],
-) -> Result<Box<History>, AllocError> {
+) -> Result<Box<RunHistory>, AllocError> {
     let sessions = sessions_of(rt, alloc, asks)?;
     let world = World::new(alloc, count.min(4), limit.min(1_000), sessions.as_slice())?;
     let history = world.run(alloc, events)?;

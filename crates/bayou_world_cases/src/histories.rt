@@ -5,7 +5,7 @@ ghost use Rattle.std.specs.Prelude.{◌<◌};
 use crate::evidence::{COUNT, asked, asks_of, entry, put, server_id};
 use crate::twin;
 use bayou_base::{Entry, Key, ServerId, Stamp, Vector, What, Wid};
-use bayou_judge::{Guarantee, Refusal, Verdict};
+use bayou_judge::{BadEvidence, Guarantee, Surveyed, Verdict, verdict_of};
 use bayou_lang::RestingWrite;
 use std::alloc::Global;
 use std::process::Abort;
@@ -232,7 +232,7 @@ fn history(rt: &impl Abort, alloc: Global, dice: &mut Dice) -> World {
 }
 
 /// Which kind of answer it is: clean, a breach of one of the four guarantees, a bad dump, or a forged entry.
-fn kind_of(answer: Result<Verdict, Refusal>) -> usize {
+fn kind_of(answer: Result<Verdict, BadEvidence>) -> usize {
     match answer {
         Ok(Verdict::Clean) => 0,
         Ok(Verdict::Broken(breach)) => match breach.guarantee {
@@ -241,49 +241,53 @@ fn kind_of(answer: Result<Verdict, Refusal>) -> usize {
             Guarantee::WritesFollowReads => 3,
             Guarantee::MonotonicWrites => 4,
         },
-        Err(Refusal::BadDump(_, _)) => 5,
-        Err(Refusal::Forged(_)) => 6,
-        Err(Refusal::OutOfMemory) => 7,
+        Err(BadEvidence::BadDump(_, _)) => 5,
+        Err(BadEvidence::Forged(_)) => 6,
     }
 }
 
-/// What judge and survey answer to the history, where their twins answer so too.
-fn agreed(rt: &impl Abort, alloc: Global, world: &World) -> Option<Result<Verdict, Refusal>> {
+/// The verdict that a finished survey gives.
+fn told_by(
+    entries: &[Entry],
+    survey: &Result<Vec<Surveyed>, BadEvidence>,
+) -> Result<Verdict, BadEvidence> {
+    match survey {
+        Ok(list) => Ok(verdict_of(entries, list.as_slice())),
+        Err(bad) => Err(*bad),
+    }
+}
+
+/// What judge and survey answer to the history, where their twins answer so too, and the survey gives the same verdict.
+fn agreed(rt: &impl Abort, alloc: Global, world: &World) -> Option<Result<Verdict, BadEvidence>> {
     let entries = world.entries.as_slice();
     let dumps = world.dumps.as_slice();
     let (verdict, survey) = asked(rt, alloc, entries, dumps);
     let are_same = verdict == twin::judge(COUNT, entries, dumps)
-        && survey == twin::survey(alloc, COUNT, entries, dumps);
+        && verdict == told_by(entries, &survey)
+        && survey == twin::survey(rt, alloc, COUNT, entries, dumps);
     are_same.then_some(verdict)
 }
 
-/// How many answers of each kind come from the dice, and how often the twin answers otherwise.
-fn answers(rt: &impl Abort, alloc: Global, seed: u64) -> ([u32; 8], u32) {
+/// How many answers of each kind come from the dice, and the number of the first history of which the twin answers otherwise.
+fn answers(rt: &impl Abort, alloc: Global, seed: u64) -> ([u32; 7], Option<u32>) {
     let mut dice = Dice { state: seed };
-    let mut kinds = [0_u32; 8];
-    let mut others = 0_u32;
-    for _ in 0..HISTORIES {
+    let mut kinds = [0_u32; 7];
+    for number in 0..HISTORIES {
         let world = history(rt, alloc, &mut dice);
-        match agreed(rt, alloc, &world) {
-            Some(verdict) => {
-                let kind = kind_of(verdict) % 8;
-                kinds[kind] = kinds[kind].saturating_add(1);
-            }
-            None => others = others.saturating_add(1),
-        }
+        let Some(verdict) = agreed(rt, alloc, &world) else {
+            return (kinds, Some(number));
+        };
+        let kind = kind_of(verdict) % 7;
+        kinds[kind] = kinds[kind].saturating_add(1);
     }
-    (kinds, others)
+    (kinds, None)
 }
 
 #[test]
 fn the_judge_is_its_twin(rt: HostRuntime) {
     for seed in [1994, 1997] {
-        let (kinds, others) = answers(&rt, rt.alloc(), seed);
-        let (told, want_of_memory) = (&kinds[..7], kinds[7]);
-        let is_each = !told.contains(&0);
-        assert!(rt;
-            is_each && want_of_memory == 0 && others == 0,
-            "{kinds:?} {others}"
-        );
+        let (kinds, other) = answers(&rt, rt.alloc(), seed);
+        let is_each = !kinds.contains(&0);
+        assert!(rt; is_each && other.is_none(), "{seed} {kinds:?} {other:?}");
     }
 }

@@ -7,7 +7,7 @@ use bayou_world::{Event, Reply};
 use std::alloc::{AllocError, Global};
 use std::process::Abort;
 
-/// Every event once.
+/// Every event once, but those of devices: fuses, reopenings and restarts.
 static EACH_EVENT: Script = Script {
     limit: 100,
     asks: &[OWN_WRITES],

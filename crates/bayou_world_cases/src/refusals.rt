@@ -7,7 +7,7 @@ use crate::fixtures::must_be_so;
 use crate::twin;
 use Told::{Read, Refused, Wrote};
 use bayou_base::Wid;
-use bayou_judge::{Breach, Guarantee, Refusal, Surveyed, Verdict};
+use bayou_judge::{BadEvidence, Breach, Guarantee, Surveyed, Verdict};
 use std::alloc::Global;
 use std::process::Abort;
 
@@ -153,17 +153,17 @@ fn is_refused(
     alloc: Global,
     lists: &[&[Held]; 3],
     lines: &[Line],
-    refusal: Refusal,
+    bad: BadEvidence,
 ) -> bool {
     let evidence = evidence_of(rt, alloc, lists, lines);
-    are_refusals(rt, alloc, &evidence, refusal)
+    are_refusals(rt, alloc, &evidence, bad)
 }
 
-fn are_refusals(rt: &impl Abort, alloc: Global, evidence: &Evidence, refusal: Refusal) -> bool {
+fn are_refusals(rt: &impl Abort, alloc: Global, evidence: &Evidence, bad: BadEvidence) -> bool {
     let (entries, dumps) = (evidence.entries.as_slice(), evidence.dumps.as_slice());
     let (verdict, survey) = asked(rt, alloc, entries, dumps);
-    let is_surveyed = survey == Err(refusal);
-    verdict == Err(refusal) && twin::judge(3, entries, dumps) == Err(refusal) && is_surveyed
+    let is_surveyed = survey == Err(bad);
+    verdict == Err(bad) && twin::judge(3, entries, dumps) == Err(bad) && is_surveyed
 }
 
 /// A forged entry, which is told after a dump that is bad.
@@ -171,8 +171,8 @@ static FORGED: [Line; 1] = [(0, 1, "", 7, Refused)];
 
 fn is_bad(rt: &impl Abort, alloc: Global, dump: &BadDump) -> bool {
     let (lists, (server, at)) = dump;
-    let refusal = Refusal::BadDump(server_id(rt, *server), *at);
-    is_refused(rt, alloc, lists, &FORGED, refusal)
+    let bad = BadEvidence::BadDump(server_id(rt, *server), *at);
+    is_refused(rt, alloc, lists, &FORGED, bad)
 }
 
 /// Each of the dumps is refused.
@@ -189,7 +189,7 @@ fn bad_dumps(rt: HostRuntime) {
 
 fn is_forged(rt: &impl Abort, alloc: Global, forged: &Forged) -> bool {
     let (lists, lines, at) = forged;
-    is_refused(rt, alloc, lists, lines, Refusal::Forged(*at))
+    is_refused(rt, alloc, lists, lines, BadEvidence::Forged(*at))
 }
 
 /// Each of the forgeries is refused.
@@ -222,7 +222,7 @@ fn is_judged(
     rt: &impl Abort,
     alloc: Global,
     file: (u32, &'static str, [u32; 3]),
-    wanted: Result<Verdict, Refusal>,
+    wanted: Result<Verdict, BadEvidence>,
 ) -> bool {
     let (clock, asks, counts) = file;
     let lines = [(0, 1, asks, 0, WROTE_FIRST), (0, 2, asks, 1, Read(counts))];
@@ -234,7 +234,7 @@ fn are_answers(
     rt: &impl Abort,
     alloc: Global,
     evidence: &Evidence,
-    wanted: Result<Verdict, Refusal>,
+    wanted: Result<Verdict, BadEvidence>,
 ) -> bool {
     let (entries, dumps) = (evidence.entries.as_slice(), evidence.dumps.as_slice());
     let (verdict, survey) = asked(rt, alloc, entries, dumps);
@@ -247,7 +247,7 @@ fn are_answers(
     };
     let is_surveyed = match survey {
         Ok(list) => is_alone(list.as_slice(), surveyed),
-        Err(refusal) => wanted == Err(refusal),
+        Err(bad) => wanted == Err(bad),
     };
     verdict == wanted && is_surveyed
 }
@@ -255,10 +255,14 @@ fn are_answers(
 #[test]
 fn the_file_of_the_formats(rt: HostRuntime) {
     let breach = breach_of_the_file(&rt);
-    let bad = Refusal::BadDump(server_id(&rt, 0), 0);
-    let is_clean = is_judged(&rt, rt.alloc(), (1, "", ZERO), Ok(Verdict::Clean));
-    let is_broken = is_judged(&rt, rt.alloc(), (1, "r", ZERO), Ok(Verdict::Broken(breach)));
-    let is_forged = is_judged(&rt, rt.alloc(), (1, "", [0, 1, 0]), Err(Refusal::Forged(1)));
-    let is_bad = is_judged(&rt, rt.alloc(), (2, "", ZERO), Err(bad));
-    assert!(rt; is_clean && is_broken && is_forged && is_bad);
+    let bad = BadEvidence::BadDump(server_id(&rt, 0), 0);
+    let files = [
+        ((1, "", ZERO), Ok(Verdict::Clean)),
+        ((1, "r", ZERO), Ok(Verdict::Broken(breach))),
+        ((1, "", [0, 1, 0]), Err(BadEvidence::Forged(1))),
+        ((2, "", ZERO), Err(bad)),
+    ];
+    for (at, (file, wanted)) in files.iter().enumerate() {
+        must_be_so(&rt, is_judged(&rt, rt.alloc(), *file, *wanted), at);
+    }
 }

@@ -4,11 +4,11 @@
 ghost use Rattle.std.specs.Prelude.{◌<◌};
 
 use crate::failures::is_fault;
-use crate::fixtures::{history, put, room, server_id, session_id};
+use crate::fixtures::{history, must_be_so, put, room, server_id, session_id};
 use bayou_base::{Asks, Entry, ServerId, SessionId};
-use bayou_judge::{Guarantee, Refusal, Verdict, judge};
+use bayou_judge::{Guarantee, Verdict, judge, lend_dumps};
 use bayou_server::{JournalFault, ReopenFault, StartFault, TakeFault, Took, WriteFault};
-use bayou_world::{Event, History, Reply};
+use bayou_world::{Event, Reply, RunHistory};
 use std::alloc::Global;
 use std::process::Abort;
 
@@ -303,7 +303,7 @@ fn run(
     limit: u32,
     asks: &[Asks; 8],
     events: &[Event],
-) -> Box<History> {
+) -> Box<RunHistory> {
     history(rt, alloc, (4, limit), asks, events)
 }
 
@@ -314,7 +314,8 @@ fn server_of(event: &Event) -> Option<ServerId> {
             Some(*server)
         }
         Event::Reopen(server) | Event::Restart(server) => Some(*server),
-        _ => None,
+        Event::Read { .. } | Event::Deliver(_) | Event::Lose(_) | Event::File(_) => None,
+        Event::Offer(_) | Event::Collect { .. } => None,
     }
 }
 
@@ -432,8 +433,8 @@ impl Tally {
         self.kinds[kind] = self.kinds[kind].saturating_add(1);
     }
 
-    fn add_breach(&mut self, verdict: Result<Verdict, Refusal>) {
-        let Ok(Verdict::Broken(breach)) = verdict else {
+    fn add_breach(&mut self, verdict: Option<Verdict>) {
+        let Some(Verdict::Broken(breach)) = verdict else {
             return;
         };
         let at = match breach.guarantee {
@@ -466,12 +467,12 @@ impl Tally {
         self.add_history(alloc, events, &history);
     }
 
-    fn add_history(&mut self, alloc: Global, events: &[Event], history: &History) {
+    fn add_history(&mut self, alloc: Global, events: &[Event], history: &RunHistory) {
         self.add_replies(events, history.replies.as_slice());
         if are_paid(events, history.replies.as_slice()) {
             self.paid = self.paid.saturating_add(1);
         }
-        if verdict_of(alloc, history.served.as_slice(), history) == Ok(Verdict::Clean) {
+        if verdict_on(alloc, history.served.as_slice(), history) == Some(Verdict::Clean) {
             self.clean = self.clean.saturating_add(1);
         }
     }
@@ -479,7 +480,7 @@ impl Tally {
     fn add_free(&mut self, rt: &impl Abort, alloc: Global, limit: u32, events: &[Event]) {
         let free = run(rt, alloc, limit, &[Asks::default(); 8], events);
         let entries = asking_for_all(rt, alloc, free.served.as_slice());
-        self.add_breach(verdict_of(alloc, entries.as_slice(), &free));
+        self.add_breach(verdict_on(alloc, entries.as_slice(), &free));
     }
 
     /// Whether each run was clean, no kind of answer is missing, and none other was among them.
@@ -493,11 +494,16 @@ impl Tally {
     }
 }
 
-fn verdict_of(alloc: Global, entries: &[Entry], history: &History) -> Result<Verdict, Refusal> {
+/// The verdict on the entries and what the servers hold, where there is one.
+fn verdict_on(alloc: Global, entries: &[Entry], history: &RunHistory) -> Option<Verdict> {
     if history.dumps.len() != 4 {
-        return Err(Refusal::OutOfMemory);
+        return None;
     }
-    judge(alloc, 4, entries, history.dumps.as_slice())
+    let lent = lend_dumps(history.dumps.as_slice());
+    match judge(alloc, 4, entries, lent.as_slice()) {
+        Ok(Ok(verdict)) => Some(verdict),
+        Ok(Err(_)) | Err(_) => None,
+    }
 }
 
 /// The entries, as if their sessions had asked for everything.
@@ -522,6 +528,11 @@ fn found_from(rt: &impl Abort, alloc: Global, seed: u64) -> Tally {
     for number in 0..LISTS {
         let limit = LIMITS[number as usize / 2 % LIMITS.len()];
         tally.add(rt, alloc, &mut dice, limit, number % 2 == 1);
+        must_be_so(
+            rt,
+            tally.clean > number && tally.paid > number,
+            number as usize,
+        );
     }
     tally
 }

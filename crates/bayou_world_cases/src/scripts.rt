@@ -1,5 +1,7 @@
 //! Scripts at two servers: what each event is answered, and what is left.
-use crate::fixtures::{history_of, must_be_so, put, room, room_for, server_id, session_id};
+use crate::fixtures::{
+    history_of, must_be_said, must_be_so, put, room, room_for, server_id, session_id,
+};
 use Said::{
     Accepted, Delivered, Doubted, Down, Dropped, Filed, Flown, Full, Fused, Gap, Had, Holds, Kept,
     New, NotDown, NotReopened, NotRestarted, ReadBehind, Seen, Skipped, Up, Wanting, WriteBehind,
@@ -9,7 +11,7 @@ use bayou_audit::Totals;
 use bayou_base::{Asks, Entry, Value, Vector, What, Wid};
 use bayou_lang::RestingWrite;
 use bayou_server::{Behind, JournalFault, ReopenFault, StartFault, TakeFault, Took, WriteFault};
-use bayou_world::{Event, History, Reply};
+use bayou_world::{Event, Reply, RunHistory};
 use std::alloc::{AllocError, Global};
 use std::process::Abort;
 
@@ -326,7 +328,10 @@ pub fn saying(reply: &Reply) -> Said {
         Reply::Restarted(Ok(holds)) => Holds(*holds),
         Reply::Restarted(Err(StartFault::Journal(JournalFault::Device))) => NotRestarted,
         Reply::Skipped => Skipped,
-        _ => Said::Otherwise,
+        Reply::Took(Err(TakeFault::Conflict | TakeFault::OwnLost | TakeFault::BadStamp)) => {
+            Said::Otherwise
+        }
+        Reply::Reopened(Err(_)) | Reply::Restarted(Err(_)) => Said::Otherwise,
     }
 }
 
@@ -418,12 +423,12 @@ pub fn play(
     alloc: Global,
     script: &Script,
     events: &[Event],
-) -> Result<Box<History>, AllocError> {
+) -> Result<Box<RunHistory>, AllocError> {
     history_of(rt, alloc, (2, script.limit), script.asks, events)
 }
 
 /// Whether replies, entries, dumps and totals are those of the script.
-pub fn is_as_it_says(script: &Script, history: &History) -> bool {
+pub fn is_as_it_says(script: &Script, history: &RunHistory) -> bool {
     let (reads, writes, refusals) = script.totals;
     let totals = Totals {
         slips: 0,
@@ -437,16 +442,25 @@ pub fn is_as_it_says(script: &Script, history: &History) -> bool {
         && history.totals == totals
 }
 
-fn leaves_what_it_says(rt: &impl Abort, alloc: Global, script: &Script) -> bool {
+/// Each reply is what stands beside its event in this row.
+pub fn must_all_be_said(rt: &impl Abort, replies: &[Reply], acts: &[(Act, Said)], row: usize) {
+    for (at, reply) in replies.iter().enumerate() {
+        must_be_said(rt, is_said(reply, acts.get(at)), (row, at), reply);
+    }
+}
+
+/// Whether the script of this row leaves what it says, if each reply is as it says.
+fn leaves_what_it_says(rt: &impl Abort, alloc: Global, script: &Script, row: usize) -> bool {
     let events = events_of(rt, alloc, script.acts);
     let history = play(rt, alloc, script, events.as_slice()).expect(rt, "no memory");
+    must_all_be_said(rt, history.replies.as_slice(), script.acts, row);
     is_as_it_says(script, &history)
 }
 
 /// Each script leaves what it says.
 fn all_leave_what_they_say(rt: &impl Abort, alloc: Global, scripts: &[Script]) {
-    for (at, script) in scripts.iter().enumerate() {
-        must_be_so(rt, leaves_what_it_says(rt, alloc, script), at);
+    for (row, script) in scripts.iter().enumerate() {
+        must_be_so(rt, leaves_what_it_says(rt, alloc, script, row), row);
     }
 }
 

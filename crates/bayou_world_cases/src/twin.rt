@@ -1,8 +1,9 @@
 //! The judge as its definitions are: pair by pair, over sets of names. It is plain and slow.
 use bayou_base::{Asks, Entry, SERVERS, SESSIONS, ServerId, SessionId, Stamp, Vector, What, Wid};
-use bayou_judge::{Breach, Guarantee, Refusal, Surveyed, Verdict};
+use bayou_judge::{BadEvidence, Breach, Guarantee, Surveyed, Verdict};
 use bayou_lang::RestingWrite;
 use std::alloc::Global;
+use std::process::Abort;
 
 const GUARANTEES: [Guarantee; 4] = [
     Guarantee::ReadYourWrites,
@@ -190,16 +191,16 @@ fn forged_in(count: u8, entries: &[Entry], dumps: &[Vec<RestingWrite>]) -> Optio
 }
 
 /// Why entries and dumps stand for no history.
-fn refusal(count: u8, entries: &[Entry], dumps: &[Vec<RestingWrite>]) -> Option<Refusal> {
+fn fault(count: u8, entries: &[Entry], dumps: &[Vec<RestingWrite>]) -> Option<BadEvidence> {
     for server in 0..count {
         if let Some(id) = ServerId::new(server) {
             if let Some(at) = bad_in(count, dumps, usize::from(server)) {
-                return Some(Refusal::BadDump(id, at));
+                return Some(BadEvidence::BadDump(id, at));
             }
         }
     }
     match forged_in(count, entries, dumps) {
-        Some(at) => Some(Refusal::Forged(at)),
+        Some(at) => Some(BadEvidence::Forged(at)),
         None => None,
     }
 }
@@ -404,9 +405,9 @@ pub fn judge(
     count: u8,
     entries: &[Entry],
     dumps: &[Vec<RestingWrite>],
-) -> Result<Verdict, Refusal> {
-    if let Some(refusal) = refusal(count, entries, dumps) {
-        return Err(refusal);
+) -> Result<Verdict, BadEvidence> {
+    if let Some(bad) = fault(count, entries, dumps) {
+        return Err(bad);
     }
     for index in 0..SESSIONS {
         if let Some(session) = SessionId::new(index as u8) {
@@ -429,13 +430,14 @@ fn surveyed(entries: &[Entry], dumps: &[Vec<RestingWrite>], session: SessionId) 
 }
 
 pub fn survey(
+    rt: &impl Abort,
     alloc: Global,
     count: u8,
     entries: &[Entry],
     dumps: &[Vec<RestingWrite>],
-) -> Result<Vec<Surveyed>, Refusal> {
-    if let Some(refusal) = refusal(count, entries, dumps) {
-        return Err(refusal);
+) -> Result<Vec<Surveyed>, BadEvidence> {
+    if let Some(bad) = fault(count, entries, dumps) {
+        return Err(bad);
     }
     let mut list = Vec::new(alloc);
     for index in 0..SESSIONS {
@@ -443,9 +445,8 @@ pub fn survey(
             continue;
         };
         if asks_of(entries, session).is_some() {
-            let Ok(()) = list.push(surveyed(entries, dumps, session)) else {
-                return Err(Refusal::OutOfMemory);
-            };
+            let surveyed = surveyed(entries, dumps, session);
+            list.push(surveyed).expect(rt, "no memory");
         }
     }
     Ok(list)

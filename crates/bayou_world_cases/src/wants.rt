@@ -2,7 +2,7 @@
 use crate::evidence::{COUNT, Evidence, Held, Line, Told, evidence_of, server_id, session_id};
 use Told::{Read, Wrote};
 use bayou_base::Wid;
-use bayou_judge::{Breach, Guarantee, Refusal, Surveyed, Verdict, judge, survey};
+use bayou_judge::{Breach, Guarantee, Surveyed, Verdict, judge, lend_dumps, survey};
 use std::alloc::Global;
 use std::process::Abort;
 
@@ -47,10 +47,10 @@ fn surveyed_of(rt: &impl Abort, session: u8, server: u8, seq: u32) -> Surveyed {
 fn is_judged(rt: &impl Abort, alloc: Global, evidence: &Evidence) -> bool {
     let (entries, dumps) = (evidence.entries.as_slice(), evidence.dumps.as_slice());
     assert!(rt; dumps.len() == usize::from(COUNT));
-    let wanted = Ok(Verdict::Broken(breach_of(rt, 0, 2, 1)));
-    let first = judge(alloc, COUNT, entries, dumps);
-    let is_want = first == Err(Refusal::OutOfMemory);
-    first == wanted || is_want && judge(alloc, COUNT, entries, dumps) == wanted
+    let lent = lend_dumps(dumps);
+    let wanted = Ok(Ok(Verdict::Broken(breach_of(rt, 0, 2, 1))));
+    let first = judge(alloc, COUNT, entries, lent.as_slice());
+    first == wanted || first.is_err() && judge(alloc, COUNT, entries, lent.as_slice()) == wanted
 }
 
 /// Whether the survey comes, at once or after want of memory.
@@ -58,14 +58,14 @@ fn is_surveyed(rt: &impl Abort, alloc: Global, evidence: &Evidence) -> bool {
     let (entries, dumps) = (evidence.entries.as_slice(), evidence.dumps.as_slice());
     assert!(rt; dumps.len() == usize::from(COUNT));
     let wanted = [surveyed_of(rt, 0, 2, 1), surveyed_of(rt, 9, 1, 2)];
-    let first = survey(alloc, COUNT, entries, dumps);
-    let last = match first {
-        Err(Refusal::OutOfMemory) => survey(alloc, COUNT, entries, dumps),
-        answer => answer,
+    let lent = lend_dumps(dumps);
+    let last = match survey(alloc, COUNT, entries, lent.as_slice()) {
+        Ok(answer) => Ok(answer),
+        Err(_) => survey(alloc, COUNT, entries, lent.as_slice()),
     };
     match last {
-        Ok(list) => list.as_slice() == wanted.as_slice(),
-        Err(_) => false,
+        Ok(Ok(list)) => list.as_slice() == wanted.as_slice(),
+        Ok(Err(_)) | Err(_) => false,
     }
 }
 

@@ -22,6 +22,13 @@ use Rattle.bayou_judge.specs.Guarantees.{PrecedesIn}
 use Rattle.bayou_judge.specs.History.{dump_of, IsFrontOf, IsReadFrom, IsWriteOf}
 use Rattle.bayou_judge.specs.Inner.Index.{AreIndexed, IsUpTo, Tables}
 
+-- the entries and the dumps of so many servers, and the tables of each dump
+pub record IndexedEvidence : Type 0 where
+  pub count : ℕ
+  pub entries : List Entry
+  pub dumps : List (List Write)
+  pub indexes : List Tables
+
 -- entries and dumps stand for a history, and each dump has its tables
 pub record IsChecked (count : ℕ) (entries : List Entry) (dumps : List (List Write)) (indexes : List Tables) : Type 0 where
   pub evidence : IsEvidence count entries dumps

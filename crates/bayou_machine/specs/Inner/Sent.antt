@@ -7,12 +7,12 @@ use Rattle.bayou_frames.specs.declared.fault.Fault.TheVariants.{OutOfMemory}
 use Rattle.bayou_peer.specs.declared.fault.PullFault.TheVariants.{Stream}
 use Rattle.bayou_peer.specs.Meeting.{Meets}
 use Rattle.bayou_frames.specs.Spelled.{answer_bytes}
-use Rattle.bayou_machine.specs.declared.answer.Exchange.{Exchange}
-use Rattle.bayou_machine.specs.declared.answer.Exchange.TheVariants.{NotRunning, Ended}
-use Rattle.bayou_machine.specs.declared.replica.Replica.{Replica}
-use Rattle.bayou_machine.specs.declared.replica.Replica.TheVariants.{Running}
+use Rattle.bayou_answers.specs.declared.answer.Transfer.{Transfer}
+use Rattle.bayou_answers.specs.declared.answer.Transfer.TheVariants.{NotRunning, Ended}
+use Rattle.bayou_machine.specs.declared.script_server.ScriptServer.{ScriptServer}
+use Rattle.bayou_machine.specs.declared.script_server.ScriptServer.TheVariants.{Running}
 use Rattle.bayou_machine.specs.Exchange.{IsStopped, serving_ways}
-use Rattle.bayou_machine.specs.Replica.{Serving}
+use Rattle.bayou_machine.specs.ScriptServer.{Serving}
 
 -- the bytes are the answer of these Writes
 pub record Sends (sent : List Write) (bytes : List ℕ) : Type 0 where
@@ -21,15 +21,15 @@ pub record Sends (sent : List Write) (bytes : List ℕ) : Type 0 where
   pub spelled : bytes ≡ answer_bytes sent
 
 -- the server runs, and the bytes are its answer to an Offer of these counts
-abbrev pub IsAnswer : List ℕ → Replica → List ℕ → Type 0
+abbrev pub IsAnswer : List ℕ → ScriptServer → List ℕ → Type 0
 IsAnswer counts replica bytes = (server : Serving) × (replica ≡ Running server) × Sends (lacking_of counts server.core.held) bytes
 
 -- there is no answer
-abbrev pub IsNoAnswer : Replica → Exchange → Type 0
+abbrev pub IsNoAnswer : ScriptServer → Transfer → Type 0
 IsNoAnswer replica NotRunning = IsStopped replica
 IsNoAnswer replica (Ended result) = (server : Serving) × (replica ≡ Running server) × (result ≡ Err (Stream OutOfMemory))
 
 -- what a server makes of these Writes, cut or not
-abbrev pub IsGiven : List Write → Option ℕ → Replica → Exchange → Replica → Type 0
+abbrev pub IsGiven : List Write → Option ℕ → ScriptServer → Transfer → ScriptServer → Type 0
 IsGiven sent cut before NotRunning after = IsStopped before × (after ≡ before)
 IsGiven sent cut before (Ended result) after = (old new : Serving) × (before ≡ Running old) × (after ≡ Running new) × Meets serving_ways sent cut old result new

@@ -6,14 +6,15 @@ use Rattle.bayou_base.specs.declared.entry.Entry.{Entry}
 use Rattle.bayou_base.specs.declared.entry.What.{What}
 use Rattle.bayou_session.specs.Needs.{Told}
 use Rattle.bayou_text.specs.Said.{Said, servers, session, write, read, log, fuse, lose, reopen, restart, pull, resend, totals, judge, survey, book, phase, entry, held}
-use Rattle.bayou_machine.specs.declared.answer.Answer.{Answer}
-use Rattle.bayou_machine.specs.Filed.{Files, Filings, operation_of, operations, what_told}
-use Rattle.bayou_machine.specs.Machine.{Machine, session_of}
-use Rattle.bayou_machine.specs.Run.{Audited, Leaves, Run, Step, Tries, Turn}
+use Rattle.bayou_answers.specs.declared.answer.Answer.{Answer}
+use Rattle.bayou_machine.specs.Filed.{Files, Filings, what_told}
+use Rattle.bayou_script.specs.Places.{operation_of, operations}
+use Rattle.bayou_machine.specs.Standing.{Standing, session_of}
+use Rattle.bayou_machine.specs.Run.{Leaves, ScriptRun, ScriptState, Step, Tries, Turn}
 
 -- a run goes on by one step
-pub Run-more : (old mid new : Audited) (done : List Said) (answers : List Answer) (said : Said) (answer : Answer) → Run old done answers mid
-    → Turn mid said answer new → Run old (done ++ said ∷ []) (answers ++ answer ∷ []) new
+pub Run-more : (old mid new : ScriptState) (done : List Said) (answers : List Answer) (said : Said) (answer : Answer) → ScriptRun old done answers mid
+    → Turn mid said answer new → ScriptRun old (done ++ said ∷ []) (answers ++ answer ∷ []) new
 Run-more old mid new [] [] said answer run step = (new, subst (λ before. Turn before said answer new) run step, refl)
 Run-more old mid new (first ∷ done) (given ∷ answers) said answer (next, taken, run) step =
     (next, taken, Run-more next mid new done answers said answer run step)
@@ -21,29 +22,29 @@ Run-more old mid new [] (given ∷ answers) said answer run step = absurd run
 Run-more old mid new (first ∷ done) [] said answer run step = absurd run
 
 -- no step changes how many servers there are
-pub Step-count : (old new : Machine) (said : Said) (answer : Answer) → Step old said answer new → new.count ≡ old.count
+pub Step-count : (old new : Standing) (said : Said) (answer : Answer) → Step old said answer new → new.count ≡ old.count
 Step-count old new (servers count limit) answer step = absurd step
-Step-count old new (session who asks) answer step = ap (λ machine. machine.count) step.only
-Step-count old new (write who place program) answer step = ap (λ machine. machine.count) step.only
-Step-count old new (read who place key) answer step = ap (λ machine. machine.count) step.only
-Step-count old new (log place) answer step = ap (λ machine. machine.count) step.0
-Step-count old new (fuse place calls kept) answer step = let change = step.1 in ap (λ machine. machine.count) change.only
-Step-count old new (lose place count) answer step = let change = step.1 in ap (λ machine. machine.count) change.only
-Step-count old new (reopen place) answer (recovery, is, change) = ap (λ machine. machine.count) change.only
-Step-count old new (restart place) answer (recovery, is, change) = ap (λ machine. machine.count) change.only
-Step-count old new (pull to source cut) answer step = ap (λ machine. machine.count) step.only
-Step-count old new (resend to source) answer step = ap (λ machine. machine.count) step.only
+Step-count old new (session who asks) answer step = ap (λ standing. standing.count) step.only
+Step-count old new (write who place program) answer step = ap (λ standing. standing.count) step.only
+Step-count old new (read who place key) answer step = ap (λ standing. standing.count) step.only
+Step-count old new (log place) answer step = ap (λ standing. standing.count) step.0
+Step-count old new (fuse place calls kept) answer step = let change = step.1 in ap (λ standing. standing.count) change.only
+Step-count old new (lose place count) answer step = let change = step.1 in ap (λ standing. standing.count) change.only
+Step-count old new (reopen place) answer (recovery, is, change) = ap (λ standing. standing.count) change.only
+Step-count old new (restart place) answer (recovery, is, change) = ap (λ standing. standing.count) change.only
+Step-count old new (pull to source cut) answer step = ap (λ standing. standing.count) step.only
+Step-count old new (resend to source) answer step = ap (λ standing. standing.count) step.only
 Step-count old new totals answer step = absurd step
 Step-count old new judge answer step = absurd step
 Step-count old new survey answer step = absurd step
 Step-count old new book answer step = absurd step
-Step-count old new phase answer step = ap (λ machine. machine.count) step.0
+Step-count old new phase answer step = ap (λ standing. standing.count) step.0
 Step-count old new (entry what counts) answer step = absurd step
 Step-count old new (held place written counts) answer step = absurd step
 
 -- no turn changes how many servers there are, nor how many places the book has, and an operation files one entry at most
-pub record Moves (old new : Audited) (said : Said) : Type 0 where
-  pub count : new.machine.count ≡ old.machine.count
+pub record Moves (old new : ScriptState) (said : Said) : Type 0 where
+  pub count : new.standing.count ≡ old.standing.count
   pub places : new.book.places ≡ old.book.places
   pub filed : length new.book.entries ≤ length old.book.entries + operations (said ∷ [])
 
@@ -51,34 +52,34 @@ filed_one : (who place : ℕ) (told : Told) (what : Option What) (filed : List E
 filed_one who place told None filed is = subst (λ (list : List Entry). length list ≤ 1) (sym is) (lit≤ tt)
 filed_one who place told (Some what) filed (one, is, of) = subst (λ (list : List Entry). length list ≤ 1) (sym is) (lit≤ tt)
 
-tried : (old new : Audited) (who place : ℕ) (said : Said) (answer : Answer) → operations (said ∷ []) ≡ 1 → Tries old who place said answer new → Moves old new said
+tried : (old new : ScriptState) (who place : ℕ) (said : Said) (answer : Answer) → operations (said ∷ []) ≡ 1 → Tries old who place said answer new → Moves old new said
 tried old new who place said answer one tries = record {
-  count = Step-count old.machine new.machine said answer tries.step;
+  count = Step-count old.standing new.standing said answer tries.step;
   places = ap (λ (book : Filings). book.places) tries.only;
   filed = omega (
     arith,
     one,
     ap (λ (book : Filings). length book.entries) tries.only,
     length-append old.book.entries tries.filed,
-    filed_one who place (session_of old.machine tries.name) (what_told answer) tries.filed tries.files,
+    filed_one who place (session_of old.standing tries.name) (what_told answer) tries.filed tries.files,
   );
 }
 
-left : (old new : Audited) (said : Said) (answer : Answer) → Leaves old said answer new → Moves old new said
+left : (old new : ScriptState) (said : Said) (answer : Answer) → Leaves old said answer new → Moves old new said
 left old new said answer leaves = record {
-  count = Step-count old.machine new.machine said answer leaves.step;
+  count = Step-count old.standing new.standing said answer leaves.step;
   places = ap (λ (book : Filings). book.places) leaves.same;
   filed = omega (arith, ap (λ (book : Filings). length book.entries) leaves.same);
 }
 
-stays : (old new : Audited) (said : Said) → operations (said ∷ []) ≡ 0 → new ≡ old → Moves old new said
+stays : (old new : ScriptState) (said : Said) → operations (said ∷ []) ≡ 0 → new ≡ old → Moves old new said
 stays old new said none same = record {
-  count = ap (λ (audited : Audited). audited.machine.count) same;
-  places = ap (λ (audited : Audited). audited.book.places) same;
-  filed = omega (arith, none, ap (λ (audited : Audited). length audited.book.entries) same);
+  count = ap (λ (state : ScriptState). state.standing.count) same;
+  places = ap (λ (state : ScriptState). state.book.places) same;
+  filed = omega (arith, none, ap (λ (state : ScriptState). length state.book.entries) same);
 }
 
-pub Turn-moves : (old new : Audited) (said : Said) (answer : Answer) → Turn old said answer new → Moves old new said
+pub Turn-moves : (old new : ScriptState) (said : Said) (answer : Answer) → Turn old said answer new → Moves old new said
 Turn-moves old new (servers count limit) answer turn = left old new _ answer turn
 Turn-moves old new (session who asks) answer turn = left old new _ answer turn
 Turn-moves old new (write who place program) answer turn = tried old new who place _ answer refl turn

@@ -5,23 +5,23 @@ use Rattle.std.specs.Io.{IsEmptyOrEndsWith}
 use Rattle.bayou_lang.specs.declared.eval.Outcome.{Outcome}
 use Rattle.bayou_lang.specs.declared.eval.Outcome.TheVariants.{Updated, Merged, Nothing}
 use Rattle.bayou_log.specs.declared.listing.Listed.{Listed}
-use Rattle.bayou_machine.specs.declared.answer.Answer.{Answer}
-use Rattle.bayou_machine.specs.declared.answer.Answer.TheVariants.{Done, Wrote, Read, Refused, NotServed, Lost, Logged, Stopped, Recovered, Exchanged, Counted, Judged, Surveyed, Booked}
-use Rattle.bayou_machine.specs.declared.answer.Exchange.{Exchange}
-use Rattle.bayou_machine.specs.declared.answer.Exchange.TheVariants.{NotRunning as NothingRuns, Ended}
-use Rattle.bayou_machine.specs.declared.answer.Recovery.{Recovery}
-use Rattle.bayou_machine.specs.declared.answer.Recovery.TheVariants.{Reopened, NotReopened, NotRunning, Restarted, NotRestarted}
+use Rattle.bayou_answers.specs.declared.answer.Answer.{Answer}
+use Rattle.bayou_answers.specs.declared.answer.Answer.TheVariants.{Done, Wrote, Read, Refused, Lost, Logged, Stopped, Recovered, Exchanged, Counted, Judged, Surveyed, Booked}
+use Rattle.bayou_answers.specs.declared.answer.Transfer.{Transfer}
+use Rattle.bayou_answers.specs.declared.answer.Transfer.TheVariants.{NotRunning as NothingRuns, Ended}
+use Rattle.bayou_answers.specs.declared.answer.Recovery.{Recovery}
+use Rattle.bayou_answers.specs.declared.answer.Recovery.TheVariants.{Reopened, NotReopened, NotRunning, Restarted, NotRestarted}
 use Rattle.bayou_judge.specs.declared.breach.Breach.{Breach}
-use Rattle.bayou_judge.specs.declared.verdict.Refusal.{Refusal}
-use Rattle.bayou_judge.specs.declared.verdict.Refusal.TheVariants.{BadDump, Forged, OutOfMemory}
+use Rattle.bayou_judge.specs.declared.verdict.BadEvidence.{BadEvidence}
+use Rattle.bayou_judge.specs.declared.verdict.BadEvidence.TheVariants.{BadDump, Forged}
 use Rattle.bayou_judge.specs.declared.verdict.Surveyed.{Surveyed as SurveyedSession}
 use Rattle.bayou_judge.specs.declared.verdict.Verdict.{Verdict}
 use Rattle.bayou_judge.specs.declared.verdict.Verdict.TheVariants.{Clean, Broken}
-use Rattle.bayou_node.specs.declared.settled.Settled.{Settled}
+use Rattle.bayou_node.specs.declared.node_settled.NodeSettled.{NodeSettled}
 use Rattle.bayou_text.specs.Said.{Said}
 use Rattle.bayou_print.specs.Booked.{line_text}
 use Rattle.bayou_print.specs.Verdicts.{broken_text, found_text, guarantee_text, refused_text, surveyed_text, verdict_text}
-use Rattle.bayou_print.specs.Printed.{adopted_text, counts_text, exchange_text, last_text, listed_text, outcome_text, pulling_text, recovery_text, refusal_text, reopening_text, settled_text, starting_text, value_text}
+use Rattle.bayou_print.specs.Printed.{adopted_text, counts_text, transfer_text, last_text, listed_text, outcome_text, pulling_text, recovery_text, refusal_text, reopening_text, settled_text, starting_text, value_text}
 
 -- it ends with a line feed
 record Ends (text : List ℕ) : Type 0 where
@@ -49,10 +49,10 @@ recovery_ends (Restarted server holds dropped) =
     behind (codes "restarted ") _ (behind (decimal server.index) _ (behind (codes " holds ") _ (behind (decimal holds) _ (behind (codes " dropped ") _ (behind (decimal dropped) _ feed)))))
 recovery_ends (NotRestarted refusal) = behind (codes "restart refused ") _ (behind (starting_text refusal) _ feed)
 
-exchange_ends : (exchange : Exchange) → Ends (exchange_text exchange)
-exchange_ends NothingRuns = record { front = codes "pull fault lost"; split = refl }
-exchange_ends (Ended (Ok pulled)) = behind (codes "pulled ") _ (behind (decimal pulled.taken) _ (behind (codes " had ") _ (behind (decimal pulled.had) _ feed)))
-exchange_ends (Ended (Err fault)) = behind (codes "pull fault ") _ (behind (pulling_text fault) _ feed)
+transfer_ends : (transfer : Transfer) → Ends (transfer_text transfer)
+transfer_ends NothingRuns = record { front = codes "pull fault lost"; split = refl }
+transfer_ends (Ended (Ok pulled)) = behind (codes "pulled ") _ (behind (decimal pulled.taken) _ (behind (codes " had ") _ (behind (decimal pulled.had) _ feed)))
+transfer_ends (Ended (Err fault)) = behind (codes "pull fault ") _ (behind (pulling_text fault) _ feed)
 
 outcome_ends : (outcome : Outcome) → Ends (outcome_text outcome)
 outcome_ends Updated = record { front = codes " updated"; split = refl }
@@ -67,16 +67,15 @@ listed_ends server listed =
 nothing_ends : IsEmptyOrEndsWith [] 10
 nothing_ends = λ some. absurd (omega arith)
 
-refused_ends : (refusal : Refusal) → IsEmptyOrEndsWith (refused_text refusal) 10
+refused_ends : (bad : BadEvidence) → IsEmptyOrEndsWith (refused_text bad) 10
 refused_ends (BadDump server at) = ends_is _ (behind (codes "judge refused dump ") _ (behind (decimal server.index) _ (behind (codes " ") _ (behind (decimal at) _ feed))))
 refused_ends (Forged at) = ends_is _ (behind (codes "judge refused forged ") _ (behind (decimal at) _ feed))
-refused_ends OutOfMemory = nothing_ends
 
 broken_ends : (breach : Breach) → Ends (broken_text breach)
 broken_ends breach =
     behind (codes "broken ") _ (behind (guarantee_text breach.guarantee) _ (behind (codes " session ") _ (behind (decimal breach.session.index) _ (behind (codes " places ") _ (behind (decimal breach.first) _ (behind (codes " ") _ (behind (decimal breach.second) _ (behind (codes " server ") _ (behind (decimal breach.server.index) _ (behind (codes " wid ") _ (behind (decimal breach.wid.origin.index) _ (behind (codes ":") _ (behind (decimal breach.wid.seq) _ feed)))))))))))))
 
-pub verdict_ends : (verdict : Result Verdict Refusal) → IsEmptyOrEndsWith (verdict_text verdict) 10
+pub verdict_ends : (verdict : Result Verdict BadEvidence) → IsEmptyOrEndsWith (verdict_text verdict) 10
 verdict_ends (Ok Clean) = ends_is _ (record { front = codes "clean"; split = refl })
 verdict_ends (Ok (Broken breach)) = ends_is _ (broken_ends breach)
 verdict_ends (Err refusal) = refused_ends refusal
@@ -86,7 +85,7 @@ surveyed_ends surveyed =
     ends_is _
     (behind (codes "survey ") _ (behind (decimal surveyed.session.index) _ (behind (codes " ryw ") _ (behind (found_text surveyed.ryw) _ (behind (codes " mr ") _ (behind (found_text surveyed.mr) _ (behind (codes " wfr ") _ (behind (found_text surveyed.wfr) _ (behind (codes " mw ") _ (behind (found_text surveyed.mw) _ feed))))))))))
 
-pub settled_ends : (server : ℕ) (settled : Settled) → IsEmptyOrEndsWith (settled_text server settled) 10
+pub settled_ends : (server : ℕ) (settled : NodeSettled) → IsEmptyOrEndsWith (settled_text server settled) 10
 settled_ends server settled =
     ends_is _ (behind (codes "settled ") _ (behind (decimal server) _ (behind (codes " accepted ") _ (behind (decimal settled.accepted) _ (behind (codes " adopted ") _ (behind (decimal settled.adopted) _ feed))))))
 
@@ -102,12 +101,11 @@ last_ends servers (Read session key seen) =
     ends_is _
     (behind (decimal session.index) _ (behind (codes " read ") _ (behind key _ (behind (codes " ") _ (behind (value_text seen.value) _ (behind (codes " at ") _ (behind (counts_text servers seen.vector) _ feed)))))))
 last_ends servers (Refused session refusal) = ends_is _ (behind (decimal session.index) _ (behind (codes " refused ") _ (behind (refusal_text servers refusal) _ feed)))
-last_ends servers (NotServed session vector) = ends_is _ (behind (decimal session.index) _ (behind (codes " refused behind at ") _ (behind (counts_text servers vector) _ feed)))
 last_ends servers (Lost session) = ends_is _ (behind (decimal session.index) _ (record { front = codes " lost"; split = refl }))
 last_ends servers (Logged server listing vector) = ends_is _ (behind (codes "log ") _ (behind (decimal server.index) _ (behind (codes " at ") _ (behind (counts_text servers vector) _ feed))))
 last_ends servers (Stopped server) = ends_is _ (behind (codes "stopped ") _ (behind (decimal server.index) _ feed))
 last_ends servers (Recovered recovery) = ends_is _ (recovery_ends recovery)
-last_ends servers (Exchanged exchange) = ends_is _ (exchange_ends exchange)
+last_ends servers (Exchanged transfer) = ends_is _ (transfer_ends transfer)
 last_ends servers (Counted totals) =
     ends_is _
     (behind (codes "totals reads ") _ (behind (decimal totals.reads) _ (behind (codes " writes ") _ (behind (decimal totals.writes) _ (behind (codes " refusals ") _ (behind (decimal totals.refusals) _ (behind (codes " slips ") _ (behind (decimal totals.slips) _ feed))))))))

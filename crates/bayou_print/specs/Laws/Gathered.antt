@@ -3,7 +3,7 @@ use Rattle.std.proofs.Common.{◌≡◌, ℕ, List, [], ◌++◌, ◌∙◌, ref
 use Rattle.std.proofs.lemmas.List.{append-nil}
 use Rattle.bayou_streams.specs.Account.{Account, Takes, TakesFront}
 use Rattle.bayou_print.specs.Waiting.{Gathers, Stage}
-use Rattle.bayou_streams.proofs.Taken.{Takes-nil, Takes-trans}
+use Rattle.bayou_streams.specs.Laws.Taken.{Takes-nil, Takes-trans}
 
 pub Gathers-nil : (a : Stage) → Gathers a a [] []
 Gathers-nil a = record { taken = []; split = refl; took = Takes-nil a.output }

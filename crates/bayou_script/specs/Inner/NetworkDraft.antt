@@ -1,12 +1,10 @@
 -- The front of a script over a network, as it is kept while its lines are checked.
-use Rattle.std.specs.Prelude.{List, IsTrue}
-use Rattle.std.specs.List.{list_all}
+use Rattle.std.specs.Prelude.{List, map}
 use Rattle.bayou_text.specs.Said.{Said}
 use Rattle.bayou_script.specs.declared.network_draft.NetworkDraft.{NetworkDraft}
-use Rattle.bayou_script.specs.Inner.Draft.{IsDraftOf}
-use Rattle.bayou_script.specs.Network.{runs_over_network}
+use Rattle.bayou_script.specs.Inner.Stage.{IsStageOf}
+use Rattle.bayou_script.specs.NetworkSaid.{network_said}
 
--- the draft keeps what was said, and servers over a network can be asked all of it
-pub record IsNetworkDraftOf (draft : NetworkDraft) (front : List Said) : Type 0 where
-  pub script : IsDraftOf draft.script front
-  pub runs : IsTrue (list_all runs_over_network front)
+-- the draft keeps what was said
+abbrev pub IsNetworkDraftOf : NetworkDraft → List Said → Type 0
+IsNetworkDraftOf draft front = IsStageOf draft.stage (map network_said draft.commands.items) front

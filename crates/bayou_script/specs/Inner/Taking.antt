@@ -1,5 +1,5 @@
 -- What a draft makes of a line.
-use Rattle.std.specs.Prelude.{◌≡◌, ℕ, Bool, List, [], ◌∷◌, ◌++◌, IsTrue}
+use Rattle.std.specs.Prelude.{◌≡◌, ℕ, List}
 use Rattle.bayou_text.specs.declared.line.LineFault.{LineFault}
 use Rattle.bayou_text.specs.declared.line.LineFault.TheVariants as line
 use Rattle.bayou_text.specs.Said.{Said}
@@ -7,11 +7,6 @@ use Rattle.bayou_script.specs.declared.fault.Refusal.{Refusal}
 use Rattle.bayou_script.specs.declared.fault.Refusal.TheVariants.{Line, OutOfMemory}
 use Rattle.bayou_script.specs.declared.fault.ScriptFault.TheVariants.{NotJson, BadShape, BadKey, BadProgram}
 use Rattle.bayou_script.specs.Order.{HasFault, Order}
-
--- What this says was added behind the front, if that is its place there.
-pub record HasAdded {D : Type 0} (order : Order) (keeps : D → List Said → Type 0) (number : ℕ) (front : List Said) (told : Said) (new : D) (placed : Bool) : Type 0 where
-  pub place : placed ≡ order number front told
-  pub kept : IsTrue placed → keeps new (front ++ told ∷ [])
 
 -- why a line isn't taken, where memory didn't run out
 abbrev pub FaultAt : Order → ℕ → List Said → List ℕ → Refusal → Type 0

@@ -1,9 +1,9 @@
 -- Which faults may come where.
-use Rattle.bayou_print.specs.declared.fault.Fault.{Fault}
-use Rattle.bayou_print.specs.declared.fault.Fault.TheVariants.{Line, Memory, Device, Network, Input, Output}
+use Rattle.bayou_print.specs.declared.fault.RunFault.{RunFault}
+use Rattle.bayou_print.specs.declared.fault.RunFault.TheVariants.{Line, Memory, Device, Network, Input, Output}
 
 -- what may end the start of a server
-abbrev pub IsStartFault : Fault → Type 0
+abbrev pub IsStartFault : RunFault → Type 0
 IsStartFault (Line number fault) = ⊥
 IsStartFault Memory = Unit {0}
 IsStartFault Device = Unit {0}
@@ -12,7 +12,7 @@ IsStartFault Input = ⊥
 IsStartFault Output = ⊥
 
 -- what may end a run over a network whose servers were started
-abbrev pub IsPhaseFault : Fault → Type 0
+abbrev pub IsPhaseFault : RunFault → Type 0
 IsPhaseFault (Line number fault) = ⊥
 IsPhaseFault Memory = Unit {0}
 IsPhaseFault Device = ⊥

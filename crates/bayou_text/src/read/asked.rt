@@ -4,7 +4,7 @@ ghost use Rattle.bayou_text.specs.Lines as grammar;
 ghost use Rattle.bayou_text.specs.Reading.{Answers};
 ghost use Rattle.bayou_text.specs.Said.{command_said, said};
 
-use crate::command::Command;
+use crate::command::{Command, Question};
 use crate::line::{Line, LineFault, Shape};
 use crate::read::trial::trial_in;
 use serde_json::Value;
@@ -15,16 +15,16 @@ pub(crate) fn asked_in(word: &str, parts: &[Value]) -> Result<Line, LineFault>
     ensures { Answers said result (grammar.asked_of word.now (map view parts.now)) }
 {
     if word == "totals" {
-        return bare_in(Command::Totals, parts);
+        return bare_in(Command::Question(Question::Totals), parts);
     }
     if word == "judge" {
-        return bare_in(Command::Judge, parts);
+        return bare_in(Command::Question(Question::Judge), parts);
     }
     if word == "survey" {
-        return bare_in(Command::Survey, parts);
+        return bare_in(Command::Question(Question::Survey), parts);
     }
     if word == "book" {
-        return bare_in(Command::Book, parts);
+        return bare_in(Command::Question(Question::Book), parts);
     }
     if word == "phase" {
         return bare_in(Command::Phase, parts);

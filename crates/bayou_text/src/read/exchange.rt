@@ -4,7 +4,7 @@ ghost use Rattle.bayou_text.specs.Lines as grammar;
 ghost use Rattle.bayou_text.specs.Reading.{Answers};
 ghost use Rattle.bayou_text.specs.Said.{said};
 
-use crate::command::Command;
+use crate::command::{Command, Exchange, Extent};
 use crate::line::{Line, LineFault, Shape};
 use crate::read::asked::asked_in;
 use crate::read::number::{cut_in, server_in};
@@ -29,16 +29,18 @@ fn pulling_in(parts: &[Value]) -> Result<Line, LineFault>
     ensures { Answers said result (grammar.pulling_in (map view parts.now)) }
 {
     match parts {
-        [to, from] => Ok(Line::Command(Command::Pull {
+        [to, from] => Ok(Line::Command(Command::Exchange(Exchange {
             to: server_in(to)?,
             from: server_in(from)?,
-            cut: None,
-        })),
-        [to, from, items] => Ok(Line::Command(Command::Pull {
+            extent: Extent::Lacking { cut: None },
+        }))),
+        [to, from, items] => Ok(Line::Command(Command::Exchange(Exchange {
             to: server_in(to)?,
             from: server_in(from)?,
-            cut: Some(cut_in(items)?),
-        })),
+            extent: Extent::Lacking {
+                cut: Some(cut_in(items)?),
+            },
+        }))),
         _ => Err(LineFault::BadShape(Shape::Arity)),
     }
 }
@@ -50,8 +52,9 @@ fn resending_in(parts: &[Value]) -> Result<Line, LineFault>
     let [to, from] = parts else {
         return Err(LineFault::BadShape(Shape::Arity));
     };
-    Ok(Line::Command(Command::Resend {
+    Ok(Line::Command(Command::Exchange(Exchange {
         to: server_in(to)?,
         from: server_in(from)?,
-    }))
+        extent: Extent::All,
+    })))
 }

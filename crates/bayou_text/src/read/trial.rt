@@ -4,7 +4,7 @@ ghost use Rattle.bayou_text.specs.Lines as grammar;
 ghost use Rattle.bayou_text.specs.Reading.{Answers};
 ghost use Rattle.bayou_text.specs.Said.{said};
 
-use crate::command::{Command, PlannedFailure};
+use crate::command::{Command, PlannedFailure, Trial, TrialKind};
 use crate::line::{Line, LineFault, Shape};
 use crate::read::alone_in;
 use crate::read::number::{calls_in, kept_in, lost_in, server_in};
@@ -22,14 +22,16 @@ pub(crate) fn trial_in(word: &str, parts: &[Value]) -> Result<Line, LineFault>
         return losing_in(parts);
     }
     if word == "reopen" {
-        return Ok(Line::Command(Command::Reopen {
+        return Ok(Line::Command(Command::Trial(Trial {
             server: alone_in(parts)?,
-        }));
+            kind: TrialKind::Reopen,
+        })));
     }
     if word == "restart" {
-        return Ok(Line::Command(Command::Restart {
+        return Ok(Line::Command(Command::Trial(Trial {
             server: alone_in(parts)?,
-        }));
+            kind: TrialKind::Restart,
+        })));
     }
     Err(LineFault::BadShape(Shape::Command))
 }
@@ -41,13 +43,13 @@ fn fusing_in(parts: &[Value]) -> Result<Line, LineFault>
     let [server, calls, kept] = parts else {
         return Err(LineFault::BadShape(Shape::Arity));
     };
-    Ok(Line::Command(Command::Fuse {
+    Ok(Line::Command(Command::Trial(Trial {
         server: server_in(server)?,
-        failure: PlannedFailure {
+        kind: TrialKind::Fuse(PlannedFailure {
             calls: calls_in(calls)?,
             kept: kept_in(kept)?,
-        },
-    }))
+        }),
+    })))
 }
 
 #[tactic(auto, unfolding(crate::specs::Lines::losing_in))]
@@ -57,8 +59,8 @@ fn losing_in(parts: &[Value]) -> Result<Line, LineFault>
     let [server, count] = parts else {
         return Err(LineFault::BadShape(Shape::Arity));
     };
-    Ok(Line::Command(Command::Lose {
+    Ok(Line::Command(Command::Trial(Trial {
         server: server_in(server)?,
-        count: lost_in(count)?,
-    }))
+        kind: TrialKind::Lose(lost_in(count)?),
+    })))
 }

@@ -6,27 +6,41 @@ use Rattle.bayou_base.specs.declared.entry.What.TheVariants as what
 use Rattle.bayou_lang.specs.Ranges.{IsKey, IsProgram, IsWrite}
 use Rattle.bayou_text.specs.declared.audit.AuditLine.{AuditLine}
 use Rattle.bayou_text.specs.declared.audit.AuditLine.TheVariants as audit
+use Rattle.bayou_text.specs.declared.command.Attempt.{Attempt}
+use Rattle.bayou_text.specs.declared.command.Attempt.TheVariants as attempt
 use Rattle.bayou_text.specs.declared.command.Command.{Command}
 use Rattle.bayou_text.specs.declared.command.Command.TheVariants as command
+use Rattle.bayou_text.specs.declared.command.Extent.{Extent}
+use Rattle.bayou_text.specs.declared.command.Extent.TheVariants as extent
+use Rattle.bayou_text.specs.declared.command.TrialKind.{TrialKind}
+use Rattle.bayou_text.specs.declared.command.TrialKind.TheVariants as kind
 use Rattle.bayou_text.specs.declared.line.Line.{Line}
 use Rattle.bayou_text.specs.declared.line.Line.TheVariants as line
 
--- what each command keeps by its type
+-- what an operation keeps by its type
+abbrev pub IsAttempt : Attempt → Type 0
+IsAttempt (attempt.Write program) = IsProgram program
+IsAttempt (attempt.Read key) = IsKey key
+
+-- what a trial keeps
+abbrev pub IsTrialKind : TrialKind → Type 0
+IsTrialKind (kind.Fuse failure) = (failure.calls < 2 ^ 32) × (failure.kept < 2 ^ 64)
+IsTrialKind (kind.Lose count) = count < 2 ^ 64
+IsTrialKind kind.Reopen = ⊤
+IsTrialKind kind.Restart = ⊤
+
+-- what an exchange keeps
+abbrev pub IsExtent : Extent → Type 0
+IsExtent (extent.Lacking cut) = IfSome cut (λ items. items < 2 ^ 32)
+IsExtent extent.All = ⊤
+
+-- and each command
 abbrev pub IsCommand : Command → Type 0
 IsCommand (command.Session who asks) = ⊤
-IsCommand (command.Write who place program) = IsProgram program
-IsCommand (command.Read who place key) = IsKey key
-IsCommand (command.Log place) = ⊤
-IsCommand (command.Fuse place failure) = (failure.calls < 2 ^ 32) × (failure.kept < 2 ^ 64)
-IsCommand (command.Lose place count) = count < 2 ^ 64
-IsCommand (command.Reopen place) = ⊤
-IsCommand (command.Restart place) = ⊤
-IsCommand (command.Pull to source cut) = IfSome cut (λ items. items < 2 ^ 32)
-IsCommand (command.Resend to source) = ⊤
-IsCommand command.Totals = ⊤
-IsCommand command.Judge = ⊤
-IsCommand command.Survey = ⊤
-IsCommand command.Book = ⊤
+IsCommand (command.Operation operation) = IsAttempt operation.attempt
+IsCommand (command.Trial trial) = IsTrialKind trial.kind
+IsCommand (command.Exchange exchange) = IsExtent exchange.extent
+IsCommand (command.Question question) = ⊤
 IsCommand command.Phase = ⊤
 
 -- what became of an operation

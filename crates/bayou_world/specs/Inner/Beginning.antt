@@ -9,55 +9,55 @@ use Rattle.std.specs.Global.{Vec}
 use Rattle.bayou_audit.specs.declared.totals.Totals.{Totals}
 use Rattle.bayou_audit.specs.Totals.{is_read, is_refusal, is_write, number_of, totals_of}
 use Rattle.bayou_lang.specs.declared.write.Write.{Write}
-use Rattle.bayou_world.specs.declared.client.Client.{Client}
 use Rattle.bayou_world.specs.declared.event.Event.{Event}
-use Rattle.bayou_world.specs.declared.history.History.{History}
-use Rattle.bayou_world.specs.declared.replica.Replica.{Replica}
 use Rattle.bayou_world.specs.declared.reply.Reply.{Reply}
+use Rattle.bayou_world.specs.declared.run_history.RunHistory.{RunHistory}
 use Rattle.bayou_world.specs.declared.state.State.{State}
-use Rattle.bayou_world.specs.Histories.{Begun}
-use Rattle.bayou_world.specs.Inner.Booking.{Booking, IsBookOf}
-use Rattle.bayou_world.specs.Inner.Good.{IsGood}
+use Rattle.bayou_world.specs.declared.world_server.WorldServer.{WorldServer}
+use Rattle.bayou_world.specs.declared.world_session.WorldSession.{WorldSession}
 use Rattle.bayou_world.specs.Inner.Charges.{AreAmple, IsUnused}
-use Rattle.bayou_world.specs.Inner.Replicas.{IsFresh, device_of, held_by}
+use Rattle.bayou_world.specs.Inner.Good.{IsGoodMachine}
 use Rattle.bayou_world.specs.Inner.Tie.{IsOf}
+use Rattle.bayou_world.specs.Inner.WorldBooks.{Booking, IsBookOf}
+use Rattle.bayou_world.specs.Inner.WorldServers.{IsFresh, device_of, held_by}
 use Rattle.bayou_world.specs.Machine.{Answered, Machine, writes}
+use Rattle.bayou_world.specs.RunHistories.{Begun}
 use Rattle.bayou_world.specs.Runs.{Run, asks_of, places_for}
 
 -- a server that was started first for each of the first so many places
-pub record AreStarted (done count limit : ℕ) (servers : List Replica) : Type 0 where
+pub record AreStarted (done count limit : ℕ) (servers : List WorldServer) : Type 0 where
   pub many : length servers ≡ done
-  pub fresh : (place : ℕ) (d : Replica) → place < done → IsFresh count limit place (slice_index_or servers place d)
-  pub unused : (place : ℕ) (d : Replica) → place < done → IsUnused (device_of (slice_index_or servers place d))
+  pub fresh : (place : ℕ) (d : WorldServer) → place < done → IsFresh count limit place (slice_index_or servers place d)
+  pub unused : (place : ℕ) (d : WorldServer) → place < done → IsUnused (device_of (slice_index_or servers place d))
 
--- a client to which nothing has happened
-pub record IsNewClient (who : ℕ) (asks : Asks) (client : Client) : Type 0 where
-  pub name : client.session.id.index ≡ who
-  pub session : client.session ≡ new_session client.session.id asks
-  pub flight : client.flight ≡ None
-  pub waiting : client.waiting.items ≡ []
+-- a session to which nothing has happened
+pub record IsNewWorldSession (who : ℕ) (asks : Asks) (world_session : WorldSession) : Type 0 where
+  pub name : world_session.session.id.index ≡ who
+  pub session : world_session.session ≡ new_session world_session.session.id asks
+  pub flight : world_session.flight ≡ None
+  pub waiting : world_session.waiting.items ≡ []
 
 -- the seat of this number: taken where one of the sessions has it
-abbrev pub IsFirstSeat : ℕ → Option Asks → Option Client → Type 0
+abbrev pub IsFirstSeat : ℕ → Option Asks → Option WorldSession → Type 0
 IsFirstSeat who None None = Unit {0}
-IsFirstSeat who (Some asks) (Some client) = IsNewClient who asks client
-IsFirstSeat who None (Some client) = ⊥
+IsFirstSeat who (Some asks) (Some world_session) = IsNewWorldSession who asks world_session
+IsFirstSeat who None (Some world_session) = ⊥
 IsFirstSeat who (Some asks) None = ⊥
 
-pub record AreFirstSeats (done : ℕ) (sessions : List Told) (clients : List (Option Client)) : Type 0 where
-  pub many : length clients ≡ done
-  pub each : (who : ℕ) → who < done → IsFirstSeat who (asks_of sessions who) (slice_index_or clients who None)
+pub record AreFirstSeats (done : ℕ) (sessions : List Told) (world_sessions : List (Option WorldSession)) : Type 0 where
+  pub many : length world_sessions ≡ done
+  pub each : (who : ℕ) → who < done → IsFirstSeat who (asks_of sessions who) (slice_index_or world_sessions who None)
 
 -- servers that were started first, and sessions to which nothing has happened
 pub record IsFirstState (begun : Begun) (state : State) : Type 0 where
   pub started : AreStarted begun.count begun.count begun.limit state.servers.items
-  pub seated : AreFirstSeats SESSIONS begun.sessions state.clients.items
+  pub seated : AreFirstSeats SESSIONS begun.sessions state.sessions.items
   pub offers : state.offers.items ≡ []
   pub items : state.items.items ≡ []
   pub served : state.served.items ≡ []
 
 -- what is told of a run in the end; no append of a server's device found no memory
-pub record IsLeft (servers : List Replica) (served_last : List Entry) (answers : List Reply) (booked : Totals) (history : History) : Type 0 where
+pub record IsLeft (servers : List WorldServer) (served_last : List Entry) (answers : List Reply) (booked : Totals) (history : RunHistory) : Type 0 where
   pub ample : AreAmple servers
   pub replies : history.replies.items ≡ answers
   pub served : history.served.items ≡ served_last
@@ -65,7 +65,7 @@ pub record IsLeft (servers : List Replica) (served_last : List Entry) (answers :
   pub totals : history.totals ≡ booked
 
 -- what events leave behind a machine
-pub record Leaves (first : Machine) (events : List Event) (history : History) : Type 0 where
+pub record Leaves (first : Machine) (events : List Event) (history : RunHistory) : Type 0 where
   pub last : Machine
   pub run : Run first events history.replies.items last
   pub served : history.served.items ≡ map (λ (answered : Answered). answered.entry) last.served
@@ -77,7 +77,7 @@ pub record Leaves (first : Machine) (events : List Event) (history : History) : 
 pub record SoFar (first : Machine) (events : List Event) (replies : List Reply) (state : State) (booking : Booking) : Type 0 where
   pub now : Machine
   pub run : Run first events replies now
-  pub good : IsGood now
+  pub good : IsGoodMachine now
   pub count : now.count ≡ first.count
   pub tied : IsOf state now
   pub book : IsBookOf booking now
@@ -87,5 +87,5 @@ pub record IsBooked (old : State) (events : List Event) (replies : List Reply) (
   pub empty : Booking
   pub full : Booking
   pub begins : empty ≡ record { places = places_for events; entries = [] }
-  pub so_far : (first : Machine) → IsGood first → IsOf old first → IsBookOf empty first → SoFar first events replies new full
+  pub so_far : (first : Machine) → IsGoodMachine first → IsOf old first → IsBookOf empty first → SoFar first events replies new full
   pub counted : totals ≡ totals_of 0 (number_of is_read full.entries) (number_of is_write full.entries) (number_of is_refusal full.entries)

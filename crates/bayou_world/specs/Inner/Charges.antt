@@ -4,10 +4,10 @@ use Rattle.std.specs.List.{slice_index_or}
 use Rattle.bayou_device.specs.Device.{greatest_count}
 use Rattle.bayou_device.specs.Memory.{Memory, waiting}
 use Rattle.bayou_world.specs.declared.event.Event.{Event}
-use Rattle.bayou_world.specs.declared.replica.Replica.{Replica}
+use Rattle.bayou_world.specs.declared.world_server.WorldServer.{WorldServer}
 use Rattle.bayou_world.specs.declared.reply.Reply.{Reply}
 use Rattle.bayou_world.specs.Faults.{is_of, number_at, tells_fault, tells_fuse}
-use Rattle.bayou_world.specs.Inner.Replicas.{device_of}
+use Rattle.bayou_world.specs.Inner.WorldServers.{device_of}
 
 abbrev pub one_if : Bool → ℕ
 one_if true = 1
@@ -20,15 +20,15 @@ pub record Spends (fault fused : Bool) (old new : Memory) : Type 0 where
   pub fuses : new.failures + waiting new.fuse + old.lacks ≤ old.failures + waiting old.fuse + new.lacks + one_if fused
 
 -- of the server at that place, and of no other
-pub record AreSpent (place : ℕ) (fault fused : Bool) (old new : List Replica) : Type 0 where
+pub record AreSpent (place : ℕ) (fault fused : Bool) (old new : List WorldServer) : Type 0 where
   pub many : length new ≡ length old
-  pub each : (other : ℕ) (d : Replica) → other < length old
+  pub each : (other : ℕ) (d : WorldServer) → other < length old
       → Spends (if other == place then fault else false) (if other == place then fused else false) (device_of (slice_index_or old other d)) (device_of (slice_index_or new other d))
 
 -- as an event and its reply tell
-pub record SpendsAt (event : Event) (reply : Reply) (old new : List Replica) : Type 0 where
+pub record SpendsAt (event : Event) (reply : Reply) (old new : List WorldServer) : Type 0 where
   pub many : length new ≡ length old
-  pub each : (other : ℕ) (d : Replica) → other < length old
+  pub each : (other : ℕ) (d : WorldServer) → other < length old
       → Spends (if is_of other event then tells_fault reply else false) (if is_of other event then tells_fuse reply else false)
       (device_of (slice_index_or old other d)) (device_of (slice_index_or new other d))
 
@@ -43,13 +43,13 @@ IsUnused device = IsCharged 0 0 device
 
 -- so it is of each server behind these events and replies, and at each time before the faults were no more than the fuses and what
 -- lacks there are by now
-pub record AreCharged (many : ℕ) (events : List Event) (replies : List Reply) (servers : List Replica) : Type 0 where
+pub record AreCharged (many : ℕ) (events : List Event) (replies : List Reply) (servers : List WorldServer) : Type 0 where
   pub as_many : length events ≡ length replies
   pub length_is : length servers ≡ many
-  pub now : (place : ℕ) (d : Replica) → place < many → IsCharged (number_at tells_fault place events replies) (number_at tells_fuse place events replies) (device_of (slice_index_or servers place d))
-  pub before : (place at : ℕ) (d : Replica) → place < many
+  pub now : (place : ℕ) (d : WorldServer) → place < many → IsCharged (number_at tells_fault place events replies) (number_at tells_fuse place events replies) (device_of (slice_index_or servers place d))
+  pub before : (place at : ℕ) (d : WorldServer) → place < many
       → number_at tells_fault place (take at events) (take at replies) ≤ number_at tells_fuse place (take at events) (take at replies) + (device_of (slice_index_or servers place d)).lacks
 
 -- no append of theirs found no memory
-abbrev pub AreAmple : List Replica → Type 0
-AreAmple servers = (place : ℕ) (d : Replica) → place < length servers → (device_of (slice_index_or servers place d)).lacks ≡ 0
+abbrev pub AreAmple : List WorldServer → Type 0
+AreAmple servers = (place : ℕ) (d : WorldServer) → place < length servers → (device_of (slice_index_or servers place d)).lacks ≡ 0

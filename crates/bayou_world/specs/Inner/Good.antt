@@ -33,8 +33,8 @@ pub record IsGoodServer (count limit : ℕ) (servers : ℕ → ServerSets) (plac
   pub had : All (IsFrontOf (writes server.held)) server.had
   pub doubt : (made : Made) → server.doubt ≡ Some made → MayBeDoubted count limit servers place server.held made
 
-abbrev pub AreGood : (count limit : ℕ) → (ℕ → ServerSets) → Type 0
-AreGood count limit servers = (place : ℕ) → IsGoodServer count limit servers place (servers place)
+abbrev pub AreGoodServers : (count limit : ℕ) → (ℕ → ServerSets) → Type 0
+AreGoodServers count limit servers = (place : ℕ) → IsGoodServer count limit servers place (servers place)
 
 -- each offer is of what its server held
 abbrev pub AreOffers : (ℕ → ServerSets) → List Offered → Type 0
@@ -43,13 +43,13 @@ AreOffers servers offers = All (λ (offer : Offered). IsFrontOf (writes (servers
 -- ---- what sessions were answered
 
 -- what an answer tells was so
-abbrev pub IsTrue : (ℕ → ServerSets) → What → ℕ → Answered → Type 0
-IsTrue servers (whats.Read key vector) place answered = (answered.made ≡ None) × IsFrontOf (writes (servers place).held) answered.database × (vector ≡ count_of answered.database)
-IsTrue servers (whats.Write wid stamp deps) place answered = (made : Made) × (answered.made ≡ Some made) × IsHome servers made × (made.write.wid ≡ wid)
-IsTrue servers whats.Refused place answered = answered.made ≡ None
+abbrev pub WasSo : (ℕ → ServerSets) → What → ℕ → Answered → Type 0
+WasSo servers (whats.Read key vector) place answered = (answered.made ≡ None) × IsFrontOf (writes (servers place).held) answered.database × (vector ≡ count_of answered.database)
+WasSo servers (whats.Write wid stamp deps) place answered = (made : Made) × (answered.made ≡ Some made) × IsHome servers made × (made.write.wid ≡ wid)
+WasSo servers whats.Refused place answered = answered.made ≡ None
 
 abbrev pub IsTrueAnswer : (ℕ → ServerSets) → Answered → Type 0
-IsTrueAnswer servers answered = IsTrue servers answered.entry.what answered.entry.server.index answered
+IsTrueAnswer servers answered = WasSo servers answered.entry.what answered.entry.server.index answered
 
 -- the session has been given what it asked for, in its own words: what it read, and what its Writes say
 pub record IsCoveredRead (session : SessionSets) (database : List Write) : Type 0 where
@@ -96,8 +96,8 @@ pub record IsGoodSession (served : List Answered) (who : ℕ) (session : Session
   pub flight : IfSome session.flight (IsGoodFlight served who session)
 
 -- all of it
-pub record IsGood (machine : Machine) : Type 0 where
-  pub servers : AreGood machine.count machine.limit machine.servers
+pub record IsGoodMachine (machine : Machine) : Type 0 where
+  pub servers : AreGoodServers machine.count machine.limit machine.servers
   pub offers : AreOffers machine.servers machine.offers
   pub items : All (IsHome machine.servers) machine.items
   pub served : All (IsTrueAnswer machine.servers) machine.served

@@ -10,12 +10,12 @@ use Rattle.bayou_base.specs.declared.limits.TheConstants.{SERVERS, SESSIONS}
 use Rattle.bayou_lang.specs.declared.write.Write.{Write}
 use Rattle.bayou_lang.specs.Writes.{count_of}
 use Rattle.bayou_server.specs.Server.{Core}
-use Rattle.bayou_world.specs.declared.client.Client.{Client}
-use Rattle.bayou_world.specs.declared.client.Flight.{Flight}
-use Rattle.bayou_world.specs.declared.replica.Replica.{Replica}
+use Rattle.bayou_world.specs.declared.world_session.WorldSession.{WorldSession}
+use Rattle.bayou_world.specs.declared.world_session.Flight.{Flight}
+use Rattle.bayou_world.specs.declared.world_server.WorldServer.{WorldServer}
 use Rattle.bayou_world.specs.declared.state.State.{State}
-use Rattle.bayou_world.specs.Inner.Good.{IsGood}
-use Rattle.bayou_world.specs.Inner.Replicas.{IsKept, core_of, is_stopped}
+use Rattle.bayou_world.specs.Inner.Good.{IsGoodMachine}
+use Rattle.bayou_world.specs.Inner.WorldServers.{IsKept, core_of, is_stopped}
 use Rattle.bayou_world.specs.Invariant.{IsVectorOf}
 use Rattle.bayou_world.specs.Machine.{Answered, Machine, Made, Offered, ServerSets, SessionSets, writes}
 
@@ -28,10 +28,10 @@ pub record IsServerOf (count limit place : ℕ) (core : Core) (server : ServerSe
   pub is : core ≡ record { id = place; count = count; limit = limit; held = writes server.held; doubt = option_map write_of server.doubt }
 
 -- the same server, running or stopped, over an honest device
-pub record IsReplicaOf (count limit place : ℕ) (replica : Replica) (server : ServerSets) : Type 0 where
-  pub stopped : server.stopped ≡ is_stopped replica
-  pub core : IsServerOf count limit place (core_of replica) server
-  pub kept : IsKept replica
+pub record IsWorldServerOf (count limit place : ℕ) (world_server : WorldServer) (server : ServerSets) : Type 0 where
+  pub stopped : server.stopped ≡ is_stopped world_server
+  pub core : IsServerOf count limit place (core_of world_server) server
+  pub kept : IsKept world_server
 
 -- what was accepted is told by the entry
 abbrev pub IsAcceptedIn : What → Option Accepted → Type 0
@@ -46,39 +46,39 @@ IsFlightOf None (Some answered) = ⊥
 IsFlightOf (Some flight) None = ⊥
 
 -- the session's two vectors stand for its sets
-pub record IsClientOf (who : ℕ) (client : Client) (session : SessionSets) : Type 0 where
-  pub name : client.session.id.index ≡ who
-  pub asks : client.session.asks ≡ session.asks
-  pub begun : client.session.begun ≡ session.begun
-  pub long : (length client.session.reads ≡ SERVERS) × (length client.session.writes ≡ SERVERS)
-  pub reads : IsVectorOf client.session.reads session.reads
-  pub writes : IsVectorOf client.session.writes session.writes
-  pub flight : IsFlightOf client.flight session.flight
-  pub waiting : client.waiting.items ≡ session.waiting
+pub record IsWorldSessionOf (who : ℕ) (world_session : WorldSession) (session : SessionSets) : Type 0 where
+  pub name : world_session.session.id.index ≡ who
+  pub asks : world_session.session.asks ≡ session.asks
+  pub begun : world_session.session.begun ≡ session.begun
+  pub long : (length world_session.session.reads ≡ SERVERS) × (length world_session.session.writes ≡ SERVERS)
+  pub reads : IsVectorOf world_session.session.reads session.reads
+  pub writes : IsVectorOf world_session.session.writes session.writes
+  pub flight : IsFlightOf world_session.flight session.flight
+  pub waiting : world_session.waiting.items ≡ session.waiting
   pub own : All (λ (entry : Entry). entry.session.index ≡ who) session.waiting
 
-abbrev pub IsSeatOf : ℕ → Option Client → Option SessionSets → Type 0
+abbrev pub IsSeatOf : ℕ → Option WorldSession → Option SessionSets → Type 0
 IsSeatOf who None None = Unit {0}
-IsSeatOf who (Some client) (Some session) = IsClientOf who client session
+IsSeatOf who (Some world_session) (Some session) = IsWorldSessionOf who world_session session
 IsSeatOf who None (Some session) = ⊥
-IsSeatOf who (Some client) None = ⊥
+IsSeatOf who (Some world_session) None = ⊥
 
--- the client of this number, if there is one
-abbrev pub seat : List (Option Client) → ℕ → Option Client
-seat clients who = slice_index_or clients who None
+-- the session of this number, if there is one
+abbrev pub seat : List (Option WorldSession) → ℕ → Option WorldSession
+seat world_sessions who = slice_index_or world_sessions who None
 
-pub record IsTied (servers : List Replica) (clients : List (Option Client)) (offers : List (List ℕ)) (items : List Write) (served : List Entry) (machine : Machine) : Type 0 where
+pub record IsTied (servers : List WorldServer) (world_sessions : List (Option WorldSession)) (offers : List (List ℕ)) (items : List Write) (served : List Entry) (machine : Machine) : Type 0 where
   pub many : length servers ≡ machine.count
-  pub servers_are : (place : ℕ) (d : Replica) → place < machine.count → IsReplicaOf machine.count machine.limit place (slice_index_or servers place d) (machine.servers place)
-  pub seats : length clients ≡ SESSIONS
-  pub clients_are : (who : ℕ) → who < SESSIONS → IsSeatOf who (seat clients who) (machine.sessions who)
+  pub servers_are : (place : ℕ) (d : WorldServer) → place < machine.count → IsWorldServerOf machine.count machine.limit place (slice_index_or servers place d) (machine.servers place)
+  pub seats : length world_sessions ≡ SESSIONS
+  pub sessions_are : (who : ℕ) → who < SESSIONS → IsSeatOf who (seat world_sessions who) (machine.sessions who)
   pub offers_are : offers ≡ map (λ (offer : Offered). count_of offer.database) machine.offers
   pub items_are : items ≡ writes machine.items
   pub served_are : served ≡ map (λ (answered : Answered). answered.entry) machine.served
 
 abbrev pub IsOf : State → Machine → Type 0
-IsOf state machine = IsTied state.servers.items state.clients.items state.offers.items state.items.items state.served.items machine
+IsOf state machine = IsTied state.servers.items state.sessions.items state.offers.items state.items.items state.served.items machine
 
 -- Whatever good machine the old state is tied to: what is done to the machine leaves one that the new state is tied to.
 abbrev pub Follows : State → (Machine → Machine → Type 0) → State → Type 0
-Follows old Does new = (machine : Machine) → IsGood machine → IsOf old machine → (next : Machine) × Does machine next × IsOf new next
+Follows old Does new = (machine : Machine) → IsGoodMachine machine → IsOf old machine → (next : Machine) × Does machine next × IsOf new next

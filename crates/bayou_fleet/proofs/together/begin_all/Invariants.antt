@@ -2,8 +2,8 @@
 use Rattle.std.proofs.Common.{◌≡◌, ◌+◌, ◌≤◌, length, vec_capacity, vec_len}
 use Rattle.bayou_fleet.proofs.together.begin_all.Given as goal
 
-abbrev pub invariant-loop-member : goal.invariant-loop-member
-invariant-loop-member g l = record {
-  all : vec_len l.going + length l.member-iterator.rest.items ≡ vec_len l.fn.members;
-  room : vec_len l.fn.members ≤ vec_capacity l.going;
+abbrev pub invariant-loop-session : goal.invariant-loop-session
+invariant-loop-session g l = record {
+  all : vec_len l.going + length l.session-iterator.rest.items ≡ vec_len l.fn.sessions;
+  room : vec_len l.fn.sessions ≤ vec_capacity l.going;
 }

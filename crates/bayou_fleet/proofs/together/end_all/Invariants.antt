@@ -4,6 +4,6 @@ use Rattle.bayou_fleet.proofs.together.end_all.Given as goal
 
 abbrev pub invariant-loop-one : goal.invariant-loop-one
 invariant-loop-one g l = record {
-  all : vec_len l.members + length l.one-iterator.rest.items ≡ vec_len l.fn.going;
-  room : vec_len l.fn.going ≤ vec_capacity l.members;
+  all : vec_len l.sessions + length l.one-iterator.rest.items ≡ vec_len l.fn.going;
+  room : vec_len l.fn.going ≤ vec_capacity l.sessions;
 }

@@ -3,7 +3,7 @@ use Rattle.std.proofs.KnownBytes.{Appends-trans}
 use Rattle.std.specs.Io.KnownBytes.{WriteAppends}
 use Rattle.bayou_streams.specs.declared.channel.Turn.{Turn}
 use Rattle.bayou_streams.specs.Turns.{count_of}
-use Rattle.bayou_streams.proofs.Turned.{moves_front}
+use Rattle.bayou_streams.specs.Laws.Turned.{moves_front}
 use Rattle.bayou_frames.proofs.framing.send.Goals as goal
 
 pub loop-rest-preserved-in-Ok-Moved : goal.loop-rest-preserved-in-Ok-Moved

@@ -1,5 +1,5 @@
 use Rattle.std.proofs.Common.{◌≡◌, length}
-use Rattle.bayou_judge.specs.History.{lists_of}
+use Rattle.bayou_judge.specs.History.{lent_lists}
 use Rattle.bayou_judge.specs.Inner.Checks.{AreRead}
 use Rattle.bayou_judge.proofs.dumps.indexes_of.Given as goal
 
@@ -7,5 +7,5 @@ use Rattle.bayou_judge.proofs.dumps.indexes_of.Given as goal
 abbrev pub invariant-loop-server : goal.invariant-loop-server
 invariant-loop-server l = record {
   as_many : length l.indexes.items ≡ l.server;
-  read : AreRead l.count (lists_of l.dumps) l.server l.indexes.items;
+  read : AreRead l.count (lent_lists l.dumps) l.server l.indexes.items;
 }

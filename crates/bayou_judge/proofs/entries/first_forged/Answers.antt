@@ -1,7 +1,7 @@
 use Rattle.std.proofs.Common.{◌≡◌, true, false, None, Some, get_or, set, take, sym, ◌∙◌, refl, subst, arith}
 use Rattle.std.proofs.lemmas.List.{length-set}
 use Rattle.bayou_judge.specs.declared.entries.Latest.{Latest}
-use Rattle.bayou_judge.specs.History.{lists_of}
+use Rattle.bayou_judge.specs.History.{lent_lists}
 use Rattle.bayou_judge.specs.Inner.Heard.{AreTold, IsLatest}
 use Rattle.bayou_judge.proofs.EntriesGenuine.{first_forged_is, genuine_more, genuine_whole, latest_more, longer, none_heard}
 use Rattle.bayou_judge.proofs.entries.first_forged.Goals as goal
@@ -20,7 +20,7 @@ returns-then-not-is_genuine c =
     let entries = c.args.entries.now in
     let kept = c.loop-at.invariant in
     let heard = subst (λ s. IsLatest (take c.loop-at.at entries) entry.session.index (get_or c.loop-at.latest s None)) (sym c.from-session.ensures) (kept.latest entry.session.index entry.session.in_range) in
-    first_forged_is c.args.count (lists_of c.args.dumps.now) entries c.loop-at.at entry c.loop-at-test.true c.index-entries-at.is
+    first_forged_is c.args.count (lent_lists c.args.dumps.now) entries c.loop-at.at entry c.loop-at-test.true c.index-entries-at.is
     (λ genuine. let both : true ≡ false = sym ((c.is_genuine.ensures (take c.loop-at.at entries) kept.told heard).1 genuine) ∙ c.if-not-is_genuine.true in cc)
     kept.genuine
 
@@ -30,7 +30,7 @@ loop-at-preserved c =
     let entries = c.args.entries.now in
     let at = c.loop-at.at in
     let kept = c.loop-at.invariant in
-    let dumps = lists_of c.args.dumps.now in
+    let dumps = lent_lists c.args.dumps.now in
     let heard = subst (λ s. IsLatest (take at entries) entry.session.index (get_or c.loop-at.latest s None)) (sym c.from-session.ensures) (kept.latest entry.session.index entry.session.in_range) in
     let genuine = (c.is_genuine.ensures (take at entries) kept.told heard).0 c.if-not-is_genuine.false in
     let latest : Latest = record { place = entry.place; asks = entry.asks } in
@@ -45,4 +45,4 @@ loop-at-preserved c =
     }
 
 pub returns : goal.returns
-returns c = genuine_whole c.args.count (lists_of c.args.dumps.now) c.args.entries.now c.loop-at.at c.loop-at-test.false c.loop-at.invariant.genuine
+returns c = genuine_whole c.args.count (lent_lists c.args.dumps.now) c.args.entries.now c.loop-at.at c.loop-at-test.false c.loop-at.invariant.genuine

@@ -13,11 +13,11 @@ returns-then-is_empty g c before front number in_order draft =
 pub returns-in-Err : goal.returns-in-Err
 returns-in-Err g c before front number in_order draft =
     let some : c.args.bytes.now ≢ [] = λ e. let none = ap (λ bytes. length bytes == 0) e in cc in
-    rw c.of_line.ensures (own_fault g.D.Front.order c.args.number front c.args.bytes.now c.in-Err.fault some c.in-Err.ensures.fault)
+    rw c.of_line.ensures (own_fault g.F.Front.order c.args.number front c.args.bytes.now c.in-Err.fault some c.in-Err.ensures.fault)
 
 pub returns-then-branch : goal.returns-then-branch
 returns-then-branch g c before front number in_order draft =
-    let order = g.D.Front.order in
+    let order = g.F.Front.order in
     let told = said c.in-Ok.line in
     let some : c.args.bytes.now ≢ [] = λ e. let none = ap (λ bytes. length bytes == 0) e in cc in
     let behind = c.in_ok-add.ensures front draft in

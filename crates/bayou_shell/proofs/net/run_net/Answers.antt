@@ -1,5 +1,5 @@
 use Rattle.std.proofs.lemmas.Result.{err_from_is_err_and}
-use Rattle.bayou_script.specs.Plan.{plan_of}
+use Rattle.bayou_script.specs.Plan.{network_plan_of}
 use Rattle.bayou_streams.specs.Account.{account}
 use Rattle.bayou_shell.proofs.Nets.{NetsAs-script, NetsAs-unread, nets_reads}
 use Rattle.bayou_shell.proofs.net.run_net.Goals as goal
@@ -13,7 +13,7 @@ returns-in_err-script-clause-nets g c =
 pub returns-clause-nets : goal.returns-clause-nets
 returns-clause-nets g c =
     NetsAs-script (g.N.Networks.runs c.args.folder.now) (g.R.Read.remaining c.args.input.now.reader) (account g.W.Write.contents c.args.output.now) (account g.W.Write.contents c.run.new.output)
-    (plan_of c.in_ok-script.script) c.run.result c.in_ok-script.ensures.script c.run.ensures.runs c.run.ensures.fault c.run.ensures.unstarted c.run.ensures.took
+    (network_plan_of c.in_ok-script.script) c.run.result c.in_ok-script.ensures.script c.run.ensures.runs c.run.ensures.fault c.run.ensures.unstarted c.run.ensures.took
 
 pub returns-clause-read : goal.returns-clause-read
 returns-clause-read g c = nets_reads _ _ c.run.result c.run.ensures.fault

@@ -2,9 +2,9 @@ use Rattle.std.proofs.Common.{◌∙◌, Err, ap, map, refl, subst, sym}
 use Rattle.std.proofs.KnownBytes.{Keeps-refl}
 use Rattle.bayou_command.specs.declared.Stop.{Stop}
 use Rattle.bayou_command.specs.Words.{Asked, Names, task_seen}
-use Rattle.bayou_print.specs.declared.fault.Fault.TheVariants.{Memory}
+use Rattle.bayou_print.specs.declared.fault.RunFault.TheVariants.{Memory}
 use Rattle.bayou_streams.specs.Account.{account}
-use Rattle.bayou_streams.proofs.Taken.{Pays-none}
+use Rattle.bayou_streams.specs.Laws.Taken.{Pays-none}
 use Rattle.bayou_shell.specs.Program.{WorksOn, asked, input_of_asked, mistaken, no_memory}
 use Rattle.bayou_shell.proofs.Tasks.{asked_once, no_mistake, no_text, pays_none, pays_one, works_so, works_unread}
 use Rattle.bayou_shell.proofs.program.run_main.Goals as goal

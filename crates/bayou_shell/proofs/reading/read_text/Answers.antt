@@ -7,9 +7,9 @@ use Rattle.bayou_streams.specs.Turns.{count_of}
 use Rattle.bayou_shell.proofs.Read.{refused_all, refused_front}
 use Rattle.bayou_shell.proofs.reading.read_text.Goals as goal
 
-pub returns-in_err-end-in-Moved-eq0-clause-fault :
-    goal.returns-in_err-end-in-Moved-eq0-clause-fault
-returns-in_err-end-in-Moved-eq0-clause-fault g c =
+pub returns-in_err-finish-in-Moved-eq0-clause-fault :
+    goal.returns-in_err-finish-in-Moved-eq0-clause-fault
+returns-in_err-finish-in-Moved-eq0-clause-fault g c =
     let p = err_from_is_err_and c.from_residual.result c.from_residual.ensures.1 in
     let (bytes, came, read) = c.loop-turn.invariant.read in
     let start = g.R.Read.remaining c.args.input.now.reader in
@@ -22,10 +22,10 @@ returns-in_err-end-in-Moved-eq0-clause-fault g c =
     let all : Consumes start after bytes = subst (Consumes start after) (append-nil bytes) (Consumes-trans start before after bytes [] came none) in
     let room : 0 < length piece = omega arith in
     rw (p.1, p.2)
-    (refused_all g.T.Taker.order start after bytes c.in_err-end-in-Moved-eq0.field-0.0 all (end zero room) (c.in_err-end-in-Moved-eq0.ensures.said bytes read))
+    (refused_all g.F.Front.order start after bytes c.in_err-finish-in-Moved-eq0.field-0.0 all (end zero room) (c.in_err-finish-in-Moved-eq0.ensures.said bytes read))
 
-pub loop-turn-preserved-in_ok-take-in-Moved : goal.loop-turn-preserved-in_ok-take-in-Moved
-loop-turn-preserved-in_ok-take-in-Moved g c =
+pub loop-turn-preserved-in_ok-feed-in-Moved : goal.loop-turn-preserved-in_ok-feed-in-Moved
+loop-turn-preserved-in_ok-feed-in-Moved g c =
     let (bytes, came, read) = c.loop-turn.invariant.read in
     let start = g.R.Read.remaining c.args.input.now.reader in
     let before = g.R.Read.remaining c.loop-turn.input.reader in
@@ -34,13 +34,13 @@ loop-turn-preserved-in_ok-take-in-Moved g c =
     let count = c.in-Moved.count in
     let (more, end) = subst (λ (turn : Turn). ReadConsumes before after (count_of (Ok turn)) piece) c.in-Moved.is c.in-Ok.ensures.bytes in
     record {
-      read = (bytes ++ take count piece, Consumes-trans start before after bytes (take count piece) came more, c.in_ok-take-in-Moved.ensures bytes read);
+      read = (bytes ++ take count piece, Consumes-trans start before after bytes (take count piece) came more, c.in_ok-feed-in-Moved.ensures bytes read);
       fewer = omega (arith, c.loop-turn.invariant.fewer, c.in-Ok.ensures.left);
     }
 
-pub returns-in_err-take-in-Moved-clause-fault : goal.returns-in_err-take-in-Moved-clause-fault
-returns-in_err-take-in-Moved-clause-fault g c =
-    let p = err_from_is_err_and c.from_residual-in_err-take-in-Moved.result c.from_residual-in_err-take-in-Moved.ensures.1 in
+pub returns-in_err-feed-in-Moved-clause-fault : goal.returns-in_err-feed-in-Moved-clause-fault
+returns-in_err-feed-in-Moved-clause-fault g c =
+    let p = err_from_is_err_and c.from_residual-in_err-feed-in-Moved.result c.from_residual-in_err-feed-in-Moved.ensures.1 in
     let (bytes, came, read) = c.loop-turn.invariant.read in
     let start = g.R.Read.remaining c.args.input.now.reader in
     let before = g.R.Read.remaining c.loop-turn.input.reader in
@@ -49,5 +49,5 @@ returns-in_err-take-in-Moved-clause-fault g c =
     let count = c.in-Moved.count in
     let (more, end) = subst (λ (turn : Turn). ReadConsumes before after (count_of (Ok turn)) piece) c.in-Moved.is c.in-Ok.ensures.bytes in
     rw (p.1, p.2)
-    (refused_front g.T.Taker.order start after (bytes ++ take count piece) c.in_err-take-in-Moved.field-0.0
-    (Consumes-trans start before after bytes (take count piece) came more) (c.in_err-take-in-Moved.ensures bytes read))
+    (refused_front g.F.Front.order start after (bytes ++ take count piece) c.in_err-feed-in-Moved.field-0.0
+    (Consumes-trans start before after bytes (take count piece) came more) (c.in_err-feed-in-Moved.ensures bytes read))

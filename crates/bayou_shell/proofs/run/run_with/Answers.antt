@@ -1,7 +1,7 @@
 use Rattle.std.proofs.lemmas.Result.{err_from_is_err_and}
 use Rattle.bayou_script.specs.Plan.{plan_of}
 use Rattle.bayou_streams.specs.Account.{account}
-use Rattle.bayou_streams.proofs.Taken.{Pays-none}
+use Rattle.bayou_streams.specs.Laws.Taken.{Pays-none}
 use Rattle.bayou_shell.proofs.Runs.{RunsAs-script, RunsAs-unbegun, RunsAs-unread, run_paid, run_reads, unbegun_reads, unbegun_writes}
 use Rattle.bayou_shell.proofs.run.run_with.Goals as goal
 
@@ -16,22 +16,22 @@ returns-clause-runs g c =
     RunsAs-script (g.R.Read.remaining c.args.input.now.reader) (account g.W.Write.contents c.args.output.now) (account g.W.Write.contents c.answer_all.new.output)
     (plan_of c.in_ok-script.script) c.answer_all.result c.in_ok-script.ensures.script c.answer_all.ensures.ok c.answer_all.ensures.err
 
-pub returns-in_err-store-clause-runs : goal.returns-in_err-store-clause-runs
-returns-in_err-store-clause-runs g c =
-    let p = err_from_is_err_and c.from_residual-in_err-store.result c.from_residual-in_err-store.ensures.1 in
+pub returns-in_err-machine-clause-runs : goal.returns-in_err-machine-clause-runs
+returns-in_err-machine-clause-runs g c =
+    let p = err_from_is_err_and c.from_residual-in_err-machine.result c.from_residual-in_err-machine.ensures.1 in
     rw (p.1, p.2)
     (RunsAs-unbegun (g.R.Read.remaining c.args.input.now.reader) (g.W.Write.contents c.args.output.now.channel.writer) (plan_of c.in_ok-script.script)
-    c.in_err-store.field-0.0 c.in_ok-script.ensures.script c.in_err-store.ensures.fault)
+    c.in_err-machine.field-0.0 c.in_ok-script.ensures.script c.in_err-machine.ensures.fault)
 
-pub returns-in_err-store-clause-read : goal.returns-in_err-store-clause-read
-returns-in_err-store-clause-read g c =
-    let p = err_from_is_err_and c.from_residual-in_err-store.result c.from_residual-in_err-store.ensures.1 in
-    rw (p.1, p.2) (unbegun_reads _ _ c.in_err-store.field-0.0)
+pub returns-in_err-machine-clause-read : goal.returns-in_err-machine-clause-read
+returns-in_err-machine-clause-read g c =
+    let p = err_from_is_err_and c.from_residual-in_err-machine.result c.from_residual-in_err-machine.ensures.1 in
+    rw (p.1, p.2) (unbegun_reads _ _ c.in_err-machine.field-0.0)
 
-pub returns-in_err-store-clause-written : goal.returns-in_err-store-clause-written
-returns-in_err-store-clause-written g c =
-    let p = err_from_is_err_and c.from_residual-in_err-store.result c.from_residual-in_err-store.ensures.1 in
-    rw (p.1, p.2) (unbegun_writes _ _ c.in_err-store.field-0.0)
+pub returns-in_err-machine-clause-written : goal.returns-in_err-machine-clause-written
+returns-in_err-machine-clause-written g c =
+    let p = err_from_is_err_and c.from_residual-in_err-machine.result c.from_residual-in_err-machine.ensures.1 in
+    rw (p.1, p.2) (unbegun_writes _ _ c.in_err-machine.field-0.0)
 
 pub returns-clause-paid : goal.returns-clause-paid
 returns-clause-paid g c =
@@ -52,8 +52,5 @@ returns-in_err-script-clause-paid g c = Pays-none _ _
 pub returns-in_err-waiting-clause-paid : goal.returns-in_err-waiting-clause-paid
 returns-in_err-waiting-clause-paid g c = Pays-none _ _
 
-pub returns-in_err-store-clause-paid : goal.returns-in_err-store-clause-paid
-returns-in_err-store-clause-paid g c = Pays-none _ _
-
-pub returns-in_err-filing-clause-paid : goal.returns-in_err-filing-clause-paid
-returns-in_err-filing-clause-paid g c = Pays-none _ _
+pub returns-in_err-machine-clause-paid : goal.returns-in_err-machine-clause-paid
+returns-in_err-machine-clause-paid g c = Pays-none _ _

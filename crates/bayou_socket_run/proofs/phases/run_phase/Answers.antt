@@ -17,14 +17,14 @@ returns-in_err-ended-clause-told g c =
     let now = stage g.W.Write.contents in
     rw (p.1, p.2)
     (fault_behind c.in_err-ended.field-0.0 (now c.args.output.now c.args.waiting.now) (now c.write_answers.new.output c.write_answers.new.waiting)
-    (now c.answer_rest.new.output c.answer_rest.new.waiting) c.in_ok-write_answers.ensures.told c.in_err-ended.ensures.told)
+    (now c.answer_closings.new.output c.answer_closings.new.waiting) c.in_ok-write_answers.ensures.told c.in_err-ended.ensures.told)
 
 pub returns-in_err-write-clause-told : goal.returns-in_err-write-clause-told
 returns-in_err-write-clause-told g c =
     let p = err_from_is_err_and c.from_residual-in_err-write.result c.from_residual-in_err-write.ensures.1 in
     let now = stage g.W.Write.contents in
     let start = now c.args.output.now c.args.waiting.now in
-    let rested = now c.answer_rest.new.output c.answer_rest.new.waiting in
+    let rested = now c.answer_closings.new.output c.answer_closings.new.waiting in
     let end = now c.write.new.output c.write.new.self in
     let whole = whole_behind start (now c.write_answers.new.output c.write_answers.new.waiting) rested c.in_ok-write_answers.ensures.told c.in_ok-ended.ensures.told in
     rw (p.1, p.2)
@@ -35,7 +35,7 @@ pub returns-clause-told : goal.returns-clause-told
 returns-clause-told g c =
     let now = stage g.W.Write.contents in
     let start = now c.args.output.now c.args.waiting.now in
-    let rested = now c.answer_rest.new.output c.answer_rest.new.waiting in
+    let rested = now c.answer_closings.new.output c.answer_closings.new.waiting in
     let end = now c.write.new.output c.write.new.self in
     let whole = whole_behind start (now c.write_answers.new.output c.write_answers.new.waiting) rested c.in_ok-write_answers.ensures.told c.in_ok-ended.ensures.told in
     whole_behind start rested end whole ([], written rested end c.in_ok-write.ensures.whole c.in_ok-write.ensures.none)

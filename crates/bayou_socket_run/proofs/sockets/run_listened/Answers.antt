@@ -1,4 +1,4 @@
-use Rattle.bayou_print.specs.declared.fault.Fault.TheVariants.{Memory, Network}
+use Rattle.bayou_print.specs.declared.fault.RunFault.TheVariants.{Memory, Network}
 use Rattle.bayou_print.specs.Waiting.{stage}
 use Rattle.bayou_socket_run.proofs.Told.{fault_told, nothing_told, part_of_whole}
 use Rattle.bayou_socket_run.proofs.sockets.run_listened.Goals as goal

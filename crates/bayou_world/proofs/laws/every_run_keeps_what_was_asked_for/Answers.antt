@@ -1,6 +1,6 @@
 use Rattle.std.proofs.Common.{subst}
 use Rattle.bayou_judge.specs.Guarantees.{Keeps}
-use Rattle.bayou_world.specs.Runs.{history_of_run}
+use Rattle.bayou_world.specs.Runs.{history_of_machine}
 use Rattle.bayou_world.proofs.Keeping.{keeps}
 use Rattle.bayou_world.proofs.Starting.{run_is_good, still_asks}
 use Rattle.bayou_world.proofs.laws.every_run_keeps_what_was_asked_for.Goals as goal
@@ -8,4 +8,4 @@ use Rattle.bayou_world.proofs.laws.every_run_keeps_what_was_asked_for.Goals as g
 pub returns : goal.returns
 returns c count limit places asks events replies last run session wants is =
     let found = still_asks count limit places asks events replies last run session wants is in
-    subst (λ asked. Keeps (history_of_run last) asked session) found.2 (keeps last (run_is_good count limit places asks events replies last run) session found.0 found.1)
+    subst (λ asked. Keeps (history_of_machine last) asked session) found.2 (keeps last (run_is_good count limit places asks events replies last run) session found.0 found.1)

@@ -15,8 +15,8 @@ loop-event-preserved g c =
     let few : length c.loop-event.replies.items < greatest_count = omega (arith, c.loop-event.replies.ok.0, c.loop-event.replies.ok.1, c.loop-event.replies.small) in
     record {
       so_far = λ first good tied book.
-          subst (λ list. SoFar first (take (at + 1) events) list c.step.new.state c.step.new.filing) (sym c.in_ok-push.ensures.items)
-          (SoFar-more first events at c.loop-event.replies.items c.loop-event.state c.step.new.state c.loop-event.filing c.step.new.filing c.event-item.result c.in_ok-step.field-0 inside c.event-item.is
+          subst (λ list. SoFar first (take (at + 1) events) list c.step.new.state c.step.new.book) (sym c.in_ok-push.ensures.items)
+          (SoFar-more first events at c.loop-event.replies.items c.loop-event.state c.step.new.state c.loop-event.book c.step.new.book c.event-item.result c.in_ok-step.field-0 inside c.event-item.is
           (c.loop-event.invariant.so_far first good tied book) c.in_ok-step.ensures.follows);
       charged = λ unused.
           subst (λ list. AreCharged (length c.args.state.now.servers.items) (take (at + 1) events) list c.step.new.state.servers.items) (sym c.in_ok-push.ensures.items)
@@ -29,7 +29,7 @@ returns-clause-so_far g c first good tied book =
     let events = c.args.events.now in
     let at = c.loop-event.event-index in
     let all : length events ≤ at = omega (arith, c.loop-event-test.false) in
-    subst (λ list. SoFar first list c.loop-event.replies.items c.loop-event.state c.loop-event.filing) (take_all at events all) (c.loop-event.invariant.so_far first good tied book)
+    subst (λ list. SoFar first list c.loop-event.replies.items c.loop-event.state c.loop-event.book) (take_all at events all) (c.loop-event.invariant.so_far first good tied book)
 
 pub returns-clause-charged : goal.returns-clause-charged
 returns-clause-charged g c unused =

@@ -3,9 +3,9 @@ use Rattle.bayou_world.proofs.world.play_in_book.Goals as goal
 
 pub returns-clause-booked : goal.returns-clause-booked
 returns-clause-booked g c = record {
-  empty = c.in_ok-filing.filing;
-  full = c.play.new.filing;
-  begins = c.in_ok-filing.ensures ∙ ap (λ n. record { places = n; entries = [] }) c.places_for.ensures;
+  empty = c.in_ok-book.book;
+  full = c.play.new.book;
+  begins = c.in_ok-book.ensures ∙ ap (λ n. record { places = n; entries = [] }) c.places_for.ensures;
   so_far = c.in_ok-replies.ensures.so_far;
   counted = c.totals.ensures;
 }

@@ -1,6 +1,6 @@
 use Rattle.std.proofs.Common.{length, sym, subst}
 use Rattle.bayou_world.specs.Faults.{AreFused}
-use Rattle.bayou_world.specs.Histories.{IsHistory}
+use Rattle.bayou_world.specs.RunHistories.{IsRunHistory}
 use Rattle.bayou_world.specs.Inner.Beginning.{IsLeft}
 use Rattle.bayou_world.proofs.Charging.{fused}
 use Rattle.bayou_world.proofs.Played.{history_is, if_ok}
@@ -11,7 +11,7 @@ pub returns-clause-history : goal.returns-clause-history
 returns-clause-history g c =
     let state = c.play_in_book.new.state in
     let booked = c.in_ok-replies.ensures.booked in
-    if_ok (IsLeft state.servers.items state.served.items c.in_ok-replies.replies.items c.in_ok-replies.totals) (IsHistory c.args.world c.args.events.now)
+    if_ok (IsLeft state.servers.items state.served.items c.in_ok-replies.replies.items c.in_ok-replies.totals) (IsRunHistory c.args.world c.args.events.now)
     (λ history left. history_is c.args.world c.in_ok-state.state state booked.empty booked.full c.args.events.now c.in_ok-replies.replies.items c.in_ok-replies.totals history
     c.in_ok-state.ensures booked.begins booked.so_far left booked.counted) c.leave.result c.leave.ensures
 

@@ -2,8 +2,8 @@
 use Rattle.std.proofs.Common.{map}
 use Rattle.bayou_fleet.proofs.phase.Phase.arranged.Given as goal
 use Rattle.bayou_fleet.specs.Phases.{AreArranged}
-use Rattle.bayou_text.specs.Said.{command_said}
+use Rattle.bayou_script.specs.NetworkSaid.{network_said}
 
 abbrev pub invariant-loop-command : goal.invariant-loop-command
 invariant-loop-command l =
-    AreArranged l.phase.opens.items l.phase.operations.items l.phase.pulls.items l.phase.rest.items (map command_said l.command-iterator.rest.items) (map command_said l.fn.commands.items)
+    AreArranged l.phase.openings.items l.phase.operations.items l.phase.pulls.items l.phase.closings.items (map network_said l.command-iterator.rest.items) (map network_said l.fn.commands.items)

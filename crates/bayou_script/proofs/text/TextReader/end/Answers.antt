@@ -8,7 +8,7 @@ use Rattle.bayou_script.proofs.text.TextReader.end.Goals as goal
 pub returns-in_err-add_line : goal.returns-in_err-add_line
 returns-in_err-add_line g c bytes read =
     let p = err_from_is_err_and c.from_residual.result c.from_residual.ensures.1 in
-    let order = g.D.Front.order in
+    let order = g.F.Front.order in
     let line = c.args.self.line.items in
     let same : c.as_slice.result.now ≡ line = c.as_slice.ensures.value in
     let fault = c.in_err-add_line.ensures read.ended read.front read.number read.in_order read.kept in
@@ -22,4 +22,4 @@ returns g c bytes read =
     let line = c.args.self.line.items in
     let same : c.as_slice.result.now ≡ line = c.as_slice.ensures.value in
     let (after, in_order, draft) = c.in_ok-add_line.ensures read.ended read.front read.number read.in_order read.kept in
-    (after, subst (λ l. InOrderBy g.D.Front.order l after) (ap (λ l. read.ended ++ l ∷ []) same ∙ sym (Cuts-all bytes read.ended line read.cut)) in_order, draft)
+    (after, subst (λ l. InOrderBy g.F.Front.order l after) (ap (λ l. read.ended ++ l ∷ []) same ∙ sym (Cuts-all bytes read.ended line read.cut)) in_order, draft)

@@ -9,7 +9,7 @@ use Rattle.bayou_script.proofs.text.TextReader.end_line.Goals as goal
 pub returns-in_err-add_line : goal.returns-in_err-add_line
 returns-in_err-add_line g c bytes read =
     let p = err_from_is_err_and c.from_residual.result c.from_residual.ensures.1 in
-    let order = g.D.Front.order in
+    let order = g.F.Front.order in
     let line = c.args.self.now.line.items in
     let same : c.as_slice.result.now ≡ line = c.as_slice.ensures.value in
     let fault = c.in_err-add_line.ensures read.ended read.front read.number read.in_order read.kept in
@@ -29,6 +29,6 @@ returns g c bytes read =
       front = after;
       cut = subst (Cuts (bytes ++ 10 ∷ []) (read.ended ++ line ∷ [])) (sym c.clear.ensures.items) (Cuts-end bytes read.ended line read.cut);
       number = next ∙ ap (λ n. n + 1) (read.number ∙ sym (length_push read.ended line));
-      in_order = subst (λ l. InOrderBy g.D.Front.order (read.ended ++ l ∷ []) after) same in_order;
+      in_order = subst (λ l. InOrderBy g.F.Front.order (read.ended ++ l ∷ []) after) same in_order;
       kept = draft;
     }

@@ -7,7 +7,7 @@ pub returns-then-len-ge-MAX_LINE_BYTES : goal.returns-then-len-ge-MAX_LINE_BYTES
 returns-then-len-ge-MAX_LINE_BYTES g c bytes read =
     let line = c.args.self.now.line.items in
     let long : MAX_LINE_BYTES ≤ length line = omega arith in
-    refused_long g.D.Front.order bytes read.ended line c.args.byte c.args.self.now.number read.front (is_other c.args.byte c.requires) read.cut read.in_order
+    refused_long g.F.Front.order bytes read.ended line c.args.byte c.args.self.now.number read.front (is_other c.args.byte c.requires) read.cut read.in_order
     read.number long
 
 pub returns : goal.returns

@@ -7,8 +7,8 @@ pub returns : goal.returns
 returns g c = record {
   ended = [];
   front = [];
-  cut = Cuts-start c.new.result.items c.new.ensures.items;
+  cut = Cuts-start c.new-2.result.items c.new-2.ensures.items;
   number = refl;
   in_order = nothing;
-  kept = c.requires;
+  kept = c.new.ensures;
 }

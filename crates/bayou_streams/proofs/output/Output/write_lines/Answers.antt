@@ -4,8 +4,8 @@ use Rattle.bayou_base.specs.declared.limits.TheConstants.{MAX_TURNS}
 use Rattle.bayou_streams.specs.Account.{Takes, account}
 use Rattle.bayou_streams.specs.Lines.{line_feeds, taken_of, turns_behind}
 use Rattle.bayou_streams.specs.Turns.{count_of}
-use Rattle.bayou_streams.proofs.Taken.{Takes-trans, Takes-turn, turns_again}
-use Rattle.bayou_streams.proofs.Turned.{moves_front}
+use Rattle.bayou_streams.specs.Laws.Taken.{Takes-trans, Takes-turn, turns_again}
+use Rattle.bayou_streams.specs.Laws.Turned.{moves_front}
 use Rattle.bayou_streams.proofs.output.Output.write_lines.Goals as goal
 
 pub loop-rest-preserved-in-Moved : goal.loop-rest-preserved-in-Moved

@@ -2,7 +2,7 @@ use Rattle.std.proofs.Common.{◌<◌, sym, arith, length, set, refl, subst}
 use Rattle.bayou_world.specs.declared.reply.Reply.TheVariants as replies
 use Rattle.bayou_world.specs.Inner.Tie.{IsTied}
 use Rattle.bayou_world.specs.Machine.{Machine}
-use Rattle.bayou_world.specs.Steps.{Fuses}
+use Rattle.bayou_world.specs.Steps.{FuseStep}
 use Rattle.bayou_world.proofs.Tied.{stands_at}
 use Rattle.bayou_world.proofs.TiedServers.{fuse_tied}
 use Rattle.bayou_world.proofs.state.State.fuse.Goals as goal
@@ -15,7 +15,7 @@ returns-clause-follows c machine good tied =
     let known : place < length servers = omega (arith, c.if-at-len.false, c.from-at.ensures, c.len.ensures) in
     let some : 0 < c.args.call = omega (arith, c.if-call-eq0.false) in
     let stands = stands_at servers place c.from-at.result old old c.index_mut.ensures.value c.from-at.ensures refl in
-    subst (λ n. (next : Machine) × Fuses machine place c.args.call replies.Fused next
-    × IsTied (set servers n c.fuse.new.self) c.args.self.now.clients.items c.args.self.now.offers.items c.args.self.now.items.items c.args.self.now.served.items next) (sym c.from-at.ensures)
-    (fuse_tied servers c.args.self.now.clients.items c.args.self.now.offers.items c.args.self.now.items.items c.args.self.now.served.items machine tied place c.args.call old c.fuse.new.self known stands some
+    subst (λ n. (next : Machine) × FuseStep machine place c.args.call replies.Fused next
+    × IsTied (set servers n c.fuse.new.self) c.args.self.now.sessions.items c.args.self.now.offers.items c.args.self.now.items.items c.args.self.now.served.items next) (sym c.from-at.ensures)
+    (fuse_tied servers c.args.self.now.sessions.items c.args.self.now.offers.items c.args.self.now.items.items c.args.self.now.served.items machine tied place c.args.call old c.fuse.new.self known stands some
     c.fuse.ensures.core c.fuse.ensures.runs c.fuse.ensures.kept)

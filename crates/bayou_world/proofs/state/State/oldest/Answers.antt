@@ -7,8 +7,8 @@ use Rattle.bayou_world.proofs.state.State.oldest.Goals as goal
 pub returns-clause-follows : goal.returns-clause-follows
 returns-clause-follows c =
     let who = c.args.who.index in
-    let clients = c.args.self.now.clients.items in
-    let inside : who < length clients = omega (arith, c.if-seat-len.false, c.from-seat.ensures, c.len.ensures) in
-    let at : seat clients who ≡ Some c.in-Some.client =
-    get_or_default clients who None c.index_mut.result.now inside ∙ ap (λ n. get_or clients n c.index_mut.result.now) (sym c.from-seat.ensures) ∙ sym c.index_mut.ensures.value ∙ c.in-Some.is in
-    takes_oldest c.args.self.now _ who c.from-seat.result c.in-Some.client c.oldest.new.self c.oldest.result c.args.who.in_range at c.from-seat.ensures c.oldest.ensures refl refl refl refl refl
+    let world_sessions = c.args.self.now.sessions.items in
+    let inside : who < length world_sessions = omega (arith, c.if-seat-len.false, c.from-seat.ensures, c.len.ensures) in
+    let at : seat world_sessions who ≡ Some c.in-Some.session =
+    get_or_default world_sessions who None c.index_mut.result.now inside ∙ ap (λ n. get_or world_sessions n c.index_mut.result.now) (sym c.from-seat.ensures) ∙ sym c.index_mut.ensures.value ∙ c.in-Some.is in
+    takes_oldest c.args.self.now _ who c.from-seat.result c.in-Some.session c.oldest.new.self c.oldest.result c.args.who.in_range at c.from-seat.ensures c.oldest.ensures refl refl refl refl refl

@@ -1,14 +1,14 @@
 use Rattle.std.proofs.Common.{◌≡◌, ◌<◌, Some, None, ap, sym, ◌∙◌, arith, length, get_or, set, refl, subst, ◌≤◌}
 use Rattle.std.proofs.lemmas.List.{set-get_or, get_or_default}
-use Rattle.bayou_world.specs.declared.replica.Replica.TheVariants.{Running}
+use Rattle.bayou_world.specs.declared.world_server.WorldServer.TheVariants.{Running}
 use Rattle.bayou_base.specs.declared.limits.TheConstants.{MAX_PLACES}
-use Rattle.bayou_world.specs.declared.client.Client.{Client}
-use Rattle.bayou_world.specs.Inner.Replicas.{is_stopped}
+use Rattle.bayou_world.specs.declared.world_session.WorldSession.{WorldSession}
+use Rattle.bayou_world.specs.Inner.WorldServers.{is_stopped}
 use Rattle.bayou_world.specs.Inner.Tie.{IsTied, seat}
 use Rattle.bayou_world.specs.Machine.{Machine}
-use Rattle.bayou_world.specs.Steps.{Reads}
+use Rattle.bayou_world.specs.Steps.{ReadStep}
 use Rattle.bayou_world.specs.declared.reply.Reply.TheVariants as replies
-use Rattle.bayou_world.proofs.Tied.{cannot_begin, no_client, not_true, read_tied, runs_there, same_client, stands_at}
+use Rattle.bayou_world.proofs.Tied.{cannot_begin, no_world_session, not_true, read_tied, runs_there, same_world_session, stands_at}
 use Rattle.bayou_world.proofs.state.State.read.Goals as goal
 use Rattle.bayou_world.proofs.state.State.read.Goals.{then-seat-len-via-then-seat-len, then-seat-len-via-else-seat-len+then-at-len}
 
@@ -17,26 +17,26 @@ returns-clause-follows c machine good tied =
     let who = c.args.who.index in
     let place = c.args.place.index in
     let servers = c.args.self.now.servers.items in
-    let clients = c.args.self.now.clients.items in
+    let world_sessions = c.args.self.now.sessions.items in
     let server = c.in-Running.server in
     let known : place < length servers = omega (arith, c.if-at-len.false, c.from-at.ensures, c.len-else-seat-len.ensures) in
-    let inside : who < length clients = omega (arith, c.if-seat-len.false, c.from-seat.ensures, c.len.ensures) in
+    let inside : who < length world_sessions = omega (arith, c.if-seat-len.false, c.from-seat.ensures, c.len.ensures) in
     let stands : get_or servers place (Running server) ≡ Running server =
     stands_at servers place c.from-at.result c.index.result.now (Running server) c.index.ensures c.from-at.ensures c.in-Running.is in
-    let at : seat clients who ≡ Some c.in-Some.client =
-    get_or_default clients who None c.index_mut.result.now inside ∙ ap (λ n. get_or clients n c.index_mut.result.now) (sym c.from-seat.ensures) ∙ sym c.index_mut.ensures.value ∙ c.in-Some.is in
+    let at : seat world_sessions who ≡ Some c.in-Some.session =
+    get_or_default world_sessions who None c.index_mut.result.now inside ∙ ap (λ n. get_or world_sessions n c.index_mut.result.now) (sym c.from-seat.ensures) ∙ sym c.index_mut.ensures.value ∙ c.in-Some.is in
     let may = c.if-not-may_begin.ensures.0 refl in
-    subst (λ n. (next : Machine) × Reads machine who place c.args.key.now (replies.Read c.read.result) next
-    × IsTied servers (set clients n (Some c.read.new.self)) c.args.self.now.offers.items c.args.self.now.items.items c.args.self.now.served.items next) (sym c.from-seat.ensures)
-    (read_tied c.read_need_is_what_is_asked.ensures servers clients c.args.self.now.offers.items c.args.self.now.items.items c.args.self.now.served.items machine good tied who place c.args.key.now
-    c.in-Some.client c.read.new.self server c.read.result c.args.who.in_range at may.0 may.1 known stands c.read.ensures.counts c.read.ensures.answer c.read.ensures.begun)
+    subst (λ n. (next : Machine) × ReadStep machine who place c.args.key.now (replies.Read c.read.result) next
+    × IsTied servers (set world_sessions n (Some c.read.new.self)) c.args.self.now.offers.items c.args.self.now.items.items c.args.self.now.served.items next) (sym c.from-seat.ensures)
+    (read_tied c.read_need_is_what_is_asked.ensures servers world_sessions c.args.self.now.offers.items c.args.self.now.items.items c.args.self.now.served.items machine good tied who place c.args.key.now
+    c.in-Some.session c.read.new.self server c.read.result c.args.who.in_range at may.0 may.1 known stands c.read.ensures.counts c.read.ensures.answer c.read.ensures.begun)
 
 pub returns-then-seat-len-clause-follows : goal.returns-then-seat-len-clause-follows
 returns-then-seat-len-clause-follows c machine good tied =
     let who = c.args.who.index in
     let place = c.args.place.index in
     let servers = c.args.self.now.servers.items in
-    let clients = c.args.self.now.clients.items in
+    let world_sessions = c.args.self.now.sessions.items in
     let offers = c.args.self.now.offers.items in
     let items = c.args.self.now.items.items in
     let served = c.args.self.now.served.items in
@@ -44,24 +44,24 @@ returns-then-seat-len-clause-follows c machine good tied =
       | then-seat-len-via-then-seat-len w ↦ absurd (omega (arith, w.if-seat-len.true, c.len.ensures, c.from-seat.ensures, tied.seats, c.args.who.in_range))
       | then-seat-len-via-else-seat-len+then-at-len w ↦ omega (arith, w.if-at-len.true, w.len-else-seat-len.ensures, c.from-at.ensures)
     ] in
-    (machine, Reads.skipped (cannot_begin servers clients offers items served machine tied who place c.args.who.in_range (λ client there idle left known running. omega (arith, none, known))) refl refl, tied)
+    (machine, ReadStep.skipped (cannot_begin servers world_sessions offers items served machine tied who place c.args.who.in_range (λ world_session there idle left known running. omega (arith, none, known))) refl refl, tied)
 
 pub returns-in_default-clause-follows : goal.returns-in_default-clause-follows
 returns-in_default-clause-follows c machine good tied =
     let who = c.args.who.index in
     let place = c.args.place.index in
     let servers = c.args.self.now.servers.items in
-    let clients = c.args.self.now.clients.items in
+    let world_sessions = c.args.self.now.sessions.items in
     let offers = c.args.self.now.offers.items in
     let items = c.args.self.now.items.items in
     let served = c.args.self.now.served.items in
-    let inside : who < length clients = omega (arith, c.if-seat-len.false, c.from-seat.ensures, c.len.ensures) in
+    let inside : who < length world_sessions = omega (arith, c.if-seat-len.false, c.from-seat.ensures, c.len.ensures) in
     let found = c.index_mut.result.now in
-    let at : seat clients who ≡ None =
-    get_or_default clients who None found inside ∙ ap (λ n. get_or clients n found) (sym c.from-seat.ensures) ∙ sym c.index_mut.ensures.value ∙ c.in_default.is in
-    let kept : set clients c.from-seat.result found ≡ clients = ap (set clients c.from-seat.result) c.index_mut.ensures.value ∙ set-get_or clients c.from-seat.result found in (
+    let at : seat world_sessions who ≡ None =
+    get_or_default world_sessions who None found inside ∙ ap (λ n. get_or world_sessions n found) (sym c.from-seat.ensures) ∙ sym c.index_mut.ensures.value ∙ c.in_default.is in
+    let kept : set world_sessions c.from-seat.result found ≡ world_sessions = ap (set world_sessions c.from-seat.result) c.index_mut.ensures.value ∙ set-get_or world_sessions c.from-seat.result found in (
       machine,
-      Reads.skipped (cannot_begin servers clients offers items served machine tied who place c.args.who.in_range (λ client there idle left known running. no_client client (sym there ∙ at))) refl refl,
+      ReadStep.skipped (cannot_begin servers world_sessions offers items served machine tied who place c.args.who.in_range (λ world_session there idle left known running. no_world_session world_session (sym there ∙ at))) refl refl,
       subst (λ list. IsTied servers list offers items served machine) (sym kept) tied,
     )
 
@@ -70,20 +70,20 @@ returns-then-not-may_begin-clause-follows c machine good tied =
     let who = c.args.who.index in
     let place = c.args.place.index in
     let servers = c.args.self.now.servers.items in
-    let clients = c.args.self.now.clients.items in
+    let world_sessions = c.args.self.now.sessions.items in
     let offers = c.args.self.now.offers.items in
     let items = c.args.self.now.items.items in
     let served = c.args.self.now.served.items in
-    let inside : who < length clients = omega (arith, c.if-seat-len.false, c.from-seat.ensures, c.len.ensures) in
-    let at : seat clients who ≡ Some c.in-Some.client =
-    get_or_default clients who None c.index_mut.result.now inside ∙ ap (λ n. get_or clients n c.index_mut.result.now) (sym c.from-seat.ensures) ∙ sym c.index_mut.ensures.value ∙ c.in-Some.is in
-    let seated : set clients c.from-seat.result (Some c.in-Some.client) ≡ clients =
-    ap (set clients c.from-seat.result) (sym c.in-Some.is ∙ c.index_mut.ensures.value) ∙ set-get_or clients c.from-seat.result c.index_mut.result.now in (
+    let inside : who < length world_sessions = omega (arith, c.if-seat-len.false, c.from-seat.ensures, c.len.ensures) in
+    let at : seat world_sessions who ≡ Some c.in-Some.session =
+    get_or_default world_sessions who None c.index_mut.result.now inside ∙ ap (λ n. get_or world_sessions n c.index_mut.result.now) (sym c.from-seat.ensures) ∙ sym c.index_mut.ensures.value ∙ c.in-Some.is in
+    let seated : set world_sessions c.from-seat.result (Some c.in-Some.session) ≡ world_sessions =
+    ap (set world_sessions c.from-seat.result) (sym c.in-Some.is ∙ c.index_mut.ensures.value) ∙ set-get_or world_sessions c.from-seat.result c.index_mut.result.now in (
       machine,
-      Reads.skipped
-          (cannot_begin servers clients offers items served machine tied who place c.args.who.in_range (λ client there idle left known running.
-          let same = same_client client c.in-Some.client (sym there ∙ at) in
-          not_true (c.if-not-may_begin.ensures.1 (subst (λ (x : Client). x.flight ≡ None) same idle, subst (λ (x : Client). x.session.begun < MAX_PLACES) same left))))
+      ReadStep.skipped
+          (cannot_begin servers world_sessions offers items served machine tied who place c.args.who.in_range (λ world_session there idle left known running.
+          let same = same_world_session world_session c.in-Some.session (sym there ∙ at) in
+          not_true (c.if-not-may_begin.ensures.1 (subst (λ (x : WorldSession). x.flight ≡ None) same idle, subst (λ (x : WorldSession). x.session.begun < MAX_PLACES) same left))))
           refl refl,
       subst (λ list. IsTied servers list offers items served machine) (sym seated) tied,
     )
@@ -93,18 +93,18 @@ returns-in_default-index-clause-follows c machine good tied =
     let who = c.args.who.index in
     let place = c.args.place.index in
     let servers = c.args.self.now.servers.items in
-    let clients = c.args.self.now.clients.items in
+    let world_sessions = c.args.self.now.sessions.items in
     let offers = c.args.self.now.offers.items in
     let items = c.args.self.now.items.items in
     let served = c.args.self.now.served.items in
-    let seated : set clients c.from-seat.result (Some c.in-Some.client) ≡ clients =
-    ap (set clients c.from-seat.result) (sym c.in-Some.is ∙ c.index_mut.ensures.value) ∙ set-get_or clients c.from-seat.result c.index_mut.result.now in
+    let seated : set world_sessions c.from-seat.result (Some c.in-Some.session) ≡ world_sessions =
+    ap (set world_sessions c.from-seat.result) (sym c.in-Some.is ∙ c.index_mut.ensures.value) ∙ set-get_or world_sessions c.from-seat.result c.index_mut.result.now in
     let found = c.index.result.now in
     let stands = stands_at servers place c.from-at.result found found c.index.ensures c.from-at.ensures refl in (
       machine,
-      Reads.skipped
-          (cannot_begin servers clients offers items served machine tied who place c.args.who.in_range (λ client there idle left known running.
-          not_true (sym (runs_there servers clients offers items served machine tied place found stands running) ∙ ap is_stopped c.in_default-index.is)))
+      ReadStep.skipped
+          (cannot_begin servers world_sessions offers items served machine tied who place c.args.who.in_range (λ world_session there idle left known running.
+          not_true (sym (runs_there servers world_sessions offers items served machine tied place found stands running) ∙ ap is_stopped c.in_default-index.is)))
           refl refl,
       subst (λ list. IsTied servers list offers items served machine) (sym seated) tied,
     )

@@ -1,10 +1,10 @@
 use Rattle.std.proofs.Common.{◌≡◌, ◌<◌, sym, arith, length, get_or, set, subst, false, ap, ◌∙◌}
 use Rattle.std.proofs.lemmas.List.{set-get_or}
-use Rattle.bayou_world.specs.declared.replica.Replica.TheVariants.{Running}
+use Rattle.bayou_world.specs.declared.world_server.WorldServer.TheVariants.{Running}
 use Rattle.bayou_world.specs.declared.reply.Reply.TheVariants as replies
 use Rattle.bayou_world.specs.Inner.Tie.{IsTied}
 use Rattle.bayou_world.specs.Machine.{Machine}
-use Rattle.bayou_world.specs.Steps.{Reopens}
+use Rattle.bayou_world.specs.Steps.{ReopenStep}
 use Rattle.bayou_world.specs.Faults.{tells_fault}
 use Rattle.bayou_world.specs.Inner.Charges.{AreSpent}
 use Rattle.bayou_world.proofs.Charging.{none_spent, one_spent}
@@ -20,9 +20,9 @@ returns-clause-follows c machine good tied =
     let known : place < length servers = omega (arith, c.if-at-len.false, c.from-at.ensures, c.len.ensures) in
     let stands : get_or servers place (Running old) ≡ Running old =
     stands_at servers place c.from-at.result c.index_mut.result.now (Running old) c.index_mut.ensures.value c.from-at.ensures c.in-Running.is in
-    subst (λ n. (next : Machine) × Reopens machine place (replies.Reopened c.reopen_server.result) next
-    × IsTied (set servers n (Running c.reopen_server.new.server)) c.args.self.now.clients.items c.args.self.now.offers.items c.args.self.now.items.items c.args.self.now.served.items next) (sym c.from-at.ensures)
-    (reopen_tied servers c.args.self.now.clients.items c.args.self.now.offers.items c.args.self.now.items.items c.args.self.now.served.items machine tied place old c.reopen_server.new.server c.reopen_server.result known stands
+    subst (λ n. (next : Machine) × ReopenStep machine place (replies.Reopened c.reopen_server.result) next
+    × IsTied (set servers n (Running c.reopen_server.new.server)) c.args.self.now.sessions.items c.args.self.now.offers.items c.args.self.now.items.items c.args.self.now.served.items next) (sym c.from-at.ensures)
+    (reopen_tied servers c.args.self.now.sessions.items c.args.self.now.offers.items c.args.self.now.items.items c.args.self.now.served.items machine tied place old c.reopen_server.new.server c.reopen_server.result known stands
     c.reopen_server.ensures.reopens c.reopen_server.ensures.answer c.reopen_server.ensures.honest)
 
 pub returns-then-at-len-clause-spent : goal.returns-then-at-len-clause-spent

@@ -1,11 +1,11 @@
 use Rattle.std.proofs.Common.{◌≡◌, ◌<◌, sym, ◌∙◌, arith, length, get_or, set, refl, subst, false, ap}
 use Rattle.std.proofs.lemmas.List.{set-get_or, get_or_default, length-map}
 use Rattle.std.proofs.lemmas.Option.{slice_get_within}
-use Rattle.bayou_world.specs.declared.replica.Replica.TheVariants.{Running}
-use Rattle.bayou_world.specs.Inner.Replicas.{is_stopped}
+use Rattle.bayou_world.specs.declared.world_server.WorldServer.TheVariants.{Running}
+use Rattle.bayou_world.specs.Inner.WorldServers.{is_stopped}
 use Rattle.bayou_world.specs.Inner.Tie.{IsTied, write_of}
 use Rattle.bayou_world.specs.Machine.{Machine, Made}
-use Rattle.bayou_world.specs.Steps.{IsGiven, Takes}
+use Rattle.bayou_world.specs.Steps.{IsGiven, TakeStep}
 use Rattle.bayou_world.specs.declared.reply.Reply.TheVariants as replies
 use Rattle.bayou_world.specs.Faults.{tells_fault}
 use Rattle.bayou_world.specs.Inner.Charges.{AreSpent}
@@ -19,7 +19,7 @@ pub returns-clause-follows : goal.returns-clause-follows
 returns-clause-follows c machine good tied =
     let place = c.args.place.index in
     let servers = c.args.self.now.servers.items in
-    let clients = c.args.self.now.clients.items in
+    let world_sessions = c.args.self.now.sessions.items in
     let items = c.args.self.now.items.items in
     let old = c.in-Running.server in
     let write = c.in_ok-write.write in
@@ -28,9 +28,9 @@ returns-clause-follows c machine good tied =
     let stands : get_or servers place (Running old) ≡ Running old =
     stands_at servers place c.from-at.result c.index_mut.result.now (Running old) c.index_mut.ensures.value c.from-at.ensures c.in-Running.is in
     let is : write ≡ get_or items c.args.item write = c.in_ok-write.ensures ∙ c.index.ensures ∙ get_or_default items c.args.item _ write inside in
-    subst (λ n. (next : Machine) × Takes machine place c.args.item (replies.Took c.take_write.result) next
-    × IsTied (set servers n (Running c.take_write.new.server)) clients c.args.self.now.offers.items items c.args.self.now.served.items next) (sym c.from-at.ensures)
-    (take_tied servers clients c.args.self.now.offers.items items c.args.self.now.served.items machine good tied place c.args.item old c.take_write.new.server write c.take_write.result known stands
+    subst (λ n. (next : Machine) × TakeStep machine place c.args.item (replies.Took c.take_write.result) next
+    × IsTied (set servers n (Running c.take_write.new.server)) world_sessions c.args.self.now.offers.items items c.args.self.now.served.items next) (sym c.from-at.ensures)
+    (take_tied servers world_sessions c.args.self.now.offers.items items c.args.self.now.served.items machine good tied place c.args.item old c.take_write.new.server write c.take_write.result known stands
     c.take_write.ensures.honest inside is c.take_write.ensures.takes)
 
 pub returns-then-at-len-clause-spent : goal.returns-then-at-len-clause-spent
@@ -58,7 +58,7 @@ pub returns-then-at-len-clause-follows : goal.returns-then-at-len-clause-follows
 returns-then-at-len-clause-follows c machine good tied =
     let place = c.args.place.index in
     let servers = c.args.self.now.servers.items in
-    let clients = c.args.self.now.clients.items in
+    let world_sessions = c.args.self.now.sessions.items in
     let offers = c.args.self.now.offers.items in
     let items = c.args.self.now.items.items in
     let served = c.args.self.now.served.items in
@@ -68,13 +68,13 @@ returns-then-at-len-clause-follows c machine good tied =
       | then-at-len-via-then-at-len w ↦ omega (arith, (there made given).0, w.if-at-len.true, c.from-at.ensures, c.len.ensures)
       | then-at-len-via-else-at-len+then-item-len w ↦ omega (arith, (there made given).1, w.if-item-len.true, w.len-else-at-len.ensures)
     ] in
-    (machine, Takes.skipped none refl refl, tied)
+    (machine, TakeStep.skipped none refl refl, tied)
 
 pub returns-in_default-clause-follows : goal.returns-in_default-clause-follows
 returns-in_default-clause-follows c machine good tied =
     let place = c.args.place.index in
     let servers = c.args.self.now.servers.items in
-    let clients = c.args.self.now.clients.items in
+    let world_sessions = c.args.self.now.sessions.items in
     let offers = c.args.self.now.offers.items in
     let items = c.args.self.now.items.items in
     let served = c.args.self.now.served.items in
@@ -82,6 +82,6 @@ returns-in_default-clause-follows c machine good tied =
     let stands = stands_at servers place c.from-at.result found found c.index_mut.ensures.value c.from-at.ensures refl in
     let kept : set servers c.from-at.result found ≡ servers = ap (set servers c.from-at.result) c.index_mut.ensures.value ∙ set-get_or servers c.from-at.result found in (
       machine,
-      Takes.skipped (λ made given. not_true (sym (runs_there servers clients offers items served machine tied place found stands given.server) ∙ ap is_stopped c.in_default.is)) refl refl,
-      subst (λ list. IsTied list clients offers items served machine) (sym kept) tied,
+      TakeStep.skipped (λ made given. not_true (sym (runs_there servers world_sessions offers items served machine tied place found stands given.server) ∙ ap is_stopped c.in_default.is)) refl refl,
+      subst (λ list. IsTied list world_sessions offers items served machine) (sym kept) tied,
     )

@@ -1,0 +1,47 @@
+-- What a session of a run is told of its operations (Terry et al. 1994): of a Write by the server that it names, of a read by any, and of nothing
+-- below its need. Each may be told as refused or lost, whatever the server did.
+use Rattle.std.specs.Prelude.{◌≡◌, ℕ, List}
+use Rattle.bayou_answers.specs.declared.answer.Answer.{Answer}
+use Rattle.bayou_answers.specs.declared.answer.Answer.TheVariants.{Done, Wrote, Read, Refused, Lost, Logged, Stopped, Recovered, Exchanged, Counted, Judged, Surveyed, Booked}
+use Rattle.bayou_base.specs.declared.server.ServerId.{ServerId}
+use Rattle.bayou_base.specs.declared.session.SessionId.{SessionId}
+use Rattle.bayou_base.specs.Vector.{Dominates}
+use Rattle.bayou_session.specs.Needs.{Told, read_need, write_need}
+use Rattle.bayou_text.specs.declared.command.Attempt.{Attempt}
+use Rattle.bayou_text.specs.declared.command.Attempt.TheVariants as attempt
+use Rattle.bayou_text.specs.declared.command.Operation.{Operation}
+
+-- the operation was not served: it was refused, or no reply of it came
+abbrev pub IsUnserved : SessionId → Answer → Type 0
+IsUnserved who (Refused session refusal) = session ≡ who
+IsUnserved who (Lost session) = session ≡ who
+IsUnserved who Done = ⊥
+IsUnserved who (Wrote session accepted) = ⊥
+IsUnserved who (Read session key seen) = ⊥
+IsUnserved who (Logged server listing vector) = ⊥
+IsUnserved who (Stopped server) = ⊥
+IsUnserved who (Recovered recovery) = ⊥
+IsUnserved who (Exchanged transfer) = ⊥
+IsUnserved who (Counted totals) = ⊥
+IsUnserved who (Judged result) = ⊥
+IsUnserved who (Surveyed result) = ⊥
+IsUnserved who (Booked file) = ⊥
+
+-- a Write that the server accepted, which held what the session needs; or none
+abbrev pub AnswersWrite : SessionId → Told → ServerId → Answer → Type 0
+AnswersWrite who told server (Wrote session accepted) =
+    (session ≡ who) × Dominates accepted.deps (write_need told) × (accepted.wid.origin.index ≡ server.index)
+AnswersWrite who told server answer = IsUnserved who answer
+
+-- a read of the key from a database that has what the session needs; or none
+abbrev pub AnswersRead : SessionId → Told → List ℕ → Answer → Type 0
+AnswersRead who told key (Read session asked seen) = (session ≡ who) × (asked ≡ key) × Dominates seen.vector (read_need told)
+AnswersRead who told key answer = IsUnserved who answer
+
+abbrev pub AnswersAttempt : SessionId → Told → ServerId → Attempt → Answer → Type 0
+AnswersAttempt who told server (attempt.Write program) answer = AnswersWrite who told server answer
+AnswersAttempt who told server (attempt.Read key) answer = AnswersRead who told key answer
+
+-- the answer to an operation of this session for some need: which need it had then isn't said
+abbrev pub IsAnswerTo : SessionId → Operation → Answer → Type 0
+IsAnswerTo who operation answer = (told : Told) × AnswersAttempt who told operation.server operation.attempt answer

@@ -1,0 +1,210 @@
+//! What is asked of a run when sessions and pulls have ended.
+ghost use Rattle.std.specs.Prelude.{◌≡◌, ◌<◌, ◌≤◌, IfOk, List, vec_len};
+ghost use Rattle.bayou_base.specs.declared.limits.TheConstants.{SERVERS};
+ghost use Rattle.bayou_base.specs.declared.entry.Entry.{Entry as Filed};
+ghost use Rattle.bayou_fleet.specs.Refusals.{NotReopenedAs};
+ghost use Rattle.bayou_lang.specs.declared.write.Write.{Write as Held};
+ghost use Rattle.bayou_answers.specs.Verdicts.{IsSurveyOn, IsVerdictOn};
+
+use crate::fault::FleetFault;
+use crate::fleet::Fleet;
+use crate::links::{SocketLink, links_to};
+use crate::network::Network;
+use crate::phase::Closing;
+use bayou_answers::{Answer, Recovery, judged, surveyed};
+use bayou_audit::Ledgers;
+use bayou_base::{Entry, ServerId};
+use bayou_client::LinkFault;
+use bayou_judge::lend_dumps;
+use bayou_lang::RestingWrite;
+use bayou_net::{Sockets, reopen_fault_of};
+use bayou_script::AuditFile;
+use bayou_text::Question;
+use bayou_wire::Refusal;
+use std::alloc::{AllocError, Global};
+use std::sync::Wait;
+
+/// Whoever asks what closes the phases of a run, with a link to each server.
+#[derive(Drop)]
+pub struct Inquiry {
+    count: u8,
+    links: Vec<SocketLink>,
+    ghost count_in_range: { (0 < count) × (count ≤ SERVERS) },
+    ghost one_each: { vec_len links ≡ count },
+}
+
+// What a refused reopening is answered; none where the refusal answers no reopening.
+fn unopened(refusal: Refusal) -> Option<Recovery>
+    ensures { NotReopenedAs refusal result }
+{
+    match reopen_fault_of(refusal) {
+        Some(fault) => Some(Recovery::NotReopened(fault)),
+        None => None,
+    }
+}
+
+// What a server sends of what it holds.
+fn sent_over(alloc: Global, link: &mut SocketLink) -> Result<Vec<RestingWrite>, FleetFault> {
+    match link.dump(alloc) {
+        Ok(writes) => Ok(writes),
+        Err(LinkFault::OutOfMemory | LinkFault::Refused(Refusal::OutOfMemory)) => {
+            Err(FleetFault::Memory)
+        }
+        Err(_) => Err(FleetFault::Network),
+    }
+}
+
+impl Inquiry {
+    /// A link to each server.
+    pub fn new<F: Fleet, K: Ledgers, T: Sockets>(
+        rt: &T,
+        alloc: Global,
+        network: &Network<F, K>,
+    ) -> Result<Self, FleetFault> {
+        let count = network.count;
+        let links = links_to(rt, alloc, network.addresses.as_slice())?;
+        Ok(Inquiry { count, links })
+    }
+
+    // Has the server open its journal again.
+    fn reopen(&mut self, alloc: Global, server: ServerId) -> Result<Answer, FleetFault> {
+        let at = usize::from(server.index);
+        if at >= self.links.len() {
+            return Err(FleetFault::Network);
+        }
+        let recovery = match self.links[at].reopen(alloc) {
+            Ok(adopted) => Some(Recovery::Reopened { server, adopted }),
+            Err(LinkFault::Refused(refusal)) => unopened(refusal),
+            Err(LinkFault::OutOfMemory) => return Err(FleetFault::Memory),
+            Err(LinkFault::Lost | LinkFault::BadFrame) => None,
+        };
+        match recovery {
+            Some(recovery) => Ok(Answer::Recovered(recovery)),
+            None => Err(FleetFault::Network),
+        }
+    }
+
+    // What each server sends of what it holds.
+    fn sent(&mut self, alloc: Global) -> Result<Vec<Vec<RestingWrite>>, FleetFault>
+        ensures dumps { IfOk result (λ dumps. vec_len dumps ≡ self.old.count) }
+        ensures same { self.new.count ≡ self.old.count }
+    {
+        let mut dumps = Vec::new(alloc);
+        for at in 0..self.count {
+            let link = &mut self.links[usize::from(at)];
+            dumps.push(sent_over(alloc, link)?)?;
+        }
+        Ok(dumps)
+    }
+
+    // The audit file of what was filed so far, and of what the servers send.
+    fn book<F: Fleet, K: Ledgers, T: Wait>(
+        &mut self,
+        rt: &T,
+        alloc: Global,
+        network: &Network<F, K>,
+    ) -> Result<Answer, FleetFault> {
+        let entries = network.book.entries(rt, alloc)?;
+        let dumps = self.sent(alloc)?;
+        Ok(Answer::Booked(AuditFile {
+            count: self.count,
+            entries,
+            dumps,
+        }))
+    }
+
+    // Answers a question.
+    fn ask<F: Fleet, K: Ledgers, T: Wait>(
+        &mut self,
+        rt: &T,
+        alloc: Global,
+        network: &Network<F, K>,
+        question: Question,
+    ) -> Result<Answer, FleetFault> {
+        match question {
+            Question::Log(server) => Ok(logged(rt, alloc, &network.fleet, server)?),
+            Question::Totals => Ok(Answer::Counted(network.book.totals(rt))),
+            Question::Judge => Ok(verdict(rt, alloc, network, self.count)?),
+            Question::Survey => Ok(survey(rt, alloc, network, self.count)?),
+            Question::Book => self.book(rt, alloc, network),
+        }
+    }
+
+    /// Does what closes a phase, and tells what it is answered.
+    pub fn answer<F: Fleet, K: Ledgers, T: Wait>(
+        &mut self,
+        rt: &T,
+        alloc: Global,
+        network: &Network<F, K>,
+        closing: Closing,
+    ) -> Result<Answer, FleetFault> {
+        match closing {
+            Closing::Reopen(server) => self.reopen(alloc, server),
+            Closing::Question(question) => self.ask(rt, alloc, network, question),
+            Closing::Phase => Ok(Answer::Done),
+        }
+    }
+}
+
+// What the server holds.
+fn logged<F: Fleet, T: Wait>(
+    rt: &T,
+    alloc: Global,
+    fleet: &F,
+    server: ServerId,
+) -> Result<Answer, AllocError> {
+    let at = usize::from(server.index);
+    let listing = fleet.listing(rt, alloc, at)?;
+    let vector = fleet.vector(rt, at);
+    Ok(Answer::Logged {
+        server,
+        listing,
+        vector,
+    })
+}
+
+// What each of so many servers holds, in order of receipt.
+fn dumps<F: Fleet, T: Wait>(
+    rt: &T,
+    alloc: Global,
+    fleet: &F,
+    count: u8,
+) -> Result<Vec<Vec<RestingWrite>>, AllocError>
+    ensures { IfOk result (λ dumps. vec_len dumps ≡ count) }
+{
+    let mut dumps = Vec::new(alloc);
+    for at in 0..count {
+        dumps.push(fleet.dump(rt, alloc, usize::from(at))?)?;
+    }
+    Ok(dumps)
+}
+
+// The verdict on what was filed so far and what each of so many servers holds.
+fn verdict<F: Fleet, K: Ledgers, T: Wait>(
+    rt: &T,
+    alloc: Global,
+    network: &Network<F, K>,
+    count: u8,
+) -> Result<Answer, AllocError>
+    requires { (0 < count) × (count ≤ SERVERS) }
+    ensures { IfOk result (λ answer. (entries : List Filed) × (dumps : List (List Held)) × IsVerdictOn count entries dumps answer) }
+{
+    let entries = network.book.entries(rt, alloc)?;
+    let dumps = dumps(rt, alloc, &network.fleet, count)?;
+    judged(alloc, count, &entries, &lend_dumps(&dumps))
+}
+
+// The survey of that.
+fn survey<F: Fleet, K: Ledgers, T: Wait>(
+    rt: &T,
+    alloc: Global,
+    network: &Network<F, K>,
+    count: u8,
+) -> Result<Answer, AllocError>
+    requires { (0 < count) × (count ≤ SERVERS) }
+    ensures { IfOk result (λ answer. (entries : List Filed) × (dumps : List (List Held)) × IsSurveyOn count entries dumps answer) }
+{
+    let entries = network.book.entries(rt, alloc)?;
+    let dumps = dumps(rt, alloc, &network.fleet, count)?;
+    surveyed(alloc, count, &entries, &lend_dumps(&dumps))
+}

@@ -1,0 +1,194 @@
+//! Sessions that reach the servers of a run over links.
+ghost use Rattle.std.specs.Prelude.{◌≡◌, ◌+◌, ◌≤◌, IfOk, length, vec_capacity, vec_len};
+ghost use Rattle.bayou_fleet.specs.Operating.{AnswersAttempt, AnswersRead, AnswersWrite, IsAnswerTo, IsUnserved};
+ghost use Rattle.std.specs.List.{AllZip};
+ghost use Rattle.bayou_fleet.specs.Refusals.{RefusedAs, UnservedAs};
+
+use crate::fault::FleetFault;
+use crate::links::{SocketLink, links_to};
+use bayou_answers::Answer;
+use bayou_audit::{AuditBook, Ledgers, Share};
+use bayou_base::{Asks, Key, ServerId, SessionId};
+use bayou_client::{Client, ClientFault, LinkFault};
+use bayou_lang::RestingProgram;
+use bayou_net::{Sockets, write_fault_of};
+use bayou_server::WriteFault;
+use bayou_session::Session;
+use bayou_text::{Attempt, Operation};
+use bayou_wire::Refusal;
+use std::alloc::{AllocError, Global};
+use std::net::SocketAddr;
+use std::sync::Wait;
+
+/// A session that was opened: with its share of the book, and with a link to each server, which it keeps.
+#[derive(Drop)]
+pub struct OpenSession<K: Ledgers> {
+    client: Client<K>,
+    who: SessionId,
+    links: Vec<SocketLink>,
+}
+
+/// A session of a run.
+#[derive(Drop)]
+pub enum RunSession<K: Ledgers> {
+    /// It wasn't opened yet. This is its share of the book.
+    Unopened(Share<K>),
+    /// It was opened.
+    Open(OpenSession<K>),
+}
+
+// What a refused operation is answered. A refusal that answers none is as no reply.
+fn refused(who: SessionId, refusal: Refusal) -> Answer
+    ensures told { RefusedAs who refusal result }
+    ensures whose { IsUnserved who result }
+{
+    match write_fault_of(refusal) {
+        Some(refusal) => Answer::Refused {
+            session: who,
+            refusal,
+        },
+        None => Answer::Lost { session: who },
+    }
+}
+
+// What an operation is answered that wasn't served.
+fn unserved(who: SessionId, fault: ClientFault) -> Answer
+    ensures told { UnservedAs who fault result }
+    ensures whose { IsUnserved who result }
+{
+    match fault {
+        ClientFault::Link(LinkFault::Refused(refusal)) => refused(who, refusal),
+        ClientFault::Link(LinkFault::OutOfMemory) => Answer::Refused {
+            session: who,
+            refusal: WriteFault::OutOfMemory,
+        },
+        ClientFault::AuditFull | ClientFault::Link(LinkFault::Lost | LinkFault::BadFrame) => {
+            Answer::Lost { session: who }
+        }
+    }
+}
+
+impl<K: Ledgers> OpenSession<K> {
+    // Opens the session whose share this is.
+    fn open<T: Sockets>(
+        rt: &T,
+        alloc: Global,
+        share: Share<K>,
+        asks: Asks,
+        addresses: &[SocketAddr],
+    ) -> Result<Self, FleetFault> {
+        let who = share.session();
+        let client = Client::new(Session::new(who, asks), share);
+        let links = links_to(rt, alloc, addresses)?;
+        Ok(OpenSession { client, who, links })
+    }
+
+    // Reads the key at the server.
+    fn read<T: Wait>(
+        &mut self,
+        rt: &T,
+        alloc: Global,
+        book: &AuditBook<K>,
+        server: ServerId,
+        key: Key,
+    ) -> Answer
+        ensures { AnswersRead self.old.who self.old.client.session key result × (self.new.who ≡ self.old.who) }
+    {
+        let who = self.who;
+        let at = usize::from(server.index);
+        if at >= self.links.len() || self.client.left() == 0 {
+            return Answer::Lost { session: who };
+        }
+        let link = &mut self.links[at];
+        match self.client.read(rt, alloc, book, link, server, &key) {
+            Ok(seen) => Answer::Read {
+                session: who,
+                key,
+                seen,
+            },
+            Err(fault) => unserved(who, fault),
+        }
+    }
+
+    // Writes at the server.
+    fn write<T: Wait>(
+        &mut self,
+        rt: &T,
+        alloc: Global,
+        book: &AuditBook<K>,
+        server: ServerId,
+        program: RestingProgram,
+    ) -> Answer
+        ensures { AnswersWrite self.old.who self.old.client.session server result × (self.new.who ≡ self.old.who) }
+    {
+        let who = self.who;
+        let at = usize::from(server.index);
+        if at >= self.links.len() || self.client.left() == 0 {
+            return Answer::Lost { session: who };
+        }
+        let link = &mut self.links[at];
+        match self
+            .client
+            .write(rt, alloc, book, link, server, program.unfold())
+        {
+            Ok(accepted) => Answer::Wrote {
+                session: who,
+                accepted,
+            },
+            Err(fault) => unserved(who, fault),
+        }
+    }
+
+    // Does an operation.
+    fn operate<T: Wait>(
+        &mut self,
+        rt: &T,
+        alloc: Global,
+        book: &AuditBook<K>,
+        operation: Operation,
+    ) -> Answer
+        ensures { AnswersAttempt self.old.who self.old.client.session operation.server operation.attempt result × (self.new.who ≡ self.old.who) }
+    {
+        let server = operation.server;
+        match operation.attempt {
+            Attempt::Write(program) => self.write(rt, alloc, book, server, program),
+            Attempt::Read(key) => self.read(rt, alloc, book, server, key),
+        }
+    }
+
+    /// Does these operations in order, and tells what each is answered.
+    pub(crate) fn operate_all<T: Wait>(
+        &mut self,
+        rt: &T,
+        alloc: Global,
+        book: &AuditBook<K>,
+        operations: Vec<Operation>,
+    ) -> Result<Vec<Answer>, AllocError>
+        ensures one_each { IfOk result (λ answers. vec_len answers ≡ vec_len operations) }
+        ensures told { IfOk result (λ answers. AllZip (IsAnswerTo self.old.who) operations.items answers.items) }
+    {
+        let mut answers = Vec::with_capacity(alloc, operations.len())?;
+        for operation in operations {
+            answers.push_reserved(self.operate(rt, alloc, book, operation));
+        }
+        Ok(answers)
+    }
+}
+
+impl<K: Ledgers> RunSession<K> {
+    /// Opens the session, where it wasn't yet.
+    pub(crate) fn open<T: Sockets>(
+        self,
+        rt: &T,
+        alloc: Global,
+        asks: Asks,
+        addresses: &[SocketAddr],
+    ) -> Result<Self, FleetFault> {
+        match self {
+            RunSession::Unopened(share) => Ok(RunSession::Open(OpenSession::open(
+                rt, alloc, share, asks, addresses,
+            )?)),
+            RunSession::Open(session) => Ok(RunSession::Open(session)),
+        }
+    }
+}

@@ -1,6 +1,0 @@
-use Rattle.std.proofs.Common.{refl, inl, arith}
-use Rattle.bayou_machine.specs.Replica.{stopped}
-use Rattle.bayou_machine.proofs.replica.Replica.write.Goals as goal
-
-pub returns-in_default : goal.returns-in_default
-returns-in_default c = inl (stopped c.in_default.field-0 c.in_default.is (omega (arith, c.left.ensures)) refl c.begin.ensures.begun, refl)

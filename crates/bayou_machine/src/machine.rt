@@ -1,0 +1,135 @@
+//! The machine of a script: a command enters it, and what a session is told is filed in its book.
+ghost use Rattle.std.specs.Prelude.{◌≡◌, ◌≢◌, ◌<◌, [], IfErr, IfOk, IsTrue, MatchResult, None, length};
+ghost use Rattle.bayou_answers.specs.declared.answer.Answer.TheVariants.{Booked};
+ghost use Rattle.bayou_audit.specs.Blanks.{AreBlanksOf, named};
+ghost use Rattle.bayou_base.specs.declared.limits.TheConstants.{SESSIONS as SESSIONS_NUMBER};
+ghost use Rattle.bayou_script.specs.Script.{is_served};
+ghost use Rattle.bayou_script.specs.Places.{operation_of};
+ghost use Rattle.bayou_machine.specs.Run.{IsBooked, IsJudged, IsSurveyed, TakesMemory, Turn};
+ghost use Rattle.bayou_machine.specs.Standing.{FailsToBegin, HasBegun};
+ghost use Rattle.bayou_text.specs.Said.{command_said, operation_said, question_said};
+
+use crate::parties::Parties;
+use crate::script_book::ScriptBook;
+use bayou_answers::{Answer, BeginFault, judged, surveyed};
+use bayou_audit::{Blanks, Ledgers};
+use bayou_script::{AuditFile, Servers};
+use bayou_text::{Command, Operation, Question};
+use std::alloc::{AllocError, Global};
+use std::marker::Model;
+
+/// The servers and the sessions of a script, and the book of what they were served.
+#[derive(Drop)]
+pub struct Machine<K: Ledgers> {
+    parties: Parties,
+    book: ScriptBook<K>,
+}
+
+impl<K: Ledgers> Model for Machine<K> {
+    ghost use Rattle.bayou_machine.specs.Run.{ScriptState};
+
+    ghost Value = { ScriptState };
+
+    ghost view = { λ m. record { standing = m.parties; book = m.book } };
+}
+
+impl<K: Ledgers> Machine<K> {
+    /// A script's servers as it begins, each on an empty device, no session, and a book with so many places, in which nothing was filed.
+    pub fn new(
+        alloc: Global,
+        blanks: Blanks,
+        plan: Servers,
+        places: usize,
+    ) -> Result<Self, BeginFault>
+        requires blanks { AreBlanksOf blanks (named K.Slips.name K.Slips.parts) (named K.Reads.name K.Reads.parts) (named K.Writes.name K.Writes.parts) (named K.Refusals.name K.Refusals.parts) SESSIONS_NUMBER }
+        ensures begun { IfOk result (λ machine. HasBegun plan.count plan.limit machine.standing) }
+        ensures none_filed { IfOk result (λ machine. machine.book ≡ record { places = places; entries = [] }) }
+        ensures fault { IfErr result (FailsToBegin plan.count plan.limit) }
+    {
+        let parties = Parties::new(alloc, plan)?;
+        let book = ScriptBook::new(alloc, blanks, places)?;
+        Ok(Machine { parties, book })
+    }
+
+    /// The session tries an operation at the server; what it is told is filed.
+    fn operate(&mut self, alloc: Global, operation: Operation) -> Answer
+        requires served { IsTrue (is_served self.old.standing.count (operation_said operation)) }
+        requires room { length self.old.book.entries < self.old.book.places }
+        ensures { Turn self.old (operation_said operation) result self.new }
+    {
+        let (who, server) = (operation.session, operation.server);
+        let session = self.parties.session(who);
+        let answer = self.parties.operate(alloc, operation);
+        self.book.file(who, &session, server, &answer);
+        answer
+    }
+
+    /// What was filed so far, and what the servers hold.
+    fn evidence(&self, alloc: Global) -> Result<AuditFile, AllocError>
+        ensures { IfOk result (λ file. IsBooked self.now (Booked file)) }
+    {
+        let entries = self.book.entries(alloc)?;
+        let dumps = self.parties.dumps(alloc)?;
+        Ok(AuditFile {
+            count: self.parties.count(),
+            entries,
+            dumps,
+        })
+    }
+
+    /// The verdict on that.
+    fn judge(&self, alloc: Global) -> Result<Answer, AllocError>
+        ensures { IfOk result (IsJudged self.now) }
+    {
+        let dumps = self.parties.lend();
+        judged(alloc, self.parties.count(), self.book.filed(), &dumps)
+    }
+
+    /// The survey of that.
+    fn survey(&self, alloc: Global) -> Result<Answer, AllocError>
+        ensures { IfOk result (IsSurveyed self.now) }
+    {
+        let dumps = self.parties.lend();
+        surveyed(alloc, self.parties.count(), self.book.filed(), &dumps)
+    }
+
+    /// What is asked. Where much is told, memory may be wanted for which there is no answer.
+    #[tactic(auto, unfolding(bayou_script::specs::Script::are_servers))]
+    fn ask(&self, alloc: Global, question: Question) -> Result<Answer, AllocError>
+        requires served { IsTrue (is_served self.now.standing.count (question_said question)) }
+        ensures { MatchResult result (λ answer. Turn self.now (question_said question) answer self.now) (λ _. TakesMemory (question_said question)) }
+    {
+        match question {
+            Question::Log(server) => self.parties.list(alloc, server),
+            Question::Totals => Ok(Answer::Counted(self.book.totals())),
+            Question::Judge => self.judge(alloc),
+            Question::Survey => self.survey(alloc),
+            Question::Book => Ok(Answer::Booked(self.evidence(alloc)?)),
+        }
+    }
+
+    /// What the command is answered, and files what sessions are told. Only where much is told may memory be wanted for which there is
+    /// no answer.
+    #[tactic(auto, unfolding(bayou_script::specs::Script::are_servers))]
+    pub fn answer(&mut self, alloc: Global, command: Command) -> Result<Answer, AllocError>
+        requires served { IsTrue (is_served self.old.standing.count (command_said command)) }
+        requires room { operation_of (command_said command) ≢ None → length self.old.book.entries < self.old.book.places }
+        ensures { MatchResult result
+            (λ answer. Turn self.old (command_said command) answer self.new)
+            (λ _. TakesMemory (command_said command) × (self.new ≡ self.old)) }
+    {
+        match command {
+            Command::Session { session, asks } => {
+                self.parties.open(session, asks);
+                Ok(Answer::Done)
+            }
+            Command::Operation(operation) => Ok(self.operate(alloc, operation)),
+            Command::Trial(trial) => Ok(self.parties.put_through(alloc, trial)),
+            Command::Exchange(exchange) => {
+                Ok(Answer::Exchanged(self.parties.exchange(alloc, exchange)))
+            }
+            Command::Question(question) => self.ask(alloc, question),
+            Command::Phase => Ok(Answer::Done),
+        }
+    }
+}

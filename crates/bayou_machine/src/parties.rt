@@ -1,0 +1,274 @@
+//! The servers and the sessions of a script.
+ghost use Rattle.std.specs.Prelude.{◌≡◌, ◌<◌, ◌≤◌, ℕ, IfOk, IfErr, IsTrue, List, length};
+ghost use Rattle.bayou_script.specs.Script.{is_served};
+ghost use Rattle.bayou_base.specs.declared.limits.TheConstants.{SERVERS as SERVERS_NUMBER};
+ghost use Rattle.bayou_answers.specs.declared.answer.Answer.TheVariants.{Done, Exchanged, Recovered};
+ghost use Rattle.bayou_text.specs.Said.{attempt_said, exchange_said, fuse, log, lose, operation_said, pull, read, reopen, resend, restart, session, trial_said, write};
+
+use crate::script_server::ScriptServer;
+use arrayvec::ArrayVec;
+use bayou_answers::{Answer, BeginFault, Recovery, Transfer};
+use bayou_base::{Asks, Key, SERVERS, SESSIONS, ServerId, SessionId, Vector};
+use bayou_lang::{RestingProgram, RestingWrite};
+use bayou_peer::cut_after;
+use bayou_script::Servers;
+use bayou_session::Session;
+use bayou_text::{Attempt, Exchange, Extent, Operation, PlannedFailure, Trial, TrialKind};
+use std::alloc::{AllocError, Global};
+use std::marker::Model;
+
+/// The servers and the sessions of a script.
+#[derive(Drop)]
+pub(crate) struct Parties {
+    plan: Servers,
+    // One for each server of the plan.
+    servers: Vec<ScriptServer>,
+    sessions: [Option<Session>; SESSIONS],
+}
+
+impl Model for Parties {
+    ghost use Rattle.std.specs.Prelude.{◌≡◌, length};
+    ghost use Rattle.bayou_machine.specs.Standing.{Standing};
+
+    ghost Value = { Standing };
+
+    ghost view = { λ p. record { count = p.plan.count; limit = p.plan.limit; servers = p.servers.items; sessions = p.sessions } };
+
+    ghost invariant = { λ p. length p.servers.items ≡ p.plan.count };
+}
+
+impl Parties {
+    ghost use Rattle.bayou_machine.specs.Exchange.{Exchanges};
+    ghost use Rattle.bayou_machine.specs.declared.script_server.ScriptServer.{ScriptServer as Stood};
+    ghost use Rattle.bayou_judge.specs.History.{lent_lists, lists_of};
+    ghost use Rattle.bayou_machine.specs.Standing.{FailsToBegin, HasBegun, StandsAt, dumps_of, session_of};
+    ghost use Rattle.bayou_machine.specs.Run.{Step};
+
+    /// The servers of a script as it begins, each on an empty device.
+    pub(crate) fn new(alloc: Global, plan: Servers) -> Result<Self, BeginFault>
+        ensures begun { IfOk result (HasBegun plan.count plan.limit) }
+        ensures fault { IfErr result (FailsToBegin plan.count plan.limit) }
+    {
+        let mut servers = Vec::new(alloc);
+        for index in 0..plan.count {
+            servers.push(ScriptServer::begin(alloc, plan, ServerId { index })?)?;
+        }
+        Ok(Parties {
+            plan,
+            servers,
+            sessions: [None; SESSIONS],
+        })
+    }
+
+    /// The session of this name. One that wasn't opened asks for nothing; no script uses it.
+    pub(crate) fn session(&self, who: SessionId) -> Session
+        ensures { result ≡ session_of self.now who }
+    {
+        match self.sessions[usize::from(who.index)] {
+            Some(session) => session,
+            None => Session::new(who, Asks::default()),
+        }
+    }
+
+    /// How many servers there are.
+    pub(crate) fn count(&self) -> u8
+        ensures value { result ≡ self.now.count }
+        ensures in_range { (0 < result) × (result ≤ SERVERS_NUMBER) }
+    {
+        self.plan.count
+    }
+
+    /// Copies of the Writes that each server holds, or held as it was stopped, in order of receipt.
+    pub(crate) fn dumps(&self, alloc: Global) -> Result<Vec<Vec<RestingWrite>>, AllocError>
+        ensures held { IfOk result (λ dumps. lists_of dumps.items ≡ dumps_of self.now) }
+        ensures one_each { IfOk result (λ dumps. length dumps.items ≡ self.now.count) }
+    {
+        let mut dumps = Vec::new(alloc);
+        for server in &self.servers {
+            dumps.push(server.dump(alloc)?)?;
+        }
+        Ok(dumps)
+    }
+
+    /// The Writes that each server holds, or held as it was stopped, in order of receipt.
+    pub(crate) fn lend(&self) -> ArrayVec<&[RestingWrite], SERVERS>
+        ensures lists { lent_lists result.items ≡ dumps_of self.now }
+        ensures one_each { length result.items ≡ self.now.count }
+    {
+        let mut lent = ArrayVec::new();
+        for server in &self.servers {
+            lent.push(server.held());
+        }
+        lent
+    }
+
+    /// Opens the session.
+    pub(crate) fn open(&mut self, who: SessionId, asks: Asks)
+        ensures { Step self.old (session who.index asks) Done self.new }
+    {
+        self.sessions[usize::from(who.index)] = Some(Session::new(who, asks));
+    }
+
+    /// What the server holds. It may want memory that it has no answer for.
+    pub(crate) fn list(&self, alloc: Global, server: ServerId) -> Result<Answer, AllocError>
+        requires { server.index < self.now.count }
+        ensures { IfOk result (λ answer. Step self.now (log server.index) answer self.now) }
+    {
+        self.servers[usize::from(server.index)].list(alloc, server)
+    }
+
+    fn write(
+        &mut self,
+        alloc: Global,
+        who: SessionId,
+        server: ServerId,
+        program: RestingProgram,
+    ) -> Answer
+        requires { server.index < self.old.count }
+        ensures { Step self.old (write who.index server.index program) result self.new }
+    {
+        let mut session = self.session(who);
+        let at = &mut self.servers[usize::from(server.index)];
+        let answer = at.write(alloc, who, &mut session, program);
+        self.sessions[usize::from(who.index)] = Some(session);
+        answer
+    }
+
+    fn read(&mut self, who: SessionId, server: ServerId, key: Key) -> Answer
+        requires { server.index < self.old.count }
+        ensures { Step self.old (read who.index server.index key) result self.new }
+    {
+        let mut session = self.session(who);
+        let answer = self.servers[usize::from(server.index)].read(who, &mut session, key);
+        self.sessions[usize::from(who.index)] = Some(session);
+        answer
+    }
+
+    /// The session tries the operation at the server.
+    #[tactic(auto, unfolding(bayou_script::specs::Script::are_servers))]
+    pub(crate) fn operate(&mut self, alloc: Global, operation: Operation) -> Answer
+        requires { IsTrue (is_served self.old.count (operation_said operation)) }
+        ensures { Step self.old (operation_said operation) result self.new }
+    {
+        let Operation {
+            session,
+            server,
+            attempt,
+        } = operation;
+        match attempt {
+            Attempt::Write(program) => self.write(alloc, session, server, program),
+            Attempt::Read(key) => self.read(session, server, key),
+        }
+    }
+
+    fn fuse(&mut self, server: ServerId, failure: PlannedFailure)
+        requires { server.index < self.old.count }
+        ensures { Step self.old (fuse server.index failure.calls failure.kept) Done self.new }
+    {
+        self.servers[usize::from(server.index)].fuse(failure);
+    }
+
+    fn shorten(&mut self, server: ServerId, count: usize)
+        requires { server.index < self.old.count }
+        ensures { Step self.old (lose server.index count) Done self.new }
+    {
+        self.servers[usize::from(server.index)].shorten(count);
+    }
+
+    fn reopen(&mut self, alloc: Global, server: ServerId) -> Recovery
+        requires { server.index < self.old.count }
+        ensures { Step self.old (reopen server.index) (Recovered result) self.new }
+    {
+        self.servers[usize::from(server.index)].reopen(alloc, server)
+    }
+
+    fn restart(&mut self, alloc: Global, server: ServerId) -> Recovery
+        requires { server.index < self.old.count }
+        ensures { Step self.old (restart server.index) (Recovered result) self.new }
+    {
+        let at = usize::from(server.index);
+        let (restarted, recovery) = self.servers.remove(at).restart(alloc, self.plan, server);
+        let Ok(()) = self.servers.insert(at, restarted) else {
+            unreachable!();
+        };
+        recovery
+    }
+
+    /// What becomes of a server that is put through this.
+    pub(crate) fn put_through(&mut self, alloc: Global, trial: Trial) -> Answer
+        requires { trial.server.index < self.old.count }
+        ensures { Step self.old (trial_said trial) result self.new }
+    {
+        let server = trial.server;
+        match trial.kind {
+            TrialKind::Fuse(failure) => {
+                self.fuse(server, failure);
+                Answer::Done
+            }
+            TrialKind::Lose(count) => {
+                self.shorten(server, count);
+                Answer::Done
+            }
+            TrialKind::Reopen => Answer::Recovered(self.reopen(alloc, server)),
+            TrialKind::Restart => Answer::Recovered(self.restart(alloc, server)),
+        }
+    }
+
+    /// The first server is sent what these counts don't cover of what the other holds, and takes what comes.
+    fn transfer(
+        &mut self,
+        alloc: Global,
+        to: ServerId,
+        from: ServerId,
+        counts: &Vector,
+        cut: Option<u32>,
+    ) -> Transfer
+        requires to { to.index < self.old.count }
+        requires from { from.index < self.old.count }
+        ensures { (counts_of : Stood → List ℕ) → ((before : Stood) → StandsAt self.old to.index before → counts_of before ≡ counts.now)
+            → Exchanges counts_of cut self.old to.index from.index (Exchanged result) self.new }
+    {
+        if let ScriptServer::Stopped(_) = &self.servers[usize::from(to.index)] {
+            return Transfer::NotRunning;
+        }
+        let answer = match self.servers[usize::from(from.index)].answer(alloc, counts) {
+            Ok(answer) => answer,
+            Err(transfer) => return transfer,
+        };
+        let input = match cut {
+            Some(items) => cut_after(&answer, items),
+            None => &answer,
+        };
+        self.servers[usize::from(to.index)].take_from(alloc, counts, input)
+    }
+
+    fn pull(&mut self, alloc: Global, to: ServerId, from: ServerId, cut: Option<u32>) -> Transfer
+        requires to { to.index < self.old.count }
+        requires from { from.index < self.old.count }
+        ensures { Step self.old (pull to.index from.index cut) (Exchanged result) self.new }
+    {
+        let counts = self.servers[usize::from(to.index)].counts();
+        self.transfer(alloc, to, from, &counts, cut)
+    }
+
+    fn resend(&mut self, alloc: Global, to: ServerId, from: ServerId) -> Transfer
+        requires to { to.index < self.old.count }
+        requires from { from.index < self.old.count }
+        ensures { Step self.old (resend to.index from.index) (Exchanged result) self.new }
+    {
+        self.transfer(alloc, to, from, &Vector::zero(), None)
+    }
+
+    /// What becomes of a server that is to take Writes from another.
+    pub(crate) fn exchange(&mut self, alloc: Global, exchange: Exchange) -> Transfer
+        requires to { exchange.to.index < self.old.count }
+        requires from { exchange.from.index < self.old.count }
+        ensures { Step self.old (exchange_said exchange) (Exchanged result) self.new }
+    {
+        let Exchange { to, from, extent } = exchange;
+        match extent {
+            Extent::Lacking { cut } => self.pull(alloc, to, from, cut),
+            Extent::All => self.resend(alloc, to, from),
+        }
+    }
+}

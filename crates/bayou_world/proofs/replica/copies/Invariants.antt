@@ -1,6 +1,0 @@
--- the copies so far
-use Rattle.std.proofs.Common.{◌≡◌, take}
-use Rattle.bayou_world.proofs.replica.copies.Given as goal
-
-abbrev pub invariant-loop-write : goal.invariant-loop-write
-invariant-loop-write l = l.copied.items ≡ take l.write-index l.writes
