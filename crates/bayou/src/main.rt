@@ -1,7 +1,7 @@
 //! The program `bayou`: its real words and streams, and nothing else.
 #![tactic(auto)]
 
-ghost use Rattle.std.specs.Prelude.{ℕ, List};
+ghost use Rattle.std.specs.Prelude.{◌≡◌, ℕ, IfSome, List};
 ghost use Rattle.std.specs.Thread.{IsSend};
 
 mod progress;
@@ -32,6 +32,8 @@ struct Taken {
 #[derive(Drop)]
 struct Host<'a, T> {
     rt: &'a T,
+    /// The file that was read.
+    file: Option<Channel<File, ()>>,
     taken: Option<Taken>,
 }
 
@@ -44,6 +46,12 @@ impl<T: fs::Files<File = File>> Files for Host<'_, T> {
 
     fn open(&mut self, _alloc: Global, name: &str) -> io::Result<File> {
         File::open(self.rt, name)
+    }
+
+    ghost kept = { λ host has_failed turns_left. IfSome host.file (λ file. (has_failed ≡ file.read_failed) × (turns_left ≡ file.turns_left)) };
+
+    fn keep(&mut self, file: Channel<File, ()>) {
+        self.file = Some(file);
     }
 }
 
@@ -89,7 +97,11 @@ fn run<
         output,
         errors,
     } = streams;
-    let mut host = Host { rt, taken: None };
+    let mut host = Host {
+        rt,
+        file: None,
+        taken: None,
+    };
     let mut output = Output::new(Counted::new(output, rt, screen));
     let mut errors = Output::new(Counted::new(errors, rt, screen));
     let mut input = Channel::new(input, ());

@@ -1,2 +1,3 @@
 mod Exact
+mod Out
 mod Shared

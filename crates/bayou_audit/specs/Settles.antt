@@ -16,7 +16,7 @@ pub record IsSettled (book : Booked) (shares : List Shared) (settled : BookSettl
 -- why a book isn't settled: a share is missing, or else a slip is out
 abbrev pub IsUnsettled : Booked → List Shared → SettleFault → Type 0
 IsUnsettled book shares ShareMissing = length shares < book.shares
-IsUnsettled book shares SlipOut = (book.shares ≤ length shares) × (0 < book.totals.slips)
+IsUnsettled book shares SlipOut = (book.shares ≤ length shares) × (0 < book.totals.slips) × (0 < (sums_of shares).slips)
 
 -- The same of a book whose lock hides what it held: so many shares were made of it.
 pub record IsLockedSettled (made : ℕ) (shares : List Shared) (settled : BookSettled) : Type 0 where
@@ -27,7 +27,7 @@ pub record IsLockedSettled (made : ℕ) (shares : List Shared) (settled : BookSe
   pub writes : settled.totals.writes ≡ number_of is_write settled.entries.items
   pub refusals : settled.totals.refusals ≡ number_of is_refusal settled.entries.items
 
--- which of the two it was: where no share is missing, a slip is out
+-- which of the two it was: where no share is missing, a slip is out, which a share counts
 abbrev pub IsLockedUnsettled : ℕ → List Shared → SettleFault → Type 0
 IsLockedUnsettled made shares ShareMissing = length shares < made
-IsLockedUnsettled made shares SlipOut = made ≤ length shares
+IsLockedUnsettled made shares SlipOut = (made ≤ length shares) × (0 < (sums_of shares).slips)

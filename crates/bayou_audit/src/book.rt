@@ -1,6 +1,7 @@
-ghost use Rattle.std.specs.Prelude.{◌≡◌, ◌<◌, ◌≤◌, ◌+◌, ◌↔◌, IfOk, IsErr, MatchResult, length};
+ghost use Rattle.std.specs.Prelude.{◌≡◌, ◌<◌, ◌≤◌, ◌+◌, ◌↔◌, IfOk, IsErr, MatchOption, MatchResult, length};
 ghost use Rattle.bayou_base.specs.declared.limits.TheConstants.{SESSIONS};
 ghost use Rattle.bayou_audit.specs.Blanks.{AreBlanksOf, named};
+ghost use Rattle.bayou_audit.specs.Inner.Parts.{IsOutAt};
 ghost use Rattle.bayou_audit.specs.Settles.{IsSettled, IsUnsettled};
 ghost use Rattle.bayou_audit.specs.Totals.{AreNewShares, IsExact, new_book, no_totals, sums_of, with_claim, with_entry, with_filed, with_slip_out, with_slip_spent, with_void};
 
@@ -59,10 +60,26 @@ fn share_out<K: Ledgers>(
     for index in 0..shares {
         made.push_reserved(Share {
             session: SessionId { index },
+            out: 0,
             parts: all.split_one(),
         });
     }
     Ok((all, made))
+}
+
+/// The place of the first share of which a slip is out.
+fn first_out<K: Ledgers>(shares: &[Share<K>]) -> Option<usize>
+    ensures { MatchOption result
+        ((sums_of shares.now).slips ≡ 0)
+        (λ at. (at < length shares.now) × IsOutAt shares.now at × (0 < (sums_of shares.now).slips)) }
+{
+    for at in 0..shares.len() {
+        let share = &shares[at];
+        if share.out > 0 {
+            return Some(at);
+        }
+    }
+    None
 }
 
 /// Puts the parts of all shares together.
@@ -74,7 +91,11 @@ fn gather<K: Ledgers>(rest: Parts<K>, shares: Vec<Share<K>>) -> Parts<K>
 {
     let mut all = rest;
     for share in shares {
-        let Share { session: _, parts } = share;
+        let Share {
+            session: _,
+            out: _,
+            parts,
+        } = share;
         all.merge(parts);
     }
     all
@@ -131,7 +152,9 @@ impl<K: Ledgers> Book<K> {
         if self.entries.len() + self.totals.totals().slips >= self.places {
             return Err(Full);
         }
+        self.totals.bound(&mut share.parts);
         self.totals.hand_out(&mut share.parts);
+        share.out += 1;
         Ok(Slip {
             session: share.session,
             marker: PhantomData,
@@ -163,6 +186,7 @@ impl<K: Ledgers> Book<K> {
             marker: _,
         } = slip;
         self.totals.spend(&mut share.parts);
+        share.out -= 1;
     }
 
     /// Its totals.
@@ -193,7 +217,7 @@ impl<K: Ledgers> Book<K> {
     }
 
     /// The totals and the entries, where all shares are back and no slip is out. Else book and shares come back.
-    pub fn settle(self, shares: Vec<Share<K>>) -> Result<BookSettled, Unsettled<Self, K>>
+    pub fn settle(mut self, mut shares: Vec<Share<K>>) -> Result<BookSettled, Unsettled<Self, K>>
         ensures settled { MatchResult result
             (λ settled. IsSettled self shares.items settled)
             (λ left. IsUnsettled self shares.items left.fault × (left.book ≡ self) × (left.shares.items ≡ shares.items)) }
@@ -206,7 +230,9 @@ impl<K: Ledgers> Book<K> {
                 shares,
             });
         }
-        if self.totals.totals().slips > 0 {
+        if let Some(at) = first_out(&shares) {
+            let share = &mut shares[at];
+            self.totals.bound(&mut share.parts);
             return Err(Unsettled {
                 fault: SettleFault::SlipOut,
                 book: self,

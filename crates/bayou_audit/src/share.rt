@@ -65,6 +65,8 @@ impl<K: Ledgers> Parts<K> {
 #[derive(Drop)]
 pub struct Share<K: Ledgers> {
     pub(crate) session: SessionId,
+    // How many of its slips are out.
+    pub(crate) out: usize,
     pub(crate) parts: Parts<K>,
 }
 
@@ -76,7 +78,7 @@ impl<K: Ledgers> Model for Share<K> {
 
     ghost view = { λ s. record { session = s.session; totals = s.parts.totals } };
 
-    ghost invariant = { λ s. s.parts.parts ≡ 1 };
+    ghost invariant = { λ s. (s.parts.parts ≡ 1) × (s.out ≡ s.parts.totals.slips) };
 }
 
 impl<K: Ledgers> Share<K> {

@@ -1,5 +1,5 @@
 //! Numbers that are the sums over shares.
-ghost use Rattle.std.specs.Prelude.{◌≡◌, ◌<◌, ◌+◌, ◌^◌};
+ghost use Rattle.std.specs.Prelude.{◌≡◌, ◌<◌, ◌≤◌, ◌+◌, ◌^◌};
 ghost use Rattle.bayou_audit.specs.Inner.Parts.{HasRoom};
 ghost use Rattle.bayou_audit.specs.Totals.{counted, no_totals, with_slip, without_slip};
 
@@ -51,8 +51,9 @@ impl<L: Ledger> Tally<L> {
         self.count -= 1;
     }
 
-    /// Whoever has all parts has the whole number counted on them.
+    /// Whoever has all parts has the whole number counted on them, and nobody more than that.
     fn audit(&mut self, share: &mut Share<L>)
+        ensures bound { share.old.amount ≤ self.old.count }
         ensures whole { share.old.parts ≡ L.parts → share.old.amount ≡ self.old.count }
         ensures same { (self.new.count ≡ self.old.count) × (share.new.parts ≡ share.old.parts) × (share.new.amount ≡ share.old.amount) }
     {
@@ -107,6 +108,14 @@ impl<K: Ledgers> Tallies<K> {
             writes: self.writes.count,
             refusals: self.refusals.count,
         }
+    }
+
+    /// No share of the slips that are out is more than all of them.
+    pub(crate) fn bound(&mut self, parts: &mut Parts<K>)
+        ensures within { parts.old.totals.slips ≤ self.old.slips }
+        ensures same { (self.new ≡ self.old) × (parts.new ≡ parts.old) }
+    {
+        self.slips.audit(&mut parts.slips);
     }
 
     /// One slip more is out.

@@ -1,10 +1,10 @@
 //! Readers and writers that do what a system may do, and count their calls.
-ghost use Rattle.std.specs.Prelude.{ℕ, List};
+ghost use Rattle.std.specs.Prelude.{◌≡◌, ℕ, IfSome, List};
 
 use bayou_print::{Ended, RunFault};
 use bayou_script::NetworkScript;
 use bayou_shell::{Files, Networks};
-use bayou_streams::Output;
+use bayou_streams::{Channel, Output};
 use std::alloc::Global;
 use std::io;
 use std::io::{ErrorKind, Read, Write};
@@ -14,6 +14,8 @@ use std::io::{ErrorKind, Read, Write};
 pub struct FakeFiles<'a> {
     pub files: &'a [(&'a str, &'a str)],
     pub fails_at: u64,
+    /// The file that was read.
+    pub read: Option<Channel<FakeReader<'a>, ()>>,
 }
 
 impl<'a> Files for FakeFiles<'a> {
@@ -36,6 +38,12 @@ impl<'a> Files for FakeFiles<'a> {
             }
         }
         Err(io::Error::from(ErrorKind::NotFound))
+    }
+
+    ghost kept = { λ files has_failed turns_left. IfSome files.read (λ file. (has_failed ≡ file.read_failed) × (turns_left ≡ file.turns_left)) };
+
+    fn keep(&mut self, file: Channel<FakeReader<'a>, ()>) {
+        self.read = Some(file);
     }
 }
 

@@ -63,6 +63,7 @@ pub fn call(rt: &impl Abort, alloc: Global, words: &[&str], input: &[u8]) -> Giv
     let mut files = FakeFiles {
         files: &[],
         fails_at: 0,
+        read: None,
     };
     call_on(rt, alloc, words, &mut files, input)
 }

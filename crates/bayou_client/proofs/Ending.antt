@@ -1,5 +1,5 @@
 -- How a request over a link ends.
-use Rattle.std.proofs.Common.{inl, inr, ◌≡◌, Bool, true, false, ℕ, List, [], Option, Result, Ok, Err, refl, sym, not}
+use Rattle.std.proofs.Common.{inl, inr, ◌≡◌, ◌≢◌, Bool, true, false, ℕ, List, [], Option, Result, Ok, Err, refl, sym, not}
 use Rattle.std.specs.Io.KnownBytes.{Appends}
 use Rattle.std.proofs.lemmas.List.{append-nil}
 use Rattle.bayou_client.specs.declared.fault.LinkFault.{LinkFault}
@@ -16,14 +16,14 @@ use Rattle.bayou_streams.specs.Written.{AppendsFront}
 
 -- the request wasn't sent whole
 pub unsent : (many : Bool) (request : List ℕ) (before after : Option (List ℕ)) (was : Bool) (read_failed write_failed : Bool) (turns_left : ℕ) (is_end : Type 0) (fault : Fault) → was ≡ false
-    → IsSendFault fault → Stops read_failed write_failed turns_left fault → AppendsFront before after request
+    → IsSendFault fault → fault ≢ faults.OutOfMemory → Stops read_failed write_failed turns_left fault → AppendsFront before after request
     → Exchanges many request before after [] was true (IsGone read_failed write_failed turns_left is_end) (Err (told_fault fault))
-unsent many request before after was rf wf turns is_end faults.Read was_open is stops front = absurd is
-unsent many request before after was rf wf turns is_end faults.Write was_open is stops front = (refl, inr (was_open, inr (inl stops), inl (front, refl)))
-unsent many request before after was rf wf turns is_end faults.Cut was_open is stops front = absurd is
-unsent many request before after was rf wf turns is_end faults.BadFrame was_open is stops front = absurd is
-unsent many request before after was rf wf turns is_end faults.TooManyTurns was_open is stops front = (refl, inr (was_open, inr (inr (inl stops)), inl (front, refl)))
-unsent many request before after was rf wf turns is_end faults.OutOfMemory was_open is stops front = (was_open, inr (refl, front))
+unsent many request before after was rf wf turns is_end faults.Read was_open is some stops front = absurd is
+unsent many request before after was rf wf turns is_end faults.Write was_open is some stops front = (refl, inr (was_open, inr (inl stops), inl (front, refl)))
+unsent many request before after was rf wf turns is_end faults.Cut was_open is some stops front = absurd is
+unsent many request before after was rf wf turns is_end faults.BadFrame was_open is some stops front = absurd is
+unsent many request before after was rf wf turns is_end faults.TooManyTurns was_open is some stops front = (refl, inr (was_open, inr (inr (inl stops)), inl (front, refl)))
+unsent many request before after was rf wf turns is_end faults.OutOfMemory was_open is some stops front = absurd (some refl)
 
 -- the request was sent, and no whole reply came
 pub unheard : (many : Bool) (request : List ℕ) (before after : Option (List ℕ)) (read : List ℕ) (was : Bool) (read_failed write_failed : Bool) (turns_left : ℕ) (is_end : Type 0) (fault : Fault) → was ≡ false
@@ -34,7 +34,7 @@ unheard many request before after read was rf wf turns is_end faults.Write was_o
 unheard many request before after read was rf wf turns is_end faults.Cut was_open less stops sent = (refl, inr (was_open, inr (inr (inr less.0)), inr (sent, less.1)))
 unheard many request before after read was rf wf turns is_end faults.BadFrame was_open none stops sent = (was_open, refl, sent, none)
 unheard many request before after read was rf wf turns is_end faults.TooManyTurns was_open less stops sent = (refl, inr (was_open, inr (inr (inl stops)), inr (sent, less)))
-unheard many request before after read was rf wf turns is_end faults.OutOfMemory was_open less stops sent = (was_open, inr (refl, (request, [], sym (append-nil request), sent)))
+unheard many request before after read was rf wf turns is_end faults.OutOfMemory was_open less stops sent = (was_open, inr (refl, sent))
 
 -- no whole reply was received
 pub fails : {A : Type 0} (asks : Asks A) (request : List ℕ) (before after : Option (List ℕ)) (read : List ℕ) (was is : Bool) (gone : Type 0) (fault : LinkFault)

@@ -63,10 +63,10 @@ IsLost many request before after read was_closed gone =
     ⊎ ((was_closed ≡ false) × gone
     × ((AppendsFront before after request × (read ≡ [])) ⊎ (Appends before after request × IsUnfinished many read)))
 
--- Memory was wanting: before anything was sent, and then the link is open still; or once sending had begun, and then it is closed.
+-- Memory was wanting: before anything was sent, and then the link is open still; or once the whole request was sent, and then it is closed.
 abbrev pub IsWanting : (request : List ℕ) → (before after : Option (List ℕ)) → (read : List ℕ) → (is_closed : Bool) → Type 0
 IsWanting request before after read is_closed =
-    ((is_closed ≡ false) × (after ≡ before) × (read ≡ [])) ⊎ ((is_closed ≡ true) × AppendsFront before after request)
+    ((is_closed ≡ false) × (after ≡ before) × (read ≡ [])) ⊎ ((is_closed ≡ true) × Appends before after request)
 
 -- How a request ends: what was written and read, whether the link was closed and is closed, and where a stream is gone. It is open
 -- exactly where the server's answer was received, and where nothing was sent for want of memory.

@@ -1,10 +1,9 @@
 //! Many nodes as one.
 ghost use Rattle.std.specs.Prelude.{◌≡◌, IfOk, List, OnOk, Option};
-ghost use Rattle.bayou_fleet.specs.Places.{InOne, InPlace, Place, SettlesAll, SettlesOne, place_of};
+ghost use Rattle.bayou_fleet.specs.Places.{InOne, InPlace, SettlesAll, SettlesOne, place_of};
 ghost use Rattle.bayou_lang.specs.Writes.{count_of};
 ghost use Rattle.bayou_log.specs.Listing.{listing_of};
-ghost use Rattle.bayou_node.specs.Books.{IsBlankOf};
-ghost use Rattle.bayou_server.specs.Server.{own_count};
+ghost use Rattle.bayou_node.specs.Books.{Begun, IsBlankOf, begun_of};
 
 use crate::fault::FleetFault;
 use bayou_base::Vector;
@@ -25,7 +24,7 @@ use std::sync::{Mutex, Wait};
 /// Servers from 0 on, each behind its lock, which threads share.
 pub trait Fleet: Drop {
     /// The servers, from 0 on: none where there is no such server.
-    ghost places: { Self → List (Option Place) };
+    ghost places: { Self → List (Option Begun) };
 
     /// Serves one connection at this server to its end. Where no desk is left there, nothing is served.
     fn serve<T: Wait>(&self, rt: &T, alloc: Global, at: usize, stream: &TcpStream);
@@ -79,7 +78,7 @@ impl<D: Device, L: Desks> Seat<D, L> {
         desks: u32,
     ) -> Result<Self, FleetFault>
         requires blank { IsBlankOf blank L.name L.parts desks }
-        requires whose { (server.core.id ≡ L.server) × (own_count server.core ≡ L.stored) }
+        requires whose { begun_of server.core ≡ L.begun }
     {
         match Node::new(alloc, blank, server, desks) {
             Ok((node, desks)) => Ok(Seat {
@@ -135,7 +134,7 @@ fn listing_at<D: Device, L: Desks, T: Wait>(
     alloc: Global,
     seat: &Option<Seat<D, L>>,
 ) -> Result<Vec<Listed>, AllocError>
-    ensures { InPlace (place_of L.server L.stored seat.now) (λ core. IfOk result (λ list. list.items ≡ listing_of core.held)) }
+    ensures { InPlace (place_of L.begun seat.now) (λ core. IfOk result (λ list. list.items ≡ listing_of core.held)) }
 {
     match seat {
         Some(seat) => seat.node.listing(rt, alloc),
@@ -144,7 +143,7 @@ fn listing_at<D: Device, L: Desks, T: Wait>(
 }
 
 fn vector_at<D: Device, L: Desks, T: Wait>(rt: &T, seat: &Option<Seat<D, L>>) -> Vector
-    ensures { InPlace (place_of L.server L.stored seat.now) (λ core. result ≡ count_of core.held) }
+    ensures { InPlace (place_of L.begun seat.now) (λ core. result ≡ count_of core.held) }
 {
     match seat {
         Some(seat) => seat.node.offer(rt),
@@ -157,7 +156,7 @@ fn dump_at<D: Device, L: Desks, T: Wait>(
     alloc: Global,
     seat: &Option<Seat<D, L>>,
 ) -> Result<Vec<RestingWrite>, AllocError>
-    ensures { InPlace (place_of L.server L.stored seat.now) (λ core. IfOk result (λ writes. writes.items ≡ core.held)) }
+    ensures { InPlace (place_of L.begun seat.now) (λ core. IfOk result (λ writes. writes.items ≡ core.held)) }
 {
     match seat {
         Some(seat) => seat.node.dump(rt, alloc),
@@ -170,7 +169,7 @@ fn settle_at<D: Device, L: Desks>(
     seat: Option<Seat<D, L>>,
     settled: &mut Vec<NodeSettled>,
 ) -> Result<(), FleetFault>
-    ensures { OnOk result (SettlesOne (place_of L.server L.stored seat) settled.old.items settled.new.items) }
+    ensures { OnOk result (SettlesOne (place_of L.begun seat) settled.old.items settled.new.items) }
 {
     let Some(Seat { node, idle }) = seat else {
         return Ok(());
@@ -196,7 +195,7 @@ pub struct FourServers<D, A: Desks, B: Desks, C: Desks, E: Desks> {
 impl<D: Device, A: Desks, B: Desks, C: Desks, E: Desks> Fleet for FourServers<D, A, B, C, E> {
     ghost use Rattle.std.specs.Prelude.{◌∷◌, []};
 
-    ghost places = { λ fleet. place_of A.server A.stored fleet.first ∷ place_of B.server B.stored fleet.second ∷ place_of C.server C.stored fleet.third ∷ place_of E.server E.stored fleet.fourth ∷ [] };
+    ghost places = { λ fleet. place_of A.begun fleet.first ∷ place_of B.begun fleet.second ∷ place_of C.begun fleet.third ∷ place_of E.begun fleet.fourth ∷ [] };
 
     fn serve<T: Wait>(&self, rt: &T, alloc: Global, at: usize, stream: &TcpStream) {
         match at {

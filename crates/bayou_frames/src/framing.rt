@@ -1,5 +1,5 @@
 //! Frames on a channel.
-ghost use Rattle.std.specs.Prelude.{◌≡◌, ◌<◌, ◌≤◌, true, ℕ, List, [], Some, IfErr, IfOk, OnOk, length};
+ghost use Rattle.std.specs.Prelude.{◌≡◌, ◌≢◌, ◌<◌, ◌≤◌, true, ℕ, List, [], Some, IfErr, IfOk, OnOk, length};
 ghost use Rattle.std.specs.Io.{ReadsAtMost};
 ghost use Rattle.std.specs.Io.KnownBytes.{Appends, ReadConsumes};
 ghost use Rattle.bayou_frames.specs.declared.fault.Fault.TheVariants.{OutOfMemory};
@@ -19,6 +19,7 @@ pub fn send<R, W: Write>(channel: &mut Channel<R, W>, text: &[u8]) -> Result<(),
     ensures whole { OnOk result (Appends (W.contents channel.old.writer) (W.contents channel.new.writer) text.now) }
     ensures part { AppendsFront (W.contents channel.old.writer) (W.contents channel.new.writer) text.now }
     ensures fault { IfErr result IsSendFault }
+    ensures no_memory { IfErr result (λ fault. fault ≢ OutOfMemory) }
     ensures stopped { IfErr result (Stops channel.new.read_failed channel.new.write_failed channel.new.turns_left) }
     ensures spent { OnOk result (0 < length text.now → channel.new.turns_left < channel.old.turns_left) }
     ensures turns { channel.new.turns_left ≤ channel.old.turns_left }

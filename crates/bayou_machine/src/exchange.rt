@@ -1,5 +1,6 @@
 //! A server of a script that takes Writes from another.
-ghost use Rattle.std.specs.Prelude.{◌≡◌, ◌<◌, ◌^◌, ℕ, All, IfErr, IfOk, List, Option, length};
+ghost use Rattle.std.specs.Prelude.{◌≡◌, ◌≤◌, ◌*◌, ℕ, All, IfErr, IfOk, List, Option, length};
+ghost use Rattle.bayou_base.specs.declared.limits.TheConstants.{MAX_TURNS, MAX_WRITES, READ_BYTES};
 ghost use Rattle.bayou_lang.specs.declared.write.Write.{Write};
 ghost use Rattle.bayou_lang.specs.Ranges.{IsWrite};
 ghost use Rattle.bayou_lang.specs.Writes.{lacking_of};
@@ -13,11 +14,10 @@ use bayou_base::Vector;
 use bayou_device::{MemoryDevice, OpenGate};
 use bayou_frames::Fault;
 use bayou_peer::meeting::a_pull_takes_what_is_sent;
-use bayou_peer::{PullFault, Pulled, answer_offer_on, pull_from_on};
+use bayou_peer::{PullFault, Pulled, answer_offer_on, take_answer};
 use bayou_server::Server;
 use bayou_streams::Channel;
 use std::alloc::{AllocError, Global};
-use std::io;
 
 type Serving = Server<MemoryDevice<OpenGate>>;
 
@@ -27,6 +27,8 @@ fn answer_of(alloc: Global, server: &mut Serving, counts: &Vector) -> Result<Vec
     ensures sent { IfOk result (λ answer. Sends (lacking_of counts.now server.old.core.held) answer.items) }
 {
     let _sound = server.receipts();
+    // What it holds stays below its limit, which is within its range.
+    let _limit = server.limit();
     let mut channel = Channel::new((), Vec::new(alloc));
     match answer_offer_on(alloc, server, counts, &mut channel) {
         Ok(_) => Ok(channel.into_parts().1),
@@ -34,19 +36,14 @@ fn answer_of(alloc: Global, server: &mut Serving, counts: &Vector) -> Result<Vec
     }
 }
 
-/// What the server makes of an input. Its Offer goes nowhere: it was answered before.
-fn take_from(
-    alloc: Global,
-    server: &mut Serving,
-    counts: &Vector,
-    input: &[u8],
-) -> Result<Pulled, PullFault>
-    ensures { (sent : List Write) (cut : Option ℕ) → All IsWrite sent → length sent < 2 ^ 32 → input.now ≡ cut_answer cut sent
+/// What the server makes of an input.
+fn take_from(alloc: Global, server: &mut Serving, input: &[u8]) -> Result<Pulled, PullFault>
+    requires { length input.now ≤ READ_BYTES * MAX_TURNS }
+    ensures { (sent : List Write) (cut : Option ℕ) → All IsWrite sent → length sent ≤ MAX_WRITES → input.now ≡ cut_answer cut sent
         → Meets serving_ways sent cut server.old result server.new }
 {
     a_pull_takes_what_is_sent::<Serving>();
-    let mut channel = Channel::new(input, io::sink());
-    pull_from_on(alloc, server, counts, &mut channel)
+    take_answer(alloc, server, input)
 }
 
 impl ScriptServer {
@@ -75,15 +72,14 @@ impl ScriptServer {
         }
     }
 
-    /// What it makes of an input, where it offered these counts.
-    pub(crate) fn take_from(&mut self, alloc: Global, counts: &Vector, input: &[u8]) -> Transfer
-        ensures { (sent : List Write) (cut : Option ℕ) → All IsWrite sent → length sent < 2 ^ 32 → input.now ≡ cut_answer cut sent
+    /// What it makes of an input.
+    pub(crate) fn take_from(&mut self, alloc: Global, input: &[u8]) -> Transfer
+        requires { length input.now ≤ READ_BYTES * MAX_TURNS }
+        ensures { (sent : List Write) (cut : Option ℕ) → All IsWrite sent → length sent ≤ MAX_WRITES → input.now ≡ cut_answer cut sent
             → IsGiven sent cut self.old result self.new }
     {
         match self {
-            ScriptServer::Running(server) => Transfer::Ended(take_from(
-                alloc, server, counts, input,
-            )),
+            ScriptServer::Running(server) => Transfer::Ended(take_from(alloc, server, input)),
             ScriptServer::Stopped(_) => Transfer::NotRunning,
         }
     }

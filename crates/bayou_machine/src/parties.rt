@@ -11,6 +11,7 @@ use bayou_answers::{Answer, BeginFault, Recovery, Transfer};
 use bayou_base::{Asks, Key, SERVERS, SESSIONS, ServerId, SessionId, Vector};
 use bayou_lang::{RestingProgram, RestingWrite};
 use bayou_peer::cut_after;
+use bayou_peer::meeting::an_answer_is_short;
 use bayou_script::Servers;
 use bayou_session::Session;
 use bayou_text::{Attempt, Exchange, Extent, Operation, PlannedFailure, Trial, TrialKind};
@@ -239,7 +240,8 @@ impl Parties {
             Some(items) => cut_after(&answer, items),
             None => &answer,
         };
-        self.servers[usize::from(to.index)].take_from(alloc, counts, input)
+        an_answer_is_short();
+        self.servers[usize::from(to.index)].take_from(alloc, input)
     }
 
     fn pull(&mut self, alloc: Global, to: ServerId, from: ServerId, cut: Option<u32>) -> Transfer

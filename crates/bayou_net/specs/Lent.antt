@@ -7,6 +7,7 @@ use Rattle.bayou_lang.specs.declared.program.Program.{Program}
 use Rattle.bayou_lang.specs.declared.write.Write.{Write}
 use Rattle.bayou_net.specs.Serving.{Steps}
 use Rattle.bayou_node.specs.Answers.{BySome, InSome, IsAccepted, Pays}
+use Rattle.bayou_node.specs.Books.{Begun}
 use Rattle.bayou_peer.specs.Pulls.{Ways}
 use Rattle.bayou_server.specs.declared.answer.Reopened.{Reopened}
 use Rattle.bayou_server.specs.declared.answer.Took.{Took}
@@ -39,26 +40,26 @@ pub record ReopensAt {D : Type 0} (d : Ghosts D) (old : ServerState D) (answer :
   pub calls : OpensInCalls d old.core.id old.device new.device
 
 -- a program at a node, by one who has a desk that was paid so much
-pub record DeskWrites (server stored : ℕ) (paid : ℕ) (need : List ℕ) (program : Program) (answer : Result Accepted WriteFault) (then : ℕ) : Type 0 where
-  pub writes : BySome server stored (λ old new. Writes old need program answer new)
-  pub accepted : IfOk answer (IsAccepted server need paid)
+pub record DeskWrites (begun : Begun) (paid : ℕ) (need : List ℕ) (program : Program) (answer : Result Accepted WriteFault) (then : ℕ) : Type 0 where
+  pub writes : BySome begun (λ old new. Writes old need program answer new)
+  pub accepted : IfOk answer (IsAccepted begun.server need paid)
   pub pays : Pays paid answer then
 
 -- A node serves who has a desk there: what is told of it is how much the desk was paid. Each answer is one that something gives which may be
 -- behind the lock.
-abbrev pub desk_steps : (server stored : ℕ) → Steps ℕ
-desk_steps server stored = record {
+abbrev pub desk_steps : Begun → Steps ℕ
+desk_steps begun = record {
   list = λ paid. None;
-  reads = λ paid need key answer. InSome server stored (λ core. Reads core need key answer);
-  writes = λ paid need program answer then. DeskWrites server stored paid need program answer then;
-  reopens = λ paid answer then. BySome server stored (λ old new. Reopens old answer new) × (then ≡ paid);
+  reads = λ paid need key answer. InSome begun (λ core. Reads core need key answer);
+  writes = λ paid need program answer then. DeskWrites begun paid need program answer then;
+  reopens = λ paid answer then. BySome begun (λ old new. Reopens old answer new) × (then ≡ paid);
 }
 
 -- A node is given a Write (anti-entropy, Petersen et al. 1997), and answers as something does that may be behind its lock. Of what stands beside
 -- the node, a desk or nothing, no call changes anything; what is held between two calls isn't told, as others may change it.
-abbrev pub NodeTakes : {S : Type 0} → (server stored : ℕ) → S → Write → Result Took TakeFault → S → Type 0
-NodeTakes server stored before given answer after = BySome server stored (λ old new. Takes old given answer new) × (after ≡ before)
+abbrev pub NodeTakes : {S : Type 0} → Begun → S → Write → Result Took TakeFault → S → Type 0
+NodeTakes begun before given answer after = BySome begun (λ old new. Takes old given answer new) × (after ≡ before)
 
 -- how a node takes Writes
-abbrev pub node_ways : (server stored : ℕ) → Ways (Unit {0})
-node_ways server stored = record { list = λ node. None; takes = NodeTakes server stored }
+abbrev pub node_ways : Begun → Ways (Unit {0})
+node_ways begun = record { list = λ node. None; takes = NodeTakes begun }

@@ -54,8 +54,7 @@ abbrev pub Serves : {S : Type 0} → Steps S → S → Frame → (reply : List �
 Serves steps old (frames.Read need key) reply new =
     (answer : Result Seen Behind) × steps.reads old need key answer × (reply ≡ spelling (read_reply answer)) × (new ≡ old)
 Serves steps old (frames.Write need program) reply new =
-    ((answer : Result Accepted WriteFault) × steps.writes old need program answer new × (reply ≡ spelling (write_reply answer)))
-    ⊎ IsWanting old reply new
+    (answer : Result Accepted WriteFault) × steps.writes old need program answer new × (reply ≡ spelling (write_reply answer))
 Serves steps old frames.Reopen reply new =
     (answer : Result Reopened ReopenFault) × steps.reopens old answer new × (reply ≡ spelling (reopen_reply answer))
 Serves steps old frames.Dump reply new =

@@ -27,11 +27,11 @@ impl<D: Device, L: Desks, T: Wait> Served for AtNode<'_, D, L, Desk<L>, T> {
     ghost use Rattle.std.specs.Prelude.{IfOk, length};
     ghost use Rattle.bayou_base.specs.declared.limits.TheConstants.{MAX_WRITES};
 
-    ghost reads = { λ paid need key answer. InSome L.server L.stored (λ core. Reads core need key answer) };
+    ghost reads = { λ paid need key answer. InSome L.begun (λ core. Reads core need key answer) };
 
-    ghost writes = { DeskWrites L.server L.stored };
+    ghost writes = { DeskWrites L.begun };
 
-    ghost reopens = { λ paid answer then. BySome L.server L.stored (λ old new. Reopens old answer new) × (then ≡ paid) };
+    ghost reopens = { λ paid answer then. BySome L.begun (λ old new. Reopens old answer new) × (then ≡ paid) };
 
     fn read(&mut self, need: &Vector, key: &Key) -> Result<Seen, Behind> {
         self.node.read(self.rt, need, key)
@@ -47,6 +47,10 @@ impl<D: Device, L: Desks, T: Wait> Served for AtNode<'_, D, L, Desk<L>, T> {
             .write(self.rt, alloc, &mut self.desk, need, program)
     }
 
+    fn refusal_for_memory(&mut self, need: &Vector) -> WriteFault {
+        self.node.refusal_for_memory(self.rt, need)
+    }
+
     fn reopen(&mut self, alloc: Global) -> Result<Reopened, ReopenFault> {
         self.node.reopen(self.rt, alloc)
     }
@@ -54,7 +58,7 @@ impl<D: Device, L: Desks, T: Wait> Served for AtNode<'_, D, L, Desk<L>, T> {
     fn dump(&mut self, alloc: Global) -> Result<Vec<RestingWrite>, AllocError>
         ensures same { self.new ≡ self.old }
         ensures few { IfOk result (λ writes. length writes.items ≤ MAX_WRITES) }
-        ensures held { InSome L.server L.stored (λ core. IfOk result (λ writes. writes.items ≡ core.held)) }
+        ensures held { InSome L.begun (λ core. IfOk result (λ writes. writes.items ≡ core.held)) }
     {
         self.node.dump(self.rt, alloc)
     }
@@ -70,7 +74,7 @@ pub fn serve<D: Device, L: Desks, G: RequestGate, R: Read, W: Write, T: Wait>(
     channel: &mut Channel<R, W>,
 ) -> (Result<u32, Fault>, Desk<L>)
     ensures serves { (read : List ℕ) × Consumes (R.remaining channel.old.reader) (R.remaining channel.new.reader) read
-        × ServeEnds (desk_steps L.server L.stored) desk result.1 read (W.contents channel.old.writer) (W.contents channel.new.writer) (IsAtEnd (R.remaining channel.new.reader)) result.0 }
+        × ServeEnds (desk_steps L.begun) desk result.1 read (W.contents channel.old.writer) (W.contents channel.new.writer) (IsAtEnd (R.remaining channel.new.reader)) result.0 }
     ensures stopped { IfErr result.0 (Stops channel.new.read_failed channel.new.write_failed channel.new.turns_left) }
     ensures turns { channel.new.turns_left ≤ channel.old.turns_left }
 {

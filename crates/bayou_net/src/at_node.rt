@@ -34,11 +34,11 @@ impl<D: Device, L: Desks, K, T: Wait> Replica for AtNode<'_, D, L, K, T> {
 
     ghost list = { λ _. None };
 
-    ghost takes = { NodeTakes L.server L.stored };
+    ghost takes = { NodeTakes L.begun };
 
     fn offer(&mut self) -> Vector
         ensures same { self.new ≡ self.old }
-        ensures held { InSome L.server L.stored (λ core. result ≡ count_of core.held) }
+        ensures held { InSome L.begun (λ core. result ≡ count_of core.held) }
     {
         self.node.offer(self.rt)
     }
@@ -51,7 +51,7 @@ impl<D: Device, L: Desks, K, T: Wait> Replica for AtNode<'_, D, L, K, T> {
     ) -> Result<Vec<RestingWrite>, AllocError>
         ensures same { self.new ≡ self.old }
         ensures few { IfOk result (λ writes. length writes.items ≤ most) }
-        ensures held { InSome L.server L.stored (λ core. IfOk result (λ writes. writes.items ≡ take most (lacking_of counts.now core.held))) }
+        ensures held { InSome L.begun (λ core. IfOk result (λ writes. writes.items ≡ take most (lacking_of counts.now core.held))) }
     {
         self.node.lacking(self.rt, alloc, counts, most)
     }

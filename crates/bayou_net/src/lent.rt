@@ -30,6 +30,10 @@ impl<D: Device> Served for Server<D> {
         Server::write(self, alloc, need, program)
     }
 
+    fn refusal_for_memory(&mut self, need: &Vector) -> WriteFault {
+        Server::refusal_for_memory(self, need)
+    }
+
     fn reopen(&mut self, alloc: Global) -> Result<Reopened, ReopenFault> {
         Server::reopen(self, alloc)
     }

@@ -67,7 +67,7 @@ pub fn pull_from<D: Device, L: Desks, R: Read, W: Write, T: Wait>(
     ensures offered { OnOk result (Appends (W.contents channel.old.writer) (W.contents channel.new.writer) (spelling (Offer counts.now))) }
     ensures part { AppendsFront (W.contents channel.old.writer) (W.contents channel.new.writer) (spelling (Offer counts.now)) }
     ensures ends { (read : List ℕ) × Consumes (R.remaining channel.old.reader) (R.remaining channel.new.reader) read
-        × PullEnds (node_ways L.server L.stored) tt tt read (IsAtEnd (R.remaining channel.new.reader)) result }
+        × PullEnds (node_ways L.begun) tt tt read (IsAtEnd (R.remaining channel.new.reader)) result }
     ensures stopped { IfErr result (StopsPull channel.new.read_failed channel.new.write_failed channel.new.turns_left) }
     ensures few { IfOk result (λ pulled. pulled.taken + pulled.had < 2 ^ 32) }
     ensures turns { channel.new.turns_left ≤ channel.old.turns_left }
@@ -82,11 +82,11 @@ pub fn pull<D: Device, L: Desks, R: Read, W: Write, T: Wait>(
     node: &Node<D, L>,
     channel: &mut Channel<R, W>,
 ) -> Result<Pulled, PullFault>
-    ensures offered { (counts : List ℕ) × InSome L.server L.stored (λ core. counts ≡ count_of core.held)
+    ensures offered { (counts : List ℕ) × InSome L.begun (λ core. counts ≡ count_of core.held)
         × AppendsFront (W.contents channel.old.writer) (W.contents channel.new.writer) (spelling (Offer counts))
         × OnOk result (Appends (W.contents channel.old.writer) (W.contents channel.new.writer) (spelling (Offer counts))) }
     ensures ends { (read : List ℕ) × Consumes (R.remaining channel.old.reader) (R.remaining channel.new.reader) read
-        × PullEnds (node_ways L.server L.stored) tt tt read (IsAtEnd (R.remaining channel.new.reader)) result }
+        × PullEnds (node_ways L.begun) tt tt read (IsAtEnd (R.remaining channel.new.reader)) result }
     ensures stopped { IfErr result (StopsPull channel.new.read_failed channel.new.write_failed channel.new.turns_left) }
     ensures few { IfOk result (λ pulled. pulled.taken + pulled.had < 2 ^ 32) }
     ensures turns { channel.new.turns_left ≤ channel.old.turns_left }

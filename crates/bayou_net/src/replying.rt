@@ -155,6 +155,21 @@ fn of_read<S: Served>(
     encoded(alloc, &frame)
 }
 
+// Has the program made a Write. Where there is no memory for it, no refusal that comes before that is passed over.
+fn write_at<S: Served>(
+    alloc: Global,
+    served: &mut S,
+    need: &Vector,
+    program: &Program,
+) -> Result<Accepted, WriteFault>
+    ensures { S.writes served.old need.now program.now result served.new }
+{
+    match program.rest(alloc) {
+        Ok(resting) => served.write(alloc, need, resting),
+        Err(_) => Err(served.refusal_for_memory(need)),
+    }
+}
+
 fn of_write<S: Served>(
     alloc: Global,
     served: &mut S,
@@ -164,10 +179,7 @@ fn of_write<S: Served>(
     ensures { (reply : List ℕ) × Serves (record { list = S.list; reads = S.reads; writes = S.writes; reopens = S.reopens }) served.old (frames.Write need.now program.now) reply served.new
         × IfOk result (λ text. text.items ≡ reply) }
 {
-    let Ok(resting) = program.rest(alloc) else {
-        return wanting(alloc);
-    };
-    let frame = told_write(served.write(alloc, need, resting));
+    let frame = told_write(write_at(alloc, served, need, program));
     encoded(alloc, &frame)
 }
 

@@ -1,4 +1,4 @@
-ghost use Rattle.std.specs.Prelude.{◌≡◌, ◌≤◌, ℕ, List, Result, IfOk, IfSome, length};
+ghost use Rattle.std.specs.Prelude.{◌≡◌, ◌≤◌, ℕ, List, Result, Err, IfOk, IfSome, length};
 ghost use Rattle.bayou_base.specs.declared.answer.Accepted.{Accepted as Taken};
 ghost use Rattle.bayou_base.specs.declared.answer.Seen.{Seen as Told};
 ghost use Rattle.bayou_base.specs.declared.limits.TheConstants.{MAX_WRITES};
@@ -36,6 +36,10 @@ pub trait Served: Replica {
         program: RestingProgram,
     ) -> Result<Accepted, WriteFault>
         ensures { writes self.old need.now program result self.new };
+
+    /// What a program is answered for which there is no memory: what is refused before that is missed, or the want of it.
+    fn refusal_for_memory(&mut self, need: &Vector) -> WriteFault
+        ensures { (program : Asked) → writes self.old need.now program (Err result) self.new };
 
     fn reopen(&mut self, alloc: Global) -> Result<Reopened, ReopenFault>
         ensures { reopens self.old result self.new };

@@ -1,7 +1,6 @@
 //! A node that serves who has a desk there.
 ghost use Rattle.std.specs.Prelude.{◌≡◌};
-ghost use Rattle.bayou_node.specs.Books.{IsBlankOf};
-ghost use Rattle.bayou_server.specs.Server.{own_count};
+ghost use Rattle.bayou_node.specs.Books.{IsBlankOf, begun_of};
 
 use crate::fixtures::{Memory, begun, opened};
 use crate::words::{bytes, is_said};
@@ -157,7 +156,7 @@ where
     L: Desks + Send + Sync,
     R: Threads + Wait + Abort + Clock + Sync,
     requires blank { IsBlankOf blank L.name L.parts 2 }
-    requires whose { (server.value.core.id ≡ L.server) × (own_count server.value.core ≡ L.stored) }
+    requires whose { begun_of server.value.core ≡ L.begun }
 {
     let (node, desks) = opened::<L>(rt, alloc, blank, server, 2);
     match both_had(rt, alloc, state, &node, both(rt, desks)) {

@@ -1,8 +1,7 @@
 //! A listener, and those who reach it.
 ghost use Rattle.std.specs.Prelude.{◌≡◌};
 ghost use Rattle.bayou_audit.specs.Blanks.{AreBlanksOf, named};
-ghost use Rattle.bayou_node.specs.Books.{IsBlankOf};
-ghost use Rattle.bayou_server.specs.Server.{own_count};
+ghost use Rattle.bayou_node.specs.Books.{IsBlankOf, begun_of};
 
 use crate::fixtures::{Memory, begun, blanks, opened};
 use crate::gates::{AWAITED, HoldingGate, OPEN};
@@ -196,7 +195,7 @@ where
     L: Desks + Send + Sync,
     R: Threads + Wait + Abort + Clock + Net<Stream = TcpStream> + Send + Sync,
     requires blank { IsBlankOf blank L.name L.parts 5 }
-    requires whose { (server.value.core.id ≡ L.server) × (own_count server.value.core ≡ L.stored) }
+    requires whose { begun_of server.value.core ≡ L.begun }
 {
     let (node, desks) = opened::<L>(rt, alloc, blank, server, 5);
     match reached(rt, alloc, place, book, shares, &node, desks) {
@@ -223,7 +222,7 @@ where
     R: Threads + Wait + Abort + Clock + Net<Stream = TcpStream> + Send + Sync,
     requires blanks { AreBlanksOf blanks (named S.name S.parts) (named T.name T.parts) (named U.name U.parts) (named V.name V.parts) 2 }
     requires blank { IsBlankOf blank L.name L.parts 5 }
-    requires whose { (server.value.core.id ≡ L.server) × (own_count server.value.core ≡ L.stored) }
+    requires whose { begun_of server.value.core ≡ L.begun }
 {
     let (book, shares) = AuditBook::<Four<S, T, U, V>>::new(alloc, blanks, 2, 65_536).expect(
         rt, "no book",

@@ -3,22 +3,24 @@
 use Rattle.std.specs.Prelude.{◌≡◌, ℕ, ◌+◌, ◌<◌, ◌≤◌, List, Result, Ok, Err, slice_index}
 use Rattle.bayou_base.specs.declared.answer.Accepted.{Accepted}
 use Rattle.bayou_base.specs.Vector.{Dominates}
+use Rattle.bayou_node.specs.Books.{Begun, IsServerOf}
 use Rattle.bayou_server.specs.declared.fault.WriteFault.{WriteFault}
 use Rattle.bayou_server.specs.Server.{Core, IsSoundServer, own_count}
 
--- what may be behind the lock: it is this server, it is sound, and it has made no fewer Writes itself than it had as its node was made
-pub record MayBeKept (server stored : ℕ) (core : Core) : Type 0 where
-  pub whose : core.id ≡ server
+-- what may be behind the lock: it is this server, with its limit; it is sound; and it has made no fewer Writes itself than it had as its
+-- node was made
+pub record MayBeKept (begun : Begun) (core : Core) : Type 0 where
+  pub is : IsServerOf begun core
   pub sound : IsSoundServer core
-  pub own : stored ≤ own_count core
+  pub own : begun.stored ≤ own_count core
 
 -- it is so in something that may be behind the lock
-abbrev pub InSome : (server stored : ℕ) → (Core → Type 0) → Type 0
-InSome server stored IsSo = (core : Core) × MayBeKept server stored core × IsSo core
+abbrev pub InSome : Begun → (Core → Type 0) → Type 0
+InSome begun IsSo = (core : Core) × MayBeKept begun core × IsSo core
 
 -- a step that leads from something that may be behind the lock to something that may be
-abbrev pub BySome : (server stored : ℕ) → (Core → Core → Type 0) → Type 0
-BySome server stored Steps = (old new : Core) × MayBeKept server stored old × MayBeKept server stored new × Steps old new
+abbrev pub BySome : Begun → (Core → Core → Type 0) → Type 0
+BySome begun Steps = (old new : Core) × MayBeKept begun old × MayBeKept begun new × Steps old new
 
 -- The accepted Write is the server's own, it is the next behind all that its server held, which has all that the session needs (Terry et
 -- al. 1994), and its seq is above the number of those that were accepted for the desk before.

@@ -4,6 +4,22 @@ use Rattle.std.specs.declared.sync.ledger.Blank.{Blank}
 use Rattle.bayou_lang.specs.declared.write.Write.{Write}
 use Rattle.bayou_server.specs.Server.{Core, IsSoundServer, ServerState, own_count}
 
+-- A server as its node is made: which it is, and among how many; how many Writes it may hold; and how many it had made itself.
+pub record Begun : Type 0 where
+  pub server : ℕ
+  pub count : ℕ
+  pub limit : ℕ
+  pub stored : ℕ
+
+abbrev pub begun_of : Core → Begun
+begun_of core = record { server = core.id; count = core.count; limit = core.limit; stored = own_count core }
+
+-- it is that server, whatever it has made since
+pub record IsServerOf (begun : Begun) (core : Core) : Type 0 where
+  pub whose : core.id ≡ begun.server
+  pub among : core.count ≡ begun.count
+  pub limit : core.limit ≡ begun.limit
+
 -- The server; how many Writes it had made itself as its node was made; and, since then, how many programs were accepted, and how many
 -- of its own Writes were adopted.
 pub record Booked (D : Type 0) : Type 0 where
@@ -14,11 +30,11 @@ pub record Booked (D : Type 0) : Type 0 where
 
 -- The books are exact: it is this server, which had made so many Writes, and it is sound; those that it made itself are those, the
 -- accepted and the adopted.
-pub record IsExact {D : Type 0} (server stored : ℕ) (booked : Booked D) : Type 0 where
-  pub whose : booked.server.core.id ≡ server
-  pub since : booked.stored ≡ stored
+pub record IsExact {D : Type 0} (begun : Begun) (booked : Booked D) : Type 0 where
+  pub is : IsServerOf begun booked.server.core
+  pub since : booked.stored ≡ begun.stored
   pub sound : IsSoundServer booked.server.core
-  pub own : own_count booked.server.core ≡ stored + booked.accepted + booked.adopted
+  pub own : own_count booked.server.core ≡ begun.stored + booked.accepted + booked.adopted
 
 -- the books of a node as it is made
 abbrev pub opened : {D : Type 0} → ServerState D → Booked D

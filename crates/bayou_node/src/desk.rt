@@ -1,21 +1,16 @@
-ghost use Rattle.std.specs.Prelude.{ℕ};
+ghost use Rattle.bayou_node.specs.Books.{Begun};
 
 use std::marker::{Brand, Model};
 use std::sync::ledger::{Ledger, Share};
 
 /// The ledger of a node's accepted Writes, and what the node is of.
 pub trait Desks: Ledger {
-    /// Which server it has.
-    ghost server: { ℕ };
-
-    /// How many Writes that server had made itself as the node was made.
-    ghost stored: { ℕ };
+    /// Its server, as the node was made.
+    ghost begun: { Begun };
 }
 
 impl Desks for Brand {
-    ghost server = { 0 };
-
-    ghost stored = { 0 };
+    ghost begun = { record { server = 0; count = 0; limit = 0; stored = 0 } };
 }
 
 /// Whoever has it may have programs accepted at its node, one after another. It counts them.

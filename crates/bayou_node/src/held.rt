@@ -1,9 +1,10 @@
-ghost use Rattle.std.specs.Prelude.{◌≡◌, ◌≤◌, ◌<◌, ◌+◌, IfOk, MatchResult, length, slice_index, sum, take};
+ghost use Rattle.std.specs.Prelude.{◌≡◌, ◌≤◌, ◌<◌, ◌+◌, Err, IfOk, MatchResult, length, slice_index, sum, take};
 ghost use Rattle.bayou_base.specs.declared.limits.TheConstants.{MAX_WRITES};
+ghost use Rattle.bayou_lang.specs.declared.program.Program.{Program as Asked};
 ghost use Rattle.bayou_lang.specs.Writes.{count_of, lacking_of};
 ghost use Rattle.bayou_log.specs.Listing.{listing_of};
 ghost use Rattle.bayou_node.specs.Answers.{IsAccepted, Pays};
-ghost use Rattle.bayou_node.specs.Books.{AreNewDesks, IsBlankOf, IsExact, StillHolds, opened};
+ghost use Rattle.bayou_node.specs.Books.{AreNewDesks, IsBlankOf, IsExact, StillHolds, begun_of, opened};
 ghost use Rattle.bayou_node.specs.Settles.{IsSettled};
 ghost use Rattle.bayou_server.specs.Reads.{Reads};
 ghost use Rattle.bayou_server.specs.Reopens.{Reopens, own_adopted};
@@ -45,7 +46,7 @@ impl<D, L: Desks> Model for Held<D, L> {
 
     ghost view = { λ h. record { server = h.server; stored = h.stored; accepted = h.accepted.total; adopted = h.adopted } };
 
-    ghost invariant = { λ h. IsExact L.server L.stored (record { server = h.server; stored = h.stored; accepted = h.accepted.total; adopted = h.adopted })
+    ghost invariant = { λ h. IsExact L.begun (record { server = h.server; stored = h.stored; accepted = h.accepted.total; adopted = h.adopted })
         × (h.desks ≡ L.parts) × (h.rest.parts ≡ 0) × (h.rest.amount ≡ 0) };
 }
 
@@ -101,7 +102,7 @@ impl<D: Device, L: Desks> Held<D, L> {
         desks: u32,
     ) -> Result<(Self, Vec<Desk<L>>), NotMade<D>>
         requires blank { IsBlankOf blank L.name L.parts desks }
-        requires whose { (server.core.id ≡ L.server) × (own_count server.core ≡ L.stored) }
+        requires whose { begun_of server.core ≡ L.begun }
         ensures made { MatchResult result
             (λ made. (made.0 ≡ opened server) × AreNewDesks desks made.1.items)
             (λ left. left.server ≡ server) }
@@ -124,7 +125,7 @@ impl<D: Device, L: Desks> Held<D, L> {
     /// As [`Server::read`].
     pub fn read(&self, need: &Vector, key: &Key) -> Result<Seen, Behind>
         ensures reads { Reads self.now.server.core need.now key.now result }
-        ensures exact { IsExact L.server L.stored self.now }
+        ensures exact { IsExact L.begun self.now }
     {
         self.server.read(need, key)
     }
@@ -141,16 +142,24 @@ impl<D: Device, L: Desks> Held<D, L> {
         ensures stores { StoresWrite D.Device self.old.server result self.new.server }
         ensures pays { Pays desk.old result desk.new }
         ensures counts { MatchResult result
-            (λ accepted. (self.new.accepted ≡ self.old.accepted + 1) × IsAccepted L.server need.now desk.old accepted)
+            (λ accepted. (self.new.accepted ≡ self.old.accepted + 1) × IsAccepted L.begun.server need.now desk.old accepted)
             (λ _. self.new.accepted ≡ self.old.accepted) }
         ensures others { (self.new.stored ≡ self.old.stored) × (self.new.adopted ≡ self.old.adopted) }
         ensures keeps { StillHolds self.old.server.core self.new.server.core }
-        ensures exact { IsExact L.server L.stored self.old × IsExact L.server L.stored self.new }
+        ensures exact { IsExact L.begun self.old × IsExact L.begun self.new }
     {
         self.accepted.audit(&mut desk.share);
         let accepted = self.server.write(alloc, need, program)?;
         self.accepted.add(&mut desk.share, 1);
         Ok(accepted)
+    }
+
+    /// As [`Server::refusal_for_memory`].
+    pub fn refusal_for_memory(&self, need: &Vector) -> WriteFault
+        ensures writes { (program : Asked) → Writes self.now.server.core need.now program (Err result) self.now.server.core }
+        ensures exact { IsExact L.begun self.now }
+    {
+        self.server.refusal_for_memory(need)
     }
 
     /// As [`Server::take`].
@@ -159,7 +168,7 @@ impl<D: Device, L: Desks> Held<D, L> {
         ensures stores { StoresTaken D.Device self.old.server result self.new.server }
         ensures others { (self.new.stored ≡ self.old.stored) × (self.new.accepted ≡ self.old.accepted) × (self.new.adopted ≡ self.old.adopted) }
         ensures keeps { StillHolds self.old.server.core self.new.server.core }
-        ensures exact { IsExact L.server L.stored self.old × IsExact L.server L.stored self.new }
+        ensures exact { IsExact L.begun self.old × IsExact L.begun self.new }
     {
         self.server.take(alloc, write)
     }
@@ -169,11 +178,11 @@ impl<D: Device, L: Desks> Held<D, L> {
         ensures reopens { Reopens self.old.server.core result self.new.server.core }
         ensures opens { ReopensJournal D.Device self.old.server result self.new.server }
         ensures counts { MatchResult result
-            (λ reopened. self.new.adopted ≡ self.old.adopted + own_adopted L.server reopened.adopted)
+            (λ reopened. self.new.adopted ≡ self.old.adopted + own_adopted L.begun.server reopened.adopted)
             (λ _. self.new.adopted ≡ self.old.adopted) }
         ensures others { (self.new.stored ≡ self.old.stored) × (self.new.accepted ≡ self.old.accepted) }
         ensures keeps { StillHolds self.old.server.core self.new.server.core }
-        ensures exact { IsExact L.server L.stored self.old × IsExact L.server L.stored self.new }
+        ensures exact { IsExact L.begun self.old × IsExact L.begun self.new }
     {
         let before = own_writes(&self.server);
         let reopened = self.server.reopen(alloc)?;
@@ -184,7 +193,7 @@ impl<D: Device, L: Desks> Held<D, L> {
     /// As [`Server::vector`].
     pub fn vector(&self) -> Vector
         ensures value { result ≡ count_of self.now.server.core.held }
-        ensures exact { IsExact L.server L.stored self.now }
+        ensures exact { IsExact L.begun self.now }
     {
         self.server.vector()
     }
@@ -197,7 +206,7 @@ impl<D: Device, L: Desks> Held<D, L> {
         max: usize,
     ) -> Result<Vec<RestingWrite>, AllocError>
         ensures value { IfOk result (λ writes. writes.items ≡ take max (lacking_of counts.now self.now.server.core.held)) }
-        ensures exact { IsExact L.server L.stored self.now }
+        ensures exact { IsExact L.begun self.now }
     {
         self.server.lacking(alloc, counts, max)
     }
@@ -205,7 +214,7 @@ impl<D: Device, L: Desks> Held<D, L> {
     /// As [`Server::listing`].
     pub fn listing(&self, alloc: Global) -> Result<Vec<Listed>, AllocError>
         ensures value { IfOk result (λ list. list.items ≡ listing_of self.now.server.core.held) }
-        ensures exact { IsExact L.server L.stored self.now }
+        ensures exact { IsExact L.begun self.now }
     {
         self.server.listing(alloc)
     }
@@ -214,7 +223,7 @@ impl<D: Device, L: Desks> Held<D, L> {
     pub fn dump(&self, alloc: Global) -> Result<Vec<RestingWrite>, AllocError>
         ensures value { IfOk result (λ writes. writes.items ≡ self.now.server.core.held) }
         ensures few { IfOk result (λ writes. length writes.items ≤ MAX_WRITES) }
-        ensures exact { IsExact L.server L.stored self.now }
+        ensures exact { IsExact L.begun self.now }
     {
         // The limit, below which all that is held stays, is within its range.
         let _limit = self.server.limit();
@@ -226,7 +235,7 @@ impl<D: Device, L: Desks> Held<D, L> {
         ensures settled { MatchResult result
             (λ settled. IsSettled self L.parts desks.items settled)
             (λ left. (length desks.items < L.parts) × (left.node ≡ self) × (left.desks.items ≡ desks.items)) }
-        ensures exact { IsExact L.server L.stored self }
+        ensures exact { IsExact L.begun self }
     {
         if desks.len() < self.desks {
             return Err(DeskMissing { node: self, desks });

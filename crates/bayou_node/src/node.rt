@@ -1,14 +1,14 @@
-ghost use Rattle.std.specs.Prelude.{◌≡◌, ◌≤◌, ◌<◌, ℕ, IfOk, MatchResult, length, take};
+ghost use Rattle.std.specs.Prelude.{◌≡◌, ◌≤◌, ◌<◌, ℕ, Err, IfOk, MatchResult, length, take};
 ghost use Rattle.bayou_base.specs.Vector.{Dominates};
 ghost use Rattle.bayou_base.specs.declared.limits.TheConstants.{MAX_WRITES};
+ghost use Rattle.bayou_lang.specs.declared.program.Program.{Program as Asked};
 ghost use Rattle.bayou_lang.specs.Writes.{count_of, lacking_of};
 ghost use Rattle.bayou_log.specs.Listing.{listing_of};
 ghost use Rattle.bayou_node.specs.Answers.{BySome, InSome, IsAccepted, Pays};
-ghost use Rattle.bayou_node.specs.Books.{AreNewDesks, IsBlankOf};
+ghost use Rattle.bayou_node.specs.Books.{AreNewDesks, IsBlankOf, begun_of};
 ghost use Rattle.bayou_node.specs.Settles.{IsNodeSettled};
 ghost use Rattle.bayou_server.specs.Reads.{Reads};
 ghost use Rattle.bayou_server.specs.Reopens.{Reopens};
-ghost use Rattle.bayou_server.specs.Server.{own_count};
 ghost use Rattle.bayou_server.specs.Takes.{Takes};
 ghost use Rattle.bayou_server.specs.Writes.{Writes};
 
@@ -40,7 +40,7 @@ impl<D, L: Desks> Model for Node<D, L> {
 
     ghost view = { λ n. n.id };
 
-    ghost invariant = { λ n. n.id.index ≡ L.server };
+    ghost invariant = { λ n. n.id.index ≡ L.begun.server };
 }
 
 impl<D: Device, L: Desks> Node<D, L> {
@@ -52,7 +52,7 @@ impl<D: Device, L: Desks> Node<D, L> {
         desks: u32,
     ) -> Result<(Self, Vec<Desk<L>>), NotMade<D>>
         requires blank { IsBlankOf blank L.name L.parts desks }
-        requires whose { (server.core.id ≡ L.server) × (own_count server.core ≡ L.stored) }
+        requires whose { begun_of server.core ≡ L.begun }
         ensures made { MatchResult result
             (λ made. (made.0.index ≡ server.core.id) × AreNewDesks desks made.1.items)
             (λ left. left.server ≡ server) }
@@ -70,14 +70,14 @@ impl<D: Device, L: Desks> Node<D, L> {
 
     /// Which server it has. This takes no lock.
     pub fn id(&self) -> ServerId
-        ensures { (result ≡ self.now) × (result.index ≡ L.server) }
+        ensures { (result ≡ self.now) × (result.index ≡ L.begun.server) }
     {
         self.id
     }
 
     /// As [`Held::read`].
     pub fn read<R: Wait>(&self, rt: &R, need: &Vector, key: &Key) -> Result<Seen, Behind>
-        ensures reads { InSome L.server L.stored (λ core. Reads core need.now key.now result) }
+        ensures reads { InSome L.begun (λ core. Reads core need.now key.now result) }
         ensures covered { IfOk result (λ seen. Dominates seen.vector need.now) }
     {
         self.held.lock(rt).read(need, key)
@@ -92,16 +92,23 @@ impl<D: Device, L: Desks> Node<D, L> {
         need: &Vector,
         program: RestingProgram,
     ) -> Result<Accepted, WriteFault>
-        ensures writes { BySome L.server L.stored (λ old new. Writes old need.now program result new) }
-        ensures accepted { IfOk result (IsAccepted L.server need.now desk.old) }
+        ensures writes { BySome L.begun (λ old new. Writes old need.now program result new) }
+        ensures accepted { IfOk result (IsAccepted L.begun.server need.now desk.old) }
         ensures pays { Pays desk.old result desk.new }
     {
         self.held.lock(rt).write(alloc, desk, need, program)
     }
 
+    /// As [`Held::refusal_for_memory`].
+    pub fn refusal_for_memory<R: Wait>(&self, rt: &R, need: &Vector) -> WriteFault
+        ensures { (program : Asked) → BySome L.begun (λ old new. Writes old need.now program (Err result) new) }
+    {
+        self.held.lock(rt).refusal_for_memory(need)
+    }
+
     /// What its server holds, at some time during the call.
     pub fn offer<R: Wait>(&self, rt: &R) -> Vector
-        ensures { InSome L.server L.stored (λ core. result ≡ count_of core.held) }
+        ensures { InSome L.begun (λ core. result ≡ count_of core.held) }
     {
         self.held.lock(rt).vector()
     }
@@ -114,7 +121,7 @@ impl<D: Device, L: Desks> Node<D, L> {
         counts: &Vector,
         max: usize,
     ) -> Result<Vec<RestingWrite>, AllocError>
-        ensures value { InSome L.server L.stored (λ core. IfOk result (λ writes. writes.items ≡ take max (lacking_of counts.now core.held))) }
+        ensures value { InSome L.begun (λ core. IfOk result (λ writes. writes.items ≡ take max (lacking_of counts.now core.held))) }
         ensures few { IfOk result (λ writes. length writes.items ≤ max) }
     {
         self.held.lock(rt).lacking(alloc, counts, max)
@@ -127,28 +134,28 @@ impl<D: Device, L: Desks> Node<D, L> {
         alloc: Global,
         write: RestingWrite,
     ) -> Result<Took, TakeFault>
-        ensures { BySome L.server L.stored (λ old new. Takes old write result new) }
+        ensures { BySome L.begun (λ old new. Takes old write result new) }
     {
         self.held.lock(rt).take(alloc, write)
     }
 
     /// As [`Held::reopen`].
     pub fn reopen<R: Wait>(&self, rt: &R, alloc: Global) -> Result<Reopened, ReopenFault>
-        ensures { BySome L.server L.stored (λ old new. Reopens old result new) }
+        ensures { BySome L.begun (λ old new. Reopens old result new) }
     {
         self.held.lock(rt).reopen(alloc)
     }
 
     /// As [`Held::listing`].
     pub fn listing<R: Wait>(&self, rt: &R, alloc: Global) -> Result<Vec<Listed>, AllocError>
-        ensures { InSome L.server L.stored (λ core. IfOk result (λ list. list.items ≡ listing_of core.held)) }
+        ensures { InSome L.begun (λ core. IfOk result (λ list. list.items ≡ listing_of core.held)) }
     {
         self.held.lock(rt).listing(alloc)
     }
 
     /// As [`Held::dump`].
     pub fn dump<R: Wait>(&self, rt: &R, alloc: Global) -> Result<Vec<RestingWrite>, AllocError>
-        ensures value { InSome L.server L.stored (λ core. IfOk result (λ writes. writes.items ≡ core.held)) }
+        ensures value { InSome L.begun (λ core. IfOk result (λ writes. writes.items ≡ core.held)) }
         ensures few { IfOk result (λ writes. length writes.items ≤ MAX_WRITES) }
     {
         self.held.lock(rt).dump(alloc)
@@ -157,7 +164,7 @@ impl<D: Device, L: Desks> Node<D, L> {
     /// What the books come to, where all desks are back; the server is dropped, and its device with it. Else node and desks come back.
     pub fn settle(self, desks: Vec<Desk<L>>) -> Result<NodeSettled, DeskMissing<Self, L>>
         ensures { MatchResult result
-            (IsNodeSettled L.server L.stored L.parts desks.items)
+            (IsNodeSettled L.begun L.parts desks.items)
             (λ left. (length desks.items < L.parts) × (left.node ≡ self) × (left.desks.items ≡ desks.items)) }
     {
         let Node { held, id } = self;

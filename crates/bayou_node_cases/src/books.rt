@@ -1,7 +1,6 @@
 //! The books of a node: what was accepted, what was adopted, and with what it began.
 ghost use Rattle.std.specs.Prelude.{◌≡◌};
-ghost use Rattle.bayou_node.specs.Books.{IsBlankOf};
-ghost use Rattle.bayou_server.specs.Server.{own_count};
+ghost use Rattle.bayou_node.specs.Books.{IsBlankOf, begun_of};
 
 use crate::fixtures::{
     Memory, Served, Site, begun, dumped, fuse, have_programs, key, new_site, plus, put, reopened,
@@ -67,7 +66,7 @@ fn two_programs<L: Desks, R: Wait + Abort>(
     server: Box<Served>,
 ) -> bool
     requires blank { IsBlankOf blank L.name L.parts 2 }
-    requires whose { (server.value.core.id ≡ L.server) × (own_count server.value.core ≡ L.stored) }
+    requires whose { begun_of server.value.core ≡ L.begun }
 {
     let mut site = new_site::<_, L>(rt, alloc, blank, server, 2);
     let are_taken = takes_two(rt, alloc, site.as_mut());
@@ -126,7 +125,7 @@ fn one_of_each<L: Desks, R: Wait + Abort>(
     server: Box<Served>,
 ) -> bool
     requires blank { IsBlankOf blank L.name L.parts 2 }
-    requires whose { (server.value.core.id ≡ L.server) × (own_count server.value.core ≡ L.stored) }
+    requires whose { begun_of server.value.core ≡ L.begun }
 {
     let mut site = new_site::<_, L>(rt, alloc, blank, server, 2);
     let are_told = accepts_and_adopts(rt, alloc, site.as_mut());

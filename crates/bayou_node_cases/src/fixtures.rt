@@ -1,7 +1,6 @@
 //! What the tests are made of.
 ghost use Rattle.std.specs.Prelude.{◌≡◌};
-ghost use Rattle.bayou_node.specs.Books.{IsBlankOf};
-ghost use Rattle.bayou_server.specs.Server.{own_count};
+ghost use Rattle.bayou_node.specs.Books.{IsBlankOf, begun_of};
 
 use bayou_base::{Key, MAX_WRITES, SERVERS, ServerId, Value, Vector};
 use bayou_device::{Device, Gate, MemoryDevice, OpenGate};
@@ -141,7 +140,7 @@ pub fn new_site<D: Device, L: Desks>(
     desks: u32,
 ) -> Box<Site<D, L>>
     requires blank { IsBlankOf blank L.name L.parts desks }
-    requires whose { (server.value.core.id ≡ L.server) × (own_count server.value.core ≡ L.stored) }
+    requires whose { begun_of server.value.core ≡ L.begun }
 {
     match Node::new(alloc, blank, Box::into_inner(server), desks) {
         Ok((node, desks)) => boxed(alloc, Site { node, desks }).expect(rt, "no memory for a node"),

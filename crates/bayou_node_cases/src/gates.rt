@@ -1,7 +1,6 @@
 //! Two nodes are served at once: while a Write waits at the device of one, a read at the other is answered.
 ghost use Rattle.std.specs.Prelude.{◌≡◌};
-ghost use Rattle.bayou_node.specs.Books.{IsBlankOf};
-ghost use Rattle.bayou_server.specs.Server.{own_count};
+ghost use Rattle.bayou_node.specs.Books.{IsBlankOf, begun_of};
 
 use crate::fixtures::{Memory, Served, Site, begun, key, new_site, on_device, put, written};
 use bayou_base::Vector;
@@ -75,7 +74,7 @@ fn desked<D: Device, L: Desks>(
     server: Box<Server<D>>,
 ) -> (Box<Site<D, L>>, Desk<L>)
     requires blank { IsBlankOf blank L.name L.parts 1 }
-    requires whose { (server.value.core.id ≡ L.server) × (own_count server.value.core ≡ L.stored) }
+    requires whose { begun_of server.value.core ≡ L.begun }
 {
     let mut site = new_site::<_, L>(rt, alloc, blank, server, 1);
     let desk = site.as_mut().desks.pop().expect(rt, "no desk");
@@ -121,8 +120,8 @@ where
     L: Desks + Send + Sync,
     M: Desks + Send + Sync,
     R: Threads + Wait + Abort + Sync,
-    requires slow { IsBlankOf first L.name L.parts 1 × (slow.value.core.id ≡ L.server) × (own_count slow.value.core ≡ L.stored) }
-    requires quick { IsBlankOf second M.name M.parts 1 × (quick.value.core.id ≡ M.server) × (own_count quick.value.core ≡ M.stored) }
+    requires slow { IsBlankOf first L.name L.parts 1 × (begun_of slow.value.core ≡ L.begun) }
+    requires quick { IsBlankOf second M.name M.parts 1 × (begun_of quick.value.core ≡ M.begun) }
 {
     let (slow, desk) = desked::<_, L>(rt, alloc, first, slow);
     let (quick, _) = desked::<_, M>(rt, alloc, second, quick);

@@ -1,7 +1,6 @@
 //! The same lists of calls at a node and at a server over an equal device: each answer is the same, and what is held in the end.
 ghost use Rattle.std.specs.Prelude.{◌≡◌};
-ghost use Rattle.bayou_node.specs.Books.{IsBlankOf};
-ghost use Rattle.bayou_server.specs.Server.{own_count};
+ghost use Rattle.bayou_node.specs.Books.{IsBlankOf, begun_of};
 
 use crate::dice::Dice;
 use crate::fixtures::{
@@ -235,7 +234,7 @@ fn go_alike<L: Desks, R: Wait + Abort>(
     number: u32,
 ) -> bool
     requires blank { IsBlankOf blank L.name L.parts 1 }
-    requires whose { (server.value.core.id ≡ L.server) × (own_count server.value.core ≡ L.stored) }
+    requires whose { begun_of server.value.core ≡ L.begun }
 {
     let mut site = new_site::<_, L>(rt, alloc, blank, server, 1);
     let (are_alike, accepted) = all_alike(rt, alloc, site.as_mut(), beside, number);

@@ -1,7 +1,6 @@
 //! Want of memory at a node.
 ghost use Rattle.std.specs.Prelude.{◌≡◌};
-ghost use Rattle.bayou_node.specs.Books.{IsBlankOf};
-ghost use Rattle.bayou_server.specs.Server.{own_count};
+ghost use Rattle.bayou_node.specs.Books.{IsBlankOf, begun_of};
 
 use crate::fixtures::{
     Memory, Served, Site, begun, boxed, fuse, put, reopened, settled, vector, written,
@@ -175,7 +174,7 @@ fn goes_of<L: Desks, R: Wait + Abort>(
     server: Box<Served>,
 ) -> Result<bool, Box<Served>>
     requires blank { IsBlankOf blank L.name L.parts 1 }
-    requires whose { (server.value.core.id ≡ L.server) × (own_count server.value.core ≡ L.stored) }
+    requires whose { begun_of server.value.core ≡ L.begun }
 {
     match Node::<_, L>::new(alloc, blank, Box::into_inner(server), 1) {
         Ok((node, desks)) => match boxed(alloc, Site { node, desks }) {

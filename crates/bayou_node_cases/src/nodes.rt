@@ -1,7 +1,6 @@
 //! Nodes that send and take: the bytes of both sides, and that a node's lock is free between two batches and between two Items.
 ghost use Rattle.std.specs.Prelude.{◌≡◌};
-ghost use Rattle.bayou_node.specs.Books.{IsBlankOf};
-ghost use Rattle.bayou_server.specs.Server.{own_count};
+ghost use Rattle.bayou_node.specs.Books.{IsBlankOf, begun_of};
 
 use crate::fixtures::{Memory, Served, must_be_so, new_site, vector};
 use crate::items::{is_stream, item, stream};
@@ -95,7 +94,7 @@ fn goes<L: Desks, R: Wait + Abort>(
     call: Call,
 ) -> bool
     requires blank { IsBlankOf blank L.name L.parts 1 }
-    requires whose { (server.value.core.id ≡ L.server) × (own_count server.value.core ≡ L.stored) }
+    requires whose { begun_of server.value.core ≡ L.begun }
 {
     let site = new_site::<_, L>(rt, alloc, blank, server, 1);
     let node = &site.as_ref().node;
@@ -152,7 +151,7 @@ fn is_free_between_items<L: Desks, R: Wait + Abort>(
     server: Box<Served>,
 ) -> bool
     requires blank { IsBlankOf blank L.name L.parts 1 }
-    requires whose { (server.value.core.id ≡ L.server) × (own_count server.value.core ≡ L.stored) }
+    requires whose { begun_of server.value.core ≡ L.begun }
 {
     let site = new_site::<_, L>(rt, alloc, blank, server, 1);
     let node = &site.as_ref().node;
@@ -205,7 +204,7 @@ fn batches<L: Desks, R: Wait + Abort>(
     server: Box<Served>,
 ) -> u32
     requires blank { IsBlankOf blank L.name L.parts 1 }
-    requires whose { (server.value.core.id ≡ L.server) × (own_count server.value.core ≡ L.stored) }
+    requires whose { begun_of server.value.core ≡ L.begun }
 {
     let site = new_site::<_, L>(rt, alloc, blank, server, 1);
     let node = &site.as_ref().node;

@@ -1,7 +1,6 @@
 //! Eight threads at three nodes.
 ghost use Rattle.std.specs.Prelude.{◌≡◌};
-ghost use Rattle.bayou_node.specs.Books.{IsBlankOf};
-ghost use Rattle.bayou_server.specs.Server.{own_count};
+ghost use Rattle.bayou_node.specs.Books.{IsBlankOf, begun_of};
 
 use crate::dice::Dice;
 use crate::fixtures::{Memory, Served, Site, fuse, new_site, on_device, settled};
@@ -233,9 +232,9 @@ where
     M: Desks + Send + Sync,
     N: Desks + Send + Sync,
     R: Threads + Wait + Abort + Sync,
-    requires first { IsBlankOf blanks.0 L.name L.parts THREADS × (servers.0.value.core.id ≡ L.server) × (own_count servers.0.value.core ≡ L.stored) }
-    requires second { IsBlankOf blanks.1 M.name M.parts THREADS × (servers.1.value.core.id ≡ M.server) × (own_count servers.1.value.core ≡ M.stored) }
-    requires third { IsBlankOf blanks.2 N.name N.parts THREADS × (servers.2.value.core.id ≡ N.server) × (own_count servers.2.value.core ≡ N.stored) }
+    requires first { IsBlankOf blanks.0 L.name L.parts THREADS × (begun_of servers.0.value.core ≡ L.begun) }
+    requires second { IsBlankOf blanks.1 M.name M.parts THREADS × (begun_of servers.1.value.core ≡ M.begun) }
+    requires third { IsBlankOf blanks.2 N.name N.parts THREADS × (begun_of servers.2.value.core ≡ N.begun) }
 {
     let mut first = new_site::<_, L>(rt, alloc, blanks.0, servers.0, THREADS);
     let mut second = new_site::<_, M>(rt, alloc, blanks.1, servers.1, THREADS);

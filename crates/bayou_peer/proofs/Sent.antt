@@ -1,5 +1,5 @@
 -- What a pull makes of Writes that are sent to it: its bytes are read in one way.
-use Rattle.std.proofs.Common.{◌≡◌, ◌≢◌, ◌⊎◌, inl, inr, ℕ, ◌+◌, ◌<◌, ◌≤◌, ◌^◌, zero, suc, List, [], ◌∷◌, ◌++◌, Option, None, Some, Result, Ok, Err, true, false, cond, nat_le, length, take, refl, sym, ap, ◌∙◌, subst, arith, append_assoc, append-nil, length-append}
+use Rattle.std.proofs.Common.{◌≡◌, ◌≢◌, ◌⊎◌, inl, inr, ℕ, ◌+◌, ◌<◌, ◌≤◌, ◌^◌, zero, suc, List, [], ◌∷◌, ◌++◌, Option, None, Some, Result, Ok, Err, IfErr, true, false, cond, nat_le, length, take, refl, sym, ap, ◌∙◌, subst, arith, append_assoc, append-nil, length-append}
 use Rattle.std.proofs.lemmas.Bool.Decides.{nat_tests}
 use Rattle.std.proofs.lemmas.List.{length-take, take_all}
 use Rattle.std.specs.List.{AllByRecursion}
@@ -10,7 +10,7 @@ use Rattle.bayou_peer.specs.declared.fault.PullFault.{PullFault}
 use Rattle.bayou_peer.specs.declared.fault.PullFault.TheVariants.{Stream, Refused}
 use Rattle.bayou_peer.specs.declared.pulling.Pulled.{Pulled}
 use Rattle.bayou_peer.specs.Meeting.{IsCutOff, Meets, TakesFirst, coming, cut_answer}
-use Rattle.bayou_peer.specs.Pulls.{HasNoPlace, PullEnds, Received, Ways}
+use Rattle.bayou_peer.specs.Pulls.{EndsInMemory, EndsOf, HasNoPlace, PullEnds, Received, Ways}
 use Rattle.bayou_frames.specs.Laws.Frames.{begins_one, faulty_on, not_faulty, not_partial, partial_not_faulty}
 use Rattle.bayou_frames.specs.Spelled.{answer_bytes, items_of}
 use Rattle.bayou_wire.specs.declared.fault.Fault.{Fault}
@@ -232,41 +232,39 @@ module _ {S : Type 0} (ways : Ways S) (cut : Option ℕ) (sent : List Write) (fe
 
   -- how a pull of it ends
   meets_now : (now : S) (read after : List ℕ) (result : Result Pulled PullFault) → cut_answer cut sent ≡ read ++ after → PullEnds ways start now read (after ≡ []) result
-      → Meets ways sent cut start result now
-  meets_now now read after (Ok pulled) whole (behind, r) =
+      → IfErr result EndsInMemory → Meets ways sent cut start result now
+  meets_now now read after (Ok pulled) whole (behind, r) in_memory =
       let f = front now read _ after pulled.taken pulled.had whole r in
       let few_taken : pulled.taken + pulled.had < 2 ^ 32 = omega (arith, few, f.number, length-coming cut sent) in
       (an_end now (pulled.taken + pulled.had) (behind ++ after) pulled.taken pulled.had few_taken
       (subst (λ (l : List ℕ). Front now l pulled.taken pulled.had) (append_assoc (spelling (End (pulled.taken + pulled.had))) behind after) f)).0
-  meets_now now read after (Err (Refused refusal)) whole (mid, write, behind, taken, had, is, r, refused, same) =
+  meets_now now read after (Err (Refused refusal)) whole (mid, write, behind, taken, had, is, r, refused, same) in_memory =
       let f = front mid read _ after taken had whole r in
       let item = an_item mid write (behind ++ after) taken had is
       (subst (λ (l : List ℕ). Front mid l taken had) (append_assoc (spelling (Item write)) behind after) f) in
       (mid, write, item.0, taken, had, item.1, refused)
-  meets_now now read after (Err (Stream faults.Cut)) whole (ended, (rest, taken, had, partial, r)) =
+  meets_now now read after (Err (Stream faults.Cut)) whole (ended, (rest, taken, had, partial, r)) in_memory =
       let f = front now read rest after taken had whole r in
       let at_end : rest ++ after ≡ rest = ap (λ (l : List ℕ). rest ++ l) ended ∙ append-nil rest in
       let less = less_than_a_frame now rest taken had partial (subst (λ (l : List ℕ). Front now l taken had) at_end f) in
       (less.0, (taken, had, less.1))
-  meets_now now read after (Err (Stream faults.Read)) whole (rest, taken, had, partial, r) =
+  meets_now now read after (Err (Stream faults.Read)) whole ends in_memory = absurd in_memory
+  meets_now now read after (Err (Stream faults.TooManyTurns)) whole ends in_memory = absurd in_memory
+  meets_now now read after (Err (Stream faults.OutOfMemory)) whole (rest, taken, had, r) in_memory =
       let f = front now read rest after taken had whole r in (f.left, taken, had, f.first)
-  meets_now now read after (Err (Stream faults.TooManyTurns)) whole (rest, taken, had, partial, r) =
-      let f = front now read rest after taken had whole r in (f.left, taken, had, f.first)
-  meets_now now read after (Err (Stream faults.OutOfMemory)) whole (rest, taken, had, r) =
-      let f = front now read rest after taken had whole r in (f.left, taken, had, f.first)
-  meets_now now read after (Err (Stream faults.Write)) whole ends = ends.1
-  meets_now now read after (Err (Stream faults.BadFrame)) whole (rest, taken, had, inl bad, r) =
+  meets_now now read after (Err (Stream faults.Write)) whole ends in_memory = absurd in_memory
+  meets_now now read after (Err (Stream faults.BadFrame)) whole (rest, taken, had, inl bad, r) in_memory =
       let f = front now read rest after taken had whole r in
       no_fault now (rest ++ after) bad.0 taken had (faulty_on rest after bad.0 bad.1) f
-  meets_now now read after (Err (Stream faults.BadFrame)) whole (rest, taken, had, inr bad, r) =
+  meets_now now read after (Err (Stream faults.BadFrame)) whole (rest, taken, had, inr bad, r) in_memory =
       let f = front now read rest after taken had whole r in
       let same : rest ++ after ≡ spelling bad.0 ++ (bad.1 ++ after) = ap (λ l. l ++ after) bad.3 ∙ append_assoc (spelling bad.0) bad.1 after in
       has_place now bad.0 (bad.1 ++ after) taken had bad.2 bad.4 (subst (λ (l : List ℕ). Front now l taken had) same f)
 
 -- How a pull ends whose input is the answer of these Writes, cut or not.
-pub meets : {S : Type 0} (ways : Ways S) (sent : List Write) (cut : Option ℕ) (start now : S) (read after : List ℕ) (result : Result Pulled PullFault)
-    → AllByRecursion IsWrite sent → length sent < 2 ^ 32 → cut_answer cut sent ≡ read ++ after → PullEnds ways start now read (after ≡ []) result
+pub meets : {S : Type 0} (ways : Ways S) (sent : List Write) (cut : Option ℕ) (start now : S) (result : Result Pulled PullFault)
+    → AllByRecursion IsWrite sent → length sent < 2 ^ 32 → EndsOf ways start now (cut_answer cut sent) result → IfErr result EndsInMemory
     → Meets ways sent cut start result now
-meets ways sent cut start now read after result each few whole ends =
+meets ways sent cut start now result each few (read, after, whole, ends) in_memory =
     let (tail, t) = tails cut sent in
-    meets_now ways cut sent few each tail t start now read after result whole ends
+    meets_now ways cut sent few each tail t start now read after result whole ends in_memory

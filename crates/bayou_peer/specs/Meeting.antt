@@ -35,8 +35,8 @@ pub record TakesFirst {S : Type 0} (ways : Ways S) (writes : List Write) (start 
   pub new : taken ≡ news tooks
   pub held : had ≡ hads tooks
 
--- How a pull ends that is sent these Writes, one after another, and what it leaves: all that came were taken, and an End of their number
--- came or was cut off; or one of them was refused; or memory, the streams or the turns ended it behind some that were taken.
+-- How a pull ends that is sent these Writes in memory, one after another, and what it leaves: all that came were taken, and an End of their
+-- number came or was cut off; or one of them was refused; or memory ended it behind some that were taken.
 abbrev pub Meets : {S : Type 0} → Ways S → (sent : List Write) → (cut : Option ℕ) → (start : S) → Result Pulled PullFault → (now : S) → Type 0
 Meets ways sent cut start (Ok pulled) now = ¬ (IsCutOff cut sent) × TakesFirst ways (coming cut sent) start now pulled.taken pulled.had []
 Meets {S} ways sent cut start (Err (Refused refusal)) now =
@@ -44,9 +44,8 @@ Meets {S} ways sent cut start (Err (Refused refusal)) now =
     × TakesFirst ways (coming cut sent) start mid taken had (write ∷ left) × ways.takes mid write (Err refusal) now
 Meets ways sent cut start (Err (Stream faults.Cut)) now = IsCutOff cut sent × ((taken had : ℕ) × TakesFirst ways (coming cut sent) start now taken had [])
 Meets ways sent cut start (Err (Stream faults.BadFrame)) now = ⊥
-Meets ways sent cut start (Err (Stream faults.Write)) now = now ≡ start
-Meets ways sent cut start (Err (Stream faults.Read)) now = (left : List Write) × (taken had : ℕ) × TakesFirst ways (coming cut sent) start now taken had left
-Meets ways sent cut start (Err (Stream faults.TooManyTurns)) now =
-    (left : List Write) × (taken had : ℕ) × TakesFirst ways (coming cut sent) start now taken had left
+Meets ways sent cut start (Err (Stream faults.Write)) now = ⊥
+Meets ways sent cut start (Err (Stream faults.Read)) now = ⊥
+Meets ways sent cut start (Err (Stream faults.TooManyTurns)) now = ⊥
 Meets ways sent cut start (Err (Stream faults.OutOfMemory)) now =
     (left : List Write) × (taken had : ℕ) × TakesFirst ways (coming cut sent) start now taken had left

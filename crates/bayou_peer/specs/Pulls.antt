@@ -81,3 +81,13 @@ PullEnds ways start now read is_end (Err (Stream faults.Write)) = (read ≡ []) 
 -- how a pull of known input ends: it read a front of it
 abbrev pub EndsOf : {S : Type 0} → Ways S → (start now : S) → (input : List ℕ) → Result Pulled PullFault → Type 0
 EndsOf ways start now input result = (read left : List ℕ) × (input ≡ read ++ left) × PullEnds ways start now read (left ≡ []) result
+
+-- what may end a pull whose input is bytes in memory: no stream fails, and no turn is missed
+abbrev pub EndsInMemory : PullFault → Type 0
+EndsInMemory (Stream faults.Read) = ⊥
+EndsInMemory (Stream faults.Write) = ⊥
+EndsInMemory (Stream faults.Cut) = Unit {0}
+EndsInMemory (Stream faults.BadFrame) = Unit {0}
+EndsInMemory (Stream faults.TooManyTurns) = ⊥
+EndsInMemory (Stream faults.OutOfMemory) = Unit {0}
+EndsInMemory (Refused refusal) = Unit {0}

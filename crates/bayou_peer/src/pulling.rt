@@ -6,7 +6,7 @@ ghost use Rattle.bayou_lang.specs.Ranges.{IsWrite};
 ghost use Rattle.bayou_lang.specs.Writes.{count_of};
 ghost use Rattle.bayou_frames.specs.declared.fault.Fault.TheVariants.{BadFrame};
 ghost use Rattle.bayou_peer.specs.declared.fault.PullFault.TheVariants.{Stream};
-ghost use Rattle.bayou_peer.specs.Pulls.{PullEnds, Received};
+ghost use Rattle.bayou_peer.specs.Pulls.{EndsInMemory, EndsOf, PullEnds, Received};
 ghost use Rattle.bayou_peer.specs.Inner.Steps.{Goes, GoesOn, IsTakeFault};
 ghost use Rattle.bayou_peer.specs.Stopping.{StopsPull};
 ghost use Rattle.bayou_streams.specs.Written.{AppendsFront};
@@ -170,6 +170,30 @@ fn receive<P: Replica, R: Read, W>(
             return Ok(pulled);
         }
     }
+}
+
+/// Takes the Writes of an answer in memory, each as it comes, up to the End, as [`pull_from_on`] takes what a stream brings. Bytes in memory
+/// don't fail and take no turns; those that end before the End are a cut answer.
+pub fn take_answer<P: Replica>(
+    alloc: Global,
+    replica: &mut P,
+    answer: &[u8],
+) -> Result<Pulled, PullFault>
+    requires few { length answer.now ≤ READ_BYTES * MAX_TURNS }
+    ensures ends { EndsOf (record { list = P.list; takes = P.takes }) replica.old replica.new answer.now result }
+    ensures fault { IfErr result EndsInMemory }
+{
+    let mut frames = Frames::new(alloc);
+    let mut pulled = Pulled { taken: 0, had: 0 };
+    let mut rest = answer;
+    while !rest.is_empty() {
+        let (piece, behind) = rest.split_at(rest.len().min(READ_BYTES));
+        if take_piece(alloc, replica, &mut frames, piece, &mut pulled)? {
+            return Ok(pulled);
+        }
+        rest = behind;
+    }
+    Err(PullFault::Stream(Fault::Cut))
 }
 
 /// Sends the vector as an Offer, and takes the Writes that come, each as it comes, up to the End.

@@ -1,5 +1,5 @@
 -- How a run ends.
-use Rattle.std.specs.Prelude.{ℕ, List, [], ◌∷◌, Result, Ok, Err, max}
+use Rattle.std.specs.Prelude.{◌≡◌, ℕ, List, [], ◌∷◌, ◌++◌, Result, Ok, Err, codes, max}
 use Rattle.bayou_judge.specs.declared.verdict.BadEvidence.{BadEvidence}
 use Rattle.bayou_judge.specs.declared.verdict.Verdict.{Verdict}
 use Rattle.bayou_judge.specs.declared.verdict.Verdict.TheVariants.{Clean, Broken}
@@ -23,6 +23,10 @@ fault_of refusal.OutOfMemory = Memory
 abbrev pub fault_of_begin : BeginFault → RunFault
 fault_of_begin begin.OutOfMemory = Memory
 fault_of_begin begin.Device = Device
+
+-- A line that tells a fault: it begins with the program's name, and ends with a line feed.
+abbrev pub IsFaultLine : List ℕ → Type 0
+IsFaultLine line = (cause : List ℕ) × (line ≡ codes "bayou: " ++ (cause ++ 10 ∷ []))
 
 -- 2 for a script that is refused, 3 for what its author can't help
 abbrev pub status_of : RunFault → ℕ

@@ -3,6 +3,7 @@ pub mod Fault
 pub mod Faults
 pub mod Laws
 pub mod Printed
+pub mod Telling
 pub mod Turns
 pub mod Verdicts
 pub mod Waiting

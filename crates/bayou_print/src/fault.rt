@@ -8,6 +8,9 @@ use thiserror::Error;
 /// How many bytes a fault's line has at the most.
 const MAX_FAULT_BYTES: usize = 128;
 
+/// How many of these say what the fault is.
+const MAX_CAUSE_BYTES: usize = 120;
+
 /// Why a run ended early.
 #[derive(Clone, Copy, Debug, PartialEq, Eq, Error)]
 pub enum RunFault {
@@ -33,7 +36,7 @@ pub enum RunFault {
 
 impl RunFault {
     ghost use Rattle.std.specs.Prelude.{◌≡◌};
-    ghost use Rattle.bayou_print.specs.Fault.{status_of};
+    ghost use Rattle.bayou_print.specs.Fault.{IsFaultLine, status_of};
 
     /// What the program's exit status is after this fault.
     pub fn status(self) -> u8
@@ -50,10 +53,16 @@ impl RunFault {
     }
 
     /// The line that tells it. It takes no memory, so that want of memory can be told.
-    pub fn to_line(self) -> ArrayString<MAX_FAULT_BYTES> {
-        let mut line = ArrayString::new();
+    pub fn to_line(self) -> ArrayString<MAX_FAULT_BYTES>
+        ensures { IsFaultLine result.bytes }
+    {
+        let mut cause = ArrayString::<MAX_CAUSE_BYTES>::new();
         // The longest has fewer bytes than there is room for.
-        let _ = writeln!(line, "bayou: {self}");
+        let _ = write!(cause, "{self}");
+        let mut line = ArrayString::new();
+        line.push_str("bayou: ");
+        line.push_str(cause.as_str());
+        line.push('\n');
         line
     }
 }

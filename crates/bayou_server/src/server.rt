@@ -1,7 +1,8 @@
-ghost use Rattle.std.specs.Prelude.{◌≡◌, ◌≢◌, ◌+◌, ◌<◌, ◌≤◌, ◌↔◌, ℕ, All, Contains, IfErr, IfOk, IsSome, IsTrue, MatchOption, MatchResult, OnOk, length, take};
+ghost use Rattle.std.specs.Prelude.{◌≡◌, ◌≢◌, ◌+◌, ◌<◌, ◌≤◌, ◌↔◌, ℕ, All, Contains, Err, IfErr, IfOk, IsSome, IsTrue, MatchOption, MatchResult, OnOk, length, take};
 ghost use Rattle.std.specs.Borrow.{Lends, sem};
 ghost use Rattle.bayou_base.specs.declared.limits.TheConstants.{SERVERS, MAX_WRITES};
 ghost use Rattle.bayou_journal.specs.Opening.{KeepsChains};
+ghost use Rattle.bayou_lang.specs.declared.program.Program.{Program as Asked};
 ghost use Rattle.bayou_lang.specs.Writes.{count_of, lacking_of};
 ghost use Rattle.bayou_log.specs.Listing.{listing_of};
 ghost use Rattle.bayou_server.specs.contracts.server.Server.{the_row};
@@ -141,6 +142,18 @@ impl<D: Device> Server<D> {
         match self.store(alloc, write)? {
             Stored::Held => Ok(accepted),
             Stored::InDoubt => Err(WriteFault::Journal),
+        }
+    }
+
+    /// What a program is answered for which its caller has no memory: what is refused before that is missed, or the want of it.
+    pub fn refusal_for_memory(&self, need: &Vector) -> WriteFault
+        ensures writes { (program : Asked) → Writes self.now.core need.now program (Err result) self.now.core }
+        ensures stores { StoresWrite D.Device self.now (Err result) self.now }
+        ensures sound { IsSoundServer self.now.core }
+    {
+        match refusal(&self.log, &self.doubt, need) {
+            Some(fault) => fault,
+            None => WriteFault::OutOfMemory,
         }
     }
 

@@ -8,6 +8,7 @@ use Rattle.bayou_print.specs.declared.fault.RunFault.TheVariants.{Line, Memory, 
 use Rattle.bayou_print.specs.Fault.{exit_status, status_of}
 use Rattle.bayou_shell.specs.Net.{Runs}
 use Rattle.bayou_shell.specs.Program.{Works}
+use Rattle.bayou_print.specs.Telling.{TellsEnd, TellsFault}
 use Rattle.bayou_print.specs.Turns.{EndsReading, EndsWriting, cut_lines}
 use Rattle.bayou_streams.specs.Account.{Account, Pays}
 
@@ -16,12 +17,14 @@ pub asked_once : (words : List (List ℕ)) (one other : Asked) → AskFor words 
 asked_once words one other first second = sym first.entered ∙ second.entered
 
 -- it ended so
-pub works_so : (runs : List ℕ → Runs) (known : Option (List ℕ)) (asked : Asked) (result : Result Ended RunFault) (status : ℕ) (old new : Option (List ℕ)) (read_fails write_fails : Bool) (reads writes : ℕ)
+pub works_so : (runs : List ℕ → Runs) (known : Option (List ℕ)) (asked : Asked) (result : Result Ended RunFault) (status : ℕ) (old new : Option (List ℕ)) (read_fails write_fails : Bool) (reads writes : ℕ) (told telling : Account) (has_failed : Bool)
     → IfSome known (λ text. Works runs asked text result old new) → status ≡ exit_status result → IfErr result (EndsReading read_fails reads) → IfErr result (EndsWriting write_fails writes)
+    → TellsEnd result told telling has_failed
     → IfSome known (λ text. (ended : Result Ended RunFault) × Works runs asked text ended old new × (status ≡ exit_status ended)
-    × IfErr ended (EndsReading read_fails reads) × IfErr ended (EndsWriting write_fails writes))
-works_so runs None asked result status old new read_fails write_fails reads writes works is read written = tt
-works_so runs (Some text) asked result status old new read_fails write_fails reads writes works is read written = (result, works, is, read, written)
+    × IfErr ended (EndsReading read_fails reads) × IfErr ended (EndsWriting write_fails writes) × TellsEnd ended told telling has_failed)
+works_so runs None asked result status old new read_fails write_fails reads writes told telling has_failed works is read written tells = tt
+works_so runs (Some text) asked result status old new read_fails write_fails reads writes told telling has_failed works is read written tells =
+    (result, works, is, read, written, tells)
 
 kept : (runs : List ℕ → Runs) (asked : Asked) (text : List ℕ) (contents : Option (List ℕ)) → Works runs asked text (Err Memory) contents contents
 kept runs (a_run source) text contents = inl (Keeps-refl contents)
@@ -29,12 +32,13 @@ kept runs (an_audit source) text contents = inl (Keeps-refl contents)
 kept runs (a_net folder source) text contents = inl (Keeps-refl contents)
 
 -- want of memory before anything was read is an end of each task
-pub works_unread : (runs : List ℕ → Runs) (known : Option (List ℕ)) (asked : Asked) (status : ℕ) (contents : Option (List ℕ)) (read_fails write_fails : Bool) (reads writes : ℕ)
-    → status ≡ status_of Memory
+pub works_unread : (runs : List ℕ → Runs) (known : Option (List ℕ)) (asked : Asked) (status : ℕ) (contents : Option (List ℕ)) (read_fails write_fails : Bool) (reads writes : ℕ) (told telling : Account) (has_failed : Bool)
+    → status ≡ status_of Memory → TellsFault told telling has_failed
     → IfSome known (λ text. (ended : Result Ended RunFault) × Works runs asked text ended contents contents × (status ≡ exit_status ended)
-    × IfErr ended (EndsReading read_fails reads) × IfErr ended (EndsWriting write_fails writes))
-works_unread runs None asked status contents read_fails write_fails reads writes is = tt
-works_unread runs (Some text) asked status contents read_fails write_fails reads writes is = (Err Memory, kept runs asked text contents, is, tt, tt)
+    × IfErr ended (EndsReading read_fails reads) × IfErr ended (EndsWriting write_fails writes) × TellsEnd ended told telling has_failed)
+works_unread runs None asked status contents read_fails write_fails reads writes told telling has_failed is tells = tt
+works_unread runs (Some text) asked status contents read_fails write_fails reads writes told telling has_failed is tells =
+    (Err Memory, kept runs asked text contents, is, tt, tt, tells)
 
 abbrev name_in : Named → List ℕ
 name_in standard = []

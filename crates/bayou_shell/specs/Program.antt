@@ -1,5 +1,5 @@
 -- What the program does with the words that it is called with.
-use Rattle.std.specs.Prelude.{◌≡◌, ℕ, List, Option, IfSome, Result, Ok, Err}
+use Rattle.std.specs.Prelude.{◌≡◌, ℕ, Bool, List, Option, IfErr, IfSome, Result, Ok, Err}
 use Rattle.std.specs.Io.KnownBytes.{Appends, Keeps}
 use Rattle.bayou_command.specs.Words.{AreMistaken, AskForText, Asked, Input, a_net, a_run, an_audit}
 use Rattle.bayou_print.specs.declared.ended.Ended.{Ended}
@@ -7,10 +7,13 @@ use Rattle.bayou_print.specs.declared.fault.RunFault.{RunFault}
 use Rattle.bayou_print.specs.declared.fault.RunFault.TheVariants.{Line, Memory, Device, Network, Output}
 use Rattle.bayou_print.specs.declared.fault.RunFault.TheVariants.{Input as InputFault}
 use Rattle.bayou_print.specs.Fault.{status_of}
+use Rattle.bayou_print.specs.Telling.{IsPut, TellsEnd, TellsFault}
+use Rattle.bayou_print.specs.Turns.{EndsReading}
 use Rattle.bayou_shell.specs.Audit.{AuditsAs}
 use Rattle.bayou_shell.specs.Net.{NetsAs, Runs}
 use Rattle.bayou_shell.specs.Run.{RunsAs}
 use Rattle.bayou_script.specs.Script.{Plan}
+use Rattle.bayou_streams.specs.Account.{Account}
 use Rattle.bayou_streams.specs.Written.{AppendsFront}
 
 -- the exit status of a command line that is refused
@@ -33,11 +36,12 @@ text_status (Ok done) = 0
 text_status (Err fault) = status_of fault
 
 -- Words that ask for a text get it on the output, and the status tells whether it was written; of words that are a mistake, and where
--- memory runs out, nothing goes there.
-pub data TellsOf (words : List (List ℕ)) (status : ℕ) (old new : Option (List ℕ)) : Type 0 where
-  asked : AskForText words → (text : List ℕ) (ended : Result (Unit {0}) RunFault) → WritesText text ended old new → status ≡ text_status ended → TellsOf words status old new
-  mistaken : AreMistaken words → status ≡ refused_status → Keeps old new → TellsOf words status old new
-  no_memory : status ≡ status_of Memory → Keeps old new → TellsOf words status old new
+-- memory runs out, nothing goes there. What is at fault is told beside it.
+pub data TellsOf (words : List (List ℕ)) (status : ℕ) (old new : Option (List ℕ)) (told telling : Account) (has_failed : Bool) : Type 0 where
+  asked : AskForText words → (text : List ℕ) (ended : Result (Unit {0}) RunFault) → WritesText text ended old new → status ≡ text_status ended
+      → TellsEnd ended told telling has_failed → TellsOf words status old new told telling has_failed
+  mistaken : AreMistaken words → status ≡ refused_status → Keeps old new → (text : List ℕ) → IsPut text told telling has_failed → TellsOf words status old new told telling has_failed
+  no_memory : status ≡ status_of Memory → Keeps old new → TellsFault told telling has_failed → TellsOf words status old new told telling has_failed
 
 -- what is asked for is done on an input of these bytes
 abbrev pub Works : (runs : List ℕ → Runs) → Asked → List ℕ → Result Ended RunFault → Option (List ℕ) → Option (List ℕ) → Type 0
@@ -51,9 +55,11 @@ input_of_asked (an_audit source) = source
 input_of_asked (a_net folder source) = source
 
 -- What becomes of what is asked for on a file: the file may be refused, or memory may run out before it is opened, and nothing is printed;
--- else it is done on what a reader of it gives.
-pub data WorksOn {R : Type 0} (opens : R → Type 0) (refuses : Type 0) (runs : List ℕ → Plan → Result Ended RunFault → Type 0) (remaining : R → Option (List ℕ)) (asked : Asked) (ended : Result Ended RunFault)
+-- else it is done on what a reader of it gives, which is at fault only where a call of it failed or no turn was left.
+pub data WorksOn {R : Type 0} (opens : R → Type 0) (refuses : Type 0) (runs : List ℕ → Plan → Result Ended RunFault → Type 0) (remaining : R → Option (List ℕ)) (kept : Bool → ℕ → Type 0) (asked : Asked) (ended : Result Ended RunFault)
     (old new : Option (List ℕ)) : Type 0 where
-  not_opened : refuses → ended ≡ Err InputFault → Keeps old new → WorksOn opens refuses runs remaining asked ended old new
-  no_memory : ended ≡ Err Memory → Keeps old new → WorksOn opens refuses runs remaining asked ended old new
-  opened : (reader : R) → opens reader → IfSome (remaining reader) (λ text. Works runs asked text ended old new) → WorksOn opens refuses runs remaining asked ended old new
+  not_opened : refuses → ended ≡ Err InputFault → Keeps old new → WorksOn opens refuses runs remaining kept asked ended old new
+  no_memory : ended ≡ Err Memory → Keeps old new → WorksOn opens refuses runs remaining kept asked ended old new
+  opened : (reader : R) → opens reader → IfSome (remaining reader) (λ text. Works runs asked text ended old new)
+      → (has_failed : Bool) (turns_left : ℕ) → kept has_failed turns_left → IfErr ended (EndsReading has_failed turns_left)
+      → WorksOn opens refuses runs remaining kept asked ended old new

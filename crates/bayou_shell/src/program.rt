@@ -8,6 +8,7 @@ ghost use Rattle.bayou_print.specs.Fault.{exit_status, status_of};
 ghost use Rattle.bayou_shell.specs.Program.{TellsOf, Works, WorksOn, WritesText, input_of_asked, refused_status, text_status};
 ghost use Rattle.bayou_socket_run.specs.Faults.{IsNetFault, KeepsUnstarted};
 ghost use Rattle.bayou_streams.specs.Account.{Pays, Takes, account};
+ghost use Rattle.bayou_print.specs.Telling.{TellsEnd, TellsFault};
 ghost use Rattle.bayou_print.specs.Turns.{EndsReading, EndsWriting, cut_lines};
 
 use crate::audit::run_audit;
@@ -35,6 +36,7 @@ const REFUSED: u8 = 2;
 /// Tells a fault, as far as that can be written, and gives the exit status.
 fn tell<E: Write>(errors: &mut Output<E>, fault: RunFault) -> u8
     ensures status { result ≡ status_of fault }
+    ensures told { TellsFault (account E.contents errors.old) (account E.contents errors.new) errors.new.channel.write_failed }
     ensures paid { Pays (account E.contents errors.old) (account E.contents errors.new) 1 }
 {
     // Where the fault can't be told, the status still tells it.
@@ -45,6 +47,7 @@ fn tell<E: Write>(errors: &mut Output<E>, fault: RunFault) -> u8
 /// Tells how a task ended, where it ended with a fault, and gives the exit status.
 fn finish<E: Write>(errors: &mut Output<E>, ended: Result<Ended, RunFault>) -> u8
     ensures status { result ≡ exit_status ended }
+    ensures told { TellsEnd ended (account E.contents errors.old) (account E.contents errors.new) errors.new.channel.write_failed }
     ensures paid { Pays (account E.contents errors.old) (account E.contents errors.new) 1 }
 {
     match ended {
@@ -55,7 +58,8 @@ fn finish<E: Write>(errors: &mut Output<E>, ended: Result<Ended, RunFault>) -> u
 
 /// Writes a text that was asked for, and gives the exit status.
 fn show<W: Write, E: Write>(output: &mut Output<W>, errors: &mut Output<E>, text: &str) -> u8
-    ensures written { (ended : Result (Unit {0}) RunFault) × WritesText text.now ended (W.contents output.old.channel.writer) (W.contents output.new.channel.writer) × (result ≡ text_status ended) }
+    ensures written { (ended : Result (Unit {0}) RunFault) × WritesText text.now ended (W.contents output.old.channel.writer) (W.contents output.new.channel.writer) × (result ≡ text_status ended)
+        × TellsEnd ended (account E.contents errors.old) (account E.contents errors.new) errors.new.channel.write_failed }
     ensures clean { result ≡ 0 → output.new.channel.write_failed ≡ true → output.old.channel.write_failed ≡ true }
     ensures paid { Pays (account W.contents output.old) (account W.contents output.new) 1 }
     ensures paid_errors { Pays (account E.contents errors.old) (account E.contents errors.new) 1 }
@@ -68,7 +72,7 @@ fn show<W: Write, E: Write>(output: &mut Output<W>, errors: &mut Output<E>, text
 
 /// Tells that the program's words can't be had, and gives the exit status.
 pub fn refuse_words<E: Write>(errors: &mut Output<E>, error: &io::Error) -> u8
-    ensures memory { error_kind error.now ≡ ErrorKind.OutOfMemory → result ≡ status_of Memory }
+    ensures memory { error_kind error.now ≡ ErrorKind.OutOfMemory → (result ≡ status_of Memory) × TellsFault (account E.contents errors.old) (account E.contents errors.new) errors.new.channel.write_failed }
     ensures others { error_kind error.now ≢ ErrorKind.OutOfMemory → result ≡ refused_status }
     ensures paid { Pays (account E.contents errors.old) (account E.contents errors.new) 1 }
 {
@@ -118,12 +122,17 @@ fn work_on<F: Files + Networks, W: Write>(
     files: &mut F,
     output: &mut Output<W>,
 ) -> Result<Ended, RunFault>
-    ensures works { WorksOn (F.opens name.now) (F.refuses name.now) F.runs ⟦<F::Reader as Read>⟧.remaining (task_seen task.entry) result (W.contents output.old.channel.writer) (W.contents output.new.channel.writer) }
+    ensures works { WorksOn (F.opens name.now) (F.refuses name.now) F.runs ⟦<F::Reader as Read>⟧.remaining (F.kept files.new) (task_seen task.entry) result (W.contents output.old.channel.writer) (W.contents output.new.channel.writer) }
     ensures written { IfErr result (EndsWriting output.new.channel.write_failed output.new.channel.turns_left) }
     ensures paid { Pays (account W.contents output.old) (account W.contents output.new) (cut_lines result) }
 {
     match files.open(alloc, name) {
-        Ok(reader) => work(alloc, task, files, &mut Channel::new(reader, ()), output),
+        Ok(reader) => {
+            let mut file = Channel::new(reader, ());
+            let ended = work(alloc, task, files, &mut file, output);
+            files.keep(file);
+            ended
+        }
         Err(_) => Err(RunFault::Input),
     }
 }
@@ -139,7 +148,7 @@ fn do_task<F: Files + Networks, R: Read, W: Write>(
     ensures standard { input_of_asked (task_seen task.entry) ≡ standard → IfSome (R.remaining input.old.reader) (λ text.
         Works F.runs (task_seen task.entry) text result (W.contents output.old.channel.writer) (W.contents output.new.channel.writer)) }
     ensures named { (name : List ℕ) → input_of_asked (task_seen task.entry) ≡ file name
-        → WorksOn (F.opens name) (F.refuses name) F.runs ⟦<F::Reader as Read>⟧.remaining (task_seen task.entry) result (W.contents output.old.channel.writer) (W.contents output.new.channel.writer) }
+        → WorksOn (F.opens name) (F.refuses name) F.runs ⟦<F::Reader as Read>⟧.remaining (F.kept files.new) (task_seen task.entry) result (W.contents output.old.channel.writer) (W.contents output.new.channel.writer) }
     ensures unread { ¬ (input_of_asked (task_seen task.entry) ≡ standard) → input.new ≡ input.old }
     ensures read { input_of_asked (task_seen task.entry) ≡ standard → IfErr result (EndsReading input.new.read_failed input.new.turns_left) }
     ensures written { IfErr result (EndsWriting output.new.channel.write_failed output.new.channel.turns_left) }
@@ -164,14 +173,17 @@ pub fn run_main<'a, S: AsStr, F: Files + Networks, R: Read, W: Write, E: Write>(
     // A task on the standard input.
     ensures standard { (asked : Asked) → AskFor (map S.text words.entry.now) asked → input_of_asked asked ≡ standard → IfSome (R.remaining input.old.reader) (λ text. (ended : Result Ended RunFault)
         × Works F.runs asked text ended (W.contents output.old.channel.writer) (W.contents output.new.channel.writer) × (result ≡ exit_status ended)
-        × IfErr ended (EndsReading input.new.read_failed input.new.turns_left) × IfErr ended (EndsWriting output.new.channel.write_failed output.new.channel.turns_left)) }
+        × IfErr ended (EndsReading input.new.read_failed input.new.turns_left) × IfErr ended (EndsWriting output.new.channel.write_failed output.new.channel.turns_left)
+        × TellsEnd ended (account E.contents errors.old) (account E.contents errors.new) errors.new.channel.write_failed) }
     // A task on a file.
     ensures named { (asked : Asked) (name : List ℕ) → AskFor (map S.text words.entry.now) asked → input_of_asked asked ≡ file name → (ended : Result Ended RunFault)
-        × WorksOn (F.opens name) (F.refuses name) F.runs ⟦<F::Reader as Read>⟧.remaining asked ended (W.contents output.old.channel.writer) (W.contents output.new.channel.writer)
-        × (result ≡ exit_status ended) × IfErr ended (EndsWriting output.new.channel.write_failed output.new.channel.turns_left) }
+        × WorksOn (F.opens name) (F.refuses name) F.runs ⟦<F::Reader as Read>⟧.remaining (F.kept files.new) asked ended (W.contents output.old.channel.writer) (W.contents output.new.channel.writer)
+        × (result ≡ exit_status ended) × IfErr ended (EndsWriting output.new.channel.write_failed output.new.channel.turns_left)
+        × TellsEnd ended (account E.contents errors.old) (account E.contents errors.new) errors.new.channel.write_failed }
     // The standard input isn't read where nothing is asked for of it.
     ensures unread { ¬ ((asked : Asked) × AskFor (map S.text words.entry.now) asked × (input_of_asked asked ≡ standard)) → input.new ≡ input.old }
-    ensures others { ¬ ((asked : Asked) × AskFor (map S.text words.entry.now) asked) → TellsOf (map S.text words.entry.now) result (W.contents output.old.channel.writer) (W.contents output.new.channel.writer) }
+    ensures others { ¬ ((asked : Asked) × AskFor (map S.text words.entry.now) asked) → TellsOf (map S.text words.entry.now) result (W.contents output.old.channel.writer) (W.contents output.new.channel.writer)
+        (account E.contents errors.old) (account E.contents errors.new) errors.new.channel.write_failed }
     // A text that was asked for is not lost in silence.
     ensures clean { ¬ ((asked : Asked) × AskFor (map S.text words.entry.now) asked) → result ≡ 0 → output.new.channel.write_failed ≡ true → output.old.channel.write_failed ≡ true }
     ensures turns { input.new.turns_left ≤ input.old.turns_left }
@@ -207,7 +219,8 @@ where
     W: Write,
     E: Write,
     ensures took { (text : List ℕ) × Takes (account W.contents output.old) (account W.contents output.new) text }
-    ensures ended { (ended : Result Ended RunFault) × (result ≡ exit_status ended) × IfErr ended IsNetFault
+    ensures ended { (ended : Result Ended RunFault) × (result ≡ exit_status ended) × TellsEnd ended (account E.contents errors.old) (account E.contents errors.new) errors.new.channel.write_failed
+        × IfErr ended IsNetFault
         × KeepsUnstarted ended (account W.contents output.old) (account W.contents output.new)
         × IfErr ended (EndsWriting output.new.channel.write_failed output.new.channel.turns_left) }
     ensures paid_errors { Pays (account E.contents errors.old) (account E.contents errors.new) 1 }

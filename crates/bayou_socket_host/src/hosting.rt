@@ -1,6 +1,5 @@
 ghost use Rattle.std.specs.Prelude.{◌≡◌, vec_len};
-ghost use Rattle.bayou_node.specs.Books.{IsBlankOf};
-ghost use Rattle.bayou_server.specs.Server.{own_count};
+ghost use Rattle.bayou_node.specs.Books.{IsBlankOf, begun_of};
 
 use crate::fault::Fault;
 use crate::words::{Words, read_words};
@@ -93,7 +92,7 @@ where
     L: Desks + Send + Sync,
     R: Threads + Wait + Print + Net<Stream = TcpStream, Listener = TcpListener> + Send + Sync,
     requires blank { IsBlankOf blank L.name L.parts connections }
-    requires whose { (server.core.id ≡ L.server) × (own_count server.core ≡ L.stored) }
+    requires whose { begun_of server.core ≡ L.begun }
 {
     let Ok((node, desks)) = Node::<_, L>::new(alloc, blank, server, connections) else {
         return Err(Fault::Memory);

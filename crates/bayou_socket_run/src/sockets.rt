@@ -3,8 +3,7 @@ ghost use Rattle.std.specs.Thread.{IsSend};
 ghost use Rattle.std.specs.Prelude.{◌≡◌, ◌≤◌, IfErr, IfOk, IfSome, List, Ok, OnOk, ℕ};
 ghost use Rattle.bayou_audit.specs.Blanks.{AreBlanksOf, named};
 ghost use Rattle.bayou_base.specs.declared.limits.TheConstants.{SESSIONS as SESSIONS_NUMBER};
-ghost use Rattle.bayou_node.specs.Books.{IsBlankOf};
-ghost use Rattle.bayou_server.specs.Server.{own_count};
+ghost use Rattle.bayou_node.specs.Books.{IsBlankOf, begun_of};
 ghost use Rattle.bayou_socket_run.specs.Inner.Faults.{IsPhaseFault};
 ghost use Rattle.bayou_print.specs.Waiting.{stage};
 ghost use Rattle.bayou_socket_run.specs.Inner.Telling.{Tells};
@@ -219,7 +218,7 @@ fn seat<L: Desks>(
     connections: u32,
     ready: Ready,
 ) -> Result<Seat<FileDevice<File>, L>, FleetFault>
-    requires { IsBlankOf ready.blank L.name L.parts connections × (ready.server.value.core.id ≡ L.server) × (own_count ready.server.value.core ≡ L.stored) }
+    requires { IsBlankOf ready.blank L.name L.parts connections × (begun_of ready.server.value.core ≡ L.begun) }
 {
     let Ready { blank, server } = ready;
     Seat::new(alloc, blank, Box::into_inner(server), connections)
@@ -231,7 +230,7 @@ fn seat_of<L: Desks>(
     connections: u32,
     ready: Option<Ready>,
 ) -> Result<Option<Seat<FileDevice<File>, L>>, FleetFault>
-    requires { IfSome ready (λ ready. IsBlankOf ready.blank L.name L.parts connections × (ready.server.value.core.id ≡ L.server) × (own_count ready.server.value.core ≡ L.stored)) }
+    requires { IfSome ready (λ ready. IsBlankOf ready.blank L.name L.parts connections × (begun_of ready.server.value.core ≡ L.begun)) }
 {
     match ready {
         Some(ready) => Ok(Some(seat(alloc, connections, ready)?)),
@@ -260,10 +259,10 @@ where
     K: Ledgers + Send + Sync,
     T: Threads + Wait + Sockets + Send + Sync,
     W: Write,
-    requires first { IfSome first (λ ready. IsBlankOf ready.blank A.name A.parts setting.agenda.connections × (ready.server.value.core.id ≡ A.server) × (own_count ready.server.value.core ≡ A.stored)) }
-    requires second { IfSome second (λ ready. IsBlankOf ready.blank B.name B.parts setting.agenda.connections × (ready.server.value.core.id ≡ B.server) × (own_count ready.server.value.core ≡ B.stored)) }
-    requires third { IfSome third (λ ready. IsBlankOf ready.blank C.name C.parts setting.agenda.connections × (ready.server.value.core.id ≡ C.server) × (own_count ready.server.value.core ≡ C.stored)) }
-    requires fourth { IfSome fourth (λ ready. IsBlankOf ready.blank E.name E.parts setting.agenda.connections × (ready.server.value.core.id ≡ E.server) × (own_count ready.server.value.core ≡ E.stored)) }
+    requires first { IfSome first (λ ready. IsBlankOf ready.blank A.name A.parts setting.agenda.connections × (begun_of ready.server.value.core ≡ A.begun)) }
+    requires second { IfSome second (λ ready. IsBlankOf ready.blank B.name B.parts setting.agenda.connections × (begun_of ready.server.value.core ≡ B.begun)) }
+    requires third { IfSome third (λ ready. IsBlankOf ready.blank C.name C.parts setting.agenda.connections × (begun_of ready.server.value.core ≡ C.begun)) }
+    requires fourth { IfSome fourth (λ ready. IsBlankOf ready.blank E.name E.parts setting.agenda.connections × (begun_of ready.server.value.core ≡ E.begun)) }
     ensures took { (text : List ℕ) × Takes (account W.contents output.old) (account W.contents output.new) text }
     ensures fault { IfErr result IsPhaseFault }
     ensures ended { IfErr result (EndsWriting output.new.channel.write_failed output.new.channel.turns_left) }

@@ -1,5 +1,6 @@
 -- What one server sends to another, and what that makes of it. No public clause cites this.
-use Rattle.std.specs.Prelude.{◌≡◌, ℕ, ◌<◌, ◌^◌, List, Option, Err, All, length}
+use Rattle.std.specs.Prelude.{◌≡◌, ◌≤◌, ℕ, List, Option, Err, All, length}
+use Rattle.bayou_base.specs.declared.limits.TheConstants.{MAX_WRITES}
 use Rattle.bayou_lang.specs.declared.write.Write.{Write}
 use Rattle.bayou_lang.specs.Ranges.{IsWrite}
 use Rattle.bayou_lang.specs.Writes.{lacking_of}
@@ -17,7 +18,7 @@ use Rattle.bayou_machine.specs.ScriptServer.{Serving}
 -- the bytes are the answer of these Writes
 pub record Sends (sent : List Write) (bytes : List ℕ) : Type 0 where
   pub valid : All IsWrite sent
-  pub few : length sent < 2 ^ 32
+  pub few : length sent ≤ MAX_WRITES
   pub spelled : bytes ≡ answer_bytes sent
 
 -- the server runs, and the bytes are its answer to an Offer of these counts

@@ -18,7 +18,7 @@ returns-in_err-send-clause-exchanges g c =
       [],
       rw c.send.ensures.other.0 (Consumes-nil _),
       rw (fails.1, fails.2) (unsent c.args.many (spelling c.args.request.now) before after c.args.link.now.is_closed _ _ _ (IsAtEnd (g.R.Read.remaining c.send.new.channel.reader)) c.in_err-send.field-0.0 c.if-link.false
-          c.in_err-send.ensures.fault c.in_err-send.ensures.stopped front),
+          c.in_err-send.ensures.fault c.in_err-send.ensures.no_memory c.in_err-send.ensures.stopped front),
     )
 
 pub returns-in_err-reply-clause-exchanges : goal.returns-in_err-reply-clause-exchanges

@@ -9,7 +9,7 @@ returns-clause-serves g c =
     let (read, consumed, ends) = c.serve_on-answer.ensures.serves in (
       read,
       consumed,
-      subst (λ (paid : ℕ). ServeEnds (desk_steps g.L.Desks.server g.L.Desks.stored) c.args.desk paid read (g.W.Write.contents c.args.channel.now.writer) (g.W.Write.contents c.serve_on-answer.new.channel.writer)
+      subst (λ (paid : ℕ). ServeEnds (desk_steps g.L.Desks.begun) c.args.desk paid read (g.W.Write.contents c.args.channel.now.writer) (g.W.Write.contents c.serve_on-answer.new.channel.writer)
           (IsAtEnd (g.R.Read.remaining c.serve_on-answer.new.channel.reader)) c.serve_on-answer.result)
           (sym c.at_desk.view_is) ends,
     )

@@ -1,6 +1,6 @@
 -- the four ledgers of the book, the ledger of the desks, and what the node is of
 use Rattle.bayou_net_cases.proofs.listeners.are_served.Given as goal
-use Rattle.bayou_server.specs.Server.{own_count}
+use Rattle.bayou_node.specs.Books.{begun_of}
 
 abbrev pub ghosts-serves_sessions-S-Ledger : goal.ghosts-serves_sessions-S-Ledger
 ghosts-serves_sessions-S-Ledger g a = record { name = a.blanks.slips.name; parts = a.blanks.slips.parts }
@@ -18,4 +18,4 @@ abbrev pub ghosts-serves_sessions-L-Ledger : goal.ghosts-serves_sessions-L-Ledge
 ghosts-serves_sessions-L-Ledger g a = record { name = a.blank.name; parts = a.blank.parts }
 
 abbrev pub ghosts-serves_sessions-L-Desks : goal.ghosts-serves_sessions-L-Desks
-ghosts-serves_sessions-L-Desks g a = record { server = a.server.value.core.id; stored = own_count a.server.value.core }
+ghosts-serves_sessions-L-Desks g a = record { begun = begun_of a.server.value.core }

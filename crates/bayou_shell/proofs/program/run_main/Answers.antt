@@ -13,25 +13,26 @@ pub returns-in-Ok-clause-named : goal.returns-in-Ok-clause-named
 returns-in-Ok-clause-named g c =
     λ what name is from. let same = asked_once (map g.S.AsStr.text c.args.words.now) what (task_seen c.in-Ok.task) is c.in-Ok.ensures in (
       c.do_task-ended.result,
-      subst (λ (a : Asked). WorksOn {R = g.row.F-Reader.Denot} (g.F.Files.opens name) (g.F.Files.refuses name) g.F.Networks.runs g.F.Reader.Read.remaining a c.do_task-ended.result
+      subst (λ (a : Asked). WorksOn {R = g.row.F-Reader.Denot} (g.F.Files.opens name) (g.F.Files.refuses name) g.F.Networks.runs g.F.Reader.Read.remaining (g.F.Files.kept c.do_task-ended.new.files) a c.do_task-ended.result
           (g.W.Write.contents c.args.output.now.channel.writer) (g.W.Write.contents c.do_task-ended.new.output.channel.writer)) (sym same)
           (c.do_task-ended.ensures.named name (sym (ap input_of_asked same) ∙ from)),
       c.finish.ensures.status,
       c.do_task-ended.ensures.written,
+      c.finish.ensures.told,
     )
 
 pub returns-in-Err-Asked-clause-others : goal.returns-in-Err-Asked-clause-others
 returns-in-Err-Asked-clause-others g c =
-    λ unasked. let (ended, written, status) = c.show.ensures.written in
-    asked (subst (λ (stop : Stop). Names (map g.S.AsStr.text c.args.words.now) (Err stop)) c.in-Err-Asked.field-0-is c.in-Err-Asked.ensures) c.as_str.result.now ended written status
+    λ unasked. let (ended, written, status, told) = c.show.ensures.written in
+    asked (subst (λ (stop : Stop). Names (map g.S.AsStr.text c.args.words.now) (Err stop)) c.in-Err-Asked.field-0-is c.in-Err-Asked.ensures) c.as_str.result.now ended written status told
 
 pub returns-in-Err-Memory-clause-standard : goal.returns-in-Err-Memory-clause-standard
 returns-in-Err-Memory-clause-standard g c =
     λ what is from. works_unread g.F.Networks.runs (g.R.Read.remaining c.args.input.now.reader) what c.tell.result (g.W.Write.contents c.args.output.now.channel.writer)
-    c.args.input.now.read_failed c.args.output.now.channel.write_failed c.args.input.now.turns_left c.args.output.now.channel.turns_left c.tell.ensures.status
+    c.args.input.now.read_failed c.args.output.now.channel.write_failed c.args.input.now.turns_left c.args.output.now.channel.turns_left _ _ _ c.tell.ensures.status c.tell.ensures.told
 
 pub returns-in-Err-Memory-clause-named : goal.returns-in-Err-Memory-clause-named
-returns-in-Err-Memory-clause-named g c = λ what name is from. (Err Memory, no_memory refl (Keeps-refl _), c.tell.ensures.status, tt)
+returns-in-Err-Memory-clause-named g c = λ what name is from. (Err Memory, no_memory refl (Keeps-refl _), c.tell.ensures.status, tt, c.tell.ensures.told)
 
 pub returns-in-Ok-clause-standard : goal.returns-in-Ok-clause-standard
 returns-in-Ok-clause-standard g c =
@@ -39,8 +40,8 @@ returns-in-Ok-clause-standard g c =
     let here = sym (ap input_of_asked same) ∙ from in
     rw same
     (works_so g.F.Networks.runs (g.R.Read.remaining c.args.input.now.reader) (task_seen c.in-Ok.task) c.do_task-ended.result c.finish.result (g.W.Write.contents c.args.output.now.channel.writer)
-    (g.W.Write.contents c.do_task-ended.new.output.channel.writer) _ _ _ _ (c.do_task-ended.ensures.standard here) c.finish.ensures.status
-    (c.do_task-ended.ensures.read here) c.do_task-ended.ensures.written)
+    (g.W.Write.contents c.do_task-ended.new.output.channel.writer) _ _ _ _ _ _ _ (c.do_task-ended.ensures.standard here) c.finish.ensures.status
+    (c.do_task-ended.ensures.read here) c.do_task-ended.ensures.written c.finish.ensures.told)
 
 pub returns-in-Ok-clause-unread : goal.returns-in-Ok-clause-unread
 returns-in-Ok-clause-unread g c = λ none. c.do_task-ended.ensures.unread (λ from. none (task_seen c.in-Ok.task, c.in-Ok.ensures, from))
@@ -87,7 +88,7 @@ returns-in-Err-Refused-clause-named g c =
 
 pub returns-in-Err-Refused-clause-others : goal.returns-in-Err-Refused-clause-others
 returns-in-Err-Refused-clause-others g c =
-    λ none. mistaken (subst (λ (stop : Stop). Names (map g.S.AsStr.text c.args.words.now) (Err stop)) c.in-Err-Refused.field-0-is c.in-Err-Refused.ensures) refl (Keeps-refl _)
+    λ none. mistaken (subst (λ (stop : Stop). Names (map g.S.AsStr.text c.args.words.now) (Err stop)) c.in-Err-Refused.field-0-is c.in-Err-Refused.ensures) refl (Keeps-refl _) _ c.write_text.ensures.put
 
 pub returns-in-Err-Refused-clause-paid : goal.returns-in-Err-Refused-clause-paid
 returns-in-Err-Refused-clause-paid g c = Pays-none _ 1
