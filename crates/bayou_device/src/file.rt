@@ -108,7 +108,7 @@ fn sync_folder<R: Files<File = File>>(files: &R, path: &str) -> bool {
 }
 
 impl<F> FileDevice<F> {
-    /// The device over a file that is open, and that nobody else writes to.
+    /// The device over a file that is open, to whose end all is written. Whoever opened it sees that nobody else writes there.
     pub fn over(file: F) -> Self
         ensures file { result.file ≡ file }
         ensures failures { result.failures ≡ 0 }

@@ -1,9 +1,9 @@
 //! Laws of a journal's bytes, and of devices whose calls fail, each the contract of a function that does nothing.
 
-ghost use Rattle.std.specs.Prelude.{◌≡◌, ◌<◌, ◌≤◌, ◌++◌, ◌∷◌, [], ℕ, IfSome, List, Option, Some, length, take};
+ghost use Rattle.std.specs.Prelude.{◌≡◌, ◌⊎◌, ◌<◌, ◌≤◌, ◌++◌, ◌∷◌, [], ℕ, IfSome, List, Option, Some, length, take};
 ghost use Rattle.bayou_device.specs.Device.{BeginsWith};
-ghost use Rattle.bayou_device.specs.Memory.{AddsFront};
-ghost use Rattle.bayou_journal.specs.Chain.{AreBodies, IsBody, IsLongestChain, NoEntry, chain_end, entry, journal, link};
+ghost use Rattle.bayou_device.specs.Memory.{AddsFront, Memory, crashed, kept_bytes};
+ghost use Rattle.bayou_journal.specs.Chain.{AreBodies, IsBody, IsLongestChain, NoEntry, chain_end, entry, header, journal, link};
 ghost use Rattle.bayou_device.specs.MemoryDevice.{memory_device};
 ghost use Rattle.bayou_journal.specs.Honest.{HasCrashed, IsHonest, IsHonestDevice, IsPassing, IsRecoverable, IsWhole, KeepsBodies, NoOtherEntry, OnlyTears, torn};
 ghost use Rattle.bayou_journal.specs.Opened.{Found};
@@ -128,6 +128,14 @@ pub fn what_stands_behind_the_kept_decides<D: Device>()
 pub fn a_crash_leaves_an_honest_device<D: Device>()
     ensures { (version server : ℕ) (bodies : List (List ℕ)) (doubt : Option (List ℕ)) (old new : D) → KeepsBodies D.Device version server bodies old
         → HasCrashed D.Device version server bodies doubt old new → IsHonestDevice D.Device version server bodies doubt new }
+{}
+
+/// What a crash of a device in memory does is a crash, where no entry goes on in what it leaves but that of the body in doubt.
+pub fn a_device_in_memory_crashes()
+    ensures { (version server : ℕ) (bodies : List (List ℕ)) (doubt : Option (List ℕ)) (tail : List ℕ) (old new : Memory) → new ≡ crashed tail old → kept_bytes new ≡ kept_bytes old
+        → ((more : List ℕ) → kept_bytes old ≡ journal version server bodies ++ more → NoOtherEntry (chain_end version server bodies) doubt (more ++ tail))
+        → BeginsWith (header version server) (kept_bytes old) ⊎ BeginsWith (kept_bytes old ++ tail) (header version server)
+        → HasCrashed memory_device version server bodies doubt old new }
 {}
 
 /// A failed call of a device in memory does no more than to tear.
