@@ -40,6 +40,9 @@ kept_of_left : {D : Type 0} (d : Ghosts D) (id : ℕ) (held : List Write) (doubt
 kept_of_left d id held None device left = left
 kept_of_left d id held (Some doubt) device left = record { bodies = left.bodies; stores = left.stores; keeps = left.honest.kept }
 
+pub device_keeps : {D : Type 0} (d : Ghosts D) (id : ℕ) (held : List Write) (doubt : Option Write) (device : D) → IsHonestDevice d id held doubt device → KeepsWrites d id held device
+device_keeps d id held doubt device honest = record { bodies = honest.bodies; stores = honest.stores; keeps = honest.honest.kept }
+
 pub honest_keeps : {D : Type 0} (d : Ghosts D) (server : ServerState D) → IsHonestServer d server → IsKeptServer d server
 honest_keeps d server left = kept_of_left d server.core.id server.core.held server.core.doubt server.device left
 

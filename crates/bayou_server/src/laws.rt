@@ -143,7 +143,7 @@ pub fn a_start_on_an_honest_device_is_honest<D: Device>()
 }
 
 /// What a server holds is kept, over each device that the clauses model, whatever its failed calls leave: an honest server's is, and each
-/// call leaves it so, answered or not.
+/// call leaves it so, answered or not, a start that is refused too. So crashes may follow each other, and such calls.
 pub fn what_is_held_is_kept<D: Device>()
     ensures honest { (server : ServerState D) → IsHonestServer D.Device server → IsKeptServer D.Device server }
     ensures written { (need : List ℕ) (program : Program) (result : Result Accepted WriteFault) (old new : ServerState D) → D.is_modelled → IsSoundServer old.core
@@ -156,6 +156,7 @@ pub fn what_is_held_is_kept<D: Device>()
         → IsKeptServer D.Device old → Reopens old.core result new.core → ReopensJournal D.Device old result new → KeepsChains (D.kept old.device) (D.kept new.device)
         → IsKeptServer D.Device new }
     ensures device { (id : ℕ) (held : List Write) (doubt : Option Write) (device : D) → IsKept D.Device id held doubt device → KeepsWrites D.Device id held device }
+    ensures honest_device { (id : ℕ) (held : List Write) (doubt : Option Write) (device : D) → IsHonestDevice D.Device id held doubt device → KeepsWrites D.Device id held device }
     ensures again { (id : ℕ) (held : List Write) (old new : D) → All IsWrite held → KeepsWrites D.Device id held old → KeepsChains (D.kept old) (D.kept new) → KeepsWrites D.Device id held new }
 {
     a_write_is_a_body();
