@@ -1,5 +1,7 @@
-ghost use Rattle.std.specs.Prelude.{◌≡◌, IfOk, OnErr, OnOk};
+ghost use Rattle.std.specs.Prelude.{◌≡◌, ◌≤◌, ◌⊎◌, [], true, IfOk, IsErrOf, OnErr, OnOk};
+ghost use Rattle.std.specs.Io.KnownBytes.{Appends, Consumes, IsAtEnd};
 ghost use Rattle.bayou_device.specs.Device.{Rose};
+ghost use Rattle.bayou_streams.specs.Written.{AppendsFront};
 
 use crate::device::{Device, Failed, ReadFault};
 use bayou_base::limits::READ_BYTES;
@@ -18,12 +20,14 @@ pub struct FileDevice<F> {
     failures: u64,
 }
 
-// All the bytes from the beginning to the end.
-fn read_whole<F: Read + Seek>(alloc: Global, file: &mut F) -> Result<Vec<u8>, ReadFault> {
-    if file.seek(SeekFrom::Start(0)).is_err() {
-        return Err(ReadFault::Failed);
-    }
-    let mut channel = Channel::new(file, ());
+// All that the channel's reader gives, up to its end. It spends the turns of the channel that it is lent, and fails only where a call of
+// the reader did, or no turn is left.
+fn read_whole<R: Read, W>(alloc: Global, channel: &mut Channel<R, W>) -> Result<Vec<u8>, ReadFault>
+    ensures bytes { IfOk result (λ bytes. Consumes (R.remaining channel.old.reader) (R.remaining channel.new.reader) bytes.items) }
+    ensures end { OnOk result (IsAtEnd (R.remaining channel.new.reader)) }
+    ensures stopped { IsErrOf result ReadFault.Failed → (channel.new.read_failed ≡ true) ⊎ (channel.new.turns_left ≡ 0) }
+    ensures turns { channel.new.turns_left ≤ channel.old.turns_left }
+{
     let mut bytes = Vec::new(alloc);
     let mut piece = [0; READ_BYTES];
     loop {
@@ -40,9 +44,14 @@ fn read_whole<F: Read + Seek>(alloc: Global, file: &mut F) -> Result<Vec<u8>, Re
     }
 }
 
-// Writes the whole piece; some of it may be there where that fails.
-fn write_whole<F: Write>(file: &mut F, piece: &[u8]) -> Result<(), Failed> {
-    let mut channel = Channel::new((), file);
+// Writes the whole piece; a front of it was written where that fails. It spends the turns of the channel that it is lent, and fails only
+// where a call of the writer did, or no turn is left.
+fn write_whole<R, W: Write>(channel: &mut Channel<R, W>, piece: &[u8]) -> Result<(), Failed>
+    ensures whole { OnOk result (Appends (W.contents channel.old.writer) (W.contents channel.new.writer) piece.now) }
+    ensures part { AppendsFront (W.contents channel.old.writer) (W.contents channel.new.writer) piece.now }
+    ensures stopped { OnErr result ((channel.new.write_failed ≡ true) ⊎ (channel.new.turns_left ≡ 0)) }
+    ensures turns { channel.new.turns_left ≤ channel.old.turns_left }
+{
     let mut rest = piece;
     while !rest.is_empty() {
         match channel.write_turn(rest) {
@@ -52,6 +61,19 @@ fn write_whole<F: Write>(file: &mut F, piece: &[u8]) -> Result<(), Failed> {
         }
     }
     Ok(())
+}
+
+// All the bytes of the file, from the beginning to the end: what makes the one channel of a device's read.
+fn read_from_start<F: Read + Seek>(alloc: Global, file: &mut F) -> Result<Vec<u8>, ReadFault> {
+    if file.seek(SeekFrom::Start(0)).is_err() {
+        return Err(ReadFault::Failed);
+    }
+    read_whole(alloc, &mut Channel::new(file, ()))
+}
+
+// Adds the whole piece to what the file holds: what makes the one channel of a device's append.
+fn add_to<F: Write>(file: &mut F, piece: &[u8]) -> Result<(), Failed> {
+    write_whole(&mut Channel::new((), file), piece)
 }
 
 // What a call came to; a failure is counted.
@@ -85,6 +107,16 @@ fn sync_folder<R: Files<File = File>>(files: &R, path: &str) -> bool {
     }
 }
 
+impl<F> FileDevice<F> {
+    /// The device over a file that is open, to whose end all is written. Whoever opened it sees that nobody else writes there.
+    pub fn over(file: F) -> Self
+        ensures file { result.file ≡ file }
+        ensures failures { result.failures ≡ 0 }
+    {
+        FileDevice { file, failures: 0 }
+    }
+}
+
 impl FileDevice<File> {
     /// The device over the file of this name. A missing file is made, and made to last, with its name in its folder. The file is locked
     /// as long as the device is there (an advisory lock): one that another has open so is refused, as is one that can't be opened, and a
@@ -102,7 +134,7 @@ impl FileDevice<File> {
         if file.try_lock().is_err() || file.sync_all().is_err() || !sync_folder(files, path) {
             return Err(Failed);
         }
-        Ok(FileDevice { file, failures: 0 })
+        Ok(FileDevice::over(file))
     }
 }
 
@@ -122,7 +154,7 @@ impl<F: Read + Write + Seek + OpenFile + Drop> Device for FileDevice<F> {
     ghost leads_to = { λ _ _ _. Unit {0} };
 
     fn read_all(&mut self, alloc: Global) -> Result<Vec<u8>, ReadFault> {
-        let answer = read_whole(alloc, &mut self.file);
+        let answer = read_from_start(alloc, &mut self.file);
         match answer {
             Err(ReadFault::Failed) => {
                 self.failures = self.failures.saturating_add(1);
@@ -133,7 +165,7 @@ impl<F: Read + Write + Seek + OpenFile + Drop> Device for FileDevice<F> {
     }
 
     fn append(&mut self, piece: &[u8]) -> Result<(), Failed> {
-        let is_done = write_whole(&mut self.file, piece).is_ok();
+        let is_done = add_to(&mut self.file, piece).is_ok();
         counted(&mut self.failures, is_done)
     }
 

@@ -4,12 +4,12 @@ use Rattle.std.specs.Prelude.{IfSome}
 use Rattle.std.proofs.lemmas.Bool.{cases_order}
 use Rattle.std.proofs.lemmas.List.{append-nil, take_all, take_at}
 use Rattle.bayou_device.specs.Device.{BeginsWith}
-use Rattle.bayou_device.specs.Memory.{AddsFront}
+use Rattle.bayou_device.specs.Memory.{AddsFront, Memory, crashed, kept_bytes}
 use Rattle.bayou_device.specs.MemoryDevice.{memory_device}
 use Rattle.bayou_device.specs.declared.device.Device.{Ghosts}
 use Rattle.bayou_journal.specs.Chain.{AreBodies, IsBody, IsLongestChain, NoEntry, chain_end, entries, entry, first_link, header, journal, link}
 use Rattle.bayou_journal.specs.Laws.Chain.{AreBodies-push, chain_end-push, journal-push, longest_is_one}
-use Rattle.bayou_journal.specs.Honest.{IsHonest, IsHonestDevice, IsPassing, IsRecoverable, IsWhole, NoOtherEntry, OnlyTears, torn}
+use Rattle.bayou_journal.specs.Honest.{HasCrashed, IsHonest, IsHonestDevice, IsPassing, IsRecoverable, IsWhole, KeepsBodies, NoOtherEntry, OnlyTears, torn}
 use Rattle.bayou_journal.specs.Opened.{Found}
 use Rattle.bayou_journal.specs.Opening.{FailsToAdd, FailsToOpen, Finds, HasOpened, HasRefused, IsForeign, IsOfAnother, KeepsChains}
 use Rattle.bayou_journal.specs.declared.fault.OpenFault.{OpenFault}
@@ -276,6 +276,61 @@ pub kept_and_tail : {D : Type 0} (d : Ghosts D) (version server : ℕ) (bodies :
 kept_and_tail d version server bodies doubt device tail keeps behind none = record {
   kept = inr ([], keeps ∙ sym (append-nil (journal version server bodies)));
   recoverable = inr (tail, behind ∙ ap (λ (l : List ℕ). l ++ tail) keeps, none);
+}
+
+-- the entry of the body in doubt, and no entry behind it
+pub entry_in_doubt : (before body tail : List ℕ) → NoEntry (link before body) tail → NoOtherEntry before (Some body) (entry before body ++ tail)
+entry_in_doubt before body tail none = inr (tail, refl, none)
+
+-- the body in doubt is kept too, as behind an opening that wasn't answered
+pub doubt_is_kept : {D : Type 0} (d : Ghosts D) (version server : ℕ) (bodies : List (List ℕ)) (body : List ℕ) (device : D) (tail : List ℕ) → d.kept device ≡ journal version server (bodies ++ body ∷ [])
+    → d.content device ≡ d.kept device ++ tail → NoEntry (chain_end version server (bodies ++ body ∷ [])) tail → IsHonestDevice d version server bodies (Some body) device
+doubt_is_kept d version server bodies body device tail keeps behind none =
+    let end = chain_end version server bodies in
+    let front : d.kept device ≡ journal version server bodies ++ entry end body = keeps ∙ journal-push version server bodies body in
+    record {
+      kept = inr (entry end body, front);
+      recoverable = inr (
+        entry end body ++ tail,
+        behind ∙ ap (λ (l : List ℕ). l ++ tail) front ∙ append_assoc (journal version server bodies) (entry end body) tail,
+        entry_in_doubt end body tail (subst (λ (l : List ℕ). NoEntry l tail) (chain_end-push version server bodies body) none),
+      );
+    }
+
+-- ---- a crash
+
+pub crashed_honestly : {D : Type 0} (d : Ghosts D) (version server : ℕ) (bodies : List (List ℕ)) (doubt : Option (List ℕ)) (old new : D) → KeepsBodies d version server bodies old
+    → HasCrashed d version server bodies doubt old new → IsHonestDevice d version server bodies doubt new
+crashed_honestly {D} d version server bodies doubt old new keeps crash = record {
+  kept = subst (λ (k : List ℕ). (bodies ≡ []) ⊎ BeginsWith (journal version server bodies) k) (sym crash.as_kept) keeps;
+  recoverable = by keeps crash.begun;
+}
+  where
+    goes : BeginsWith (journal version server bodies) (d.kept old) → IsRecoverable version server bodies doubt (d.content new)
+    goes (more, split) = inr (
+      more ++ crash.tail,
+      crash.behind ∙ ap (λ (l : List ℕ). l ++ crash.tail) split ∙ append_assoc (journal version server bodies) more crash.tail,
+      crash.none more split,
+    )
+
+    by : (bodies ≡ []) ⊎ BeginsWith (journal version server bodies) (d.kept old) → BeginsWith (header version server) (d.kept old) ⊎ BeginsWith (d.kept old ++ crash.tail) (header version server)
+        → IsRecoverable version server bodies doubt (d.content new)
+    by (inr begins) begun = goes begins
+    by (inl none) (inl (more, split)) =
+        let same : journal version server bodies ≡ header version server = ap (journal version server) none ∙ append-nil (header version server) in
+        goes (more, split ∙ ap (λ (l : List ℕ). l ++ more) (sym same))
+    by (inl none) (inr front) = inl (none, subst (λ (b : List ℕ). BeginsWith b (header version server)) (sym crash.behind) front)
+
+pub memory_crashes : (version server : ℕ) (bodies : List (List ℕ)) (doubt : Option (List ℕ)) (tail : List ℕ) (old new : Memory) → new ≡ crashed tail old → kept_bytes new ≡ kept_bytes old
+    → ((more : List ℕ) → kept_bytes old ≡ journal version server bodies ++ more → NoOtherEntry (chain_end version server bodies) doubt (more ++ tail))
+    → BeginsWith (header version server) (kept_bytes old) ⊎ BeginsWith (kept_bytes old ++ tail) (header version server)
+    → HasCrashed memory_device version server bodies doubt old new
+memory_crashes version server bodies doubt tail old new is kept none begun = record {
+  as_kept = kept;
+  tail = tail;
+  behind = ap (λ (d : Memory). d.bytes) is;
+  none = none;
+  begun = begun;
 }
 
 pub the_same_device : {D : Type 0} (d : Ghosts D) (version server : ℕ) (bodies : List (List ℕ)) (doubt : Option (List ℕ)) (device other : D) → d.content other ≡ d.content device → d.kept other ≡ d.kept device

@@ -29,11 +29,25 @@ IsRecoverable version server bodies doubt bytes =
     ((bodies ≡ []) × BeginsWith bytes (header version server))
     ⊎ ((rest : List ℕ) × (bytes ≡ journal version server bodies ++ rest) × NoOtherEntry (chain_end version server bodies) doubt rest)
 
+-- what is kept begins with the journal of the bodies that were added, if there are any
+abbrev pub KeepsBodies : {D : Type 0} → Ghosts D → (version server : ℕ) → (bodies : List (List ℕ)) → (device : D) → Type 0
+KeepsBodies d version server bodies device = (bodies ≡ []) ⊎ BeginsWith (journal version server bodies) (d.kept device)
+
 -- The device is honest for the bodies that were added: what is kept begins with their journal, if there are any; and a read gives
 -- that, and no other entry behind it but that of the body in doubt.
 pub record IsHonestDevice {D : Type 0} (d : Ghosts D) (version server : ℕ) (bodies : List (List ℕ)) (doubt : Option (List ℕ)) (device : D) : Type 0 where
-  pub kept : (bodies ≡ []) ⊎ BeginsWith (journal version server bodies) (d.kept device)
+  pub kept : KeepsBodies d version server bodies device
   pub recoverable : IsRecoverable version server bodies doubt (d.content device)
+
+-- The device crashed, maybe as a body was being added: it keeps what it kept, and behind that stands any tail. In what is kept behind the
+-- bodies that were added, and the tail, no entry goes on from them but that of the body in doubt, and none behind that; and where the
+-- header wasn't kept yet, no more than the header stands there.
+pub record HasCrashed {D : Type 0} (d : Ghosts D) (version server : ℕ) (bodies : List (List ℕ)) (doubt : Option (List ℕ)) (old new : D) : Type 0 where
+  pub as_kept : d.kept new ≡ d.kept old
+  pub tail : List ℕ
+  pub behind : d.content new ≡ d.kept old ++ tail
+  pub none : (more : List ℕ) → d.kept old ≡ journal version server bodies ++ more → NoOtherEntry (chain_end version server bodies) doubt (more ++ tail)
+  pub begun : BeginsWith (header version server) (d.kept old) ⊎ BeginsWith (d.kept old ++ tail) (header version server)
 
 -- the device has the journal of these bodies and nothing else, and all of it is kept
 pub record IsWhole {D : Type 0} (d : Ghosts D) (version server : ℕ) (bodies : List (List ℕ)) (device : D) : Type 0 where

@@ -1,11 +1,11 @@
 //! Laws of a journal's bytes, and of devices whose calls fail, each the contract of a function that does nothing.
 
-ghost use Rattle.std.specs.Prelude.{◌≡◌, ◌<◌, ◌≤◌, ◌++◌, ◌∷◌, [], ℕ, IfSome, List, Option, Some, length, take};
+ghost use Rattle.std.specs.Prelude.{◌≡◌, ◌⊎◌, ◌<◌, ◌≤◌, ◌++◌, ◌∷◌, [], ℕ, IfSome, List, Option, Some, length, take};
 ghost use Rattle.bayou_device.specs.Device.{BeginsWith};
-ghost use Rattle.bayou_device.specs.Memory.{AddsFront};
-ghost use Rattle.bayou_journal.specs.Chain.{AreBodies, IsBody, IsLongestChain, chain_end, entry, journal};
+ghost use Rattle.bayou_device.specs.Memory.{AddsFront, Memory, crashed, kept_bytes};
+ghost use Rattle.bayou_journal.specs.Chain.{AreBodies, IsBody, IsLongestChain, NoEntry, chain_end, entry, header, journal, link};
 ghost use Rattle.bayou_device.specs.MemoryDevice.{memory_device};
-ghost use Rattle.bayou_journal.specs.Honest.{IsHonest, IsHonestDevice, IsPassing, IsRecoverable, IsWhole, NoOtherEntry, OnlyTears, torn};
+ghost use Rattle.bayou_journal.specs.Honest.{HasCrashed, IsHonest, IsHonestDevice, IsPassing, IsRecoverable, IsWhole, KeepsBodies, NoOtherEntry, OnlyTears, torn};
 ghost use Rattle.bayou_journal.specs.Opened.{Found};
 ghost use Rattle.bayou_journal.specs.Opening.{FailsToAdd, FailsToOpen, Finds, HasOpened, HasRefused, IsForeign, IsOfAnother, KeepsChains};
 ghost use Rattle.bayou_journal.specs.declared.fault.OpenFault.{OpenFault};
@@ -110,13 +110,32 @@ pub fn what_is_kept_is_found<D: Device>()
 {}
 
 /// A device that keeps a journal is honest by what stands behind that, as after a crash: where no entry goes on from it but that of
-/// the body in doubt, as in a front of that entry. Nothing else of a device decides whether it is.
+/// the body in doubt, as in a front of that entry; or where that entry is kept too, and no other goes on from it. Nothing else of a device
+/// decides whether it is.
 pub fn what_stands_behind_the_kept_decides<D: Device>()
     ensures honest { (version server : ℕ) (bodies : List (List ℕ)) (doubt : Option (List ℕ)) (device : D) (tail : List ℕ) → D.kept device ≡ journal version server bodies
         → D.content device ≡ D.kept device ++ tail → NoOtherEntry (chain_end version server bodies) doubt tail → IsHonestDevice D.Device version server bodies doubt device }
+    ensures doubt { (version server : ℕ) (bodies : List (List ℕ)) (body : List ℕ) (device : D) (tail : List ℕ) → D.kept device ≡ journal version server (bodies ++ body ∷ [])
+        → D.content device ≡ D.kept device ++ tail → NoEntry (chain_end version server (bodies ++ body ∷ [])) tail → IsHonestDevice D.Device version server bodies (Some body) device }
     ensures front { (before body : List ℕ) (count : ℕ) → IsBody body → NoOtherEntry before (Some body) (take count (entry before body)) }
+    ensures entry { (before body tail : List ℕ) → NoEntry (link before body) tail → NoOtherEntry before (Some body) (entry before body ++ tail) }
     ensures same { (version server : ℕ) (bodies : List (List ℕ)) (doubt : Option (List ℕ)) (device other : D) → D.content other ≡ D.content device → D.kept other ≡ D.kept device
         → IsHonestDevice D.Device version server bodies doubt device → IsHonestDevice D.Device version server bodies doubt other }
+{}
+
+/// A crash leaves a device that keeps the bodies which were added honest for them and for the one in doubt, whatever a failed call
+/// had left there, and whatever else is kept, be it that one's entry.
+pub fn a_crash_leaves_an_honest_device<D: Device>()
+    ensures { (version server : ℕ) (bodies : List (List ℕ)) (doubt : Option (List ℕ)) (old new : D) → KeepsBodies D.Device version server bodies old
+        → HasCrashed D.Device version server bodies doubt old new → IsHonestDevice D.Device version server bodies doubt new }
+{}
+
+/// What a crash of a device in memory does is a crash, where no entry goes on in what it leaves but that of the body in doubt.
+pub fn a_device_in_memory_crashes()
+    ensures { (version server : ℕ) (bodies : List (List ℕ)) (doubt : Option (List ℕ)) (tail : List ℕ) (old new : Memory) → new ≡ crashed tail old → kept_bytes new ≡ kept_bytes old
+        → ((more : List ℕ) → kept_bytes old ≡ journal version server bodies ++ more → NoOtherEntry (chain_end version server bodies) doubt (more ++ tail))
+        → BeginsWith (header version server) (kept_bytes old) ⊎ BeginsWith (kept_bytes old ++ tail) (header version server)
+        → HasCrashed memory_device version server bodies doubt old new }
 {}
 
 /// A failed call of a device in memory does no more than to tear.

@@ -123,7 +123,7 @@ whole_of d old up was = subst (λ (o : Option Write). IsLeft d old.core.id old.c
 
 -- ---- one Write more, or one in doubt
 
-added : {D : Type 0} (d : Ghosts D) (old new : ServerState D) (made : Write) → d.is_modelled → old.core.doubt ≡ None → new.core ≡ record old.core { held = old.core.held ++ made ∷ [] }
+pub added : {D : Type 0} (d : Ghosts D) (old new : ServerState D) (made : Write) → d.is_modelled → old.core.doubt ≡ None → new.core ≡ record old.core { held = old.core.held ++ made ∷ [] }
     → HasAdded d old new → IsHonestServer d old → IsHonestServer d new
 added {D} d old new made modelled up is has was =
     settles d new (record old.core { held = old.core.held ++ made ∷ [] }) is (subst (λ (o : Option Write). IsLeft d old.core.id (old.core.held ++ made ∷ []) o new.device) (sym up) left)
@@ -295,7 +295,7 @@ answers {D} d wholes law passes laws result old new modelled sound was reopens t
         (found_in d law old.device new.device bodies modelled reads opens) other
 
 -- the server that is up again
-recovered : {D : Type 0} (d : Ghosts D) (old new : ServerState D) (adopted : Option Wid) → Recovers old.core adopted new.core → IsWholeDevice d old.core.id new.core.held new.device → IsHonestServer d new
+pub recovered : {D : Type 0} (d : Ghosts D) (old new : ServerState D) (adopted : Option Wid) → Recovers old.core adopted new.core → IsWholeDevice d old.core.id new.core.held new.device → IsHonestServer d new
 recovered d old new None (down, is) whole =
     settles d new (record old.core { doubt = None }) is (subst (λ (h : List Write). IsWholeDevice d old.core.id h new.device) (ap (λ (c : Core). c.held) is) whole)
 recovered d old new (Some wid) (doubt, was, name, is) whole =

@@ -48,6 +48,31 @@ IsLeft d id held (Some doubt) device = IsHonestDevice d id held (Some doubt) dev
 abbrev pub IsHonestServer : {D : Type 0} → Ghosts D → ServerState D → Type 0
 IsHonestServer d server = IsLeft d server.core.id server.core.held server.core.doubt server.device
 
+-- the entries of the Writes held are kept, if any are held
+pub record KeepsWrites {D : Type 0} (d : Ghosts D) (id : ℕ) (held : List Write) (device : D) : Type 0 where
+  pub bodies : List (List ℕ)
+  pub stores : Stores bodies held
+  pub keeps : journals.KeepsBodies d VERSION id bodies device
+
+-- what a server that is up keeps on its device, and one that is down, whatever its failed calls left behind that
+abbrev pub IsKept : {D : Type 0} → Ghosts D → (id : ℕ) → (held : List Write) → Option Write → (device : D) → Type 0
+IsKept d id held None device = IsWholeDevice d id held device
+IsKept d id held (Some doubt) device = KeepsWrites d id held device
+
+-- What a server holds is kept: while it is up it has a whole device.
+abbrev pub IsKeptServer : {D : Type 0} → Ghosts D → ServerState D → Type 0
+IsKeptServer d server = IsKept d server.core.id server.core.held server.core.doubt server.device
+
+-- The device of a server crashed, maybe as the entry of the Write in doubt was being stored: it keeps what it kept, and behind that stands
+-- any tail. In what is kept behind the entries of the Writes held, and the tail, no entry goes on from them but that of the Write in doubt,
+-- and none behind that.
+pub record HasCrashed {D : Type 0} (d : Ghosts D) (id : ℕ) (held : List Write) (doubt : Option Write) (old new : D) : Type 0 where
+  pub bodies : List (List ℕ)
+  pub body : Option (List ℕ)
+  pub stores : Stores bodies held
+  pub stores_doubt : StoresDoubt bodies body held doubt
+  pub crashed : journals.HasCrashed d VERSION id bodies body old new
+
 -- the Writes are those that were held, or those and the one that was in doubt, if one was
 abbrev pub AreHonest : (held : List Write) → (doubt : Option Write) → List Write → Type 0
 AreHonest held None writes = writes ≡ held

@@ -19,7 +19,7 @@ ghost use Rattle.bayou_server.specs.declared.fault.ReopenFault.{ReopenFault};
 ghost use Rattle.bayou_server.specs.declared.answer.Took.{Took};
 ghost use Rattle.bayou_server.specs.declared.fault.TakeFault.{TakeFault};
 ghost use Rattle.bayou_server.specs.declared.fault.WriteFault.{WriteFault};
-ghost use Rattle.bayou_server.specs.Honest.{AreHonest, IsHonestAnswer, IsHonestDevice, IsHonestRefusal, IsHonestServer, LosesNothing, OnlyTears};
+ghost use Rattle.bayou_server.specs.Honest.{AreHonest, HasCrashed, IsHonestAnswer, IsHonestDevice, IsHonestRefusal, IsHonestServer, IsKept, IsKeptServer, KeepsWrites, LosesNothing, OnlyTears};
 ghost use Rattle.bayou_server.specs.Reopens.{Recovers, Reopens};
 ghost use Rattle.bayou_server.specs.Server.{Core, IsSoundServer, ServerState, with_device};
 ghost use Rattle.bayou_server.specs.Starts.{FailsToStart, Starts, StartsOn, StopsAtEntry};
@@ -29,8 +29,9 @@ ghost use Rattle.bayou_server.specs.Writes.{Writes};
 
 use bayou_device::Device;
 use bayou_journal::laws::{
-    an_append_leaves_an_honest_device, an_honest_device_opens_honestly, what_is_found_is_one,
-    what_is_kept_is_found, what_stands_behind_the_kept_decides,
+    a_crash_leaves_an_honest_device as a_crash_of_a_journal, an_append_leaves_an_honest_device,
+    an_honest_device_opens_honestly, what_is_found_is_one, what_is_kept_is_found,
+    what_stands_behind_the_kept_decides,
 };
 use bayou_wire::laws::{a_write_is_spelled_by_a_body, no_write_begins_another};
 
@@ -139,6 +140,43 @@ pub fn a_start_on_an_honest_device_is_honest<D: Device>()
     an_honest_device_opens_honestly::<D>();
     a_write_is_a_body();
     no_write_begins_another();
+}
+
+/// What a server holds is kept, over each device that the clauses model, whatever its failed calls leave: an honest server's is, and each
+/// call leaves it so, answered or not, a start that is refused too. So crashes may follow each other, and such calls.
+pub fn what_is_held_is_kept<D: Device>()
+    ensures honest { (server : ServerState D) → IsHonestServer D.Device server → IsKeptServer D.Device server }
+    ensures written { (need : List ℕ) (program : Program) (result : Result Accepted WriteFault) (old new : ServerState D) → D.is_modelled → IsSoundServer old.core
+        → IsKeptServer D.Device old → Writes old.core need program result new.core → StoresWrite D.Device old result new → KeepsChains (D.kept old.device) (D.kept new.device)
+        → IsKeptServer D.Device new }
+    ensures taken { (given : Write) (result : Result Took TakeFault) (old new : ServerState D) → D.is_modelled → IsSoundServer old.core
+        → IsKeptServer D.Device old → Takes old.core given result new.core → StoresTaken D.Device old result new → KeepsChains (D.kept old.device) (D.kept new.device)
+        → IsKeptServer D.Device new }
+    ensures reopened { (result : Result Reopened ReopenFault) (old new : ServerState D) → D.is_modelled → IsSoundServer old.core
+        → IsKeptServer D.Device old → Reopens old.core result new.core → ReopensJournal D.Device old result new → KeepsChains (D.kept old.device) (D.kept new.device)
+        → IsKeptServer D.Device new }
+    ensures device { (id : ℕ) (held : List Write) (doubt : Option Write) (device : D) → IsKept D.Device id held doubt device → KeepsWrites D.Device id held device }
+    ensures honest_device { (id : ℕ) (held : List Write) (doubt : Option Write) (device : D) → IsHonestDevice D.Device id held doubt device → KeepsWrites D.Device id held device }
+    ensures again { (id : ℕ) (held : List Write) (old new : D) → All IsWrite held → KeepsWrites D.Device id held old → KeepsChains (D.kept old) (D.kept new) → KeepsWrites D.Device id held new }
+{
+    a_write_is_a_body();
+}
+
+/// A server whose device crashed is started again honestly. Where the Writes held were kept, the device is honest, whatever a failed call
+/// had left there; and a start on it holds what was held, or that and the Write in doubt, whose entry was being stored, and is over a
+/// whole device. It is refused for a device call or for memory alone. A crash within a call is one behind a call whose next device call
+/// failed, or one at the call's begin, with the Write that comes in doubt.
+pub fn a_crash_leaves_an_honest_device<D: Device>()
+    ensures honest { (id : ℕ) (held : List Write) (doubt : Option Write) (before device : D) → KeepsWrites D.Device id held before → HasCrashed D.Device id held doubt before device
+        → IsHonestDevice D.Device id held doubt device }
+    ensures started { (old : Core) (dropped : ℕ) (before device : D) (server : ServerState D) → D.is_modelled → IsSoundServer old → KeepsWrites D.Device old.id old.held before
+        → HasCrashed D.Device old.id old.held old.doubt before device → Starts old.id old.count old.limit server.core → StartsOn D.Device device server dropped
+        → AreHonest old.held old.doubt server.core.held × IsHonestServer D.Device server }
+    ensures refused { (old : Core) (before device left : D) (fault : StartFault) → D.is_modelled → IsSoundServer old → KeepsWrites D.Device old.id old.held before
+        → HasCrashed D.Device old.id old.held old.doubt before device → FailsToStart D.Device old.id old.count old.limit device left fault → IsHonestRefusal fault }
+{
+    a_crash_of_a_journal::<D>();
+    a_start_on_an_honest_device_is_honest::<D>();
 }
 
 /// The device of an honest server is honest, be the server up or down.

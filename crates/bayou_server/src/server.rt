@@ -306,6 +306,8 @@ impl<D: Device> Server<D> {
     pub fn stop(self) -> Stopped<D>
         ensures device { result.device ≡ self.device }
         ensures held { result.log.receipts ≡ self.core.held }
+        ensures count { result.log.count ≡ self.core.count }
+        ensures limit { result.log.limit ≡ self.core.limit }
         ensures doubt { result.doubt ≡ self.core.doubt }
         ensures sound { IsSoundServer self.core }
     {

@@ -1,0 +1,5 @@
+use Rattle.bayou_journal.proofs.Honesty.{memory_crashes}
+use Rattle.bayou_journal.proofs.laws.a_device_in_memory_crashes.Goals as goal
+
+pub returns : goal.returns
+returns c = memory_crashes
