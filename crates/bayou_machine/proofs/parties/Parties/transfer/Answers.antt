@@ -1,4 +1,5 @@
-use Rattle.std.proofs.Common.{◌≡◌, ◌∙◌, ℕ, List, inl, ap, sym, subst, arith, refl, get_or, set, Bor}
+use Rattle.std.proofs.Common.{◌≡◌, ◌∙◌, ◌≤◌, ◌*◌, ℕ, List, length, inl, ap, sym, subst, arith, refl, get_or, set, Bor}
+use Rattle.bayou_base.specs.declared.limits.TheConstants.{MAX_TURNS, READ_BYTES}
 use Rattle.bayou_lang.specs.declared.write.Write.{Write}
 use Rattle.bayou_lang.specs.Writes.{lacking_of}
 use Rattle.bayou_peer.specs.Meeting.{cut_answer}
@@ -55,6 +56,19 @@ returns-in-Err c counts_of same =
           ∙ same_machine c.args.self.now replicas c.args.to.index c.from.result before servers c.from.ensures c.index.ensures;
     }
 
+pub take_from-requires : goal.take_from-requires
+take_from-requires c =
+    let (other, is, sends) = c.in-Ok.ensures.sent in
+    let sent : List Write = lacking_of c.args.counts.now other.core.held in
+    let input : c.match-cut.input.now ≡ cut_answer c.args.cut sent = elim c.match-cut.branch [
+      | in-Some w ↦
+          ap (λ (b : Bor (List ℕ)). b.now) w.input-is ∙ w.cut_after-input.ensures sent sends.valid (omega (arith, sends.few)) (w.deref.ensures.value ∙ sends.spelled)
+          ∙ ap (λ cut. cut_answer cut sent) (sym w.in-Some.is)
+      | in-None w ↦
+          ap (λ (b : Bor (List ℕ)). b.now) w.input-is ∙ w.deref-input.ensures.value ∙ sends.spelled ∙ ap (λ cut. cut_answer cut sent) (sym w.in-None.is)
+    ] in
+    subst (λ (l : List ℕ). length l ≤ READ_BYTES * MAX_TURNS) (sym input) (c.an_answer_is_short.ensures sent c.args.cut sends.valid sends.few)
+
 pub returns : goal.returns
 returns c counts_of same =
     let replicas = c.self.inside.servers.items in
@@ -73,7 +87,7 @@ returns c counts_of same =
     let sent : List Write = lacking_of c.args.counts.now other.core.held in
     let input : c.match-cut.input.now ≡ cut_answer c.args.cut sent = elim c.match-cut.branch [
       | in-Some w ↦
-          ap (λ (b : Bor (List ℕ)). b.now) w.input-is ∙ w.cut_after-input.ensures sent sends.valid sends.few (w.deref.ensures.value ∙ sends.spelled)
+          ap (λ (b : Bor (List ℕ)). b.now) w.input-is ∙ w.cut_after-input.ensures sent sends.valid (omega (arith, sends.few)) (w.deref.ensures.value ∙ sends.spelled)
           ∙ ap (λ cut. cut_answer cut sent) (sym w.in-Some.is)
       | in-None w ↦
           ap (λ (b : Bor (List ℕ)). b.now) w.input-is ∙ w.deref-input.ensures.value ∙ sends.spelled ∙ ap (λ cut. cut_answer cut sent) (sym w.in-None.is)
