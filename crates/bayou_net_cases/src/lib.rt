@@ -19,6 +19,8 @@ mod listeners;
 #[cfg(test)]
 mod memory;
 #[cfg(test)]
+mod passing;
+#[cfg(test)]
 mod streams;
 #[cfg(test)]
 mod visits;
