@@ -7,13 +7,17 @@ pub mod Delivering
 pub mod Stepping
 pub mod Starting
 pub mod Keeping
+pub mod Telling
+pub mod Judging
 pub mod Consistent
 pub mod Collecting
 pub mod Possible
+pub mod Agreeing
 pub mod Tied
 pub mod TiedWrites
 pub mod TiedFlights
 pub mod TiedItems
+pub mod Never
 pub mod TiedServers
 pub mod Oldest
 pub mod Shares
