@@ -13,6 +13,7 @@ pub mod Consistent
 pub mod Collecting
 pub mod Possible
 pub mod Agreeing
+pub mod Standing
 pub mod Tied
 pub mod TiedWrites
 pub mod TiedFlights

@@ -1,6 +1,7 @@
 -- What a server's own rules never answer in a run.
 use Rattle.std.proofs.Common.{◌≡◌, inl, inr, ◌⊎◌, ℕ, List, [], ◌∷◌, ◌++◌, None, Some, Result, Ok, Err, ap, sym, ◌∙◌, refl, subst}
 use Rattle.std.specs.List.{slice_get}
+use Rattle.std.specs.Option.{option_map}
 use Rattle.std.proofs.lemmas.List.{append-nil, map-append}
 use Rattle.std.proofs.lemmas.List.Elements.{All-contains}
 use Rattle.std.proofs.lemmas.Option.{get_or_from_slice_get, slice_get_within}
@@ -19,13 +20,15 @@ use Rattle.bayou_server.specs.Stored.{BeginsWithHeld, ReopensJournal, Stores, bo
 use Rattle.bayou_server.specs.Takes as takes
 use Rattle.bayou_world.specs.declared.reply.Reply.TheVariants as replies
 use Rattle.bayou_world.specs.Inner.Good.{IsGoodMachine, IsHome}
+use Rattle.bayou_world.specs.Inner.Tie.{write_of}
 use Rattle.bayou_world.specs.Invariant.{IsImpossible}
-use Rattle.bayou_world.specs.Machine.{Machine, Made}
+use Rattle.bayou_world.specs.Machine.{Machine, Made, ServerSets, writes}
 use Rattle.bayou_world.specs.Never.{FindsOthers, OpensHonestly, core_at}
+use Rattle.bayou_world.specs.Steps.{IsGiven, TakeStep}
 use Rattle.bayou_world.proofs.Given.{given_fits, no_gap_within}
 use Rattle.bayou_world.proofs.Homes.{home_of_held, one_write}
-use Rattle.bayou_world.proofs.Lists.{Contains-map_from}
-use Rattle.bayou_world.proofs.TiedItems.{is_missing, own_held}
+use Rattle.bayou_world.proofs.Lists.{Contains-map_from, changed-same}
+use Rattle.bayou_world.proofs.TiedItems.{is_missing, own_held, took}
 
 never_taken : (machine : Machine) → IsGoodMachine machine → (place : ℕ) (made : Made) → IsHome machine.servers made → (answer : Result Took TakeFault) (new : Core)
     → takes.Takes (core_at machine place) made.write answer new → ¬ IsImpossible (replies.Took answer)
@@ -51,6 +54,21 @@ pub no_item_is_refused : (machine : Machine) → IsGoodMachine machine → (plac
 no_item_is_refused machine good place item made got answer new takes_it =
     never_taken machine good place made
     (All-contains (IsHome machine.servers) machine.items made good.items (item, slice_get_within machine.items item made got, get_or_from_slice_get machine.items item made made got)) answer new takes_it
+
+-- each answer of its rules is one of the machine, which leaves the same
+pub rows_of_rules : (machine : Machine) → IsGoodMachine machine → (place item : ℕ) (made : Made) → IsGiven machine place item made → (answer : Result Took TakeFault) (new : Core)
+    → takes.Takes (core_at machine place) made.write answer new → (next : Machine) × TakeStep machine place item (replies.Took answer) next × (new ≡ core_at next place)
+rows_of_rules machine good place item made given answer new takes_it =
+    let home = All-contains (IsHome machine.servers) machine.items made good.items (item, slice_get_within machine.items item made given.there, get_or_from_slice_get machine.items item made made given.there) in
+    let found = took machine good place item made given home (core_at machine place) new answer (record { is = refl }) takes_it in
+    let core_of : ServerSets → Core = λ server. record { id = place; count = machine.count; limit = machine.limit; held = writes server.held; doubt = option_map write_of server.doubt } in (
+      found.0,
+      found.1,
+      elim found.2 as (λ _. new ≡ core_at found.0 place) [
+        | inl same ↦ same.1 ∙ ap (λ (m : Machine). core_at m place) (sym same.0)
+        | inr other ↦ other.3.is ∙ ap core_of (sym (changed-same machine.servers place other.0)) ∙ ap (λ (m : Machine). core_at m place) (sym other.1)
+      ],
+    )
 
 -- what an honest opening finds begins with what was held, and is that, or that and the Write in doubt
 honest_found : (core : Core) (bodies : List (List ℕ)) (found : List Write) → Stores bodies found → AreHonest core.held core.doubt found

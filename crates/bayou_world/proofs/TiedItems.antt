@@ -102,7 +102,7 @@ room_there machine place core at room =
     omega (arith, room, length-map (machine.servers place).held write_of, ap length (ap (λ (c : Core). c.held) at.is), ap (λ (c : Core). c.limit) at.is)
 
 -- what the code says of an item, the machine says
-took : (machine : Machine) → IsGoodMachine machine → (place item : ℕ) (made : Made) → IsGiven machine place item made → IsHome machine.servers made → (core new : Core) (answer : Result Took TakeFault)
+pub took : (machine : Machine) → IsGoodMachine machine → (place item : ℕ) (made : Made) → IsGiven machine place item made → IsHome machine.servers made → (core new : Core) (answer : Result Took TakeFault)
     → IsServerOf machine.count machine.limit place core (machine.servers place) → takes.Takes core made.write answer new
     → (next : Machine) × TakeStep machine place item (replies.Took answer) next × ((next ≡ machine) × (new ≡ core)
     ⊎ ((server : ServerSets) × (next ≡ with_server machine place server) × (server.stopped ≡ (machine.servers place).stopped) × IsServerOf machine.count machine.limit place new server))

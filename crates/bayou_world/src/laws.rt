@@ -15,7 +15,7 @@ ghost use Rattle.bayou_server.specs.Server.{Core, ServerState};
 ghost use Rattle.bayou_server.specs.Stored.{ReopensJournal};
 ghost use Rattle.bayou_server.specs.Takes.{Takes};
 ghost use Rattle.bayou_session.specs.Needs.{Told, new_session as first_told};
-ghost use Rattle.bayou_world.specs.Agreement.{IsToldOf, ItemTestsAgree, NeedsAgree, StandsFor};
+ghost use Rattle.bayou_world.specs.Agreement.{IsToldOf, ItemTestsAgree, NeedsAgree, RunTelling, StandsFor};
 ghost use Rattle.bayou_world.specs.Never.{FindsOthers, OpensHonestly, core_at};
 ghost use Rattle.bayou_world.specs.declared.event.Event.{Event};
 ghost use Rattle.bayou_world.specs.declared.reply.Reply.{Reply};
@@ -24,7 +24,7 @@ ghost use Rattle.bayou_world.specs.Invariant.{IsConsistent, IsImpossible, IsTake
 ghost use Rattle.bayou_world.specs.Judged.{AreDumpsOf, AreOneHistory, IsJudgedClean, entries_of};
 ghost use Rattle.bayou_world.specs.Machine.{Answered, Machine, Made, SessionSets};
 ghost use Rattle.bayou_world.specs.Runs.{Run, first_machine, history_of_machine, new_session};
-ghost use Rattle.bayou_world.specs.Steps.{HoldsName, TakeStep, heard};
+ghost use Rattle.bayou_world.specs.Steps.{HoldsName, IsGiven, TakeStep, heard};
 
 use bayou_device::Device;
 use bayou_judge::laws::{a_vector_is_of_one_database, a_verdict_is_one};
@@ -67,13 +67,17 @@ pub fn sets_and_vectors_agree()
         → ItemTestsAgree last }
 {}
 
-/// A session's two vectors stand for its two sets: as it begins, and over every run behind each answer that it hears; and a server holds
-/// what the session needs, as sets, exactly where its vector dominates the join that is the session's need.
+/// A session's two vectors, where it is told of just the answers that reach it, stand for its two sets: as it begins, behind each answer
+/// that it hears, and so along every run. A server holds what the session needs, as sets, exactly where its vector dominates the join that
+/// is the session's need.
 pub fn a_sessions_vectors_stand_for_its_sets()
     ensures begins { (id : SessionId) (asks : Asks) → StandsFor (first_told id asks) (new_session asks) }
     ensures hears { (count limit places : ℕ) (asks : ℕ → Option Asks) (events : List Event) (replies : List Reply) (last : Machine) → Run (first_machine count limit places asks) events replies last
         → (who : ℕ) (session : SessionSets) (answered : Answered) → last.sessions who ≡ Some session → session.flight ≡ Some answered
         → (old new : Told) → StandsFor old session → IsToldOf answered.entry.what old new → StandsFor new (heard answered session) }
+    ensures along { (count limit places : ℕ) (asks : ℕ → Option Asks) (who : ℕ) (id : SessionId) (wants : Asks) (events : List Event) (replies : List Reply) (last : Machine) (told : Told)
+        → asks who ≡ Some wants → RunTelling who (first_machine count limit places asks) (first_told id wants) events replies last told
+        → (session : SessionSets) → last.sessions who ≡ Some session → StandsFor told session }
     ensures needs { (count limit places : ℕ) (asks : ℕ → Option Asks) (events : List Event) (replies : List Reply) (last : Machine) → Run (first_machine count limit places asks) events replies last
         → (session : SessionSets) (told : Told) → StandsFor told session → NeedsAgree last session told }
 {
@@ -89,12 +93,16 @@ pub fn no_item_is_impossible()
 {}
 
 /// Over every run no server's own rules, which have a case for each answer, let it refuse an item because another Write of its name is
-/// held, because it made the Write itself and doesn't hold it, or because its stamp is wrong. Where whatever an opening of its journal
+/// held, because it made the Write itself and doesn't hold it, or because its stamp is wrong: each answer that they allow is one of the
+/// machine's Take, and leaves the same. Where whatever an opening of its journal
 /// finds is what was held, or that and the Write in doubt, they let no reopening say that a Write is lost, or that a record is bad.
 pub fn the_rules_of_servers_refuse_nothing_impossible<D: Device>()
     ensures takes { (count limit places : ℕ) (asks : ℕ → Option Asks) (events : List Event) (replies : List Reply) (last : Machine) → Run (first_machine count limit places asks) events replies last
         → (place item : ℕ) (made : Made) → slice_get last.items item ≡ Some made
         → (answer : Result Taken TakeFault) (new : Core) → Takes (core_at last place) made.write answer new → ¬ IsImpossible (Took answer) }
+    ensures rows { (count limit places : ℕ) (asks : ℕ → Option Asks) (events : List Event) (replies : List Reply) (last : Machine) → Run (first_machine count limit places asks) events replies last
+        → (place item : ℕ) (made : Made) → IsGiven last place item made → (answer : Result Taken TakeFault) (new : Core) → Takes (core_at last place) made.write answer new
+        → (next : Machine) × TakeStep last place item (Took answer) next × (new ≡ core_at next place) }
     ensures reopens { (old new : ServerState D) (answer : Result Reopened ReopenFault) → OpensHonestly D.Device old
         → Reopens old.core answer new.core → ReopensJournal D.Device old answer new → ¬ FindsOthers answer }
 {}
