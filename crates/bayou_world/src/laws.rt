@@ -94,8 +94,8 @@ pub fn no_item_is_impossible()
 
 /// Over every run no server's own rules, which have a case for each answer, let it refuse an item because another Write of its name is
 /// held, because it made the Write itself and doesn't hold it, or because its stamp is wrong: each answer that they allow is one of the
-/// machine's Take, and leaves the same. Where whatever an opening of its journal
-/// finds is what was held, or that and the Write in doubt, they let no reopening say that a Write is lost, or that a record is bad.
+/// machine's Take, and leaves the same. Where whatever an opening of its journal finds is what was held, or that and the Write in doubt,
+/// they let no reopening say that a Write is lost, or that a record is bad.
 pub fn the_rules_of_servers_refuse_nothing_impossible<D: Device>()
     ensures takes { (count limit places : ℕ) (asks : ℕ → Option Asks) (events : List Event) (replies : List Reply) (last : Machine) → Run (first_machine count limit places asks) events replies last
         → (place item : ℕ) (made : Made) → slice_get last.items item ≡ Some made
