@@ -5,7 +5,7 @@ use Rattle.std.proofs.lemmas.Bool.Decides.{nat_tests}
 use Rattle.std.proofs.lemmas.List.{get_or-set_other, get_or-set_same, get_or_default, length-set, take-append-le, take_all, take_more}
 use Rattle.bayou_base.specs.declared.answer.Accepted.{Accepted}
 use Rattle.bayou_device.specs.Device.{Rose, greatest_count}
-use Rattle.bayou_device.specs.Memory.{LeadsTo, Memory}
+use Rattle.bayou_device.specs.Memory.{LeadsTo, Memory, with_fuse}
 use Rattle.bayou_device.specs.MemoryDevice.{memory_device}
 use Rattle.bayou_server.specs.declared.answer.Reopened.{Reopened}
 use Rattle.bayou_server.specs.declared.answer.Took.{Took}
@@ -27,7 +27,7 @@ use Rattle.bayou_world.specs.declared.world_server.WorldServer.{WorldServer}
 use Rattle.bayou_world.specs.declared.reply.Reply.{Reply}
 use Rattle.bayou_world.specs.declared.reply.Reply.TheVariants as replies
 use Rattle.bayou_world.specs.Faults.{AreFused, is_of, number_at, tells_fault, tells_fuse}
-use Rattle.bayou_world.specs.Inner.Charges.{AreAmple, AreCharged, AreSpent, IsCharged, Spends, SpendsAt, one_if}
+use Rattle.bayou_world.specs.Inner.Charges.{AreAmple, AreCharged, AreSpent, IsCharged, SetsFuse, Spends, SpendsAt, Waits, one_if}
 use Rattle.bayou_world.specs.Inner.WorldServers.{device_of}
 
 -- ---- of one device
@@ -130,22 +130,33 @@ one_spent servers place fault fused old new known stands spends = record {
       ] refl;
 }
 
+-- a server's fuse, put in its place
+pub waits_there : (servers : List WorldServer) (place call kept : ℕ) (reply : Reply) (old new : WorldServer) → place < length servers → get_or servers place old ≡ old
+    → device_of new ≡ with_fuse call kept (device_of old) → Waits place call kept reply servers (set servers place new)
+waits_there servers place call kept reply old new known stands is set_now d =
+    let there : get_or (set servers place new) place d ≡ new = get_or-set_same servers place new d known in
+    let here : get_or servers place d ≡ old = get_or_default servers place d old known ∙ stands in
+    ap device_of there ∙ is ∙ ap (λ r. with_fuse call kept (device_of r)) (sym here)
+
 -- an event of one server
 pub spent_as : (event : Event) (place : ℕ) (reply : Reply) (old new : List WorldServer) → ((other : ℕ) → is_of other event ≡ (other == place)) → AreSpent place (tells_fault reply) (tells_fuse reply) old new
-    → SpendsAt event reply old new
-spent_as event place reply old new is spent = record {
+    → SetsFuse event reply old new → SpendsAt event reply old new
+spent_as event place reply old new is spent sets = record {
   many = spent.many;
   each = λ other d within.
       subst (λ t. Spends (cond t (tells_fault reply) false) (cond t (tells_fuse reply) false) (device_of (get_or old other d)) (device_of (get_or new other d))) (sym (is other)) (spent.each other d within);
+  fuse = sets;
 }
 
 -- an event that is of no server alone
-pub beside_spent : (event : Event) (reply : Reply) (old new : List WorldServer) → ((place : ℕ) → is_of place event ≡ false) → new ≡ old → SpendsAt event reply old new
-beside_spent event reply old new none same = subst (SpendsAt event reply old) (sym same) (record {
+pub beside_spent : (event : Event) (reply : Reply) (old new : List WorldServer) → ((place : ℕ) → is_of place event ≡ false) → new ≡ old → SetsFuse event reply old old
+    → SpendsAt event reply old new
+beside_spent event reply old new none same sets = subst (SpendsAt event reply old) (sym same) (record {
   many = refl;
   each = λ other d within.
       subst (λ t. Spends (cond t (tells_fault reply) false) (cond t (tells_fuse reply) false) (device_of (get_or old other d)) (device_of (get_or old other d))) (sym (none other))
       (same_spends (device_of (get_or old other d)));
+  fuse = sets;
 })
 
 -- ---- of a run

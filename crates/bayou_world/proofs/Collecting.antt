@@ -73,7 +73,7 @@ grown_by_offer old place reply new (OfferStep.kept known few is same) = stays ol
 
 grown_by_collect : (old : Machine) (place offer : ℕ) (reply : Reply) (new : Machine) → CollectStep old place offer reply new → HasGrown old new
 grown_by_collect old place offer reply new (CollectStep.skipped none is same) = same_grown old new same
-grown_by_collect old place offer reply new (CollectStep.no_memory known there is same) = same_grown old new same
+grown_by_collect old place offer reply new (CollectStep.no_memory maker database one known there has lacks is same) = same_grown old new same
 grown_by_collect old place offer reply new (CollectStep.flown offered lacking may is same) =
     subst (HasGrown old) (sym same) (record { servers = λ place. ([], sym (append-nil (old.servers place).held)); items = (lacking, refl) })
 
@@ -224,7 +224,7 @@ pub no_gap : (old next now : Machine) → IsGoodMachine old → (place offer num
     → (at : ℕ) → at < number → ((earlier : ℕ) (made : Made) → earlier < at → slice_get now.items (length old.items + earlier) ≡ Some made → HoldsName (now.servers by) made)
     → (reply : Reply) (last : Machine) → TakeStep now by (length old.items + at) reply last → reply ≢ replies.Took (Err taking.Gap)
 no_gap old next now good place offer number by offered there (CollectStep.skipped cannot is same) events told run at less taken reply last takes = absurd (cc)
-no_gap old next now good place offer number by offered there (CollectStep.no_memory known has is same) events told run at less taken reply last takes = absurd (cc)
+no_gap old next now good place offer number by offered there (CollectStep.no_memory maker database one known offers has lacks is same) events told run at less taken reply last takes = absurd (cc)
 no_gap old next now good place offer number by offered there (CollectStep.flown same_offered lacking may is same) events told run at less taken reply last takes =
     let grown_next = subst (HasGrown old) (sym same) (record { servers = λ p. ([], sym (append-nil (old.servers p).held)); items = (lacking, refl) }) in
     let all_grown = both_grown old next now grown_next (grown_by_run next events told now run) in
@@ -260,3 +260,20 @@ no_gap old next now good place offer number by offered there (CollectStep.flown 
         let here : slice_get lacking at ≡ Some (get_or lacking at made) = slice_get-get_or lacking at made within in
         let both : Some (get_or lacking at made) ≡ Some made = sym (item at (get_or lacking at made) here) ∙ got in
         here ∙ both
+
+-- ---- along a run
+
+pub held_on : (old new : Machine) (events : List Event) (replies : List Reply) → Run old events replies new → (place : ℕ) → (later : List Made) × ((new.servers place).held ≡ (old.servers place).held ++ later)
+held_on old new events told run = (grown_by_run old events told new run).servers
+
+pub items_on : (old new : Machine) (events : List Event) (replies : List Reply) → Run old events replies new → (later : List Made) × (new.items ≡ old.items ++ later)
+items_on old new events told run = (grown_by_run old events told new run).items
+
+pub names_on : (old new : Machine) (events : List Event) (replies : List Reply) → Run old events replies new → (place : ℕ) (made : Made) → HoldsName (old.servers place) made → HoldsName (new.servers place) made
+names_on old new events told run place made holds =
+    let grown = held_on old new events told run place in
+    let write = Contains-map_from (λ (w : Write). w.wid) (writes (old.servers place).held) made.write.wid holds in
+    let one = Contains-map_from (λ (m : Made). m.write) (old.servers place).held write.0 write.1 in
+    let still : Contains (new.servers place).held one.0 = subst (λ list. Contains list one.0) (sym grown.1) (Contains-append_left (old.servers place).held grown.0 one.0 one.1) in
+    let named = Contains-map (λ (w : Write). w.wid) (writes (new.servers place).held) one.0.write (Contains-map (λ (m : Made). m.write) (new.servers place).held one.0 still) in
+    subst (Contains (names (writes (new.servers place).held))) (ap (λ (w : Write). w.wid) one.2 ∙ write.2) named

@@ -70,7 +70,7 @@ offer_keeps old place reply new (OfferStep.kept known few is same) = kept old ne
 
 collect_keeps : (old : Machine) (place offer : ℕ) (reply : Reply) (new : Machine) → CollectStep old place offer reply new → Keeps old new
 collect_keeps old place offer reply new (CollectStep.skipped none is same) = kept old new _ same refl refl refl
-collect_keeps old place offer reply new (CollectStep.no_memory known there is same) = kept old new _ same refl refl refl
+collect_keeps old place offer reply new (CollectStep.no_memory maker database one known there has lacks is same) = kept old new _ same refl refl refl
 collect_keeps old place offer reply new (CollectStep.flown offered lacking may is same) = kept old new _ same refl refl refl
 
 take_keeps : (old : Machine) (place item : ℕ) (reply : Reply) (new : Machine) → TakeStep old place item reply new → Keeps old new

@@ -58,7 +58,7 @@ offer_possible old place reply new (OfferStep.kept known few told_is same) = is 
 
 collect_possible : (old : Machine) (place offer : ℕ) (reply : Reply) (new : Machine) → CollectStep old place offer reply new → ¬ IsImpossible reply
 collect_possible old place offer reply new (CollectStep.skipped none told_is same) = is reply _ told_is (λ no. no)
-collect_possible old place offer reply new (CollectStep.no_memory known there told_is same) = is reply _ told_is (λ no. no)
+collect_possible old place offer reply new (CollectStep.no_memory maker database one known there has lacks told_is same) = is reply _ told_is (λ no. no)
 collect_possible old place offer reply new (CollectStep.flown offered lacking may told_is same) = is reply _ told_is (λ no. no)
 
 take_possible : (old : Machine) (place item : ℕ) (reply : Reply) (new : Machine) → TakeStep old place item reply new → ¬ IsImpossible reply

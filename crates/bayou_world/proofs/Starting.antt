@@ -119,7 +119,7 @@ offer_asks old place reply new (OfferStep.kept known few is same) = becomes old 
 
 collect_asks : (old : Machine) (place offer : ℕ) (reply : Reply) (new : Machine) → CollectStep old place offer reply new → KeepAsking old.sessions new.sessions
 collect_asks old place offer reply new (CollectStep.skipped none is same) = same_asks old new same
-collect_asks old place offer reply new (CollectStep.no_memory known there is same) = same_asks old new same
+collect_asks old place offer reply new (CollectStep.no_memory maker database one known there has lacks is same) = same_asks old new same
 collect_asks old place offer reply new (CollectStep.flown offered lacking may is same) = becomes old new _ same (λ who asks found. found)
 
 take_asks : (old : Machine) (place item : ℕ) (reply : Reply) (new : Machine) → TakeStep old place item reply new → KeepAsking old.sessions new.sessions

@@ -257,7 +257,7 @@ offer_good old place reply new good (OfferStep.kept known few is same) =
 
 collect_good : (old : Machine) (place offer : ℕ) (reply : Reply) (new : Machine) → IsGoodMachine old → CollectStep old place offer reply new → IsGoodMachine new
 collect_good old place offer reply new good (CollectStep.skipped none is same) = subst IsGoodMachine (sym same) good
-collect_good old place offer reply new good (CollectStep.no_memory known there is same) = subst IsGoodMachine (sym same) good
+collect_good old place offer reply new good (CollectStep.no_memory maker database one known there has lacks is same) = subst IsGoodMachine (sym same) good
 collect_good old place offer reply new good (CollectStep.flown offered lacking may is same) =
     subst IsGoodMachine (sym same) (record {
       servers = good.servers;

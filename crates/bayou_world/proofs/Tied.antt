@@ -19,7 +19,7 @@ use Rattle.bayou_device.specs.Memory.{Memory}
 use Rattle.bayou_device.specs.MemoryDevice.{memory_device}
 use Rattle.bayou_server.specs.Honest.{IsHonestServer}
 use Rattle.bayou_server.specs.Server.{Core, ServerState}
-use Rattle.bayou_session.specs.Needs.{HasCounts, Told, read_need, write_need}
+use Rattle.bayou_session.specs.Needs.{HasCounts, Told, read_need}
 use Rattle.bayou_world.specs.declared.world_session.WorldSession.{WorldSession}
 use Rattle.bayou_world.specs.declared.world_session.Flight.{Flight}
 use Rattle.bayou_world.specs.declared.world_server.WorldServer.{WorldServer}
@@ -29,20 +29,12 @@ use Rattle.bayou_world.specs.Inner.WorldSessions.{Begins, seen_as}
 use Rattle.bayou_world.specs.Inner.Good.{IsGoodMachine}
 use Rattle.bayou_world.specs.Inner.WorldServers.{is_stopped}
 use Rattle.bayou_world.specs.Inner.Tie.{IsAcceptedIn, IsWorldSessionOf, IsFlightOf, IsSeatOf, IsWorldServerOf, IsServerOf, IsTied, seat}
+use Rattle.bayou_world.specs.Agreement.{StandsFor}
 use Rattle.bayou_world.specs.Machine.{Answered, Machine, ServerSets, SessionSets, changed, with_server, with_session, writes}
 use Rattle.bayou_world.specs.Steps.{CannotBegin, IsEntry, IsRunning, MayBegin, MayRead, ReadStep, refusal, with_answer}
+use Rattle.bayou_world.proofs.Agreeing.{ReadLaw, may_read}
 use Rattle.bayou_world.proofs.Homes.{fitting_at}
 use Rattle.bayou_world.proofs.Lists.{changed-other, changed-same, same_number}
-use Rattle.bayou_world.proofs.Vectors.{tests_agree}
-
--- what a law of the session says
-abbrev pub ReadLaw : Type 0
-ReadLaw = (session : Told) (held : List ℕ) → length session.reads ≡ SERVERS → length session.writes ≡ SERVERS
-    → Dominates held (read_need session) ↔ ((session.asks.ryw ≡ true → Dominates held session.writes) × (session.asks.mr ≡ true → Dominates held session.reads))
-
-abbrev pub WriteLaw : Type 0
-WriteLaw = (session : Told) (held : List ℕ) → length session.reads ≡ SERVERS → length session.writes ≡ SERVERS
-    → Dominates held (write_need session) ↔ ((session.asks.wfr ≡ true → Dominates held session.reads) × (session.asks.mw ≡ true → Dominates held session.writes))
 
 -- ---- seats
 
@@ -241,24 +233,16 @@ may_begin machine who place world_session session there is none left running = r
 
 -- ---- a read
 
+-- the session that runs stands for the machine's
+pub stands_for : (who : ℕ) (world_session : WorldSession) (session : SessionSets) → IsWorldSessionOf who world_session session → StandsFor world_session.session session
+stands_for who world_session session is = record { asks = is.asks; long = is.long; reads = is.reads; writes = is.writes }
+
 -- what the session needs is held exactly where the vector dominates the need
 read_covered : ReadLaw → (machine : Machine) → IsGoodMachine machine → (who place : ℕ) (world_session : WorldSession) (session : SessionSets) → IsWorldSessionOf who world_session session → HasCounts world_session.session
     → Dominates (count_of (writes (machine.servers place).held)) (read_need world_session.session) ↔ MayRead session (machine.servers place).held
 read_covered law machine good who place world_session session is counts =
-    let held = writes (machine.servers place).held in
     let fitting = fitting_at machine.count machine.limit machine.servers good.servers place in
-    let all = law world_session.session (count_of held) counts.0.one_each counts.1.one_each in
-    let reads = tests_agree machine.count held world_session.session.reads session.reads fitting is.reads in
-    let wrote = tests_agree machine.count held world_session.session.writes session.writes fitting is.writes in (
-      λ dominates. record {
-        ryw = λ asked. wrote.1 ((all.0 dominates).0 (ap (λ (a : _). a.ryw) is.asks ∙ asked));
-        mr = λ asked. reads.1 ((all.0 dominates).1 (ap (λ (a : _). a.mr) is.asks ∙ asked));
-      },
-      λ may. all.1 (
-        (λ asked. wrote.0 (may.ryw (ap (λ (a : _). a.ryw) (sym is.asks) ∙ asked))),
-        (λ asked. reads.0 (may.mr (ap (λ (a : _). a.mr) (sym is.asks) ∙ asked))),
-      ),
-    )
+    let agree = may_read law machine.count (machine.servers place).held fitting world_session.session session (stands_for who world_session session is) in (agree.1, agree.0)
 
 pub read_tied : ReadLaw → (servers : List WorldServer) (world_sessions : List (Option WorldSession)) (offers : List (List ℕ)) (items : List Write) (told : List Entry) (machine : Machine) → IsGoodMachine machine
     → IsTied servers world_sessions offers items told machine → (who place : ℕ) (key : List ℕ) (world_session new : WorldSession) (server : ServerState Memory) (answer : Result Seen Behind) → who < SESSIONS → seat world_sessions who ≡ Some world_session

@@ -9,6 +9,8 @@ use Rattle.std.proofs.lemmas.List.Kept.{AllPairs-cons, AllPairs-filter}
 use Rattle.std.proofs.lemmas.Option.{get_or_from_slice_get, slice_get_within}
 use Rattle.bayou_base.specs.declared.entry.Entry.{Entry}
 use Rattle.bayou_base.specs.Order.{is_before}
+use Rattle.bayou_base.specs.Vector.{Dominates}
+use Rattle.bayou_base.specs.declared.wid.Wid.{Wid}
 use Rattle.bayou_lang.specs.declared.write.Write.{Write}
 use Rattle.bayou_lang.specs.Laws.Fitting.{fitting-front, fitting_distinct_stamps}
 use Rattle.bayou_lang.specs.Laws.SetOfWrites.{IsStrict, IsStrict-in_stamp_order, in_stamp_order-same, in_stamp_order-same_writes}
@@ -29,14 +31,14 @@ use Rattle.bayou_world.specs.declared.reply.Reply.TheVariants as replies
 use Rattle.bayou_world.specs.Inner.Good.{IsGoodMachine, IsHome}
 use Rattle.bayou_world.specs.Inner.WorldServers.{StaysHonest}
 use Rattle.bayou_world.specs.Inner.Tie.{IsServerOf, IsTied, write_of}
-use Rattle.bayou_world.specs.Machine.{Machine, Made, Offered, ServerSets, with_server, writes}
+use Rattle.bayou_world.specs.Machine.{Machine, Made, Offered, ServerSets, names, with_server, writes}
 use Rattle.bayou_world.specs.Steps.{AreLacking, CollectStep, HoldsName, IsGiven, IsNext, IsRunning, OfferStep, TakeStep, with_doubt, with_write}
 use Rattle.bayou_base.specs.declared.limits.TheConstants.{MAX_NUMBER}
 use Rattle.bayou_world.proofs.Given.{given_fits, no_gap_within}
 use Rattle.bayou_world.proofs.Homes.{fitting_at, home_of_held, one_home, one_write}
 use Rattle.bayou_world.proofs.Lists.{AllPairs-map, Contains-filter, Contains-from_filter, Contains-here, Contains-later, Contains-map, Contains-map_from, Contains-none}
 use Rattle.bayou_world.proofs.Tied.{running_server, runs_at, same_place, with_place}
-use Rattle.bayou_world.proofs.Vectors.{named}
+use Rattle.bayou_world.proofs.Vectors.{IsVectorOf-counts, named}
 use Rattle.bayou_world.proofs.TiedWrites.{doubted_there, held_more, no_doubt, some_doubt}
 
 -- ---- an offer
@@ -75,13 +77,13 @@ item_there (made ∷ items) zero write inside is = (made, refl, is)
 item_there (made ∷ items) (suc item) write inside is = item_there items item write (omega (arith, inside)) is
 
 -- none of its name is held, as the code says it
-is_missing : (server : ServerSets) (made : Made) → takes.IsMissing (writes server.held) made.write → ¬ HoldsName server made
+pub is_missing : (server : ServerSets) (made : Made) → takes.IsMissing (writes server.held) made.write → ¬ HoldsName server made
 is_missing server made missing holds =
     let at = Contains-map_from (λ (w : Write). w.wid) (writes server.held) made.write.wid holds in
     All-contains (λ (w : Write). w.wid ≢ made.write.wid) (writes server.held) at.0 missing at.1 at.2
 
 -- an item that a server made is held there
-own_held : (machine : Machine) → (place : ℕ) (made : Made) → IsHome machine.servers made → made.write.wid.origin.index ≡ place → HoldsName (machine.servers place) made
+pub own_held : (machine : Machine) → (place : ℕ) (made : Made) → IsHome machine.servers made → made.write.wid.origin.index ≡ place → HoldsName (machine.servers place) made
 own_held machine place made home own =
     Contains-map (λ (w : Write). w.wid) (writes (machine.servers place).held) made.write
     (Contains-map (λ (m : Made). m.write) (machine.servers place).held made (subst (λ n. Contains (machine.servers n).held made) own home))
@@ -100,7 +102,7 @@ room_there machine place core at room =
     omega (arith, room, length-map (machine.servers place).held write_of, ap length (ap (λ (c : Core). c.held) at.is), ap (λ (c : Core). c.limit) at.is)
 
 -- what the code says of an item, the machine says
-took : (machine : Machine) → IsGoodMachine machine → (place item : ℕ) (made : Made) → IsGiven machine place item made → IsHome machine.servers made → (core new : Core) (answer : Result Took TakeFault)
+pub took : (machine : Machine) → IsGoodMachine machine → (place item : ℕ) (made : Made) → IsGiven machine place item made → IsHome machine.servers made → (core new : Core) (answer : Result Took TakeFault)
     → IsServerOf machine.count machine.limit place core (machine.servers place) → takes.Takes core made.write answer new
     → (next : Machine) × TakeStep machine place item (replies.Took answer) next × ((next ≡ machine) × (new ≡ core)
     ⊎ ((server : ServerSets) × (next ≡ with_server machine place server) × (server.stopped ≡ (machine.servers place).stopped) × IsServerOf machine.count machine.limit place new server))
@@ -295,6 +297,41 @@ are_lacking machine good place offered among pasts is within =
           (subst (AllPairs (λ (a b : Write). is_before a.stamp b.stamp ≡ true)) (sym is) (lacking_in_order machine.count (writes held) (count_of offered.database) fitting));
     }
 
+-- what has nothing is empty
+first_of : (list : List Write) → (list ≡ []) ⊎ ((write : Write) × Contains list write)
+first_of [] = inl refl
+first_of (write ∷ list) = inr (write, Contains-here write list)
+
+-- who counts all that is held lacks none of it
+pub none_lacking : (count : ℕ) (held : List Write) (counts : List ℕ) → AreFitting count held → Dominates counts (count_of held) → lacking_of counts held ≡ []
+none_lacking count held counts fitting dominates = elim (first_of (lacking_of counts held)) as (λ _. lacking_of counts held ≡ []) [
+  | inl none ↦ none
+  | inr some ↦
+      let write = some.0 in
+      let lacked = (lacks held counts write).0 some.1 in
+      let counted = (named count held write.wid fitting).0 (Contains-map (λ (w : Write). w.wid) held write lacked.0) in
+      absurd (omega (arith, lacked.1, counted, dominates write.wid.origin.index write.wid.origin.in_range))
+]
+
+-- and who doesn't, lacks one
+some_lacking : (count : ℕ) (held : List Write) (counts : List ℕ) → AreFitting count held → (¬ Dominates counts (count_of held))
+    → (write : Write) × Contains held write × (slice_index counts write.wid.origin.index < write.wid.seq)
+some_lacking count held counts fitting behind =
+    elim (first_of (lacking_of counts held)) as (λ _. (write : Write) × Contains held write × (slice_index counts write.wid.origin.index < write.wid.seq)) [
+      | inl none ↦ absurd (behind ((IsVectorOf-counts count held fitting).least counts (λ name has. all none name has)))
+      | inr some ↦ let lacked = (lacks held counts some.0).0 some.1 in (some.0, lacked.0, lacked.1)
+    ]
+  where
+    all : lacking_of counts held ≡ [] → (name : Wid) → Contains (names held) name → name.seq ≤ slice_index counts name.origin.index
+    all none name has =
+        let at = Contains-map_from (λ (w : Write). w.wid) held name has in
+        let within : at.0.wid.seq ≤ slice_index counts at.0.wid.origin.index =
+        elim (cases_lt (slice_index counts at.0.wid.origin.index) at.0.wid.seq) as (λ _. at.0.wid.seq ≤ slice_index counts at.0.wid.origin.index) [
+          | inl beyond ↦ absurd (Contains-none at.0 (subst (λ list. Contains list at.0) none ((lacks held counts at.0).1 (at.1, beyond))))
+          | inr covered ↦ omega (arith, covered)
+        ] in
+        subst (λ (n : Wid). n.seq ≤ slice_index counts n.origin.index) at.2 within
+
 -- the offer of that number
 offer_there : (offers : List Offered) (offer : ℕ) (vector : List ℕ) → offer < length offers → get_or (map (λ (o : Offered). count_of o.database) offers) offer vector ≡ vector
     → (offered : Offered) × (slice_get offers offer ≡ Some offered) × (count_of offered.database ≡ vector)
@@ -336,16 +373,18 @@ pub record Lacks (machine : Machine) (place offer : ℕ) (lacking : List Write) 
   pub those : AreLacking offered.database (machine.servers place).held pasts
 
 pub collect_lacks : (servers : List WorldServer) (world_sessions : List (Option WorldSession)) (offers : List (List ℕ)) (items : List Write) (told : List Entry) (machine : Machine) → IsGoodMachine machine
-    → IsTied servers world_sessions offers items told machine → (place offer most : ℕ) (server : ServerState Memory) (vector : List ℕ) (lacking : List Write) → place < length servers → get_or servers place (Running server) ≡ Running server → offer < length offers → vector ≡ get_or offers offer vector
-    → most ≡ server.core.limit → lacking ≡ take most (lacking_of vector server.core.held)
+    → IsTied servers world_sessions offers items told machine → (place offer : ℕ) (server : ServerState Memory) (vector : List ℕ) (lacking : List Write) → place < length servers → get_or servers place (Running server) ≡ Running server → offer < length offers → vector ≡ get_or offers offer vector
+    → (AreFitting server.core.count server.core.held → lacking ≡ take server.core.limit (lacking_of vector server.core.held))
     → Lacks machine place offer lacking
-collect_lacks servers world_sessions offers items told machine good tied place offer most server vector lacking known stands inside is most_is lacks_it =
+collect_lacks servers world_sessions offers items told machine good tied place offer server vector lacking known stands inside is lacks_it =
     let count_offer : Offered → List ℕ = λ o. count_of o.database in
     let here = runs_at servers world_sessions offers items told machine tied place server known stands in
     let core = here.core in
     let held = writes (machine.servers place).held in
     let held_is : server.core.held ≡ held = ap (λ (c : Core). c.held) core.is in
-    let limit_is : most ≡ machine.limit = most_is ∙ ap (λ (c : Core). c.limit) core.is in
+    let most = server.core.limit in
+    let limit_is : most ≡ machine.limit = ap (λ (c : Core). c.limit) core.is in
+    let fitting = subst (λ (c : Core). AreFitting c.count c.held) (sym core.is) (fitting_at machine.count machine.limit machine.servers good.servers place) in
     let number : length offers ≡ length machine.offers = ap length tied.offers_are ∙ length-map machine.offers count_offer in
     let there = offer_there machine.offers offer vector (omega (arith, inside, number)) (ap (λ list. get_or list offer vector) (sym tied.offers_are) ∙ sym is) in
     let offered = there.0 in
@@ -353,7 +392,7 @@ collect_lacks servers world_sessions offers items told machine good tied place o
     let all : take most (lacking_of vector held) ≡ lacking_of vector held =
     take_all most (lacking_of vector held) (omega (arith, length_lacking vector held, length-map (machine.servers place).held write_of, (good.servers place).within, limit_is)) in
     let lacking_is : lacking ≡ lacking_of (count_of offered.database) held =
-    lacks_it ∙ ap (λ h. take most (lacking_of vector h)) held_is ∙ all ∙ ap (λ v. lacking_of v held) (sym there.2) in
+    lacks_it fitting ∙ ap (λ h. take most (lacking_of vector h)) held_is ∙ all ∙ ap (λ v. lacking_of v held) (sym there.2) in
     let made = with_pasts (machine.servers place).held lacking (λ write has. ((lacks held (count_of offered.database) write).0 (subst (λ list. Contains list write) lacking_is has)).0) in
     record {
       offered = offered;
@@ -363,6 +402,30 @@ collect_lacks servers world_sessions offers items told machine good tied place o
       running = here.running;
       those = are_lacking machine good place offered among made.0 (made.1 ∙ lacking_is) made.2;
     }
+
+-- where memory is wanting, the server holds a Write that the offer hasn't
+pub collect_wants : (servers : List WorldServer) (world_sessions : List (Option WorldSession)) (offers : List (List ℕ)) (items : List Write) (told : List Entry) (machine : Machine) → IsGoodMachine machine
+    → IsTied servers world_sessions offers items told machine → (place offer : ℕ) (server : ServerState Memory) (vector : List ℕ) → place < length servers → get_or servers place (Running server) ≡ Running server → offer < length offers → vector ≡ get_or offers offer vector
+    → (¬ Dominates vector (count_of server.core.held)) → CollectStep machine place offer replies.NoMemory machine
+collect_wants servers world_sessions offers items told machine good tied place offer server vector known stands inside is behind =
+    let count_offer : Offered → List ℕ = λ o. count_of o.database in
+    let here = runs_at servers world_sessions offers items told machine tied place server known stands in
+    let held = writes (machine.servers place).held in
+    let held_is : server.core.held ≡ held = ap (λ (c : Core). c.held) here.core.is in
+    let number : length offers ≡ length machine.offers = ap length tied.offers_are ∙ length-map machine.offers count_offer in
+    let there = offer_there machine.offers offer vector (omega (arith, inside, number)) (ap (λ list. get_or list offer vector) (sym tied.offers_are) ∙ sym is) in
+    let offered = there.0 in
+    let among : Contains machine.offers offered = (offer, slice_get_within machine.offers offer offered there.1, get_or_from_slice_get machine.offers offer offered offered there.1) in
+    let front = All-contains (λ (o : Offered). IsFrontOf (writes (machine.servers o.server).held) o.database) machine.offers offered good.offers among in
+    let fitting_offered : AreFitting machine.count offered.database =
+    fitting-front machine.count offered.database front.0 (subst (AreFitting machine.count) front.1 (fitting_at machine.count machine.limit machine.servers good.servers offered.server)) in
+    let less : ¬ Dominates (count_of offered.database) (count_of held) = subst (λ h. ¬ Dominates (count_of offered.database) (count_of h)) held_is (subst (λ v. ¬ Dominates v (count_of server.core.held)) (sym there.2) behind) in
+    let lacked = some_lacking machine.count held (count_of offered.database) (fitting_at machine.count machine.limit machine.servers good.servers place) less in
+    let made = Contains-map_from write_of (machine.servers place).held lacked.0 lacked.1 in
+    let beyond : slice_index (count_of offered.database) made.0.write.wid.origin.index < made.0.write.wid.seq =
+    subst (λ (w : Write). slice_index (count_of offered.database) w.wid.origin.index < w.wid.seq) (sym made.2) lacked.2 in
+    CollectStep.no_memory offered.server offered.database made.0 here.running there.1 made.1
+    (λ offers_it. absurd (omega (arith, beyond, (named machine.count offered.database made.0.write.wid fitting_offered).0 offers_it))) refl refl
 
 -- it goes in flight, where there is a number for each
 pub collect_flown : (servers : List WorldServer) (world_sessions : List (Option WorldSession)) (offers : List (List ℕ)) (items : List Write) (told : List Entry) (machine : Machine)

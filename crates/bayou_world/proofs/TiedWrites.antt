@@ -26,27 +26,15 @@ use Rattle.bayou_world.specs.Inner.WorldServers.{StaysHonest}
 use Rattle.bayou_world.specs.Inner.Tie.{IsWorldSessionOf, IsServerOf, IsTied, seat, write_of}
 use Rattle.bayou_world.specs.Machine.{Answered, Machine, Made, ServerSets, SessionSets, with_server, writes}
 use Rattle.bayou_world.specs.Steps.{IsReady, Makes, MayWrite, RefusesWrite, WriteStep, refusal, with_answer, with_doubt, with_write}
+use Rattle.bayou_world.proofs.Agreeing.{WriteLaw, may_write}
 use Rattle.bayou_world.proofs.Homes.{fitting_at}
-use Rattle.bayou_world.proofs.Tied.{IsRunningServer, WriteLaw, began, entry_of, may_begin, running_server, runs_at, same_place, session_of_seat, with_place, with_seat}
-use Rattle.bayou_world.proofs.Vectors.{tests_agree}
+use Rattle.bayou_world.proofs.Tied.{IsRunningServer, began, entry_of, may_begin, running_server, runs_at, same_place, session_of_seat, stands_for, with_place, with_seat}
 
 write_covered : WriteLaw → (machine : Machine) → IsGoodMachine machine → (who place : ℕ) (world_session : WorldSession) (session : SessionSets) → IsWorldSessionOf who world_session session → HasCounts world_session.session
     → Dominates (count_of (writes (machine.servers place).held)) (write_need world_session.session) ↔ MayWrite session (machine.servers place).held
 write_covered law machine good who place world_session session is counts =
-    let held = writes (machine.servers place).held in
     let fitting = fitting_at machine.count machine.limit machine.servers good.servers place in
-    let all = law world_session.session (count_of held) counts.0.one_each counts.1.one_each in
-    let reads = tests_agree machine.count held world_session.session.reads session.reads fitting is.reads in
-    let wrote = tests_agree machine.count held world_session.session.writes session.writes fitting is.writes in (
-      λ dominates. record {
-        wfr = λ asked. reads.1 ((all.0 dominates).0 (ap (λ (a : _). a.wfr) is.asks ∙ asked));
-        mw = λ asked. wrote.1 ((all.0 dominates).1 (ap (λ (a : _). a.mw) is.asks ∙ asked));
-      },
-      λ may. all.1 (
-        (λ asked. reads.0 (may.wfr (ap (λ (a : _). a.wfr) (sym is.asks) ∙ asked))),
-        (λ asked. wrote.0 (may.mw (ap (λ (a : _). a.mw) (sym is.asks) ∙ asked))),
-      ),
-    )
+    let agree = may_write law machine.count (machine.servers place).held fitting world_session.session session (stands_for who world_session session is) in (agree.1, agree.0)
 
 -- ---- what the server's core says of the machine's server
 

@@ -1,4 +1,5 @@
 pub mod Good
+pub mod Told
 pub mod WorldServers
 pub mod Charges
 pub mod WorldSessions

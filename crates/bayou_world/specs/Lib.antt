@@ -3,5 +3,8 @@ pub mod Steps
 pub mod Runs
 pub mod Faults
 pub mod RunHistories
+pub mod Judged
 pub mod Invariant
+pub mod Agreement
+pub mod Never
 pub mod Inner

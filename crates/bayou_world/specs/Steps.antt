@@ -202,7 +202,8 @@ CannotCollect old place offer = (offered : List Write) (lacking : List Made) →
 
 pub data CollectStep (old : Machine) (place offer : ℕ) (reply : Reply) (new : Machine) : Type 0 where
   skipped : CannotCollect old place offer → reply ≡ replies.Skipped → new ≡ old → CollectStep old place offer reply new
-  no_memory : IsRunning old place → offer < length old.offers → reply ≡ replies.NoMemory → new ≡ old → CollectStep old place offer reply new
+  no_memory : (by : ℕ) (offered : List Write) (made : Made) → IsRunning old place → slice_get old.offers offer ≡ Some (record { server = by; database = offered })
+      → Contains (old.servers place).held made → (¬ Contains (names offered) made.write.wid) → reply ≡ replies.NoMemory → new ≡ old → CollectStep old place offer reply new
   flown : (offered : List Write) (lacking : List Made) → MayCollect old place offer offered lacking → reply ≡ replies.Flown (length old.items) (length lacking)
       → new ≡ record old { items = old.items ++ lacking } → CollectStep old place offer reply new
 

@@ -3,12 +3,12 @@ ghost use Rattle.std.specs.Prelude.{◌≡◌, ◌++◌, IfOk, OnOk};
 ghost use Rattle.bayou_world.specs.Inner.WorldSessions.{served_entries};
 ghost use Rattle.bayou_world.specs.Inner.WorldBooks.{TakesOldest};
 ghost use Rattle.bayou_world.specs.Faults.{tells_fault, tells_fuse};
-ghost use Rattle.bayou_world.specs.Inner.Charges.{AreSpent};
+ghost use Rattle.bayou_world.specs.Inner.Charges.{AreSpent, Waits};
 ghost use Rattle.bayou_world.specs.Inner.Tie.{Follows};
 ghost use Rattle.bayou_world.specs.Steps.{CollectStep, DeliverStep, FuseStep, LoseStep, OfferStep, ReadStep, ReopenStep, RestartStep, TakeStep, WriteStep};
 
 use crate::reply::Reply;
-use crate::world_server::{WorldServer, reopen_server, take_write};
+use crate::world_server::{WorldServer, lacking_in, reopen_server, take_write};
 use crate::world_session::WorldSession;
 use bayou_base::{Entry, Key, MAX_NUMBER, ServerId, SessionId, Vector, What};
 use bayou_lang::{RestingProgram, RestingWrite};
@@ -160,9 +160,8 @@ impl State {
         let WorldServer::Running(server) = &self.servers[at] else {
             return Ok(Reply::Skipped);
         };
-        let most = server.limit() as usize;
         let offered = &self.offers[offer];
-        let Ok(mut lacking) = server.lacking(alloc, offered, most) else {
+        let Ok(mut lacking) = lacking_in(alloc, server, offered) else {
             return Ok(Reply::NoMemory);
         };
         let first = self.items.len();
@@ -196,6 +195,7 @@ impl State {
     /// A device call of the server is to fail.
     pub fn fuse(&mut self, place: ServerId, call: u32, kept: usize) -> Reply
         ensures follows { Follows self.old (λ machine next. FuseStep machine place.index call result next) self.new }
+        ensures waits { Waits place.index call kept result self.old.servers.items self.new.servers.items }
         ensures spent { AreSpent place.index (tells_fault result) (tells_fuse result) self.old.servers.items self.new.servers.items }
     {
         let at = usize::from(place.index);

@@ -9,12 +9,15 @@ ghost use Rattle.bayou_world.specs.Inner.Good.{IsGoodMachine};
 ghost use Rattle.bayou_world.specs.Inner.Tie.{IsOf};
 ghost use Rattle.bayou_world.specs.Inner.WorldBooks.{FollowsInBook, IsBookOf};
 ghost use Rattle.bayou_world.specs.Inner.WorldServers.{held_by};
+ghost use Rattle.bayou_judge.specs.History.{lists_of};
+ghost use Rattle.bayou_world.specs.Judged.{IsJudgedClean};
 ghost use Rattle.bayou_world.specs.Machine.{Machine};
 ghost use Rattle.bayou_world.specs.RunHistories.{IsRunHistory};
 ghost use Rattle.bayou_world.specs.Runs.{asks_of, is_file as is_file_said, places_for as places_of};
 ghost use Rattle.bayou_world.specs.Steps.{Step};
 
 use crate::event::Event;
+use crate::laws::every_run_is_judged_clean;
 use crate::reply::Reply;
 use crate::role::Role;
 use crate::run_history::RunHistory;
@@ -302,12 +305,14 @@ impl World {
         })
     }
 
-    /// Runs the events, and gives what they leave. Where memory is refused, the world is gone; that of an operation, an item or a
+    /// Runs the events, and gives what they leave, of which the judge answers that each session had what it asked for. Where memory is refused, the world is gone; that of an operation, an item or a
     /// Collect is a reply, but where an append found none: so a failed device call is one for which a fuse was set.
     pub fn run(self, alloc: Global, events: &[Event]) -> Result<RunHistory, AllocError>
         ensures history { IfOk result (IsRunHistory self events.now) }
         ensures fused { IfOk result (λ history. AreFused self.count events.now history.replies.items) }
+        ensures judged { IfOk result (λ history. IsJudgedClean self.count history.served.items (lists_of history.dumps.items)) }
     {
+        every_run_is_judged_clean();
         let blanks = Blanks {
             slips: Blank::new(SESSIONS as u64),
             reads: Blank::new(SESSIONS as u64),

@@ -1,5 +1,8 @@
 //! A server of a run: as it runs, and where it is stopped.
-ghost use Rattle.std.specs.Prelude.{◌≡◌, ◌<◌, false, IfOk};
+ghost use Rattle.std.specs.Prelude.{◌≡◌, ◌<◌, ◌≤◌, false, length, take, IfOk, OnErr};
+ghost use Rattle.bayou_base.specs.declared.limits.TheConstants.{MAX_NUMBER};
+ghost use Rattle.bayou_base.specs.Vector.{Dominates};
+ghost use Rattle.bayou_lang.specs.Writes.{AreFitting, count_of, lacking_of};
 ghost use Rattle.bayou_device.specs.Memory.{with_fuse};
 ghost use Rattle.bayou_device.specs.MemoryDevice.{memory_device};
 ghost use Rattle.bayou_server.specs.Honest.{IsHonestAnswer, IsHonestServer};
@@ -11,6 +14,7 @@ ghost use Rattle.bayou_world.specs.Inner.Charges.{IsUnused, Spends};
 ghost use Rattle.bayou_world.specs.Inner.WorldServers.{IsFresh, IsKept, IsLeftOf, Starts, StaysHonest, core_of, device_of, is_stopped};
 
 use crate::role::Role;
+use bayou_base::Vector;
 use bayou_device::{MemoryDevice, OpenGate};
 use bayou_journal::laws::a_device_in_memory_only_tears;
 use bayou_lang::RestingWrite;
@@ -31,6 +35,22 @@ pub enum WorldServer {
     Running(Server<MemoryDevice<OpenGate>>),
     /// Its last start was refused: its device, and what it held before.
     Stopped(Role, Stopped<MemoryDevice<OpenGate>>),
+}
+
+/// Copies of the Writes that the server holds and the offer hasn't, in stamp order. Where there is none, no memory is asked for.
+pub fn lacking_in(
+    alloc: Global,
+    server: &Server<MemoryDevice<OpenGate>>,
+    offered: &Vector,
+) -> Result<Vec<RestingWrite>, AllocError>
+    ensures value { AreFitting server.now.core.count server.now.core.held → IfOk result (λ lacking. lacking.items ≡ take server.now.core.limit (lacking_of offered.now server.now.core.held)) }
+    ensures few { IfOk result (λ lacking. length lacking.items ≤ MAX_NUMBER) }
+    ensures wanted { OnErr result (¬ Dominates offered.now (count_of server.now.core.held)) }
+{
+    if offered.dominates(&server.vector()) {
+        return Ok(Vec::new(alloc));
+    }
+    server.lacking(alloc, offered, server.limit() as usize)
 }
 
 /// The server is given the Write.

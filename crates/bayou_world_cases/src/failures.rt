@@ -4,8 +4,8 @@ use crate::scripts::{
     ALL, Act, NOTHING, Said, add, are_said, events_of, has_names, must_all_be_said,
 };
 use Said::{
-    Accepted, Delivered, Doubted, Down, Fused, Holds, Kept, NotDown, NotReopened, NotRestarted,
-    Seen, Skipped, Up,
+    Accepted, Delivered, Doubted, Down, Flown, Fused, Holds, Kept, NotDown, NotReopened,
+    NotRestarted, Seen, Skipped, Up,
 };
 use bayou_judge::{Verdict, judge, lend_dumps};
 use bayou_server::{JournalFault, ReopenFault, StartFault, TakeFault, WriteFault};
@@ -19,7 +19,7 @@ struct Row {
     dump: &'static [(u8, u32)],
 }
 
-static ROWS: [Row; 10] = [
+static ROWS: [Row; 8] = [
     // The call that fails is the sync: the Write is whole, and a reopening adopts it.
     Row {
         acts: &[
@@ -45,24 +45,6 @@ static ROWS: [Row; 10] = [
             (Act::Read(0, 0), Seen(Some(7), [1, 0])),
         ],
         dump: &[(0, 1)],
-    },
-    // The call that fails is the append, and all of the entry was added: a reopening adopts it.
-    Row {
-        acts: &[
-            (Act::Fuse(0, 1, 94), Fused),
-            (Act::Write(0, 0, 7), Doubted),
-            (Act::Reopen(0), Up(Some((0, 1)))),
-        ],
-        dump: &[(0, 1)],
-    },
-    // One byte of it is missing: it is forgotten.
-    Row {
-        acts: &[
-            (Act::Fuse(0, 1, 93), Fused),
-            (Act::Write(0, 0, 7), Doubted),
-            (Act::Reopen(0), Up(None)),
-        ],
-        dump: &[],
     },
     // A part of the entry is forgotten, and the next Write has its number.
     Row {
@@ -157,6 +139,41 @@ static ROWS: [Row; 10] = [
     },
 ];
 
+/// The call that fails is the append of an entry of 94 bytes.
+static FRONTS: [Row; 2] = [
+    // All of the entry was added: a reopening adopts it.
+    Row {
+        acts: &[
+            (Act::Fuse(0, 1, 94), Fused),
+            (Act::Write(0, 0, 7), Doubted),
+            (Act::Reopen(0), Up(Some((0, 1)))),
+        ],
+        dump: &[(0, 1)],
+    },
+    // One byte of it is missing: it is forgotten.
+    Row {
+        acts: &[
+            (Act::Fuse(0, 1, 93), Fused),
+            (Act::Write(0, 0, 7), Doubted),
+            (Act::Reopen(0), Up(None)),
+        ],
+        dump: &[],
+    },
+];
+
+/// What may want memory doesn't where there is enough.
+static ENOUGH: Row = Row {
+    acts: &[
+        (Act::Offer(0), Kept(0)),
+        (Act::Write(0, 0, 7), Accepted((0, 1), [0, 0])),
+        (Act::Deliver(0), Delivered),
+        (Act::Collect(0, 0), Flown(0, 1)),
+        (Act::Restart(0), Holds(1)),
+        (Act::Read(0, 0), Seen(Some(7), [1, 0])),
+    ],
+    dump: &[(0, 1)],
+};
+
 /// Whether the server holds what the row of this number says, if each reply is as it says.
 fn is_answered(rt: &impl Abort, alloc: Global, row: &Row, number: usize) -> bool {
     let events = events_of(rt, alloc, row.acts);
@@ -178,6 +195,18 @@ fn servers_fail_and_are_recovered(rt: HostRuntime) {
     for (number, row) in ROWS.iter().enumerate() {
         must_be_so(&rt, is_answered(&rt, rt.alloc(), row, number), number);
     }
+}
+
+#[test]
+fn what_a_fuse_keeps_of_an_entry_decides_whether_it_is_adopted(rt: HostRuntime) {
+    for (number, row) in FRONTS.iter().enumerate() {
+        must_be_so(&rt, is_answered(&rt, rt.alloc(), row, number), number);
+    }
+}
+
+#[test]
+fn with_memory_enough_a_collect_sends_and_a_restart_starts(rt: HostRuntime) {
+    must_be_so(&rt, is_answered(&rt, rt.alloc(), &ENOUGH, 0), 0);
 }
 
 /// How many rounds of ten events the run has in which each device call fails in turn.

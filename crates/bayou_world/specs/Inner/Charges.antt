@@ -2,10 +2,12 @@
 use Rattle.std.specs.Prelude.{◌≡◌, ℕ, ◌+◌, ◌<◌, ◌≤◌, ◌==◌, Bool, true, false, List, length, take, if◌then◌else◌}
 use Rattle.std.specs.List.{slice_index_or}
 use Rattle.bayou_device.specs.Device.{greatest_count}
-use Rattle.bayou_device.specs.Memory.{Memory, waiting}
+use Rattle.bayou_device.specs.Memory.{Memory, waiting, with_fuse}
 use Rattle.bayou_world.specs.declared.event.Event.{Event}
+use Rattle.bayou_world.specs.declared.event.Event.TheVariants as events
 use Rattle.bayou_world.specs.declared.world_server.WorldServer.{WorldServer}
 use Rattle.bayou_world.specs.declared.reply.Reply.{Reply}
+use Rattle.bayou_world.specs.declared.reply.Reply.TheVariants as replies
 use Rattle.bayou_world.specs.Faults.{is_of, number_at, tells_fault, tells_fuse}
 use Rattle.bayou_world.specs.Inner.WorldServers.{device_of}
 
@@ -25,12 +27,31 @@ pub record AreSpent (place : ℕ) (fault fused : Bool) (old new : List WorldServ
   pub each : (other : ℕ) (d : WorldServer) → other < length old
       → Spends (if other == place then fault else false) (if other == place then fused else false) (device_of (slice_index_or old other d)) (device_of (slice_index_or new other d))
 
+-- where a fuse was set, it waits on the device of that server: for that call, and for as much of its piece
+abbrev pub Waits : (place call kept : ℕ) → Reply → (old new : List WorldServer) → Type 0
+Waits place call kept reply old new = reply ≡ replies.Fused → (d : WorldServer) → device_of (slice_index_or new place d) ≡ with_fuse call kept (device_of (slice_index_or old place d))
+
+-- the event sets the fuse that it names
+abbrev pub SetsFuse : Event → Reply → (old new : List WorldServer) → Type 0
+SetsFuse (events.Fuse server call kept) reply old new = Waits server.index call kept reply old new
+SetsFuse (events.Read session server key) reply old new = Unit {0}
+SetsFuse (events.Write session server program) reply old new = Unit {0}
+SetsFuse (events.Deliver session) reply old new = Unit {0}
+SetsFuse (events.Lose session) reply old new = Unit {0}
+SetsFuse (events.Offer server) reply old new = Unit {0}
+SetsFuse (events.Collect server offer) reply old new = Unit {0}
+SetsFuse (events.Take server item) reply old new = Unit {0}
+SetsFuse (events.Reopen server) reply old new = Unit {0}
+SetsFuse (events.Restart server) reply old new = Unit {0}
+SetsFuse (events.File session) reply old new = Unit {0}
+
 -- as an event and its reply tell
 pub record SpendsAt (event : Event) (reply : Reply) (old new : List WorldServer) : Type 0 where
   pub many : length new ≡ length old
   pub each : (other : ℕ) (d : WorldServer) → other < length old
       → Spends (if is_of other event then tells_fault reply else false) (if is_of other event then tells_fuse reply else false)
       (device_of (slice_index_or old other d)) (device_of (slice_index_or new other d))
+  pub fuse : SetsFuse event reply old new
 
 -- its device has failed so often, which its fuses and the lacks of memory account for, with the one that waits
 pub record IsCharged (failed fused : ℕ) (device : Memory) : Type 0 where

@@ -70,58 +70,58 @@ returns-in-File-clause-follows g c =
 pub returns-in-Read-clause-spent : goal.returns-in-Read-clause-spent
 returns-in-Read-clause-spent g c =
     subst (λ (e : Event). SpendsAt e c.read.result c.args.state.now.servers.items c.read.new.self.servers.items) (sym c.in-Read.is)
-    (beside_spent _ c.read.result c.args.state.now.servers.items c.read.new.self.servers.items (λ place. refl) (ap (λ list. list.items) c.read.ensures.same))
+    (beside_spent _ c.read.result c.args.state.now.servers.items c.read.new.self.servers.items (λ place. refl) (ap (λ list. list.items) c.read.ensures.same) tt)
 
 pub returns-in_ok-program-in-Write-clause-spent : goal.returns-in_ok-program-in-Write-clause-spent
 returns-in_ok-program-in-Write-clause-spent g c =
     subst (λ (e : Event). SpendsAt e c.write.result c.args.state.now.servers.items c.write.new.self.servers.items) (sym c.in-Write.is)
-    (spent_as _ c.in-Write.server.index c.write.result c.args.state.now.servers.items c.write.new.self.servers.items (λ other. refl) c.write.ensures.spent)
+    (spent_as _ c.in-Write.server.index c.write.result c.args.state.now.servers.items c.write.new.self.servers.items (λ other. refl) c.write.ensures.spent tt)
 
 pub returns-in-Deliver-clause-spent : goal.returns-in-Deliver-clause-spent
 returns-in-Deliver-clause-spent g c =
     if_ok _ (λ reply. SpendsAt c.args.event.now reply c.args.state.now.servers.items c.deliver.new.self.servers.items)
     (λ reply same. subst (λ (e : Event). SpendsAt e reply c.args.state.now.servers.items c.deliver.new.self.servers.items) (sym c.in-Deliver.is)
-    (beside_spent _ reply c.args.state.now.servers.items c.deliver.new.self.servers.items (λ place. refl) (ap (λ list. list.items) same))) c.deliver.result c.deliver.ensures.same
+    (beside_spent _ reply c.args.state.now.servers.items c.deliver.new.self.servers.items (λ place. refl) (ap (λ list. list.items) same) tt)) c.deliver.result c.deliver.ensures.same
 
 pub returns-in-Lose-clause-spent : goal.returns-in-Lose-clause-spent
 returns-in-Lose-clause-spent g c =
     subst (λ (e : Event). SpendsAt e c.lose.result c.args.state.now.servers.items c.lose.new.self.servers.items) (sym c.in-Lose.is)
-    (beside_spent _ c.lose.result c.args.state.now.servers.items c.lose.new.self.servers.items (λ place. refl) (ap (λ list. list.items) c.lose.ensures.same))
+    (beside_spent _ c.lose.result c.args.state.now.servers.items c.lose.new.self.servers.items (λ place. refl) (ap (λ list. list.items) c.lose.ensures.same) tt)
 
 pub returns-in-Offer-clause-spent : goal.returns-in-Offer-clause-spent
 returns-in-Offer-clause-spent g c =
     if_ok _ (λ reply. SpendsAt c.args.event.now reply c.args.state.now.servers.items c.offer.new.self.servers.items)
     (λ reply same. subst (λ (e : Event). SpendsAt e reply c.args.state.now.servers.items c.offer.new.self.servers.items) (sym c.in-Offer.is)
-    (beside_spent _ reply c.args.state.now.servers.items c.offer.new.self.servers.items (λ place. refl) (ap (λ list. list.items) same))) c.offer.result c.offer.ensures.same
+    (beside_spent _ reply c.args.state.now.servers.items c.offer.new.self.servers.items (λ place. refl) (ap (λ list. list.items) same) tt)) c.offer.result c.offer.ensures.same
 
 pub returns-in-Collect-clause-spent : goal.returns-in-Collect-clause-spent
 returns-in-Collect-clause-spent g c =
     if_ok _ (λ reply. SpendsAt c.args.event.now reply c.args.state.now.servers.items c.collect.new.self.servers.items)
     (λ reply same. subst (λ (e : Event). SpendsAt e reply c.args.state.now.servers.items c.collect.new.self.servers.items) (sym c.in-Collect.is)
-    (beside_spent _ reply c.args.state.now.servers.items c.collect.new.self.servers.items (λ place. refl) (ap (λ list. list.items) same))) c.collect.result c.collect.ensures.same
+    (beside_spent _ reply c.args.state.now.servers.items c.collect.new.self.servers.items (λ place. refl) (ap (λ list. list.items) same) tt)) c.collect.result c.collect.ensures.same
 
 pub returns-in-Take-clause-spent : goal.returns-in-Take-clause-spent
 returns-in-Take-clause-spent g c =
     if_ok _ (λ reply. SpendsAt c.args.event.now reply c.args.state.now.servers.items c.take.new.self.servers.items)
     (λ reply spent. subst (λ (e : Event). SpendsAt e reply c.args.state.now.servers.items c.take.new.self.servers.items) (sym c.in-Take.is)
-    (spent_as _ c.in-Take.server.index reply c.args.state.now.servers.items c.take.new.self.servers.items (λ other. refl) spent)) c.take.result c.take.ensures.spent
+    (spent_as _ c.in-Take.server.index reply c.args.state.now.servers.items c.take.new.self.servers.items (λ other. refl) spent tt)) c.take.result c.take.ensures.spent
 
 pub returns-in-Fuse-clause-spent : goal.returns-in-Fuse-clause-spent
 returns-in-Fuse-clause-spent g c =
     subst (λ (e : Event). SpendsAt e c.fuse.result c.args.state.now.servers.items c.fuse.new.self.servers.items) (sym c.in-Fuse.is)
-    (spent_as _ c.in-Fuse.server.index c.fuse.result c.args.state.now.servers.items c.fuse.new.self.servers.items (λ other. refl) c.fuse.ensures.spent)
+    (spent_as _ c.in-Fuse.server.index c.fuse.result c.args.state.now.servers.items c.fuse.new.self.servers.items (λ other. refl) c.fuse.ensures.spent c.fuse.ensures.waits)
 
 pub returns-in-Reopen-clause-spent : goal.returns-in-Reopen-clause-spent
 returns-in-Reopen-clause-spent g c =
     subst (λ (e : Event). SpendsAt e c.reopen.result c.args.state.now.servers.items c.reopen.new.self.servers.items) (sym c.in-Reopen.is)
-    (spent_as _ c.in-Reopen.server.index c.reopen.result c.args.state.now.servers.items c.reopen.new.self.servers.items (λ other. refl) c.reopen.ensures.spent)
+    (spent_as _ c.in-Reopen.server.index c.reopen.result c.args.state.now.servers.items c.reopen.new.self.servers.items (λ other. refl) c.reopen.ensures.spent tt)
 
 pub returns-in-Restart-clause-spent : goal.returns-in-Restart-clause-spent
 returns-in-Restart-clause-spent g c =
     subst (λ (e : Event). SpendsAt e c.restart.result c.args.state.now.servers.items c.restart.new.self.servers.items) (sym c.in-Restart.is)
-    (spent_as _ c.in-Restart.server.index c.restart.result c.args.state.now.servers.items c.restart.new.self.servers.items (λ other. refl) c.restart.ensures.spent)
+    (spent_as _ c.in-Restart.server.index c.restart.result c.args.state.now.servers.items c.restart.new.self.servers.items (λ other. refl) c.restart.ensures.spent tt)
 
 pub returns-in-File-clause-spent : goal.returns-in-File-clause-spent
 returns-in-File-clause-spent g c =
     subst (λ (e : Event). SpendsAt e c.file.result c.args.state.now.servers.items c.file.new.state.servers.items) (sym c.in-File.is)
-    (beside_spent _ c.file.result c.args.state.now.servers.items c.file.new.state.servers.items (λ place. refl) (ap (λ list. list.items) c.file.ensures.same))
+    (beside_spent _ c.file.result c.args.state.now.servers.items c.file.new.state.servers.items (λ place. refl) (ap (λ list. list.items) c.file.ensures.same) tt)

@@ -9,8 +9,8 @@ use Rattle.bayou_world.specs.Inner.Tie.{IsTied}
 use Rattle.bayou_world.specs.Machine.{Machine, Offered}
 use Rattle.bayou_world.specs.Steps.{CannotCollect, CollectStep}
 use Rattle.bayou_world.specs.declared.reply.Reply.TheVariants as replies
-use Rattle.bayou_world.proofs.Tied.{not_true, runs_at, runs_there, stands_at}
-use Rattle.bayou_world.proofs.TiedItems.{collect_beyond, collect_flown, collect_lacks}
+use Rattle.bayou_world.proofs.Tied.{not_true, runs_there, stands_at}
+use Rattle.bayou_world.proofs.TiedItems.{collect_beyond, collect_flown, collect_lacks, collect_wants}
 use Rattle.bayou_world.proofs.state.State.collect.Goals as goal
 use Rattle.bayou_world.proofs.state.State.collect.Goals.{then-at-len-via-then-at-len, then-at-len-via-else-at-len+then-offer-len}
 
@@ -29,7 +29,7 @@ returns-then-first-max-clause-follows c machine good tied =
     let stands : get_or servers place (Running server) ≡ Running server =
     stands_at servers place c.from-at.result c.index.result.now (Running server) c.index.ensures c.from-at.ensures c.in-Running.is in
     let is : vector ≡ get_or offers c.args.offer vector = c.index-offered.ensures ∙ get_or_default offers c.args.offer _ vector inside in
-    let lacks = collect_lacks servers world_sessions offers items c.args.self.now.served.items machine good tied place c.args.offer c.limit-most.result server vector lacking known stands inside is c.limit-most.ensures.value c.in-Ok.ensures.value in
+    let lacks = collect_lacks servers world_sessions offers items c.args.self.now.served.items machine good tied place c.args.offer server vector lacking known stands inside is c.in-Ok.ensures.value in
     collect_beyond servers world_sessions offers items c.args.self.now.served.items machine tied place c.args.offer lacking lacks
     (omega (arith, c.if-first-max.true, c.len-first.ensures, c.len-number.ensures, c.max.ensures))
 
@@ -48,7 +48,7 @@ returns-clause-follows c machine good tied =
     let stands : get_or servers place (Running server) ≡ Running server =
     stands_at servers place c.from-at.result c.index.result.now (Running server) c.index.ensures c.from-at.ensures c.in-Running.is in
     let is : vector ≡ get_or offers c.args.offer vector = c.index-offered.ensures ∙ get_or_default offers c.args.offer _ vector inside in
-    let lacks = collect_lacks servers world_sessions offers items c.args.self.now.served.items machine good tied place c.args.offer c.limit-most.result server vector lacking known stands inside is c.limit-most.ensures.value c.in-Ok.ensures.value in
+    let lacks = collect_lacks servers world_sessions offers items c.args.self.now.served.items machine good tied place c.args.offer server vector lacking known stands inside is c.in-Ok.ensures.value in
     let first : c.len-first.result ≡ length items = omega (arith, c.len-first.ensures) in
     let number : c.len-number.result ≡ length lacking = omega (arith, c.len-number.ensures) in
     let few : length items + max (length lacking) 1 ≤ MAX_NUMBER + 1 = omega (arith, c.if-first-max.false, first, number, c.max.ensures) in
@@ -90,8 +90,8 @@ returns-in_default-clause-follows c machine good tied =
       tied,
     )
 
-pub returns-in_default-lacking-clause-follows : goal.returns-in_default-lacking-clause-follows
-returns-in_default-lacking-clause-follows c machine good tied =
+pub returns-in_default-lacking_in-clause-follows : goal.returns-in_default-lacking_in-clause-follows
+returns-in_default-lacking_in-clause-follows c machine good tied =
     let place = c.args.place.index in
     let servers = c.args.self.now.servers.items in
     let world_sessions = c.args.self.now.sessions.items in
@@ -99,9 +99,13 @@ returns-in_default-lacking-clause-follows c machine good tied =
     let items = c.args.self.now.items.items in
     let served = c.args.self.now.served.items in
     let server = c.in-Running.server in
+    let vector = c.index-offered.result.now in
     let known : place < length servers = omega (arith, c.if-at-len.false, c.from-at.ensures, c.len.ensures) in
+    let inside : c.args.offer < length offers = omega (arith, c.if-offer-len.false, c.len-else-at-len.ensures) in
     let stands : get_or servers place (Running server) ≡ Running server =
     stands_at servers place c.from-at.result c.index.result.now (Running server) c.index.ensures c.from-at.ensures c.in-Running.is in
-    let inside : c.args.offer < length machine.offers =
-    omega (arith, c.if-offer-len.false, c.len-else-at-len.ensures, ap length tied.offers_are, length-map machine.offers (λ (offer : Offered). count_of offer.database)) in
-    (machine, CollectStep.no_memory (runs_at servers world_sessions offers items served machine tied place server known stands).running inside refl refl, tied)
+    let is : vector ≡ get_or offers c.args.offer vector = c.index-offered.ensures ∙ get_or_default offers c.args.offer _ vector inside in (
+      machine,
+      collect_wants servers world_sessions offers items served machine good tied place c.args.offer server vector known stands inside is c.in_default-lacking_in.ensures.wanted,
+      tied,
+    )
