@@ -305,8 +305,9 @@ impl World {
         })
     }
 
-    /// Runs the events, and gives what they leave, of which the judge answers that each session had what it asked for. Where memory is refused, the world is gone; that of an operation, an item or a
-    /// Collect is a reply, but where an append found none: so a failed device call is one for which a fuse was set.
+    /// Runs the events, and gives what they leave, of which the judge answers that each session had what it asked for. Where memory is
+    /// refused, the world is gone; that of an operation, an item or a Collect is a reply, but where an append found none: so a failed
+    /// device call is one for which a fuse was set.
     pub fn run(self, alloc: Global, events: &[Event]) -> Result<RunHistory, AllocError>
         ensures history { IfOk result (IsRunHistory self events.now) }
         ensures fused { IfOk result (λ history. AreFused self.count events.now history.replies.items) }
