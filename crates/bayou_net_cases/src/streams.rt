@@ -35,7 +35,9 @@ const STREAMS: &str = " => Ok(0)
 002a 12 00 00000001 00000001 <none> => Err(BadFrame)
 0002 13 05 => Err(BadFrame)
 003a 15 00 00000001 00000001 <none> <put-1> => Err(BadFrame)
-0001 03 0002 14 00 0001 03 => Err(BadFrame) 0002 13 05";
+0001 03 0002 14 00 0001 03 => Err(BadFrame) 0002 13 05
+0034 02 <none> <put-room> 0026 01 <none> 04726f6f6d 0000 => Err(BadFrame) 002a 12 00 00000001 00000001 <none> 002a 11 01 0000000000000001 <one>
+0034 02 <none> <put-room> 0026 01 <none> 04726f6f6d 0005 16 00000001 => Err(BadFrame) 002a 12 00 00000001 00000001 <none> 002a 11 01 0000000000000001 <one>";
 
 /// A reader that gives at most so many bytes at a call, and fails at the call of this number.
 #[derive(Clone, Copy)]
@@ -146,6 +148,46 @@ fn holds(rt: &impl Abort, alloc: Global, row: &str) -> bool {
 fn requests_are_answered_byte_for_byte(rt: HostRuntime) {
     for row in STREAMS.lines() {
         must_hold(&rt, holds(&rt, rt.alloc(), row), row);
+    }
+}
+
+/// A Write of the key `room`, and a read of it, asked twice, in 40 bytes each.
+const ROOM: &str = "0034 02 <none> <put-room>";
+
+const ROOM_TWICE: &str = "0026 01 <none> 04726f6f6d 0026 01 <none> 04726f6f6d";
+
+/// Whether serving ends at the end of the input where that comes between two requests, and is cut else, with a reply to each whole one.
+fn ends_at(answer: Result<u32, Fault>, written: &[u8], end: usize) -> bool {
+    let expected = match end {
+        0 => Ok(0),
+        40 => Ok(1),
+        80 => Ok(2),
+        _ => Err(Fault::Cut),
+    };
+    let begins_so = end < 40 || written.starts_with(&[0x00, 0x2a, 0x11]);
+    answer == expected && written.len() == 44 * (end / 40) && begins_so
+}
+
+/// Whether a server that holds the Write ends so where the two reads are cut at this byte.
+fn is_cut_at(alloc: Global, server: &mut Server<Memory>, sent: &[u8], end: usize) -> bool {
+    let mut channel = Channel::new(&sent[..end.min(sent.len())], Vec::new(alloc));
+    let answer = served_over(alloc, server, &mut channel);
+    ends_at(answer, &channel.into_parts().1, end)
+}
+
+#[test]
+fn requests_may_be_cut_at_each_byte(rt: HostRuntime) {
+    let alloc = rt.alloc();
+    let mut server = begun(&rt, alloc, 2);
+    let write = bytes(&rt, alloc, ROOM);
+    let _ = served_over(
+        alloc,
+        server.as_mut(),
+        &mut Channel::new(write.as_slice(), Vec::new(alloc)),
+    );
+    let reads = bytes(&rt, alloc, ROOM_TWICE);
+    for end in 0..81_usize {
+        must_be_so(&rt, is_cut_at(alloc, server.as_mut(), &reads, end), end);
     }
 }
 

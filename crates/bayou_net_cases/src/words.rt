@@ -2,8 +2,8 @@
 use std::alloc::Global;
 use std::process::Abort;
 
-/// Vectors that count nothing, the first server's first Write, and its first two; and the program that puts 1 at `a`.
-static WORDS: [(&str, &str); 4] = [
+/// Vectors that count nothing, the first server's first Write, and its first two; and the programs that put 1 at `a` and at `room`.
+static WORDS: [(&str, &str); 5] = [
     (
         "<none>",
         "0000000000000000000000000000000000000000000000000000000000000000",
@@ -17,6 +17,7 @@ static WORDS: [(&str, &str); 4] = [
         "0000000200000000000000000000000000000000000000000000000000000000",
     ),
     ("<put-1>", "00010101610101000000000000000100"),
+    ("<put-room>", "00010104726f6f6d0101000000000000000100"),
 ];
 
 /// The bytes of a word: those of what it names, or those that it says in hexadecimal.
