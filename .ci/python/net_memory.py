@@ -30,7 +30,7 @@ class Wanting:
     def run(self, number):
         """What becomes of the run with this one refused: its status, lines and errors. With 0 none is."""
         variables = {"LD_PRELOAD": self.library, "ASKED": self.asked, "THREADS": self.threads, "REFUSED": str(number)}
-        status, output, errors = net_runs.call(self.program, ["net", "--dir", fresh(self.room, str(number))], SCRIPT, variables=variables, seconds=SECONDS)
+        status, output, errors = net_runs.call(self.program, ["net", "--dir", fresh(self.room, "%05d" % number)], SCRIPT, variables=variables, seconds=SECONDS)
         return status, output.split("\n")[:-1], errors
 
     def all(self):
