@@ -45,9 +45,11 @@ class Meddled:
         """How many calls of this name there were."""
         return sum(call[0] == name for call in self.calls)
 
-    def held(self):
-        """Waits until a run waits in a call. It goes on when what this gives is closed."""
-        for _ in range(100 * net_runs.SECONDS):
+    def held(self, running):
+        """Waits until the run waits in a call. It goes on when what this gives is closed."""
+        for _ in range(100 * net_runs.LINE_SECONDS):
+            if running.process.poll() is not None:
+                break
             try:
                 return os.fdopen(os.open(self.gate, os.O_WRONLY | os.O_NONBLOCK), "wb")
             except OSError as why:

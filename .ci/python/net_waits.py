@@ -60,7 +60,7 @@ def phases(checks, program, room):
     path = written(room, ["servers", 1], ["session", 0, []], ["write", 0, 0, put("a", 1)], ["read", 0, 0, "a"], ["phase"], ["write", 0, 0, put("a", 2)])
     meddled, terminal = Meddled(program, room), Terminal()
     running = terminal.running(program, fresh(room, "phases"), path, meddled.variables("sync 4 wait"))
-    with meddled.held():
+    with meddled.held(running):
         time.sleep(WAITS)
         came = running.so_far()
     checks.that("the lines of a phase while the next one goes on", came, "0 wrote 0:1 clock 1 deps 0\n0 read a num 1 at 1\n")
@@ -98,10 +98,10 @@ def finds(checks, meddled, running, folder, one, two, other):
     came = [running.line() for _ in range(4)]
     checks.that("a server that is down", came, ["0 wrote 0:1 clock 1 deps 0\n", "0 refused journal\n", "0 refused down\n", "0 read a num 1 at 1\n"])
     for name, bodies, told in (("less than was there", [], "lost"), ("another Write", [one, other], "record"), ("no journal", None, "journal")):
-        with meddled.held(), open(journal(folder, 0), "wb") as it:
+        with meddled.held(running), open(journal(folder, 0), "wb") as it:
             it.write(b"none" if bodies is None else frames.journal(0, bodies))
         checks.that("a reopening that finds " + name, running.line(), "reopen refused %s\n" % told)
-    with meddled.held(), open(journal(folder, 0), "wb") as it:
+    with meddled.held(running), open(journal(folder, 0), "wb") as it:
         it.write(frames.journal(0, [one, two]))
     told = "reopened 0 adopted 0:2\n0 wrote 0:3 clock 3 deps 2\n"
     told += "totals reads 1 writes 2 refusals 2 slips 0\nsettled 0 accepted 2 adopted 1\nclean\n"
