@@ -1,6 +1,7 @@
 """Journals whose calls fail, and what a cut of power leaves of them."""
 import os
 import random
+import tempfile
 
 import frames
 import net_kill
@@ -12,6 +13,8 @@ from net_verdicts import own
 # A run that power is cut of has so many phases, and is cut at so many of its calls beside those that print.
 PHASES = 8
 CUTS = 8
+# What is lost then of what wasn't synced.
+WAYS = ["bytes", "zeros", "part", "names"]
 
 
 def reads(checks, program, room):
@@ -60,12 +63,9 @@ class Disk:
     """What is written of the files of a folder, and what of that is sure to be there behind a cut of power."""
 
     def __init__(self, folder):
-        self.had = sorted(os.listdir(folder))
-        self.files, self.synced, self.written, self.named, self.told = {}, {}, {}, set(), 0
-        for name in self.had:
-            path = os.path.join(folder, name)
-            self.synced[path] = self.written[path] = os.path.getsize(path)
-            self.named.add(path)
+        self.files, self.told = {}, 0
+        self.synced = {path: os.path.getsize(path) for path in (os.path.join(folder, name) for name in os.listdir(folder))}
+        self.written, self.named = dict(self.synced), set(self.synced)
 
     def call(self, words):
         """Takes the next call of the program."""
@@ -99,34 +99,33 @@ class Disk:
         return whole[:random.Random(written).randint(synced, written)]
 
 
-def cut(disk, way, folder, to):
-    """Puts to another folder what a cut of power leaves; what has no name for sure is lost where names are."""
+def cut(disk, way, folder):
+    """A folder with what a cut of power leaves; what has no name for sure is lost where names are."""
+    to = tempfile.mkdtemp(dir=os.path.dirname(folder))
     for path in disk.journals():
         if way != "names" or path in disk.named:
             with open(os.path.join(to, os.path.basename(path)), "wb") as it:
                 it.write(disk.left(way, path, content(path)))
+    return to
+
+
+def chosen(calls, order):
+    """The calls behind which power is cut: each that prints, and some others."""
+    others = [at for at, call in enumerate(calls) if call[0] in ("open", "append", "sync")]
+    return {at for at, call in enumerate(calls) if call[0] == "tell"} | set(order.sample(others, CUTS))
 
 
 def power(checks, program, room):
-    """Whenever power is cut, and whatever wasn't synced is lost then, each Write that was told is there."""
-    meddled, before = Meddled(program, room), ({}, {})
-    folder, told = fresh(room, "whole"), 0
-    for number in (1, 2):
-        disk, kept = Disk(folder), [dict(held) for held in before]
+    """Whenever power is cut, and whatever wasn't synced is lost then, each Write that was told is there: in a new folder, and in one with journals."""
+    meddled, before, folder = Meddled(program, room), ({}, {}), fresh(room, "whole")
+    for name in ("a new folder", "a folder with journals"):
+        disk = Disk(folder)
         status, output, _ = meddled.run(folder, net_kill.text(PHASES))
-        checks.that("run %d, which is cut" % number, (status, output.count(" wrote ")), (0, 2 * PHASES))
-        calls = [at for at, call in enumerate(meddled.calls) if call[0] in ("append", "sync", "open")]
-        chosen = set(random.Random(number).sample(calls, CUTS)) | {at for at, call in enumerate(meddled.calls) if call[0] == "tell"}
+        checks.that("a run in " + name, (status, output.count(" wrote ")), (0, 2 * PHASES))
+        cuts = chosen(meddled.calls, random.Random(name))
         for at, call in enumerate(meddled.calls):
             disk.call(call)
-            if at not in chosen:
-                continue
-            front = output[:disk.told]
-            told += front.count(" wrote ")
-            for way in ("bytes", "zeros", "part", "names"):
-                other = fresh(room, "cut-%d-%d-%s" % (number, at, way))
-                cut(disk, way, folder, other)
-                wrong = net_kill.wrong_behind(program, other, front, tuple(dict(held) for held in kept))
-                checks.that("run %d, cut at call %d, which loses %s" % (number, at, way), wrong, None)
-        checks.that("run %d whole" % number, net_kill.wrong_behind(program, folder, output, before), None)
-    checks.that("a cut behind a Write that was told", told > 0, True)
+            for way in WAYS if at in cuts else ():
+                wrong = net_kill.wrong_behind(program, cut(disk, way, folder), output[:disk.told], tuple(dict(held) for held in before))
+                checks.that("%s, power cut behind call %d, which loses %s" % (name, at, way), wrong, None)
+        checks.that("all that is told in " + name, (disk.told, net_kill.wrong_behind(program, folder, output, before)), (len(output), None))
