@@ -116,7 +116,7 @@ def chosen(calls, order):
 
 
 def power(checks, program, room):
-    """Whenever power is cut, and whatever wasn't synced is lost then, each Write that was told is there: in a new folder, and in one with journals."""
+    """Whenever power is cut, and whatever wasn't synced is lost then, each Write that was told is there."""
     meddled, before, folder = Meddled(program, room), ({}, {}), fresh(room, "whole")
     for name in ("a new folder", "a folder with journals"):
         disk = Disk(folder)

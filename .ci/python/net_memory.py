@@ -6,8 +6,8 @@ import net_runs
 from net_meddled import library
 from net_runs import fresh, put, script
 
-SCRIPT = script(["servers", 2, 100], ["session", 0, ["ryw"]], ["write", 0, 0, put("a", 1)], ["phase"], ["read", 0, 0, "a"], ["write", 0, 0, put("a", 2)],
-                ["totals"], ["judge"], ["totals"], ["survey"], ["reopen", 0], ["totals"], ["reopen", 1])
+SCRIPT = script(["servers", 2, 100], ["session", 0, ["ryw"]], ["write", 0, 0, put("a", 1)], ["phase"], ["read", 0, 0, "a"],
+                ["write", 0, 0, put("a", 2)], ["totals"], ["judge"], ["totals"], ["survey"], ["reopen", 0], ["totals"], ["reopen", 1])
 TOTALS = r"totals reads \d writes \d refusals \d slips 0"
 # What stands in each line of a run, where the server, or the session itself, may lack memory behind the first.
 LINES = [r"0 wrote 0:1 clock 1 deps 0,0", r"0 (read a num 1 at 1,0|refused memory|lost)", r"0 (wrote 0:2 clock 2 deps 1,0|refused memory|lost)",
@@ -30,7 +30,8 @@ class Wanting:
     def run(self, number):
         """What becomes of the run with this one refused: its status, lines and errors. With 0 none is."""
         variables = {"LD_PRELOAD": self.library, "ASKED": self.asked, "THREADS": self.threads, "REFUSED": str(number)}
-        status, output, errors = net_runs.call(self.program, ["net", "--dir", fresh(self.room, "%05d" % number)], SCRIPT, variables=variables, seconds=SECONDS)
+        words = ["net", "--dir", fresh(self.room, "%05d" % number)]
+        status, output, errors = net_runs.call(self.program, words, SCRIPT, variables=variables, seconds=SECONDS)
         return status, output.split("\n")[:-1], errors
 
     def all(self):

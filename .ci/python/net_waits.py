@@ -57,7 +57,8 @@ def written(room, *lines):
 
 def phases(checks, program, room):
     """The lines of a phase have come, and are counted at a terminal, while the Write of the next one isn't synced."""
-    path = written(room, ["servers", 1], ["session", 0, []], ["write", 0, 0, put("a", 1)], ["read", 0, 0, "a"], ["phase"], ["write", 0, 0, put("a", 2)])
+    path = written(room, ["servers", 1], ["session", 0, []], ["write", 0, 0, put("a", 1)], ["read", 0, 0, "a"], ["phase"],
+                   ["write", 0, 0, put("a", 2)])
     meddled, terminal = Meddled(program, room), Terminal()
     running = terminal.running(program, fresh(room, "phases"), path, meddled.variables("sync 4 wait"))
     with meddled.held(running):
@@ -77,7 +78,8 @@ def short(checks, program, room):
     """Of a run of less than a second nothing is told."""
     terminal = Terminal()
     running = terminal.running(program, fresh(room, "short"), written(room, ["servers", 1]), None)
-    checks.that("a short run at a terminal", running.rest(), (0, "totals reads 0 writes 0 refusals 0 slips 0\nsettled 0 accepted 0 adopted 0\nclean\n"))
+    told = "totals reads 0 writes 0 refusals 0 slips 0\nsettled 0 accepted 0 adopted 0\nclean\n"
+    checks.that("a short run at a terminal", running.rest(), (0, told))
     checks.that("what the terminal shows of it", terminal.all(), "")
 
 
