@@ -1,19 +1,24 @@
 /* Refuses one allocation of a program, for LD_PRELOAD: the one whose number REFUSED tells, of those that the program itself asks malloc and
-   realloc for, counted from 1 on; none where it tells none. As the program ends, the file ASKED gets the number of all that were asked for. */
+   realloc for, counted from 1 on; none where it tells none. Where THREADS is `first`, only what the first thread asks for is counted; where it is
+   `others`, only what others do behind what was first printed. As the program ends, the file ASKED gets the number of all that were counted. */
 #define _GNU_SOURCE
 #include <dlfcn.h>
 #include <errno.h>
 #include <stdatomic.h>
 #include <stdio.h>
 #include <stdlib.h>
+#include <string.h>
 #include <sys/auxv.h>
 #include <unistd.h>
 
 static void *(*real_malloc)(size_t);
 static void *(*real_realloc)(void *, size_t);
+static ssize_t (*real_write)(int, const void *, size_t);
 static void (*real_exit)(int) __attribute__((noreturn));
 static void *program;
 static unsigned long refused;
+static const char *threads = "";
+static atomic_int has_printed;
 static atomic_ulong asked;
 
 /* Where what holds this address begins in memory. */
@@ -25,6 +30,7 @@ static void *begin_of(const void *address) {
 static void find_calls(void) {
     *(void **)&real_malloc = dlsym(RTLD_NEXT, "malloc");
     *(void **)&real_realloc = dlsym(RTLD_NEXT, "realloc");
+    *(void **)&real_write = dlsym(RTLD_NEXT, "write");
     *(void **)&real_exit = dlsym(RTLD_NEXT, "_exit");
 }
 
@@ -32,11 +38,20 @@ __attribute__((constructor)) static void start(void) {
     const char *number = getenv("REFUSED");
     find_calls();
     refused = number ? strtoul(number, NULL, 10) : 0;
+    if (getenv("THREADS"))
+        threads = getenv("THREADS");
     program = begin_of((void *)getauxval(AT_PHDR));
 }
 
+static int is_counted(void) {
+    int is_first = gettid() == getpid();
+    if (strcmp(threads, "first") == 0)
+        return is_first;
+    return strcmp(threads, "others") != 0 || (!is_first && atomic_load(&has_printed));
+}
+
 static int is_refused(const void *caller) {
-    if (!program || begin_of(caller) != program || atomic_fetch_add(&asked, 1) + 1 != refused)
+    if (!program || begin_of(caller) != program || !is_counted() || atomic_fetch_add(&asked, 1) + 1 != refused)
         return 0;
     errno = ENOMEM;
     return 1;
@@ -52,6 +67,14 @@ void *realloc(void *old, size_t size) {
     if (!real_realloc)
         find_calls();
     return is_refused(__builtin_return_address(0)) ? NULL : real_realloc(old, size);
+}
+
+ssize_t write(int file, const void *bytes, size_t size) {
+    if (!real_write)
+        find_calls();
+    if (file == STDOUT_FILENO)
+        atomic_store(&has_printed, 1);
+    return real_write(file, bytes, size);
 }
 
 __attribute__((destructor)) static void tell(void) {

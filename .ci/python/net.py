@@ -1,4 +1,5 @@
-"""Tries `bayou net` as a person calls it. Call: python3 net.py PROGRAM EXAMPLES KILLS. Its last line is 'N passed, M failed'."""
+"""Tries `bayou net` as a person calls it. Call: python3 net.py PROGRAM EXAMPLES KILLS [GROUP..], with the groups of checks that are tried, all
+where there is none. Its last line is 'N passed, M failed'."""
 import os
 import statistics
 import sys
@@ -6,12 +7,17 @@ import tempfile
 import time
 import traceback
 
+import net_calls
+import net_device
 import net_faults
 import net_kill
 import net_long
+import net_memory
 import net_runs
 import net_script
 import net_told
+import net_verdicts
+import net_waits
 from checks import Checks
 from net_runs import contents, fresh, put, run, script
 
@@ -134,17 +140,28 @@ def goes_on(checks, program, room):
     checks.that("its journals", sorted(contents(folder)), ["server-%d.journal" % s for s in range(3)])
 
 
+def groups_of(folder, number):
+    """Each group of checks by its name."""
+    groups = [meets, helps, goes_on]
+    groups += [net_faults.folders, net_faults.journals, net_faults.torn, net_faults.held, net_faults.at_once, net_faults.places, net_faults.files]
+    groups += [net_verdicts.of_journals, net_verdicts.of_replies, net_verdicts.surveys, net_waits.phases, net_waits.short, net_waits.down]
+    groups += [net_calls.connections, net_calls.batches, net_calls.all_sessions]
+    groups += [net_device.reads, net_device.starts, net_device.writes, net_device.power, net_memory.memory, net_long.long_phase]
+    by_name = {group.__name__: group for group in groups}
+    by_name["examples"] = lambda *given: examples(*given, folder)
+    by_name["random"] = lambda *given: at_random(*given, False)
+    by_name["random_reopened"] = lambda *given: at_random(*given, True)
+    by_name["kills"] = lambda *given: net_kill.kills(*given, number)
+    return by_name
+
+
 def main():
-    program, folder, number = os.path.abspath(sys.argv[1]), sys.argv[2], int(sys.argv[3])
-    checks = Checks()
-    groups = [meets, helps, lambda *given: examples(*given, folder), goes_on]
-    groups += [net_faults.folders, net_faults.journals, net_faults.torn, net_faults.held, net_faults.at_once, net_faults.places, net_faults.files,
-               net_long.long_phase]
-    groups += [lambda *given: at_random(*given, False), lambda *given: at_random(*given, True), lambda *given: net_kill.kills(*given, number)]
-    for group in groups:
+    program, folder, number, names = os.path.abspath(sys.argv[1]), sys.argv[2], int(sys.argv[3]), sys.argv[4:]
+    checks, groups = Checks(), groups_of(folder, number)
+    for name in names or groups:
         with tempfile.TemporaryDirectory() as room:
             try:
-                group(checks, program, room)
+                groups[name](checks, program, room)
             except Exception:
                 checks.failed += 1
                 traceback.print_exc(file=sys.stdout)

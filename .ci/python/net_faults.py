@@ -115,7 +115,7 @@ def held(checks, program, room):
         it.write("".join(script(["write", 0, 0, put("a", 1)]) for _ in range(writes - 1)))
         it.write("".join(script(["phase"], ["log", 0]) for _ in range(listings)))
     running = net_runs.Running(program, folder, path)
-    checks.that("the first line of a run that waits", running.first(), "0 wrote 0:1 clock 1 deps 0\n")
+    checks.that("the first line of a run that waits", running.line(), "0 wrote 0:1 clock 1 deps 0\n")
     for _ in range(3):
         checks.that("a folder that another run uses", run(program, folder, ONE), DEVICE)
     status, output = running.rest()

@@ -16,10 +16,10 @@ WROTE = re.compile(r"[01] wrote (\d+:\d+) clock (\d+) deps (\d+),(\d+)")
 LISTED = re.compile(r"log ([01]) (\d+:\d+) clock (\d+) updated")
 
 
-def text():
+def text(phases):
     """Many short phases: what a phase does is told at its end."""
     lines = [["servers", 2, 65536], ["session", 0, ["ryw", "mw"]], ["session", 1, []]]
-    for phase in range(PHASES):
+    for phase in range(phases):
         lines += [["write", 0, 0, put("a", phase)], ["write", 1, 1, put("b", phase)]]
         lines += [["pull", phase % 2, 1 - phase % 2]] if phase % 5 == 4 else []
         lines += [["phase"]]
@@ -53,35 +53,51 @@ def wrong_behind(program, folder, output, before):
     return None
 
 
-def killed(program, folder, path, moment):
-    """What a run wrote until this moment, in seconds from its begin, and whether it still ran then."""
-    running = net_runs.Running(program, folder, path)
-    time.sleep(moment)
-    was_running = running.kill()
-    # (a pipe holds all that a whole run writes)
-    output = running.process.stdout.read().decode("utf-8", "replace")
-    running.process.stdout.close()
+def killed(program, folder, path, moment, is_told):
+    """What a run wrote until this moment, in seconds from its begin, or from its first line where a Write is to be told; and whether it still
+    ran then."""
+    with net_runs.Running(program, folder, path) as running:
+        output = running.line() if is_told else ""
+        time.sleep(moment)
+        was_running = running.kill()
+        # (a pipe holds all that a whole run writes)
+        output += running.process.stdout.read().decode("utf-8", "replace")
     return output, was_running
 
 
+def whole_run(checks, program, room, path):
+    """How long a run takes that isn't killed: to its first line, and behind that."""
+    begin = time.monotonic()
+    running = net_runs.Running(program, fresh(room, "whole"), path)
+    output = running.line()
+    first = time.monotonic() - begin
+    status, rest = running.rest()
+    output += rest
+    checks.that("a run of Writes that isn't killed", (status, sum(bool(WROTE.fullmatch(told)) for told in output.split("\n"))), (0, 2 * PHASES))
+    return first, time.monotonic() - begin - first
+
+
 def kills(checks, program, room, number):
+    """Most runs are killed behind a Write that they told of, and before their end; each fourth at any moment of its begin."""
     path = os.path.join(room, "killed.jsonl")
     with open(path, "w", encoding="ascii") as it:
-        it.write(text())
-    begin = time.monotonic()
-    status, output, _ = net_runs.run(program, fresh(room, "whole"), "", path)
-    whole = time.monotonic() - begin
-    checks.that("a run of Writes that isn't killed", (status, sum(bool(WROTE.fullmatch(told)) for told in output.split("\n"))), (0, 2 * PHASES))
+        it.write(text(PHASES))
+    first, behind = whole_run(checks, program, room, path)
     order = random.Random(number)
-    folder, before, running, told = None, None, 0, 0
+    folder, before, told = None, None, 0
     for kill in range(number):
         if kill % KILLS_A_FOLDER == 0:
             folder, before = fresh(room, "killed-%d" % kill), ({}, {})
-        output, was_running = killed(program, folder, path, order.uniform(0, whole))
-        running, told = running + was_running, told + output.count(" wrote ")
-        wrong = wrong_behind(program, folder, output, before)
-        checks.that("kill %d" % kill, wrong, None)
+        is_told = kill % 4 != 3
+        # (the run that was measured may have been a slow one)
+        for part in (1, 1 / 4, 1 / 16):
+            output, was_running = killed(program, folder, path, order.uniform(0, (behind if is_told else first) * part), is_told)
+            wrong = wrong_behind(program, folder, output, before)
+            if wrong or was_running:
+                break
+        number_told = output.count(" wrote ")
+        told += number_told
+        checks.that("kill %d" % kill, (wrong, was_running, number_told > 0 or not is_told), (None, True, True))
         if wrong:
             folder, before = fresh(room, "killed-behind-%d" % kill), ({}, {})
-    print("net: %d of %d runs were killed before their end; %d Writes that they told of are held" % (running, number, told))
-    checks.that("a run that was killed before its end", running > 0 or number == 0, True)
+    print("net: %d runs were killed before their end; %d Writes that they told of are held" % (number, told))

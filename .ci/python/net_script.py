@@ -5,6 +5,8 @@ import net_runs
 
 SERVERS = 4
 SESSIONS = 8
+# A run may have so many.
+MOST_SESSIONS = 32
 PHASES = 5
 OPERATIONS = 2000
 PULLS = 12

@@ -108,7 +108,9 @@ class Told:
 
     def pull(self):
         told = self.next()
-        need(PULLED.fullmatch(told), told, "no pull")
+        match = PULLED.fullmatch(told)
+        # (no other pull goes on beside it, so nothing comes that was there)
+        need(match and match.group(2) == "0", told, "no pull of what was lacking")
 
     def listing(self, server):
         """The log of a server: the Writes that its vector counts, in stamp order, and what became of each."""
