@@ -82,6 +82,15 @@ where
     }
 }
 
+// Waits for the sessions that go, and drops them: their connections are closed then, so that no server waits for them.
+fn drop_all<K: Ledgers + Send + Sync, T: Threads>(rt: &T, going: Vec<Going<K>>) {
+    for one in going {
+        if let Going::Operates(thread) = one {
+            let _ = thread.join(rt);
+        }
+    }
+}
+
 // Begins what each session does.
 fn begin_all<'s, E, F, K, T>(
     scope: &'s Scope<'s, E>,
@@ -101,7 +110,13 @@ where
     let mut going = Vec::with_capacity(alloc, sessions.len())?;
     for session in sessions {
         let own = operations.pop_front().unwrap_or(Vec::new(alloc));
-        going.push_reserved(begin(scope, rt, alloc, network, session, own)?);
+        match begin(scope, rt, alloc, network, session, own) {
+            Ok(one) => going.push_reserved(one),
+            Err(fault) => {
+                drop_all(rt, going);
+                return Err(fault);
+            }
+        }
     }
     Ok(going)
 }
@@ -157,7 +172,7 @@ fn put_all(own: Vec<Answer>, answers: &mut Vec<Answer>) -> Result<(), FleetFault
     Ok(())
 }
 
-// Waits for all sessions.
+// Waits for all sessions, also where one of them lacked memory.
 fn end_all<K: Ledgers + Send + Sync, T: Threads>(
     rt: &T,
     alloc: Global,
@@ -166,11 +181,21 @@ fn end_all<K: Ledgers + Send + Sync, T: Threads>(
 ) -> Result<Vec<RunSession<K>>, FleetFault>
     ensures { IfOk result (λ sessions. vec_len sessions ≡ vec_len going) }
 {
-    let mut sessions = Vec::with_capacity(alloc, going.len())?;
+    let Ok(mut sessions) = Vec::with_capacity(alloc, going.len()) else {
+        drop_all(rt, going);
+        return Err(FleetFault::Memory);
+    };
+    let mut fault = None;
     for one in going {
-        sessions.push_reserved(end_one(rt, one, answers)?);
+        match end_one(rt, one, answers) {
+            Ok(session) => sessions.push_reserved(session),
+            Err(why) => fault = Some(why),
+        }
     }
-    Ok(sessions)
+    match fault {
+        Some(why) => Err(why),
+        None => Ok(sessions),
+    }
 }
 
 // Opens a session that a phase opens.
@@ -215,8 +240,10 @@ fn end<K: Ledgers + Send + Sync, T: Threads>(
     ensures { IfOk result (λ together. vec_len together.sessions ≡ vec_len going) }
 {
     let mut answers = Vec::new(alloc);
-    let sessions = end_all(rt, alloc, going, &mut answers)?;
-    put_all(pulling.join(rt)?, &mut answers)?;
+    let ended = end_all(rt, alloc, going, &mut answers);
+    let pulled = pulling.join(rt);
+    let sessions = ended?;
+    put_all(pulled?, &mut answers)?;
     Ok(Together { sessions, answers })
 }
 
@@ -237,8 +264,13 @@ where
     ensures { IfOk result (λ together. vec_len together.sessions ≡ vec_len sessions) }
 {
     let going = begin_all(scope, rt, alloc, network, sessions, operations)?;
-    let pulling = begin_pulls(scope, rt, alloc, network, pulls)?;
-    end(rt, alloc, going, pulling)
+    match begin_pulls(scope, rt, alloc, network, pulls) {
+        Ok(pulling) => end(rt, alloc, going, pulling),
+        Err(fault) => {
+            drop_all(rt, going);
+            Err(fault)
+        }
+    }
 }
 
 /// Opens the sessions of a phase; then each session does its operations in order, in a thread of its own, and the pulls are done in order in
