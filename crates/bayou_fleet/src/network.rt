@@ -149,15 +149,22 @@ where
         fleet: &network.fleet,
         at,
     };
-    listen_on(
-        rt,
-        alloc,
-        &host,
-        &network.listeners[at],
-        turns,
-        &network.stop,
-    )
-    .is_ok()
+    let listener = &network.listeners[at];
+    let is_whole = listen_on(rt, alloc, &host, listener, turns, &network.stop).is_ok();
+    if !is_whole {
+        turn_away(rt, listener, &network.stop);
+    }
+    is_whole
+}
+
+// Closes each connection that comes to a server that couldn't go on listening, so that nobody waits for a reply, until it is told to stop.
+fn turn_away<T: Wait>(rt: &T, listener: &TcpListener, stop: &AtomicBool) {
+    for _ in rt.forever() {
+        let came = listener.accept();
+        if came.is_err() || stop.load(Ordering::SeqCst) {
+            return;
+        }
+    }
 }
 
 /// Has a thread listen for so many connections at each server.
