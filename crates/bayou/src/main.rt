@@ -50,7 +50,9 @@ impl<T: fs::Files<File = File>> Files for Host<'_, T> {
 
     ghost kept = { λ host has_failed turns_left. IfSome host.file (λ file. (has_failed ≡ file.read_failed) × (turns_left ≡ file.turns_left)) };
 
-    fn keep(&mut self, file: Channel<File, ()>) {
+    fn keep(&mut self, file: Channel<File, ()>)
+        ensures { IfSome self.new.file (λ kept. (file.read_failed ≡ kept.read_failed) × (file.turns_left ≡ kept.turns_left)) }
+    {
         self.file = Some(file);
     }
 }

@@ -42,7 +42,9 @@ impl<'a> Files for FakeFiles<'a> {
 
     ghost kept = { λ files has_failed turns_left. IfSome files.read (λ file. (has_failed ≡ file.read_failed) × (turns_left ≡ file.turns_left)) };
 
-    fn keep(&mut self, file: Channel<FakeReader<'a>, ()>) {
+    fn keep(&mut self, file: Channel<FakeReader<'a>, ()>)
+        ensures { IfSome self.new.read (λ kept. (file.read_failed ≡ kept.read_failed) × (file.turns_left ≡ kept.turns_left)) }
+    {
         self.read = Some(file);
     }
 }

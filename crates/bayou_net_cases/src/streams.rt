@@ -158,14 +158,15 @@ const ROOM_TWICE: &str = "0026 01 <none> 04726f6f6d 0026 01 <none> 04726f6f6d";
 
 /// Whether serving ends at the end of the input where that comes between two requests, and is cut else, with a reply to each whole one.
 fn ends_at(answer: Result<u32, Fault>, written: &[u8], end: usize) -> bool {
-    let expected = match end {
-        0 => Ok(0),
-        40 => Ok(1),
-        80 => Ok(2),
-        _ => Err(Fault::Cut),
+    let (expected, count) = match end {
+        0 => (Ok(0), 0),
+        40 => (Ok(1), 44),
+        80 => (Ok(2), 88),
+        1..40 => (Err(Fault::Cut), 0),
+        _ => (Err(Fault::Cut), 44),
     };
     let begins_so = end < 40 || written.starts_with(&[0x00, 0x2a, 0x11]);
-    answer == expected && written.len() == 44 * (end / 40) && begins_so
+    answer == expected && written.len() == count && begins_so
 }
 
 /// Whether a server that holds the Write ends so where the two reads are cut at this byte.
