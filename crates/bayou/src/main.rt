@@ -87,13 +87,20 @@ struct Streams {
 
 // Does what the words say beside a screen, and gives the exit status.
 fn run<
+    'a,
     T: Threads
         + Wait
         + fs::Files<File = File>
         + Net<Stream = TcpStream, Listener = TcpListener>
         + Send
         + Sync,
->(rt: &T, alloc: Global, words: &[String], streams: Streams, screen: &Mutex<Screen<Stderr>>) -> u8 {
+>(
+    rt: &'a T,
+    alloc: Global,
+    words: &[String],
+    streams: Streams,
+    screen: &'a Mutex<Screen<Stderr>>,
+) -> u8 {
     let Streams {
         input,
         output,
@@ -130,6 +137,7 @@ fn run<
 
 // The same, while progress is told at the terminal. Where no thread begins, none is told.
 fn run_told<
+    'a,
     T: Threads
         + Wait
         + Clock
@@ -137,7 +145,13 @@ fn run_told<
         + Net<Stream = TcpStream, Listener = TcpListener>
         + Send
         + Sync,
->(rt: &T, alloc: Global, words: &[String], streams: Streams, screen: &Mutex<Screen<Stderr>>) -> u8 {
+>(
+    rt: &'a T,
+    alloc: Global,
+    words: &[String],
+    streams: Streams,
+    screen: &'a Mutex<Screen<Stderr>>,
+) -> u8 {
     thread::scope(
         thread::scope_env(),
         rt,

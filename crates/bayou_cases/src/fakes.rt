@@ -43,7 +43,7 @@ impl<'a> Files for FakeFiles<'a> {
     ghost kept = { λ files has_failed turns_left. IfSome files.read (λ file. (has_failed ≡ file.read_failed) × (turns_left ≡ file.turns_left)) };
 
     fn keep(&mut self, file: Channel<FakeReader<'a>, ()>)
-        ensures { IfSome self.new.read (λ kept. (file.read_failed ≡ kept.read_failed) × (file.turns_left ≡ kept.turns_left)) }
+        ensures { IfSome self.new.read (λ kept. (file.entry.read_failed ≡ kept.read_failed) × (file.entry.turns_left ≡ kept.turns_left)) }
     {
         self.read = Some(file);
     }
