@@ -122,7 +122,12 @@ fn run<
         &mut output,
         &mut errors,
     );
-    match host.taken {
+    let Host {
+        rt: _,
+        file: _,
+        taken,
+    } = host;
+    match taken {
         None => status,
         Some(Taken { folder, script }) => run_taken(
             rt,
