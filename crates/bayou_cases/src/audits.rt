@@ -177,7 +177,6 @@ fn is_audited(rt: &impl Abort, alloc: Global, case: &Case) -> bool {
     let mut files = FakeFiles {
         files: &[("other.jsonl", "["), ("file.jsonl", case.script)],
         fails_at: 0,
-        read: None,
     };
     let named = call_on(
         rt,
@@ -616,7 +615,6 @@ fn ends_so(
     let mut files = FakeFiles {
         files: &[("audit.jsonl", FIRST), ("script.jsonl", SCRIPT)],
         fails_at,
-        read: None,
     };
     let given = call_on(rt, alloc, words, &mut files, SCRIPT.as_bytes());
     let is_printed = given.output.as_slice() == printed.as_bytes();

@@ -63,7 +63,6 @@ pub fn call(rt: &impl Abort, alloc: Global, words: &[&str], input: &[u8]) -> Giv
     let mut files = FakeFiles {
         files: &[],
         fails_at: 0,
-        read: None,
     };
     call_on(rt, alloc, words, &mut files, input)
 }

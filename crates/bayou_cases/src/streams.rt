@@ -47,7 +47,6 @@ fn run(
         &mut FakeFiles {
             files: &[],
             fails_at: 0,
-            read: None,
         },
         &mut Channel::new(reader, ()),
         &mut Output::new(writer),
@@ -263,7 +262,6 @@ fn run_pieces(alloc: Global, script: &[u8], writer: &mut Pieces, errors: &mut Ve
         &mut FakeFiles {
             files: &[],
             fails_at: 0,
-            read: None,
         },
         &mut Channel::new(&mut reader, ()),
         &mut Output::new(writer),
