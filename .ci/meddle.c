@@ -1,7 +1,8 @@
 /* Writes down what a program does with its files and sockets, a line for each call in the file CALLS, and meddles with it, for LD_PRELOAD. MEDDLE
    says how, in words by threes: a call, the number of it, counted from 1 on, and what becomes of it. Calls of journals are `read`, `append`, `sync`
-   and `cut`, and `folder` is the sync of another file: each may `fail`, or `wait` until the pipe GATE was opened and closed. A `reply` accepts a
-   Write, and may come `ahead`, as if of the Write behind that, or `bad`, as no frame. */
+   and `cut`, and `folder` is the sync of another file: each may `fail`, or `wait` until the pipe GATE was opened and closed. So may a `tell`, a write
+   to the standard output, of which `tell 0 short` has each take one byte. A `reply` accepts a Write, and may come `ahead`, as if of the Write
+   behind that, or `bad`, as no frame. */
 #define _GNU_SOURCE
 #include <dlfcn.h>
 #include <errno.h>
@@ -26,7 +27,7 @@
 static int calls = -1;
 static const char *meddle = "", *gate = "";
 static char is_journal[FILES];
-static atomic_int reads, appends, syncs, cuts, folders, replies;
+static atomic_int reads, appends, syncs, cuts, folders, replies, tells;
 
 #define REAL(name) ((__typeof__(&name))dlsym(RTLD_NEXT, #name))
 
@@ -98,23 +99,24 @@ int open(const char *name, int flags, ...) {
     return opened(REAL(open)(name, flags, mode), name);
 }
 
-int open64(const char *name, int flags, ...) {
-    va_list more;
-    int mode;
-    va_start(more, flags);
-    mode = va_arg(more, int);
-    va_end(more);
-    return opened(REAL(open64)(name, flags, mode), name);
-}
+/* Where offsets have 64 bits in any case, it is the same call. */
+int open64(const char *name, int flags, ...) __attribute__((alias("open")));
 
 ssize_t read(int file, void *bytes, size_t size) {
     return in_journal(file) && fails("read", &reads) ? -1 : REAL(read)(file, bytes, size);
 }
 
+static ssize_t tell(const void *bytes, size_t size) {
+    note("tell %zu\n", size);
+    if (fails("tell", &tells))
+        return -1;
+    return REAL(write)(1, bytes, size && strstr(meddle, "tell 0 short ") ? 1 : size);
+}
+
 ssize_t write(int file, const void *bytes, size_t size) {
     ssize_t count;
     if (file == 1)
-        note("tell %zu\n", size);
+        return tell(bytes, size);
     if (!in_journal(file))
         return REAL(write)(file, bytes, size);
     if (fails("append", &appends))

@@ -13,6 +13,7 @@ import net_faults
 import net_kill
 import net_long
 import net_memory
+import net_output
 import net_runs
 import net_script
 import net_told
@@ -145,7 +146,7 @@ def groups_of(folder, number):
     groups = [meets, helps, goes_on]
     groups += [net_faults.folders, net_faults.journals, net_faults.torn, net_faults.held, net_faults.at_once, net_faults.places, net_faults.files]
     groups += [net_verdicts.of_journals, net_verdicts.of_replies, net_verdicts.surveys, net_waits.phases, net_waits.short, net_waits.down]
-    groups += [net_calls.connections, net_calls.batches, net_calls.all_sessions]
+    groups += [net_output.bytes_told, net_calls.connections, net_calls.batches, net_calls.all_sessions]
     groups += [net_device.reads, net_device.starts, net_device.writes, net_device.power, net_memory.memory, net_long.long_phase]
     by_name = {group.__name__: group for group in groups}
     by_name["examples"] = lambda *given: examples(*given, folder)

@@ -9,7 +9,7 @@ mod progress;
 use bayou_print::{Ended, RunFault};
 use bayou_script::NetworkScript;
 use bayou_shell::{Files, Networks, refuse_words, run_main, run_taken};
-use bayou_streams::{Channel, Output};
+use bayou_streams::{CountedChannel, Output};
 use progress::{Counted, Screen, tell_progress};
 use std::alloc::Global;
 use std::fs::File;
@@ -33,7 +33,7 @@ struct Taken {
 struct Host<'a, T> {
     rt: &'a T,
     /// The file that was read.
-    file: Option<Channel<File, ()>>,
+    file: Option<CountedChannel<File, ()>>,
     taken: Option<Taken>,
 }
 
@@ -50,7 +50,7 @@ impl<T: fs::Files<File = File>> Files for Host<'_, T> {
 
     ghost kept = { λ host has_failed turns_left. IfSome host.file (λ file. (has_failed ≡ file.read_failed) × (turns_left ≡ file.turns_left)) };
 
-    fn keep(&mut self, file: Channel<File, ()>)
+    fn keep(&mut self, file: CountedChannel<File, ()>)
         ensures { IfSome self.new.file (λ kept. (file.read_failed ≡ kept.read_failed) × (file.turns_left ≡ kept.turns_left)) }
     {
         self.file = Some(file);
@@ -113,7 +113,7 @@ fn run<
     };
     let mut output = Output::new(Counted::new(output, rt, screen));
     let mut errors = Output::new(Counted::new(errors, rt, screen));
-    let mut input = Channel::new(input, ());
+    let mut input = CountedChannel::new(input, ());
     let status = run_main(
         alloc,
         words,

@@ -53,26 +53,26 @@ exact_with_entry book entry exact out =
           omega (arith, length-append book.entries (entry ∷ []));
     }
 
-pub exact_filed : (old : Booked) (entry : Entry) (shares places : ℕ) (entries after : List Entry) (between totals : Totals)
+pub exact_filed : (old : Booked) (entry : Entry) (shares capacity : ℕ) (entries after : List Entry) (between totals : Totals)
     → IsExact old → 0 < old.totals.slips
-    → record { shares = shares; places = places; entries = entries; totals = between } ≡ with_void old
+    → record { shares = shares; capacity = capacity; entries = entries; totals = between } ≡ with_void old
     → after ≡ entries ++ entry ∷ [] → totals ≡ counted entry.what between
-    → IsExact (record { shares = shares; places = places; entries = after; totals = totals })
-exact_filed old entry shares places entries after between totals exact out is more counts =
+    → IsExact (record { shares = shares; capacity = capacity; entries = after; totals = totals })
+exact_filed old entry shares capacity entries after between totals exact out is more counts =
     subst IsExact
-    (sym (ap (λ (b : Booked). record { shares = b.shares; places = b.places; entries = b.entries ++ entry ∷ []; totals = counted entry.what b.totals }) is)
-    ∙ sym (ap (λ list. record { shares = shares; places = places; entries = list; totals = counted entry.what between }) more)
-    ∙ sym (ap (λ now. record { shares = shares; places = places; entries = after; totals = now }) counts))
+    (sym (ap (λ (b : Booked). record { shares = b.shares; capacity = b.capacity; entries = b.entries ++ entry ∷ []; totals = counted entry.what b.totals }) is)
+    ∙ sym (ap (λ list. record { shares = shares; capacity = capacity; entries = list; totals = counted entry.what between }) more)
+    ∙ sym (ap (λ now. record { shares = shares; capacity = capacity; entries = after; totals = now }) counts))
     (exact_with_entry old entry exact out)
 
--- where a slip was out, one entry more can be counted, and there is a place for it
-pub has_room : (old : Booked) (shares places : ℕ) (entries : List Entry) (between : Totals)
-    → IsExact old → 0 < old.totals.slips → places < 2 ^ 64
-    → record { shares = shares; places = places; entries = entries; totals = between } ≡ with_void old
-    → HasRoom between × (length entries < places)
-has_room old shares places entries between exact out fits is =
+-- where a slip was out, one entry more can be counted, and there is room for it
+pub has_room : (old : Booked) (shares capacity : ℕ) (entries : List Entry) (between : Totals)
+    → IsExact old → 0 < old.totals.slips → capacity < 2 ^ 64
+    → record { shares = shares; capacity = capacity; entries = entries; totals = between } ≡ with_void old
+    → HasRoom between × (length entries < capacity)
+has_room old shares capacity entries between exact out fits is =
     let same_entries = ap (λ (b : Booked). b.entries) is in
-    let same_places = ap (λ (b : Booked). b.places) is in
+    let same_capacity = ap (λ (b : Booked). b.capacity) is in
     let same_totals = ap (λ (b : Booked). b.totals) is in
     let as_long = ap length same_entries in
     let room = exact.room in (

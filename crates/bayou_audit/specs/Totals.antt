@@ -7,10 +7,10 @@ use Rattle.bayou_base.specs.declared.entry.What.TheVariants as whats
 use Rattle.bayou_base.specs.declared.session.SessionId.{SessionId}
 use Rattle.bayou_audit.specs.declared.totals.Totals.{Totals}
 
--- A book: how many shares were made of it, how many places it has, what was filed, in that order, and its totals.
+-- A book: how many shares were made of it, how many entries it may have, what was filed, in that order, and its totals.
 pub record Booked : Type 0 where
   pub shares : ℕ
-  pub places : ℕ
+  pub capacity : ℕ
   pub entries : List Entry
   pub totals : Totals
 
@@ -59,13 +59,13 @@ is_refusal whats.Refused = true
 abbrev pub number_of : (What → Bool) → List Entry → ℕ
 number_of is_kind entries = length (filter (λ entry. is_kind entry.what) entries)
 
--- The totals are exact: those of reads, Writes and refusals are the numbers of such entries, and each slip that is out has a
--- place that no entry has.
+-- The totals are exact: those of reads, Writes and refusals are the numbers of such entries, and each slip that is out has
+-- room that no entry has.
 pub record IsExact (book : Booked) : Type 0 where
   pub reads : book.totals.reads ≡ number_of is_read book.entries
   pub writes : book.totals.writes ≡ number_of is_write book.entries
   pub refusals : book.totals.refusals ≡ number_of is_refusal book.entries
-  pub room : length book.entries + book.totals.slips ≤ book.places
+  pub room : length book.entries + book.totals.slips ≤ book.capacity
 
 -- the two, added
 abbrev pub added : Totals → Totals → Totals
@@ -98,8 +98,8 @@ abbrev pub with_slip_spent : Shared → Shared
 with_slip_spent share = record share { totals = without_slip share.totals }
 
 -- a book as it was made
-abbrev pub new_book : (shares places : ℕ) → Booked
-new_book shares places = record { shares = shares; places = places; entries = []; totals = no_totals }
+abbrev pub new_book : (shares capacity : ℕ) → Booked
+new_book shares capacity = record { shares = shares; capacity = capacity; entries = []; totals = no_totals }
 
 -- one share for each of the first so many sessions, in their order, and nothing counted yet
 pub record AreNewShares (number : ℕ) (shares : List Shared) : Type 0 where

@@ -14,16 +14,16 @@ use bayou_base::{Entry, SESSIONS, SessionId, What};
 use std::alloc::{AllocError, Global};
 use std::marker::{Model, PhantomData};
 
-/// Why no slip is handed out: entries and slips that are out fill the places.
+/// Why no slip is handed out: entries and slips that are out fill the book.
 #[derive(Clone, Copy, Debug, PartialEq, Eq)]
 pub struct Full;
 
-/// The book of what was served. All its places are reserved as it is made.
+/// The book of what was served. All its room is reserved as it is made.
 #[derive(Drop)]
 pub struct Book<K: Ledgers> {
     // How many shares were made.
     shares: usize,
-    places: usize,
+    capacity: usize,
     entries: Vec<Entry>,
     totals: Tallies<K>,
     // No part of the ledgers, to which those of the shares are put in the end.
@@ -36,10 +36,10 @@ impl<K: Ledgers> Model for Book<K> {
 
     ghost Value = { Booked };
 
-    ghost view = { λ b. record { shares = b.shares; places = b.places; entries = b.entries.items; totals = b.totals } };
+    ghost view = { λ b. record { shares = b.shares; capacity = b.capacity; entries = b.entries.items; totals = b.totals } };
 
-    ghost invariant = { λ b. IsExact (record { shares = b.shares; places = b.places; entries = b.entries.items; totals = b.totals })
-        × (b.places ≤ vec_capacity b.entries) × (b.shares ≡ K.Slips.parts) × (b.shares ≡ K.Reads.parts) × (b.shares ≡ K.Writes.parts) × (b.shares ≡ K.Refusals.parts)
+    ghost invariant = { λ b. IsExact (record { shares = b.shares; capacity = b.capacity; entries = b.entries.items; totals = b.totals })
+        × (b.capacity ≤ vec_capacity b.entries) × (b.shares ≡ K.Slips.parts) × (b.shares ≡ K.Reads.parts) × (b.shares ≡ K.Writes.parts) × (b.shares ≡ K.Refusals.parts)
         × (b.rest.parts ≡ 0) × (b.rest.totals ≡ no_totals) };
 }
 
@@ -102,16 +102,16 @@ fn gather<K: Ledgers>(rest: Parts<K>, shares: Vec<Share<K>>) -> Parts<K>
 }
 
 impl<K: Ledgers> Book<K> {
-    /// A book with so many places, and a share of it for each of the first so many sessions, in their order.
+    /// A book of this capacity, and a share of it for each of the first so many sessions, in their order.
     pub fn new(
         alloc: Global,
         blanks: Blanks,
         shares: u8,
-        places: usize,
+        capacity: usize,
     ) -> Result<(Self, Vec<Share<K>>), AllocError>
         requires blanks { AreBlanksOf blanks (named K.Slips.name K.Slips.parts) (named K.Reads.name K.Reads.parts) (named K.Writes.name K.Writes.parts) (named K.Refusals.name K.Refusals.parts) shares }
         requires some { (0 < shares) × (shares ≤ SESSIONS) }
-        ensures book { IfOk result (λ made. made.0 ≡ new_book shares places) }
+        ensures book { IfOk result (λ made. made.0 ≡ new_book shares capacity) }
         ensures shares { IfOk result (λ made. AreNewShares shares made.1.items) }
     {
         let Blanks {
@@ -133,23 +133,23 @@ impl<K: Ledgers> Book<K> {
         let (rest, made) = share_out(alloc, all, shares)?;
         let book = Book {
             shares: usize::from(shares),
-            places,
-            entries: Vec::with_capacity(alloc, places)?,
+            capacity,
+            entries: Vec::with_capacity(alloc, capacity)?,
             totals: Tallies::new(slips, reads, writes, refusals),
             rest,
         };
         Ok((book, made))
     }
 
-    /// Hands out a slip to the session of the share, and keeps a place for its entry.
+    /// Hands out a slip to the session of the share, and keeps room for its entry.
     pub fn claim(&mut self, share: &mut Share<K>) -> Result<Slip<K>, Full>
-        ensures full { IsErr result ↔ (length self.old.entries + self.old.totals.slips ≡ self.old.places) }
+        ensures full { IsErr result ↔ (length self.old.entries + self.old.totals.slips ≡ self.old.capacity) }
         ensures claimed { MatchResult result
             (λ slip. (slip ≡ share.old.session) × (self.new ≡ with_claim self.old) × (share.new ≡ with_slip_out share.old))
             (λ _. (self.new ≡ self.old) × (share.new ≡ share.old)) }
         ensures exact { IsExact self.old × IsExact self.new }
     {
-        if self.entries.len() + self.totals.totals().slips >= self.places {
+        if self.entries.len() + self.totals.totals().slips >= self.capacity {
             return Err(Full);
         }
         self.totals.bound(&mut share.parts);

@@ -1,9 +1,9 @@
 //! The book of what was served: who audits a system of servers and sessions needs a list of every operation that was served
 //! or refused, which holds each once and nothing else, also where many sessions file at once.
 //!
-//! Callers see a [`Book`] as a `Booked`: how many shares were made of it, how many places it has, its entries in the order in
+//! Callers see a [`Book`] as a `Booked`: how many shares were made of it, how many entries it may have, its entries in the order in
 //! which they were filed, and its [`Totals`]; and a [`Share`] as its session with what that session has a part in of each
-//! total. An operation begins with [`Book::claim`], which takes a place for its entry and hands out a [`Slip`]; a slip is no
+//! total. An operation begins with [`Book::claim`], which keeps room for its entry and hands out a [`Slip`]; a slip is no
 //! value that can be forgotten: it is spent by [`Book::file`], with the entry, or by [`Book::void`]. The totals are the sums of
 //! the shares, and those of reads, Writes and refusals are the numbers of such entries; a [`Ledger`](std::sync::ledger::Ledger)
 //! for each of the four, which a [`Ledgers`] names, carries this across threads. An [`AuditBook`] is a book behind its lock, to

@@ -20,18 +20,18 @@ pub struct AuditBook<K: Ledgers> {
 }
 
 impl<K: Ledgers> AuditBook<K> {
-    /// A book with so many places, and a share of it for each of the first so many sessions, in their order.
+    /// A book of this capacity, and a share of it for each of the first so many sessions, in their order.
     pub fn new(
         alloc: Global,
         blanks: Blanks,
         shares: u8,
-        places: usize,
+        capacity: usize,
     ) -> Result<(Self, Vec<Share<K>>), AllocError>
         requires blanks { AreBlanksOf blanks (named K.Slips.name K.Slips.parts) (named K.Reads.name K.Reads.parts) (named K.Writes.name K.Writes.parts) (named K.Refusals.name K.Refusals.parts) shares }
         requires some { (0 < shares) × (shares ≤ SESSIONS) }
         ensures { IfOk result (λ made. AreNewShares shares made.1.items) }
     {
-        let (book, made) = Book::new(alloc, blanks, shares, places)?;
+        let (book, made) = Book::new(alloc, blanks, shares, capacity)?;
         Ok((
             AuditBook {
                 book: Mutex::new(book),

@@ -90,7 +90,7 @@ impl<K: Ledgers> Share<K> {
     }
 }
 
-/// A place in the book for the entry of one operation of this session. It can't be forgotten: it is spent by `file` or `void`.
+/// Room in the book for the entry of one operation of this session. It can't be forgotten: it is spent by `file` or `void`.
 pub struct Slip<K: Ledgers> {
     pub(crate) session: SessionId,
     pub(crate) marker: PhantomData<K>,

@@ -63,6 +63,12 @@ pub const MAX_PLACES: u32 = u32::MAX;
 /// How many bytes one turn reads at the most.
 pub const READ_BYTES: usize = 8_192;
 
+/// How many bytes of an answer in memory are taken at once: those of their Writes that come late are applied once.
+pub const PULL_BYTES: usize = 65_536;
+
+/// How many Writes a node takes at the most before its lock is free again: each is synced under the lock.
+pub const TAKES_AT_ONCE: u32 = 64;
+
 /// How many bytes of lines are written at once at the most, but for a line that is longer.
 pub const PIECE_BYTES: usize = 65_536;
 

@@ -8,13 +8,13 @@ use std::process::Abort;
 use std::str;
 
 /// The file that a script prints of which a session wrote at one server and read at another.
-const FIRST: &str = r#"["servers",2]
+pub const FIRST: &str = r#"["servers",2]
 ["entry",0,1,[],0,"write",1,1,[0,0]]
 ["entry",0,2,[],1,"read","room",[0,0]]
 ["held",0,[0,1,1,[0,0],{"check":[],"merge":[],"update":[["put","room",1]]}]]
 "#;
 
-const FIRST_PRINTED: &str = "clean\nsurvey 0 ryw broken 1 2 1 0:1 mr ok wfr ok mw ok\n";
+pub const FIRST_PRINTED: &str = "clean\nsurvey 0 ryw broken 1 2 1 0:1 mr ok wfr ok mw ok\n";
 
 /// Audit files, as cases of which the script is the file.
 static AUDITS: [Case; 14] = [

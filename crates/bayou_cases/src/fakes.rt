@@ -4,7 +4,7 @@ ghost use Rattle.std.specs.Prelude.{ℕ, List};
 use bayou_print::{Ended, RunFault};
 use bayou_script::NetworkScript;
 use bayou_shell::{Files, Networks};
-use bayou_streams::{Channel, Output};
+use bayou_streams::{CountedChannel, Output};
 use std::alloc::Global;
 use std::io;
 use std::io::{ErrorKind, Read, Write};
@@ -40,7 +40,7 @@ impl<'a> Files for FakeFiles<'a> {
 
     ghost kept = { λ files has_failed turns_left. Unit {0} };
 
-    fn keep(&mut self, _file: Channel<FakeReader<'a>, ()>)
+    fn keep(&mut self, _file: CountedChannel<FakeReader<'a>, ()>)
         ensures { Unit {0} }
     {}
 }

@@ -10,6 +10,8 @@ mod fakes;
 #[cfg(test)]
 mod faults;
 #[cfg(test)]
+mod lacks;
+#[cfg(test)]
 mod memory;
 #[cfg(test)]
 mod nets;

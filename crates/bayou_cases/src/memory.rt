@@ -1,7 +1,7 @@
 //! The program over memory.
 use crate::fakes::FakeFiles;
 use bayou_shell::run_main;
-use bayou_streams::{Channel, Output};
+use bayou_streams::{CountedChannel, Output};
 use std::alloc::Global;
 use std::process::Abort;
 
@@ -47,7 +47,7 @@ pub fn call_on(
         alloc,
         words,
         files,
-        &mut Channel::new(&mut reader, ()),
+        &mut CountedChannel::new(&mut reader, ()),
         &mut Output::new(&mut output),
         &mut Output::new(&mut errors),
     );

@@ -248,7 +248,12 @@ static CASES: [Case; 15] = [
     },
 ];
 
+/// The one function that names the table: each that does is checked over all of its bytes.
+pub fn worked() -> &'static [Case] {
+    &CASES
+}
+
 #[test]
 fn worked_scripts_of_pulls(rt: HostRuntime) {
-    are_answered(&rt, rt.alloc(), &CASES);
+    are_answered(&rt, rt.alloc(), worked());
 }

@@ -2,7 +2,6 @@
 use crate::memory::{Given, must_hold, run};
 use std::alloc::Global;
 use std::process::Abort;
-use std::str;
 
 pub struct Case {
     pub name: &'static str,
@@ -365,7 +364,7 @@ static CASES: [Case; 35] = [
 ];
 
 /// The one function that names the table: each that does is checked over all of its bytes.
-fn worked() -> &'static [Case] {
+pub fn worked() -> &'static [Case] {
     &CASES
 }
 
@@ -375,41 +374,6 @@ impl Case {
         given.output.as_slice() == self.output.as_bytes()
             && given.errors.as_slice() == self.fault.as_bytes()
             && given.status == self.status
-    }
-
-    /// Whether it ended for want of memory, behind a front of what it prints, or because a device found none as a server was
-    /// started on it.
-    fn has_ended(&self, given: &Given) -> bool {
-        let for_memory = given.errors.as_slice() == b"bayou: memory\n".as_slice();
-        let for_device = given.errors.as_slice() == b"bayou: device\n".as_slice();
-        self.output.as_bytes().starts_with(given.output.as_slice())
-            && (for_memory || for_device && given.output.is_empty())
-            && given.status == 3
-    }
-
-    /// Whether it ran to its end, told this where with memory enough it tells what begins so, and behind that none of these words.
-    fn has_instead(&self, given: &Given, told: &str, instead_of: &str, no_more: &str) -> bool {
-        let Ok(output) = str::from_utf8(given.output.as_slice()) else {
-            return false;
-        };
-        let Some((front, rest)) = output.split_once(told) else {
-            return false;
-        };
-        let Some(instead) = self.output.strip_prefix(front) else {
-            return false;
-        };
-        instead.starts_with(instead_of)
-            && !rest.contains(no_more)
-            && given.errors.is_empty()
-            && given.status == 0
-    }
-
-    /// Whether a Write was refused for want of memory, or a pull ended for it: the server's, or the device's, after which it is down.
-    fn has_lacked(&self, given: &Given) -> bool {
-        self.has_instead(given, " refused memory\n", " wrote ", "memory")
-            || self.has_instead(given, " refused journal\n", " wrote ", " wrote ")
-            || self.has_instead(given, "pull fault memory\n", "pulled ", "memory")
-            || self.has_instead(given, "pull fault journal\n", "pulled ", "memory")
     }
 }
 
@@ -428,23 +392,4 @@ pub fn are_answered(rt: &impl Abort, alloc: Global, cases: &[Case]) {
 #[test]
 fn worked_scripts(rt: HostRuntime) {
     are_answered(&rt, rt.alloc(), worked());
-}
-
-/// This is for runs in which any one allocation is refused: the case is answered as ever, or ends for want of memory, or
-/// has a Write refused for it, or a pull that ends for it.
-fn ends_well(rt: &impl Abort, alloc: Global, case: &Case) -> bool {
-    let given = run(rt, alloc, case.script.as_bytes());
-    case.is_whole(&given) || case.has_ended(&given) || case.has_lacked(&given)
-}
-
-/// Each case ends so.
-fn all_end_well(rt: &impl Abort, alloc: Global, cases: &[Case]) {
-    for case in cases {
-        must_hold(rt, ends_well(rt, alloc, case), case.name);
-    }
-}
-
-#[test]
-fn want_of_memory_over_the_worked_scripts(rt: HostRuntime) {
-    all_end_well(&rt, rt.alloc(), worked());
 }

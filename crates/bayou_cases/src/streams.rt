@@ -1,8 +1,9 @@
 //! The program over readers and writers that are slow, fail, or never end.
+use crate::audits::{FIRST, FIRST_PRINTED};
 use crate::fakes::{FakeFiles, FakeReader, FakeWriter, Pieces};
 use crate::memory::{must_be_so, must_hold, roomy};
 use bayou_shell::run_main;
-use bayou_streams::{Channel, Output};
+use bayou_streams::{CountedChannel, Output};
 use std::alloc::Global;
 use std::process::Abort;
 
@@ -11,12 +12,51 @@ const SCRIPT: &str =
 
 const PRINTED: &str = "0 read x none at 0\n0 read y none at 0\n";
 
+/// A call of the program, the text that it reads, and how it ends.
+struct Work {
+    words: &'static [&'static str],
+    text: &'static str,
+    printed: &'static str,
+    told: &'static str,
+    status: u8,
+}
+
+/// A script, an audit file, and a script for a network that isn't there.
+static WORKS: [Work; 3] = [
+    Work {
+        words: &["bayou", "run"],
+        text: SCRIPT,
+        printed: PRINTED,
+        told: "",
+        status: 0,
+    },
+    Work {
+        words: &["bayou", "audit", "-"],
+        text: FIRST,
+        printed: FIRST_PRINTED,
+        told: "",
+        status: 0,
+    },
+    Work {
+        words: &["bayou", "net", "--dir", "folder"],
+        text: "[\"servers\",2]\n[\"session\",0,[]]\n[\"phase\"]\n[\"log\",1]\n",
+        printed: "",
+        told: "bayou: network\n",
+        status: 3,
+    },
+];
+
+/// The one function that names the table: each that does is checked over all of its bytes.
+fn works() -> &'static [Work] {
+    &WORKS
+}
+
 /// How often a reader or a writer is interrupted that always is.
 const ALWAYS: u64 = u64::MAX;
 
-fn reader_of(pace: u64, fails_at: u64) -> FakeReader<'static> {
+fn reader_of(text: &str, pace: u64, fails_at: u64) -> FakeReader<'_> {
     FakeReader {
-        bytes: SCRIPT.as_bytes(),
+        bytes: text.as_bytes(),
         is_endless: false,
         pace,
         fails_at,
@@ -34,34 +74,35 @@ fn writer_of(rt: &impl Abort, alloc: Global, pace: u64, fails_at: u64) -> FakeWr
     }
 }
 
-/// Runs the program: the status that it ends with.
+/// Calls the program: the status that it ends with.
 fn run(
     alloc: Global,
+    words: &[&str],
     reader: &mut FakeReader<'_>,
     writer: &mut FakeWriter,
     errors: &mut FakeWriter,
 ) -> u8 {
     run_main(
         alloc,
-        &["bayou", "run"],
+        words,
         &mut FakeFiles {
             files: &[],
             fails_at: 0,
         },
-        &mut Channel::new(reader, ()),
+        &mut CountedChannel::new(reader, ()),
         &mut Output::new(writer),
         &mut Output::new(errors),
     )
 }
 
-/// Whether a run whose reader fails at this call, of so many, tells it, and prints nothing; or prints all where it doesn't come to it.
-fn ends_at_read(rt: &impl Abort, alloc: Global, fails_at: u64, calls: u64) -> bool {
-    let mut reader = reader_of(2, fails_at);
+/// Whether a call whose reader fails at this call, of so many, tells it, and prints nothing; or ends as ever where it doesn't come to it.
+fn ends_at_read(rt: &impl Abort, alloc: Global, work: &Work, fails_at: u64, calls: u64) -> bool {
+    let mut reader = reader_of(work.text, 2, fails_at);
     let mut writer = writer_of(rt, alloc, 1, 0);
     let mut errors = writer_of(rt, alloc, 1, 0);
-    let status = run(alloc, &mut reader, &mut writer, &mut errors);
+    let status = run(alloc, work.words, &mut reader, &mut writer, &mut errors);
     let (wanted, printed, told) = if fails_at > calls {
-        (0, PRINTED, "")
+        (work.status, work.printed, work.told)
     } else {
         (3, "", "bayou: input\n")
     };
@@ -72,46 +113,52 @@ fn ends_at_read(rt: &impl Abort, alloc: Global, fails_at: u64, calls: u64) -> bo
 }
 
 /// Each call of a reader failing, in turn: the fault is told, and nothing is printed. The last doesn't come to it.
-#[test]
-fn readers(rt: HostRuntime) {
-    let calls = 2 * SCRIPT.len() as u64 + 2;
-    for fails_at in 1..calls + 2 {
-        must_be_so(
-            &rt,
-            ends_at_read(&rt, rt.alloc(), fails_at, calls),
-            fails_at,
-        );
+fn each_read_fails(rt: &impl Abort, alloc: Global, work: &Work) {
+    let calls = (work.text.len() as u64).saturating_mul(2).saturating_add(2);
+    for fails_at in 1..calls.saturating_add(2) {
+        let is_so = ends_at_read(rt, alloc, work, fails_at, calls);
+        must_be_so(rt, is_so, fails_at);
     }
 }
 
-/// Whether a run whose writer fails at this call, of so many, tells it behind what was taken; or prints all where it doesn't come to it.
-fn ends_at_write(rt: &impl Abort, alloc: Global, fails_at: u64, calls: u64) -> bool {
-    let mut reader = reader_of(1, 0);
+#[test]
+fn readers(rt: HostRuntime) {
+    for work in works() {
+        each_read_fails(&rt, rt.alloc(), work);
+    }
+}
+
+/// Whether a call whose writer fails at this call, of so many, tells it behind what was taken; or ends as ever where it doesn't come to it.
+fn ends_at_write(rt: &impl Abort, alloc: Global, work: &Work, fails_at: u64, calls: u64) -> bool {
+    let mut reader = reader_of(work.text, 1, 0);
     let mut writer = writer_of(rt, alloc, 2, fails_at);
     let mut errors = writer_of(rt, alloc, 1, 0);
-    let status = run(alloc, &mut reader, &mut writer, &mut errors);
+    let status = run(alloc, work.words, &mut reader, &mut writer, &mut errors);
     let (wanted, told) = if fails_at > calls {
-        (0, "")
+        (work.status, work.told)
     } else {
         (3, "bayou: output\n")
     };
     status == wanted
         && errors.bytes.as_slice() == told.as_bytes()
-        && PRINTED.as_bytes().starts_with(&writer.bytes)
+        && work.printed.as_bytes().starts_with(&writer.bytes)
         && writer.bytes.len() as u64 == fails_at.saturating_sub(1) / 2
         && writer.calls == fails_at.min(calls)
 }
 
 /// Each call of a writer failing, in turn: the fault is told behind what was taken. The last doesn't come to it.
+fn each_write_fails(rt: &impl Abort, alloc: Global, work: &Work) {
+    let calls = (work.printed.len() as u64).saturating_mul(2);
+    for fails_at in 1..calls.saturating_add(2) {
+        let is_so = ends_at_write(rt, alloc, work, fails_at, calls);
+        must_be_so(rt, is_so, fails_at);
+    }
+}
+
 #[test]
 fn writers(rt: HostRuntime) {
-    let calls = 2 * PRINTED.len() as u64;
-    for fails_at in 1..calls + 2 {
-        must_be_so(
-            &rt,
-            ends_at_write(&rt, rt.alloc(), fails_at, calls),
-            fails_at,
-        );
+    for work in works() {
+        each_write_fails(&rt, rt.alloc(), work);
     }
 }
 
@@ -216,13 +263,19 @@ static ENDLESS: [Endless; 9] = [
 
 /// Whether the run ends so. Streams without an end are given up after 1,000,000 calls: a writer's for each line.
 fn ends_so(rt: &impl Abort, alloc: Global, case: &Endless) -> bool {
-    let mut reader = reader_of(case.reader.1, 0);
+    let mut reader = reader_of(SCRIPT, case.reader.1, 0);
     reader.is_endless = case.reader.0;
     let mut writer = writer_of(rt, alloc, case.writer.1, 0);
     writer.is_full = case.writer.0;
     let mut errors = writer_of(rt, alloc, 1, 0);
     errors.is_full = case.is_mute;
-    let status = run(alloc, &mut reader, &mut writer, &mut errors);
+    let status = run(
+        alloc,
+        &["bayou", "run"],
+        &mut reader,
+        &mut writer,
+        &mut errors,
+    );
     status == case.status
         && errors.bytes.as_slice() == case.told.as_bytes()
         && reader.calls == case.calls.0
@@ -263,7 +316,7 @@ fn run_pieces(alloc: Global, script: &[u8], writer: &mut Pieces, errors: &mut Ve
             files: &[],
             fails_at: 0,
         },
-        &mut Channel::new(&mut reader, ()),
+        &mut CountedChannel::new(&mut reader, ()),
         &mut Output::new(writer),
         &mut Output::new(errors),
     )
@@ -321,7 +374,13 @@ fn is_refused(rt: &impl Abort, alloc: Global, script: &[u8], told: &str, calls: 
     };
     let mut writer = writer_of(rt, alloc, 1, 0);
     let mut errors = writer_of(rt, alloc, 1, 0);
-    let status = run(alloc, &mut reader, &mut writer, &mut errors);
+    let status = run(
+        alloc,
+        &["bayou", "run"],
+        &mut reader,
+        &mut writer,
+        &mut errors,
+    );
     status == 2
         && errors.bytes.as_slice() == told.as_bytes()
         && writer.bytes.is_empty()

@@ -9,13 +9,13 @@ use Rattle.bayou_client.specs.Exchange.{Asks, IsGone, Judges, LinkEnds}
 use Rattle.bayou_client.specs.Inner.Exchanging.{Exchanges, Opens}
 use Rattle.bayou_client.specs.Inner.Faults.{told_fault}
 use Rattle.bayou_client.specs.Inner.Taking.{ReplyRead}
-use Rattle.bayou_frames.specs.declared.fault.Fault.{Fault}
-use Rattle.bayou_frames.specs.declared.fault.Fault.TheVariants as faults
+use Rattle.bayou_frames.specs.declared.fault.ChannelFault.{ChannelFault}
+use Rattle.bayou_frames.specs.declared.fault.ChannelFault.TheVariants as faults
 use Rattle.bayou_frames.specs.Stopping.{IsSendFault, Stops}
 use Rattle.bayou_streams.specs.Written.{AppendsFront}
 
 -- the request wasn't sent whole
-pub unsent : (many : Bool) (request : List ℕ) (before after : Option (List ℕ)) (was : Bool) (read_failed write_failed : Bool) (turns_left : ℕ) (is_end : Type 0) (fault : Fault) → was ≡ false
+pub unsent : (many : Bool) (request : List ℕ) (before after : Option (List ℕ)) (was : Bool) (read_failed write_failed : Bool) (turns_left : ℕ) (is_end : Type 0) (fault : ChannelFault) → was ≡ false
     → IsSendFault fault → fault ≢ faults.OutOfMemory → Stops read_failed write_failed turns_left fault → AppendsFront before after request
     → Exchanges many request before after [] was true (IsGone read_failed write_failed turns_left is_end) (Err (told_fault fault))
 unsent many request before after was rf wf turns is_end faults.Read was_open is some stops front = absurd is
@@ -26,7 +26,7 @@ unsent many request before after was rf wf turns is_end faults.TooManyTurns was_
 unsent many request before after was rf wf turns is_end faults.OutOfMemory was_open is some stops front = absurd (some refl)
 
 -- the request was sent, and no whole reply came
-pub unheard : (many : Bool) (request : List ℕ) (before after : Option (List ℕ)) (read : List ℕ) (was : Bool) (read_failed write_failed : Bool) (turns_left : ℕ) (is_end : Type 0) (fault : Fault) → was ≡ false
+pub unheard : (many : Bool) (request : List ℕ) (before after : Option (List ℕ)) (read : List ℕ) (was : Bool) (read_failed write_failed : Bool) (turns_left : ℕ) (is_end : Type 0) (fault : ChannelFault) → was ≡ false
     → ReplyRead many read is_end (Err fault) → Stops read_failed write_failed turns_left fault → Appends before after request
     → Exchanges many request before after read was true (IsGone read_failed write_failed turns_left is_end) (Err (told_fault fault))
 unheard many request before after read was rf wf turns is_end faults.Read was_open less stops sent = (refl, inr (was_open, inl stops, inr (sent, less)))

@@ -4,21 +4,21 @@ use Rattle.std.specs.List.{AllByRecursion}
 use Rattle.std.specs.Bool.{IsTrue}
 use Rattle.std.proofs.lemmas.List.{append-nil, length-append}
 use Rattle.std.proofs.lemmas.Grind.{flat_map-append}
-use Rattle.bayou_client.specs.Inner.Taking.{Ends, ReplyRead, Takes}
+use Rattle.bayou_client.specs.Inner.Taking.{Ends, ReplyRead, TakesFrames}
 use Rattle.bayou_client.specs.Replies.{Begins, IsLast, IsNoReply, IsReply, IsUnfinished}
 use Rattle.bayou_lang.specs.declared.write.Write.{Write}
 use Rattle.bayou_lang.specs.Ranges.{IsWrite}
-use Rattle.bayou_frames.specs.declared.fault.Fault.{Fault}
-use Rattle.bayou_frames.specs.declared.fault.Fault.TheVariants as faults
+use Rattle.bayou_frames.specs.declared.fault.ChannelFault.{ChannelFault}
+use Rattle.bayou_frames.specs.declared.fault.ChannelFault.TheVariants as faults
 use Rattle.bayou_frames.specs.Framing.{IsReadFault}
 use Rattle.bayou_frames.specs.Spelled.{item_bytes}
-use Rattle.bayou_wire.specs.declared.fault.Fault.{Fault as BadBytes}
+use Rattle.bayou_wire.specs.declared.fault.DecodeFault.{DecodeFault}
 use Rattle.bayou_wire.specs.declared.frame.Frame.{Frame}
 use Rattle.bayou_wire.specs.declared.frame.Frame.TheVariants.{Item}
 use Rattle.std.specs.Int.{w16, to_be_bytes}
 use Rattle.bayou_wire.specs.Spelling.{IsFrame, kind_of, payload_bytes}
 use Rattle.bayou_wire.specs.Stream.{IsFaulty, IsPartial, spelling, spellings}
-use Rattle.bayou_frames.specs.Laws.Frames.{partial_not_faulty}
+use Rattle.bayou_wire.specs.Laws.Frames.{partial_not_faulty}
 
 -- ---- one Item more
 
@@ -66,19 +66,19 @@ nothing many = record { whole = refl; each = tt; few = λ _. refl }
 -- ---- where no reply stands
 
 -- nothing has no fault
-faulty_some : (bytes : List ℕ) (fault : BadBytes) → IsFaulty bytes fault → bytes ≢ []
+faulty_some : (bytes : List ℕ) (fault : DecodeFault) → IsFaulty bytes fault → bytes ≢ []
 faulty_some bytes fault faulty none = partial_not_faulty [] fault tt (subst (λ (s : List ℕ). IsFaulty s fault) none faulty)
 
 -- a fault behind the frames that came
-pub bad_behind : (many : Bool) (read behind : List ℕ) (writes : List Write) (last : Option Frame) (fault : BadBytes) → IsFaulty behind fault
-    → Takes many read behind writes (Ok last) → IsNoReply many read
+pub bad_behind : (many : Bool) (read behind : List ℕ) (writes : List Write) (last : Option Frame) (fault : DecodeFault) → IsFaulty behind fault
+    → TakesFrames many read behind writes (Ok last) → IsNoReply many read
 bad_behind many read behind writes None fault faulty takes = (writes, behind, takes, inl (fault, faulty))
 bad_behind many read behind writes (Some last) fault faulty takes =
     (writes, spelling last ++ behind, takes.0, inr (last, behind, takes.1, faulty_some behind fault faulty, refl))
 
 -- something behind the last frame
 pub more_behind : (many : Bool) (read behind : List ℕ) (writes : List Write) (last : Frame) → behind ≢ []
-    → Takes many read behind writes (Ok (Some last)) → IsNoReply many read
+    → TakesFrames many read behind writes (Ok (Some last)) → IsNoReply many read
 more_behind many read behind writes last some takes = (writes, spelling last ++ behind, takes.0, inr (last, behind, takes.1, some, refl))
 
 spelling_begins : (frame : Frame) (frames : List Frame) (behind : List ℕ) → spellings (frame ∷ frames) ++ behind ≡ spelling frame ++ (spellings frames ++ behind)
@@ -86,7 +86,7 @@ spelling_begins frame frames behind = append_assoc (spelling frame) (spellings f
 
 -- the last frame, with nothing behind it
 pub whole_reply : (many : Bool) (read behind : List ℕ) (writes : List Write) (last : Frame) → behind ≡ []
-    → Takes many read behind writes (Ok (Some last)) → IsReply many read writes last
+    → TakesFrames many read behind writes (Ok (Some last)) → IsReply many read writes last
 whole_reply many read behind writes last none takes = record {
   begins = rest_is many read writes (spelling last ++ behind) (spelling last) (ap (λ s. spelling last ++ s) none ∙ append-nil (spelling last)) takes.0;
   ends = takes.1;
@@ -95,7 +95,7 @@ whole_reply many read behind writes last none takes = record {
 -- ---- where reading ends
 
 -- a fault of what came ends it wherever the input is
-pub ends_anywhere : (many : Bool) (read : List ℕ) (is_end : Type 0) (fault : Fault) → Ends many read fault → ReplyRead many read is_end (Err fault)
+pub ends_anywhere : (many : Bool) (read : List ℕ) (is_end : Type 0) (fault : ChannelFault) → Ends many read fault → ReplyRead many read is_end (Err fault)
 ends_anywhere many read is_end faults.Read h = absurd h
 ends_anywhere many read is_end faults.Write h = absurd h
 ends_anywhere many read is_end faults.Cut h = absurd h
@@ -104,7 +104,7 @@ ends_anywhere many read is_end faults.TooManyTurns h = absurd h
 ends_anywhere many read is_end faults.OutOfMemory h = h
 
 -- what was read is less than a reply where a read failed
-pub fails_reading : (many : Bool) (read : List ℕ) (is_end : Type 0) (fault : Fault) → IsReadFault fault → IsUnfinished many read → ReplyRead many read is_end (Err fault)
+pub fails_reading : (many : Bool) (read : List ℕ) (is_end : Type 0) (fault : ChannelFault) → IsReadFault fault → IsUnfinished many read → ReplyRead many read is_end (Err fault)
 fails_reading many read is_end faults.Read is less = less
 fails_reading many read is_end faults.Write is less = is
 fails_reading many read is_end faults.Cut is less = absurd is
@@ -157,20 +157,20 @@ ended (f ∷ frames) (suc i) behind few = ended frames i behind (omega (arith, f
 
 -- what is held back isn't nothing: it stands behind the last frame
 pub not_between : (many : Bool) (read rest : List ℕ) (now : Option (List ℕ)) (writes : List Write) (last : Option Frame) (frame : Frame) → last ≡ Some frame → IsPartial rest × (now ≡ Some rest)
-    → (IsTrue false → now ≡ Some []) × (now ≡ Some [] → IsTrue false) → Takes many read rest writes (Ok last) → IsNoReply many read
+    → (IsTrue false → now ≡ Some []) × (now ≡ Some [] → IsTrue false) → TakesFrames many read rest writes (Ok last) → IsNoReply many read
 not_between many read rest now writes last frame is waits between takes =
     more_behind many read rest writes frame (λ none. let bad : false ≡ true = between.1 (waits.1 ∙ ap Some none) in cc)
-    (subst (λ (o : Option Frame). Takes many read rest writes (Ok o)) is takes)
+    (subst (λ (o : Option Frame). TakesFrames many read rest writes (Ok o)) is takes)
 
 same_held : (a b : List ℕ) → Some a ≡ Some b → a ≡ b
 same_held a b same = cc
 
 -- nothing is held back: the last frame ends what was read
 pub whole_at : (many : Bool) (read rest : List ℕ) (now : Option (List ℕ)) (writes : List Write) (last : Option Frame) (frame : Frame) → last ≡ Some frame → IsPartial rest × (now ≡ Some rest)
-    → now ≡ Some [] → Takes many read rest writes (Ok last) → IsReply many read writes frame
+    → now ≡ Some [] → TakesFrames many read rest writes (Ok last) → IsReply many read writes frame
 whole_at many read rest now writes last frame is waits between takes =
-    whole_reply many read rest writes frame (same_held rest [] (sym waits.1 ∙ between)) (subst (λ (o : Option Frame). Takes many read rest writes (Ok o)) is takes)
+    whole_reply many read rest writes frame (same_held rest [] (sym waits.1 ∙ between)) (subst (λ (o : Option Frame). TakesFrames many read rest writes (Ok o)) is takes)
 
 -- no last frame so far
-pub none_yet : (many : Bool) (read rest : List ℕ) (writes : List Write) (last : Option Frame) → last ≡ None → Takes many read rest writes (Ok last) → Begins many read writes rest
-none_yet many read rest writes last is takes = subst (λ (o : Option Frame). Takes many read rest writes (Ok o)) is takes
+pub none_yet : (many : Bool) (read rest : List ℕ) (writes : List Write) (last : Option Frame) → last ≡ None → TakesFrames many read rest writes (Ok last) → Begins many read writes rest
+none_yet many read rest writes last is takes = subst (λ (o : Option Frame). TakesFrames many read rest writes (Ok o)) is takes

@@ -4,7 +4,7 @@ use Rattle.std.specs.List.{AllByRecursion}
 use Rattle.bayou_lang.specs.declared.write.Write.{Write}
 use Rattle.bayou_lang.specs.Ranges.{IsWrite}
 use Rattle.bayou_frames.specs.Spelled.{item_bytes}
-use Rattle.bayou_wire.specs.declared.fault.Fault.{Fault as BadBytes}
+use Rattle.bayou_wire.specs.declared.fault.DecodeFault.{DecodeFault}
 use Rattle.bayou_wire.specs.declared.frame.Frame.{Frame}
 use Rattle.bayou_wire.specs.declared.frame.Frame.TheVariants.{Item}
 use Rattle.bayou_wire.specs.Spelling.{IsFrame}
@@ -32,5 +32,5 @@ IsUnfinished many bytes = (writes : List Write) × (rest : List ℕ) × IsPartia
 -- The bytes begin no reply, or more than one: a fault stands in a frame's place, or something behind the last frame.
 abbrev pub IsNoReply : Bool → List ℕ → Type 0
 IsNoReply many bytes = (writes : List Write) × (rest : List ℕ) × Begins many bytes writes rest
-    × (((fault : BadBytes) × IsFaulty rest fault)
+    × (((fault : DecodeFault) × IsFaulty rest fault)
     ⊎ ((last : Frame) × (behind : List ℕ) × IsLast many last × (behind ≢ []) × (rest ≡ spelling last ++ behind)))

@@ -1,4 +1,4 @@
-use bayou_frames::Fault;
+use bayou_frames::ChannelFault;
 use bayou_wire::Refusal;
 use std::alloc::AllocError;
 
@@ -19,7 +19,7 @@ pub enum LinkFault {
 /// Why a session was served nothing.
 #[derive(Clone, Copy, Debug, PartialEq, Eq)]
 pub enum ClientFault {
-    /// The book has no place left: nothing was begun and nothing sent.
+    /// The book has no room left: nothing was begun and nothing sent.
     AuditFull,
     /// A place was begun.
     Link(LinkFault),
@@ -36,17 +36,20 @@ impl From<AllocError> for LinkFault {
     }
 }
 
-impl From<Fault> for LinkFault {
+impl From<ChannelFault> for LinkFault {
     ghost use Rattle.std.specs.Prelude.{◌≡◌};
     ghost use Rattle.bayou_client.specs.Inner.Faults.{told_fault};
 
     ghost from_gives = { λ cause fault. fault ≡ told_fault cause };
 
-    fn from(fault: Fault) -> LinkFault {
+    fn from(fault: ChannelFault) -> LinkFault {
         match fault {
-            Fault::BadFrame => LinkFault::BadFrame,
-            Fault::OutOfMemory => LinkFault::OutOfMemory,
-            Fault::Read | Fault::Write | Fault::Cut | Fault::TooManyTurns => LinkFault::Lost,
+            ChannelFault::BadFrame => LinkFault::BadFrame,
+            ChannelFault::OutOfMemory => LinkFault::OutOfMemory,
+            ChannelFault::Read
+            | ChannelFault::Write
+            | ChannelFault::Cut
+            | ChannelFault::TooManyTurns => LinkFault::Lost,
         }
     }
 }

@@ -13,7 +13,7 @@ use crate::reading::{Reply, read_reply};
 use bayou_base::{Accepted, Key, Seen, ServerId, Vector, Wid};
 use bayou_frames::send;
 use bayou_lang::{Program, RestingWrite};
-use bayou_streams::Channel;
+use bayou_streams::CountedChannel;
 use bayou_wire::{Frame, encode_frame};
 use std::alloc::Global;
 use std::io::{Read, Write};
@@ -21,7 +21,7 @@ use std::io::{Read, Write};
 /// A connection to one server, open until no whole reply came to a request. All its requests together have the turns of one channel.
 #[derive(Drop)]
 pub struct Link<R, W> {
-    channel: Channel<R, W>,
+    channel: CountedChannel<R, W>,
     is_closed: bool,
 }
 
@@ -68,7 +68,7 @@ impl<R, W> Link<R, W> {
         ensures clean { (result.channel.read_failed ≡ false) × (result.channel.write_failed ≡ false) }
     {
         Link {
-            channel: Channel::new(reader, writer),
+            channel: CountedChannel::new(reader, writer),
             is_closed: false,
         }
     }

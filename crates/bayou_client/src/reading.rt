@@ -2,9 +2,9 @@
 ghost use Rattle.std.specs.Prelude.{◌≡◌, ◌≢◌, ◌≤◌, ◌∷◌, ◌++◌, [], true, ℕ, List, None, Some, IfErr, IfSome, OnOk};
 ghost use Rattle.std.specs.Io.KnownBytes.{Consumes, IsAtEnd};
 ghost use Rattle.std.specs.List.{AllByRecursion};
-ghost use Rattle.bayou_client.specs.Inner.Taking.{ReplyRead, Takes, TakesItems, TakesPiece};
+ghost use Rattle.bayou_client.specs.Inner.Taking.{ReplyRead, TakesFrames, TakesItems, TakesPiece};
 ghost use Rattle.bayou_client.specs.Replies.{Begins, IsLast};
-ghost use Rattle.bayou_frames.specs.declared.fault.Fault.TheVariants.{OutOfMemory};
+ghost use Rattle.bayou_frames.specs.declared.fault.ChannelFault.TheVariants.{OutOfMemory};
 ghost use Rattle.bayou_frames.specs.First.{IsFeedFault};
 ghost use Rattle.bayou_frames.specs.Stopping.{Stops};
 ghost use Rattle.bayou_wire.specs.declared.frame.Frame.TheVariants.{Item};
@@ -12,9 +12,9 @@ ghost use Rattle.bayou_wire.specs.Spelling.{IsFrame};
 ghost use Rattle.bayou_wire.specs.Stream.{IsPartial, spelling, spellings};
 
 use bayou_base::limits::READ_BYTES;
-use bayou_frames::{Fault, feed_piece, read_piece};
+use bayou_frames::{ChannelFault, feed_piece, read_piece};
 use bayou_lang::{RestingWrite, Write as Held};
-use bayou_streams::Channel;
+use bayou_streams::CountedChannel;
 use bayou_wire::{Frame, Frames};
 use std::alloc::Global;
 use std::io::Read;
@@ -27,15 +27,15 @@ pub(crate) struct Reply {
 }
 
 // Keeps the Write of an Item.
-fn keep(alloc: Global, write: &Held, writes: &mut Vec<RestingWrite>) -> Result<(), Fault>
+fn keep(alloc: Global, write: &Held, writes: &mut Vec<RestingWrite>) -> Result<(), ChannelFault>
     ensures kept { OnOk result (writes.new.items ≡ writes.old.items ++ write.now ∷ []) }
     ensures refused { IfErr result (λ fault. fault ≡ OutOfMemory) }
 {
     let Ok(resting) = write.rest(alloc) else {
-        return Err(Fault::OutOfMemory);
+        return Err(ChannelFault::OutOfMemory);
     };
     if writes.push(resting).is_err() {
-        return Err(Fault::OutOfMemory);
+        return Err(ChannelFault::OutOfMemory);
     }
     Ok(())
 }
@@ -57,14 +57,14 @@ fn take_items(
     frames: &[Frame],
     writes: &mut Vec<RestingWrite>,
     many: bool,
-) -> Result<(), Fault>
+) -> Result<(), ChannelFault>
     ensures takes { (read behind : List ℕ) → behind ≢ [] → AllByRecursion IsFrame frames.now → Begins many read writes.old.items (spellings frames.now ++ behind)
         → TakesItems many read behind writes.new.items result }
     ensures fault { IfErr result IsFeedFault }
 {
     for frame in frames {
         let Some(write) = item_of(frame, many) else {
-            return Err(Fault::BadFrame);
+            return Err(ChannelFault::BadFrame);
         };
         keep(alloc, write, writes)?;
     }
@@ -77,9 +77,9 @@ fn take_frame(
     frame: Frame,
     writes: &mut Vec<RestingWrite>,
     many: bool,
-) -> Result<Option<Frame>, Fault>
+) -> Result<Option<Frame>, ChannelFault>
     ensures takes { (read behind : List ℕ) → IsFrame frame → Begins many read writes.old.items (spelling frame ++ behind)
-        → Takes many read behind writes.new.items result }
+        → TakesFrames many read behind writes.new.items result }
     ensures fault { IfErr result IsFeedFault }
 {
     let Some(write) = item_of(&frame, many) else {
@@ -95,9 +95,9 @@ fn take_came(
     frames: &mut Vec<Frame>,
     writes: &mut Vec<RestingWrite>,
     many: bool,
-) -> Result<Option<Frame>, Fault>
+) -> Result<Option<Frame>, ChannelFault>
     ensures takes { (read behind : List ℕ) → AllByRecursion IsFrame frames.old.items → Begins many read writes.old.items (spellings frames.old.items ++ behind)
-        → Takes many read behind writes.new.items result }
+        → TakesFrames many read behind writes.new.items result }
     ensures fault { IfErr result IsFeedFault }
 {
     let Some(newest) = frames.pop() else {
@@ -114,7 +114,7 @@ fn take_piece(
     piece: &[u8],
     writes: &mut Vec<RestingWrite>,
     many: bool,
-) -> Result<Option<Frame>, Fault>
+) -> Result<Option<Frame>, ChannelFault>
     ensures takes { (read held : List ℕ) → IsPartial held → frames.old ≡ Some held → Begins many read writes.old.items held
         → TakesPiece many (read ++ piece.now) frames.new writes.new.items result }
     ensures fault { IfErr result IsFeedFault }
@@ -122,13 +122,13 @@ fn take_piece(
     let mut came = feed_piece(alloc, frames, piece)?;
     let last = take_came(alloc, &mut came.frames, writes, many)?;
     if came.is_bad {
-        return Err(Fault::BadFrame);
+        return Err(ChannelFault::BadFrame);
     }
     let Some(last) = last else {
         return Ok(None);
     };
     if !frames.is_between() {
-        return Err(Fault::BadFrame);
+        return Err(ChannelFault::BadFrame);
     }
     Ok(Some(last))
 }
@@ -136,9 +136,9 @@ fn take_piece(
 /// Reads until one reply is whole, of which nothing may come behind.
 pub(crate) fn read_reply<R: Read, W>(
     alloc: Global,
-    channel: &mut Channel<R, W>,
+    channel: &mut CountedChannel<R, W>,
     many: bool,
-) -> Result<Reply, Fault>
+) -> Result<Reply, ChannelFault>
     ensures reads { (read : List ℕ) × Consumes (R.remaining channel.old.reader) (R.remaining channel.new.reader) read
         × ReplyRead many read (IsAtEnd (R.remaining channel.new.reader)) result }
     ensures stopped { IfErr result (Stops channel.new.read_failed channel.new.write_failed channel.new.turns_left) }
@@ -151,7 +151,7 @@ pub(crate) fn read_reply<R: Read, W>(
     loop {
         let count = read_piece(channel, &mut piece)?;
         if count == 0 {
-            return Err(Fault::Cut);
+            return Err(ChannelFault::Cut);
         }
         if let Some(last) = take_piece(alloc, &mut frames, &piece[..count], &mut writes, many)? {
             return Ok(Reply { writes, last });

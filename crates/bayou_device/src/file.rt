@@ -5,7 +5,7 @@ ghost use Rattle.bayou_streams.specs.Written.{AppendsFront};
 
 use crate::device::{Device, Failed, ReadFault};
 use bayou_base::limits::READ_BYTES;
-use bayou_streams::{Channel, Turn};
+use bayou_streams::{CountedChannel, Turn};
 use std::alloc::Global;
 use std::fs::{File, Files, OpenFile, OpenOptions};
 use std::io::{Read, Seek, SeekFrom, Write};
@@ -22,7 +22,10 @@ pub struct FileDevice<F> {
 
 // All that the channel's reader gives, up to its end. It spends the turns of the channel that it is lent, and fails only where a call of
 // the reader did, or no turn is left.
-fn read_whole<R: Read, W>(alloc: Global, channel: &mut Channel<R, W>) -> Result<Vec<u8>, ReadFault>
+fn read_whole<R: Read, W>(
+    alloc: Global,
+    channel: &mut CountedChannel<R, W>,
+) -> Result<Vec<u8>, ReadFault>
     ensures bytes { IfOk result (λ bytes. Consumes (R.remaining channel.old.reader) (R.remaining channel.new.reader) bytes.items) }
     ensures end { OnOk result (IsAtEnd (R.remaining channel.new.reader)) }
     ensures stopped { IsErrOf result ReadFault.Failed → (channel.new.read_failed ≡ true) ⊎ (channel.new.turns_left ≡ 0) }
@@ -46,7 +49,7 @@ fn read_whole<R: Read, W>(alloc: Global, channel: &mut Channel<R, W>) -> Result<
 
 // Writes the whole piece; a front of it was written where that fails. It spends the turns of the channel that it is lent, and fails only
 // where a call of the writer did, or no turn is left.
-fn write_whole<R, W: Write>(channel: &mut Channel<R, W>, piece: &[u8]) -> Result<(), Failed>
+fn write_whole<R, W: Write>(channel: &mut CountedChannel<R, W>, piece: &[u8]) -> Result<(), Failed>
     ensures whole { OnOk result (Appends (W.contents channel.old.writer) (W.contents channel.new.writer) piece.now) }
     ensures part { AppendsFront (W.contents channel.old.writer) (W.contents channel.new.writer) piece.now }
     ensures stopped { OnErr result ((channel.new.write_failed ≡ true) ⊎ (channel.new.turns_left ≡ 0)) }
@@ -68,12 +71,12 @@ fn read_from_start<F: Read + Seek>(alloc: Global, file: &mut F) -> Result<Vec<u8
     if file.seek(SeekFrom::Start(0)).is_err() {
         return Err(ReadFault::Failed);
     }
-    read_whole(alloc, &mut Channel::new(file, ()))
+    read_whole(alloc, &mut CountedChannel::new(file, ()))
 }
 
 // Adds the whole piece to what the file holds: what makes the one channel of a device's append.
 fn add_to<F: Write>(file: &mut F, piece: &[u8]) -> Result<(), Failed> {
-    write_whole(&mut Channel::new((), file), piece)
+    write_whole(&mut CountedChannel::new((), file), piece)
 }
 
 // What a call came to; a failure is counted.

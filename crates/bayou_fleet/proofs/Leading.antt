@@ -1,20 +1,20 @@
 -- What is said of each of four servers is said of the one that is asked for.
 use Rattle.std.proofs.Common.{◌≡◌, ◌≢◌, ℕ, zero, suc, List, [], ◌∷◌, Option, refl, subst, sym}
-use Rattle.bayou_fleet.specs.Places.{InOne, InPlace, SettlesAll, SettlesOne}
+use Rattle.bayou_fleet.specs.Seats.{InOne, InSeat, SettlesAll, SettlesOne}
 use Rattle.bayou_node.specs.Books.{Begun}
 use Rattle.bayou_node.specs.declared.node_settled.NodeSettled.{NodeSettled}
 use Rattle.bayou_server.specs.Server.{Core}
 
-pub at_first : (a b c d : Option Begun) (at : ℕ) (IsSo : Core → Type 0) → at ≡ 0 → InPlace a IsSo → InOne (a ∷ b ∷ c ∷ d ∷ []) at IsSo
+pub at_first : (a b c d : Option Begun) (at : ℕ) (IsSo : Core → Type 0) → at ≡ 0 → InSeat a IsSo → InOne (a ∷ b ∷ c ∷ d ∷ []) at IsSo
 at_first a b c d at IsSo is so = subst (λ (n : ℕ). InOne (a ∷ b ∷ c ∷ d ∷ []) n IsSo) (sym is) so
 
-pub at_second : (a b c d : Option Begun) (at : ℕ) (IsSo : Core → Type 0) → at ≡ 1 → InPlace b IsSo → InOne (a ∷ b ∷ c ∷ d ∷ []) at IsSo
+pub at_second : (a b c d : Option Begun) (at : ℕ) (IsSo : Core → Type 0) → at ≡ 1 → InSeat b IsSo → InOne (a ∷ b ∷ c ∷ d ∷ []) at IsSo
 at_second a b c d at IsSo is so = subst (λ (n : ℕ). InOne (a ∷ b ∷ c ∷ d ∷ []) n IsSo) (sym is) so
 
-pub at_third : (a b c d : Option Begun) (at : ℕ) (IsSo : Core → Type 0) → at ≡ 2 → InPlace c IsSo → InOne (a ∷ b ∷ c ∷ d ∷ []) at IsSo
+pub at_third : (a b c d : Option Begun) (at : ℕ) (IsSo : Core → Type 0) → at ≡ 2 → InSeat c IsSo → InOne (a ∷ b ∷ c ∷ d ∷ []) at IsSo
 at_third a b c d at IsSo is so = subst (λ (n : ℕ). InOne (a ∷ b ∷ c ∷ d ∷ []) n IsSo) (sym is) so
 
-pub at_fourth : (a b c d : Option Begun) (at : ℕ) (IsSo : Core → Type 0) → at ≡ 3 → InPlace d IsSo → InOne (a ∷ b ∷ c ∷ d ∷ []) at IsSo
+pub at_fourth : (a b c d : Option Begun) (at : ℕ) (IsSo : Core → Type 0) → at ≡ 3 → InSeat d IsSo → InOne (a ∷ b ∷ c ∷ d ∷ []) at IsSo
 at_fourth a b c d at IsSo is so = subst (λ (n : ℕ). InOne (a ∷ b ∷ c ∷ d ∷ []) n IsSo) (sym is) so
 
 -- there is no fifth

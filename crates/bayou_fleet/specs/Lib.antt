@@ -1,4 +1,4 @@
-pub mod Places
+pub mod Seats
 pub mod Phases
 pub mod Refusals
 pub mod Operating

@@ -1,6 +1,6 @@
 //! Many nodes as one.
 ghost use Rattle.std.specs.Prelude.{◌≡◌, IfOk, List, OnOk, Option};
-ghost use Rattle.bayou_fleet.specs.Places.{InOne, InPlace, SettlesAll, SettlesOne, place_of};
+ghost use Rattle.bayou_fleet.specs.Seats.{InOne, InSeat, SettlesAll, SettlesOne, server_at};
 ghost use Rattle.bayou_lang.specs.Writes.{count_of};
 ghost use Rattle.bayou_log.specs.Listing.{listing_of};
 ghost use Rattle.bayou_node.specs.Books.{Begun, IsBlankOf, begun_of};
@@ -8,14 +8,14 @@ ghost use Rattle.bayou_node.specs.Books.{Begun, IsBlankOf, begun_of};
 use crate::fault::FleetFault;
 use bayou_base::Vector;
 use bayou_device::Device;
-use bayou_frames::Fault;
+use bayou_frames::ChannelFault;
 use bayou_lang::RestingWrite;
 use bayou_log::Listed;
 use bayou_net::{NoGate, pull, serve_connection};
 use bayou_node::{Desk, Desks, Node, NodeSettled};
 use bayou_peer::{PullFault, Pulled};
 use bayou_server::Server;
-use bayou_streams::Channel;
+use bayou_streams::CountedChannel;
 use std::alloc::{AllocError, Global};
 use std::net::TcpStream;
 use std::sync::ledger::Blank;
@@ -23,8 +23,8 @@ use std::sync::{Mutex, Wait};
 
 /// Servers from 0 on, each behind its lock, which threads share.
 pub trait Fleet: Drop {
-    /// The servers, from 0 on: none where there is no such server.
-    ghost places: { Self → List (Option Begun) };
+    /// The server in each seat, from 0 on: none where there is no such server.
+    ghost seats: { Self → List (Option Begun) };
 
     /// Serves one connection at this server to its end. Where no desk is left there, nothing is served.
     fn serve<T: Wait>(&self, rt: &T, alloc: Global, at: usize, stream: &TcpStream);
@@ -40,11 +40,11 @@ pub trait Fleet: Drop {
 
     /// The Writes that this server holds, in stamp order, each with its outcome.
     fn listing<T: Wait>(&self, rt: &T, alloc: Global, at: usize) -> Result<Vec<Listed>, AllocError>
-        ensures { InOne (places self.now) at (λ core. IfOk result (λ list. list.items ≡ listing_of core.held)) };
+        ensures { InOne (seats self.now) at (λ core. IfOk result (λ list. list.items ≡ listing_of core.held)) };
 
     /// How many Writes of each server this one holds.
     fn vector<T: Wait>(&self, rt: &T, at: usize) -> Vector
-        ensures { InOne (places self.now) at (λ core. result ≡ count_of core.held) };
+        ensures { InOne (seats self.now) at (λ core. result ≡ count_of core.held) };
 
     /// Copies of the Writes that this server holds, in order of receipt.
     fn dump<T: Wait>(
@@ -53,12 +53,12 @@ pub trait Fleet: Drop {
         alloc: Global,
         at: usize,
     ) -> Result<Vec<RestingWrite>, AllocError>
-        ensures { InOne (places self.now) at (λ core. IfOk result (λ writes. writes.items ≡ core.held)) };
+        ensures { InOne (seats self.now) at (λ core. IfOk result (λ writes. writes.items ≡ core.held)) };
 
     /// What the books of each server come to, from 0 on, put behind what is there; nothing of a server of which a desk is missing, nor of
     /// those behind it.
     fn settle(self, settled: &mut Vec<NodeSettled>) -> Result<(), FleetFault>
-        ensures { OnOk result (SettlesAll (places self) settled.old.items settled.new.items) };
+        ensures { OnOk result (SettlesAll (seats self) settled.old.items settled.new.items) };
 }
 
 /// A server behind its lock, with its desks.
@@ -123,8 +123,13 @@ fn pull_at<D: Device, L: Desks, T: Wait>(
     stream: &TcpStream,
 ) -> Result<Pulled, PullFault> {
     match seat {
-        Some(seat) => pull(rt, alloc, &seat.node, &mut Channel::new(stream, stream)),
-        None => Err(PullFault::Stream(Fault::Cut)),
+        Some(seat) => pull(
+            rt,
+            alloc,
+            &seat.node,
+            &mut CountedChannel::new(stream, stream),
+        ),
+        None => Err(PullFault::Stream(ChannelFault::Cut)),
     }
 }
 
@@ -134,7 +139,7 @@ fn listing_at<D: Device, L: Desks, T: Wait>(
     alloc: Global,
     seat: &Option<Seat<D, L>>,
 ) -> Result<Vec<Listed>, AllocError>
-    ensures { InPlace (place_of L.begun seat.now) (λ core. IfOk result (λ list. list.items ≡ listing_of core.held)) }
+    ensures { InSeat (server_at L.begun seat.now) (λ core. IfOk result (λ list. list.items ≡ listing_of core.held)) }
 {
     match seat {
         Some(seat) => seat.node.listing(rt, alloc),
@@ -143,7 +148,7 @@ fn listing_at<D: Device, L: Desks, T: Wait>(
 }
 
 fn vector_at<D: Device, L: Desks, T: Wait>(rt: &T, seat: &Option<Seat<D, L>>) -> Vector
-    ensures { InPlace (place_of L.begun seat.now) (λ core. result ≡ count_of core.held) }
+    ensures { InSeat (server_at L.begun seat.now) (λ core. result ≡ count_of core.held) }
 {
     match seat {
         Some(seat) => seat.node.offer(rt),
@@ -156,7 +161,7 @@ fn dump_at<D: Device, L: Desks, T: Wait>(
     alloc: Global,
     seat: &Option<Seat<D, L>>,
 ) -> Result<Vec<RestingWrite>, AllocError>
-    ensures { InPlace (place_of L.begun seat.now) (λ core. IfOk result (λ writes. writes.items ≡ core.held)) }
+    ensures { InSeat (server_at L.begun seat.now) (λ core. IfOk result (λ writes. writes.items ≡ core.held)) }
 {
     match seat {
         Some(seat) => seat.node.dump(rt, alloc),
@@ -169,7 +174,7 @@ fn settle_at<D: Device, L: Desks>(
     seat: Option<Seat<D, L>>,
     settled: &mut Vec<NodeSettled>,
 ) -> Result<(), FleetFault>
-    ensures { OnOk result (SettlesOne (place_of L.begun seat) settled.old.items settled.new.items) }
+    ensures { OnOk result (SettlesOne (server_at L.begun seat) settled.old.items settled.new.items) }
 {
     let Some(Seat { node, idle }) = seat else {
         return Ok(());
@@ -195,7 +200,7 @@ pub struct FourServers<D, A: Desks, B: Desks, C: Desks, E: Desks> {
 impl<D: Device, A: Desks, B: Desks, C: Desks, E: Desks> Fleet for FourServers<D, A, B, C, E> {
     ghost use Rattle.std.specs.Prelude.{◌∷◌, []};
 
-    ghost places = { λ fleet. place_of A.begun fleet.first ∷ place_of B.begun fleet.second ∷ place_of C.begun fleet.third ∷ place_of E.begun fleet.fourth ∷ [] };
+    ghost seats = { λ fleet. server_at A.begun fleet.first ∷ server_at B.begun fleet.second ∷ server_at C.begun fleet.third ∷ server_at E.begun fleet.fourth ∷ [] };
 
     fn serve<T: Wait>(&self, rt: &T, alloc: Global, at: usize, stream: &TcpStream) {
         match at {
@@ -219,7 +224,7 @@ impl<D: Device, A: Desks, B: Desks, C: Desks, E: Desks> Fleet for FourServers<D,
             1 => pull_at(rt, alloc, &self.second, stream),
             2 => pull_at(rt, alloc, &self.third, stream),
             3 => pull_at(rt, alloc, &self.fourth, stream),
-            _ => Err(PullFault::Stream(Fault::Cut)),
+            _ => Err(PullFault::Stream(ChannelFault::Cut)),
         }
     }
 

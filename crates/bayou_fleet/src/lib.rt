@@ -1,7 +1,7 @@
 //! The servers of one run, each behind its lock and at a socket of its own, and the sessions that reach them over links.
 //!
 //! Nodes (`bayou_node`) differ in their ledgers, so each server of a run is of a type of its own: [`FourServers`] has a [`Seat`] for each
-//! that there is, and is seen as a [`Fleet`], in which a server is named by its place. A [`Network`] is a fleet with its listeners, and the
+//! that there is, and is seen as a [`Fleet`], in which a server is named by its index. A [`Network`] is a fleet with its listeners, and the
 //! book of what is served. A [`RunSession`] is a session that may be opened, with its share of the book; an [`OpenSession`] has a link to each
 //! server, which it keeps for the run. The commands of a [`Phase`] go on side by side, in threads: [`run_together`] has each session do its
 //! operations in order, and all pulls in order beside them; [`Inquiry::answer`] does what closes the phase, one by one, when these have ended.

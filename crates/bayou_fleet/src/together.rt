@@ -83,7 +83,7 @@ where
 }
 
 // Waits for the sessions that go, and drops them: their connections are closed then, so that no server waits for them.
-fn drop_all<K: Ledgers + Send + Sync, T: Threads>(rt: &T, going: Vec<Going<K>>) {
+fn join_all<K: Ledgers + Send + Sync, T: Threads>(rt: &T, going: Vec<Going<K>>) {
     for one in going {
         if let Going::Operates(thread) = one {
             let _ = thread.join(rt);
@@ -113,7 +113,7 @@ where
         match begin(scope, rt, alloc, network, session, own) {
             Ok(one) => going.push_reserved(one),
             Err(fault) => {
-                drop_all(rt, going);
+                join_all(rt, going);
                 return Err(fault);
             }
         }
@@ -182,7 +182,7 @@ fn end_all<K: Ledgers + Send + Sync, T: Threads>(
     ensures { IfOk result (λ sessions. vec_len sessions ≡ vec_len going) }
 {
     let Ok(mut sessions) = Vec::with_capacity(alloc, going.len()) else {
-        drop_all(rt, going);
+        join_all(rt, going);
         return Err(FleetFault::Memory);
     };
     let mut fault = None;
@@ -267,7 +267,7 @@ where
     match begin_pulls(scope, rt, alloc, network, pulls) {
         Ok(pulling) => end(rt, alloc, going, pulling),
         Err(fault) => {
-            drop_all(rt, going);
+            join_all(rt, going);
             Err(fault)
         }
     }

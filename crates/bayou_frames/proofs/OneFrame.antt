@@ -2,14 +2,14 @@
 use Rattle.std.proofs.Common.{arith, ◌≡◌, ◌++◌, List, [], ℕ, Err, length, take, length-take, refl, sym}
 use Rattle.std.proofs.lemmas.List.{append-nil}
 use Rattle.bayou_base.specs.declared.limits.TheConstants.{READ_BYTES}
-use Rattle.bayou_frames.specs.declared.fault.Fault.{Fault}
-use Rattle.bayou_frames.specs.declared.fault.Fault.TheVariants as faults
+use Rattle.bayou_frames.specs.declared.fault.ChannelFault.{ChannelFault}
+use Rattle.bayou_frames.specs.declared.fault.ChannelFault.TheVariants as faults
 use Rattle.bayou_frames.specs.First.{FrameRead, StopsInTime}
 use Rattle.bayou_frames.specs.Framing.{IsReadFault}
 use Rattle.bayou_wire.specs.Stream.{IsPartial}
 
 -- a fault that isn't told by the end of the input is a fault wherever that is
-pub fails_anywhere : (read : List ℕ) (is_end : Type 0) (fault : Fault) → FrameRead read ⊥ (Err fault) → FrameRead read is_end (Err fault)
+pub fails_anywhere : (read : List ℕ) (is_end : Type 0) (fault : ChannelFault) → FrameRead read ⊥ (Err fault) → FrameRead read is_end (Err fault)
 fails_anywhere read is_end faults.Read h = h
 fails_anywhere read is_end faults.Write h = h
 fails_anywhere read is_end faults.Cut h = absurd h.0
@@ -18,7 +18,7 @@ fails_anywhere read is_end faults.TooManyTurns h = h
 fails_anywhere read is_end faults.OutOfMemory h = h
 
 -- what was read is held back where a read failed
-pub fails_reading : (read : List ℕ) (is_end : Type 0) (fault : Fault) → IsReadFault fault → IsPartial read → FrameRead read is_end (Err fault)
+pub fails_reading : (read : List ℕ) (is_end : Type 0) (fault : ChannelFault) → IsReadFault fault → IsPartial read → FrameRead read is_end (Err fault)
 fails_reading read is_end faults.Read is partial = partial
 fails_reading read is_end faults.Write is partial = is
 fails_reading read is_end faults.Cut is partial = absurd is

@@ -1,9 +1,9 @@
 -- One input begins with one Offer, or with none.
 use Rattle.std.proofs.Common.{◌≡◌, ℕ, List, [], ◌++◌, Ok, Err, inl, inr, sym, ap, subst, ◌∙◌, append_assoc}
 use Rattle.std.proofs.lemmas.List.{append-nil}
-use Rattle.bayou_frames.specs.declared.fault.Fault.TheVariants.{BadFrame, Cut}
+use Rattle.bayou_frames.specs.declared.fault.ChannelFault.TheVariants.{BadFrame, Cut}
 use Rattle.bayou_frames.specs.First.{BeginsWith, IsNoOffer, OfferOf}
-use Rattle.bayou_frames.specs.Laws.Frames.{begins_one, faulty_on, not_faulty, not_partial, partial_not_faulty}
+use Rattle.bayou_wire.specs.Laws.Frames.{begins_one, faulty_on, not_faulty, not_partial, partial_not_faulty}
 use Rattle.bayou_wire.specs.declared.frame.Frame.{Frame}
 use Rattle.bayou_wire.specs.declared.frame.Frame.TheVariants.{Offer}
 use Rattle.bayou_wire.specs.Stream.{IsFaulty, IsPartial, spelling}

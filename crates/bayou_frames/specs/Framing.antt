@@ -1,15 +1,15 @@
 -- What a piece of a stream of frames gives, and what may end a read of it: this project's own.
 use Rattle.std.specs.Prelude.{◌≡◌, ℕ, Bool, true, false, List, ◌++◌, Option, Some}
 use Rattle.std.specs.List.{AllByRecursion}
-use Rattle.bayou_frames.specs.declared.fault.Fault.{Fault}
-use Rattle.bayou_frames.specs.declared.fault.Fault.TheVariants.{Read, Write, Cut, BadFrame, TooManyTurns, OutOfMemory}
-use Rattle.bayou_wire.specs.declared.fault.Fault.{Fault as BadBytes}
+use Rattle.bayou_frames.specs.declared.fault.ChannelFault.{ChannelFault}
+use Rattle.bayou_frames.specs.declared.fault.ChannelFault.TheVariants.{Read, Write, Cut, BadFrame, TooManyTurns, OutOfMemory}
+use Rattle.bayou_wire.specs.declared.fault.DecodeFault.{DecodeFault}
 use Rattle.bayou_wire.specs.declared.frame.Frame.{Frame}
 use Rattle.bayou_wire.specs.Spelling.{IsFrame}
 use Rattle.bayou_wire.specs.Stream.{IsFaulty, IsPartial, spellings}
 
 -- what may end a read
-abbrev pub IsReadFault : Fault → Type 0
+abbrev pub IsReadFault : ChannelFault → Type 0
 IsReadFault Read = Unit {0}
 IsReadFault Write = ⊥
 IsReadFault Cut = ⊥
@@ -24,4 +24,4 @@ pub record Comes (held piece : List ℕ) (frames : List Frame) (is_bad : Bool) (
   pub whole : held ++ piece ≡ spellings frames ++ rest
   pub each : AllByRecursion IsFrame frames
   pub waits : is_bad ≡ false → IsPartial rest × (now ≡ Some rest)
-  pub bad : is_bad ≡ true → (fault : BadBytes) × IsFaulty rest fault
+  pub bad : is_bad ≡ true → (fault : DecodeFault) × IsFaulty rest fault

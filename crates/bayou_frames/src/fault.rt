@@ -2,7 +2,7 @@ use std::alloc::AllocError;
 
 /// Why frames could not be written or read further.
 #[derive(Clone, Copy, Debug, PartialEq, Eq)]
-pub enum Fault {
+pub enum ChannelFault {
     /// A call of the reader failed.
     Read,
     /// A call of the writer failed.
@@ -16,13 +16,13 @@ pub enum Fault {
     OutOfMemory,
 }
 
-impl From<AllocError> for Fault {
+impl From<AllocError> for ChannelFault {
     ghost use Rattle.std.specs.Prelude.{◌≡◌};
-    ghost use Rattle.bayou_frames.specs.declared.fault.Fault.TheVariants.{OutOfMemory};
+    ghost use Rattle.bayou_frames.specs.declared.fault.ChannelFault.TheVariants.{OutOfMemory};
 
     ghost from_gives = { λ _ fault. fault ≡ OutOfMemory };
 
-    fn from(_refused: AllocError) -> Fault {
-        Fault::OutOfMemory
+    fn from(_refused: AllocError) -> ChannelFault {
+        ChannelFault::OutOfMemory
     }
 }

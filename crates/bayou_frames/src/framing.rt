@@ -2,20 +2,23 @@
 ghost use Rattle.std.specs.Prelude.{◌≡◌, ◌≢◌, ◌<◌, ◌≤◌, true, ℕ, List, [], Some, IfErr, IfOk, OnOk, length};
 ghost use Rattle.std.specs.Io.{ReadsAtMost};
 ghost use Rattle.std.specs.Io.KnownBytes.{Appends, ReadConsumes};
-ghost use Rattle.bayou_frames.specs.declared.fault.Fault.TheVariants.{OutOfMemory};
+ghost use Rattle.bayou_frames.specs.declared.fault.ChannelFault.TheVariants.{OutOfMemory};
 ghost use Rattle.bayou_frames.specs.Framing.{Comes, IsReadFault};
 ghost use Rattle.bayou_frames.specs.Stopping.{IsSendFault, Stops};
 ghost use Rattle.bayou_streams.specs.Written.{AppendsFront};
 ghost use Rattle.bayou_wire.specs.Stream.{IsPartial};
 
-use crate::fault::Fault;
-use bayou_streams::{Channel, StreamFault, Turn};
+use crate::fault::ChannelFault;
+use bayou_streams::{CountedChannel, StreamFault, Turn};
 use bayou_wire::{FeedFault, Frame, Frames};
 use std::alloc::Global;
 use std::io::{Read, Write};
 
 /// Writes the whole text. Where it ends in a fault, a front of the text was written.
-pub fn send<R, W: Write>(channel: &mut Channel<R, W>, text: &[u8]) -> Result<(), Fault>
+pub fn send<R, W: Write>(
+    channel: &mut CountedChannel<R, W>,
+    text: &[u8],
+) -> Result<(), ChannelFault>
     ensures whole { OnOk result (Appends (W.contents channel.old.writer) (W.contents channel.new.writer) text.now) }
     ensures part { AppendsFront (W.contents channel.old.writer) (W.contents channel.new.writer) text.now }
     ensures fault { IfErr result IsSendFault }
@@ -30,8 +33,8 @@ pub fn send<R, W: Write>(channel: &mut Channel<R, W>, text: &[u8]) -> Result<(),
         match channel.write_turn(rest) {
             Ok(Turn::Moved(count)) => rest = &rest[count..],
             Ok(Turn::Interrupted) => {}
-            Err(StreamFault::Failed) => return Err(Fault::Write),
-            Err(StreamFault::TooManyTurns) => return Err(Fault::TooManyTurns),
+            Err(StreamFault::Failed) => return Err(ChannelFault::Write),
+            Err(StreamFault::TooManyTurns) => return Err(ChannelFault::TooManyTurns),
         }
     }
     Ok(())
@@ -39,7 +42,10 @@ pub fn send<R, W: Write>(channel: &mut Channel<R, W>, text: &[u8]) -> Result<(),
 
 /// Reads the next bytes into the front of the piece, and tells how many they are: none only at the end, or where the piece has
 /// no room.
-pub fn read_piece<R: Read, W>(channel: &mut Channel<R, W>, piece: &mut [u8]) -> Result<usize, Fault>
+pub fn read_piece<R: Read, W>(
+    channel: &mut CountedChannel<R, W>,
+    piece: &mut [u8],
+) -> Result<usize, ChannelFault>
     ensures bound { ReadsAtMost result piece.new }
     ensures size { length piece.new ≡ length piece.old }
     ensures bytes { ReadConsumes (R.remaining channel.old.reader) (R.remaining channel.new.reader) result piece.new }
@@ -53,8 +59,8 @@ pub fn read_piece<R: Read, W>(channel: &mut Channel<R, W>, piece: &mut [u8]) -> 
         match channel.read_turn(piece) {
             Ok(Turn::Moved(count)) => return Ok(count),
             Ok(Turn::Interrupted) => {}
-            Err(StreamFault::Failed) => return Err(Fault::Read),
-            Err(StreamFault::TooManyTurns) => return Err(Fault::TooManyTurns),
+            Err(StreamFault::Failed) => return Err(ChannelFault::Read),
+            Err(StreamFault::TooManyTurns) => return Err(ChannelFault::TooManyTurns),
         }
     }
 }
@@ -77,7 +83,7 @@ fn bad_at_once(alloc: Global) -> Came
 }
 
 /// Feeds the piece where no fault came before, so that a fault is told with the frames before it.
-pub fn feed_piece(alloc: Global, frames: &mut Frames, piece: &[u8]) -> Result<Came, Fault>
+pub fn feed_piece(alloc: Global, frames: &mut Frames, piece: &[u8]) -> Result<Came, ChannelFault>
     ensures comes { (held : List ℕ) → IsPartial held → frames.old ≡ Some held → IfOk result (λ came. Comes held piece.now came.frames.items came.is_bad frames.new) }
     ensures refused { IfErr result (λ fault. (fault ≡ OutOfMemory) × (frames.new ≡ frames.old)) }
 {
@@ -86,7 +92,7 @@ pub fn feed_piece(alloc: Global, frames: &mut Frames, piece: &[u8]) -> Result<Ca
             frames: whole,
             is_bad: frames.fault().is_some(),
         }),
-        Err(FeedFault::OutOfMemory) => Err(Fault::OutOfMemory),
+        Err(FeedFault::OutOfMemory) => Err(ChannelFault::OutOfMemory),
         Err(FeedFault::Fault(_)) => Ok(bad_at_once(alloc)),
         Err(FeedFault::Failed) => Ok(bad_at_once(alloc)),
     }

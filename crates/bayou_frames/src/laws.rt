@@ -1,6 +1,6 @@
 //! What a read of an Offer comes to: a law is the contract of a function that does nothing.
 ghost use Rattle.std.specs.Prelude.{◌≡◌, ℕ, List, Ok, Err};
-ghost use Rattle.bayou_frames.specs.declared.fault.Fault.TheVariants.{BadFrame, Cut};
+ghost use Rattle.bayou_frames.specs.declared.fault.ChannelFault.TheVariants.{BadFrame, Cut};
 ghost use Rattle.bayou_frames.specs.First.{OfferOf};
 
 /// What the input holds decides whether an Offer is read, and which, whoever reads it.

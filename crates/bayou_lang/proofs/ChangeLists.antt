@@ -8,8 +8,8 @@ use Rattle.std.proofs.lemmas.List.Concat.{flat_map-cons}
 use Rattle.std.proofs.lemmas.Map.Keys.{IsDistinct-cons, IsDistinct-head, IsDistinct-tail}
 use Rattle.bayou_lang.specs.declared.change.Change.{Change}
 use Rattle.bayou_base.specs.declared.value.Value.{Value}
-use Rattle.bayou_lang.specs.Places.{Places, changed, same_key, value_at}
-use Rattle.bayou_lang.specs.Laws.Places.{same_key-turned, same_places, value_at-changed}
+use Rattle.bayou_lang.specs.Database.{Database, changed, same_key, value_at}
+use Rattle.bayou_lang.specs.Laws.Database.{same_key-turned, same_database, value_at-changed}
 use Rattle.bayou_lang.specs.declared.program.Alt.{Alt}
 use Rattle.bayou_lang.specs.declared.program.Program.{Program}
 use Rattle.bayou_lang.specs.Changes.{after_changes, most_ops, op_key, program_writes, ChangeOnly}
@@ -29,11 +29,11 @@ abbrev pub value_after : List Change → List ℕ → Option Value → Option Va
 value_after [] key before = before
 value_after (change ∷ changes) key before = cond (same_key change.key key) change.value (value_after changes key before)
 
-pub value_at-after_changes : (changes : List Change) (places : Places) (key : List ℕ) → value_at (after_changes changes places) key ≡ value_after changes key (value_at places key)
-value_at-after_changes [] places key = refl
-value_at-after_changes (change ∷ changes) places key =
-    value_at-changed change.key change.value (after_changes changes places) key
-    ∙ ap (cond (same_key change.key key) change.value) (value_at-after_changes changes places key)
+pub value_at-after_changes : (changes : List Change) (database : Database) (key : List ℕ) → value_at (after_changes changes database) key ≡ value_after changes key (value_at database key)
+value_at-after_changes [] database key = refl
+value_at-after_changes (change ∷ changes) database key =
+    value_at-changed change.key change.value (after_changes changes database) key
+    ∙ ap (cond (same_key change.key key) change.value) (value_at-after_changes changes database key)
 
 -- the first of the changes that is of the key counts
 pub value_after-at : (changes : List Change) (index : ℕ) (change : Change) (key : List ℕ) (before : Option Value) → index < length changes → change ≡ get_or changes index change → same_key change.key key ≡ true → value_after (drop index changes) key before ≡ change.value
@@ -56,17 +56,17 @@ value_after-others key (change ∷ changes) other before differs =
     ] refl
 
 -- a change put first, in the place of an older one of its key, is the change of the database
-pub after_changes-set : (change : Change) (changes : List Change) (places : Places) → after_changes (change ∷ others change.key changes) places ≡ changed change.key change.value (after_changes changes places)
-after_changes-set change changes places =
+pub after_changes-set : (change : Change) (changes : List Change) (database : Database) → after_changes (change ∷ others change.key changes) database ≡ changed change.key change.value (after_changes changes database)
+after_changes-set change changes database =
     let set = change ∷ others change.key changes in
-    let after = changed change.key change.value (after_changes changes places) in
-    let at : (other : List ℕ) → value_after set other (value_at places other) ≡ cond (same_key change.key other) change.value (value_after changes other (value_at places other)) = λ other.
-    elim (same_key change.key other) as (λ t. same_key change.key other ≡ t → cond t change.value (value_after (others change.key changes) other (value_at places other)) ≡ cond t change.value (value_after changes other (value_at places other))) [
+    let after = changed change.key change.value (after_changes changes database) in
+    let at : (other : List ℕ) → value_after set other (value_at database other) ≡ cond (same_key change.key other) change.value (value_after changes other (value_at database other)) = λ other.
+    elim (same_key change.key other) as (λ t. same_key change.key other ≡ t → cond t change.value (value_after (others change.key changes) other (value_at database other)) ≡ cond t change.value (value_after changes other (value_at database other))) [
       | true ↦ λ e. refl
-      | false ↦ λ e. value_after-others change.key changes other (value_at places other) e
+      | false ↦ λ e. value_after-others change.key changes other (value_at database other) e
     ] refl in
-    same_places (after_changes set places) after (λ other.
-    value_at-after_changes set places other ∙ at other ∙ sym (value_at-after_changes (change ∷ changes) places other))
+    same_database (after_changes set database) after (λ other.
+    value_at-after_changes set database other ∙ at other ∙ sym (value_at-after_changes (change ∷ changes) database other))
 
 not_true : (b : Bool) → not b ≡ true → b ≡ false
 not_true true h = sym h

@@ -6,12 +6,12 @@ use Rattle.bayou_lang.specs.declared.program.Op.TheVariants.{Put, Del}
 use Rattle.bayou_lang.specs.declared.program.Alt.{Alt}
 use Rattle.bayou_lang.specs.declared.program.Program.{Program}
 use Rattle.bayou_lang.specs.declared.change.Change.{Change}
-use Rattle.bayou_lang.specs.Places.{Places, changed, same_key}
+use Rattle.bayou_lang.specs.Database.{Database, changed, same_key}
 
 -- the database with these changes
-abbrev pub after_changes : List Change → Places → Places
-after_changes [] places = places
-after_changes (change ∷ changes) places = changed change.key change.value (after_changes changes places)
+abbrev pub after_changes : List Change → Database → Database
+after_changes [] database = database
+after_changes (change ∷ changes) database = changed change.key change.value (after_changes changes database)
 
 -- the key that an op writes
 abbrev pub op_key : Op → List ℕ

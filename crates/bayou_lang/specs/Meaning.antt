@@ -16,7 +16,7 @@ use Rattle.bayou_lang.specs.declared.program.Alt.{Alt}
 use Rattle.bayou_lang.specs.declared.program.Program.{Program}
 use Rattle.bayou_lang.specs.declared.eval.Outcome.{Outcome}
 use Rattle.bayou_lang.specs.declared.eval.Outcome.TheVariants.{Updated, Merged, Nothing}
-use Rattle.bayou_lang.specs.Places.{Places, changed, value_at}
+use Rattle.bayou_lang.specs.Database.{Database, changed, value_at}
 
 -- whether two values are one
 abbrev pub same_value : Value → Value → Bool
@@ -31,15 +31,15 @@ is_at_least number (Num a) = int_le number a
 is_at_least number (Text a) = false
 
 -- Equals: the key is present with the value. Absent: the key is absent. AtLeast: the key has a number not less than this one.
-abbrev pub holds : Cond → Places → Bool
-holds (Equals key value) places = option_map_or (same_value value) (value_at places key) false
-holds (Absent key) places = is_none (value_at places key)
-holds (AtLeast key number) places = option_map_or (is_at_least number) (value_at places key) false
+abbrev pub holds : Cond → Database → Bool
+holds (Equals key value) database = option_map_or (same_value value) (value_at database key) false
+holds (Absent key) database = is_none (value_at database key)
+holds (AtLeast key number) database = option_map_or (is_at_least number) (value_at database key) false
 
 -- every condition holds
-abbrev pub all_hold : List Cond → Places → Bool
-all_hold [] places = true
-all_hold (condition ∷ conditions) places = holds condition places && all_hold conditions places
+abbrev pub all_hold : List Cond → Database → Bool
+all_hold [] database = true
+all_hold (condition ∷ conditions) database = holds condition database && all_hold conditions database
 
 -- whether the number is an i64
 abbrev pub fits_i64 : ℤ → Bool
@@ -52,41 +52,41 @@ sum_with number (Num a) = if fits_i64 (a +ℤ number) then Some (Num (a +ℤ num
 sum_with number (Text a) = None
 
 -- Lit: the value. Copy: what the key has. Plus: the sum of the key's number and this one.
-abbrev pub term_value : Term → Places → Option Value
-term_value (Lit value) places = Some value
-term_value (Copy key) places = value_at places key
-term_value (Plus key number) places = option_and_then (sum_with number) (value_at places key)
+abbrev pub term_value : Term → Database → Option Value
+term_value (Lit value) database = Some value
+term_value (Copy key) database = value_at database key
+term_value (Plus key number) database = option_and_then (sum_with number) (value_at database key)
 
 -- Put sets the key to the term's value, where the term has one; Del removes the key, and always has a value
-abbrev pub after_op : Op → Places → Option Places
-after_op (Put key term) places = option_map (λ value. changed key (Some value) places) (term_value term places)
-after_op (Del key) places = Some (changed key None places)
+abbrev pub after_op : Op → Database → Option Database
+after_op (Put key term) database = option_map (λ value. changed key (Some value) database) (term_value term database)
+after_op (Del key) database = Some (changed key None database)
 
 -- the ops in order, each seeing those before it: all of them, or none
-abbrev pub after_ops : List Op → Places → Option Places
-after_ops [] places = Some places
-after_ops (op ∷ ops) places = option_and_then (after_ops ops) (after_op op places)
+abbrev pub after_ops : List Op → Database → Option Database
+after_ops [] database = Some database
+after_ops (op ∷ ops) database = option_and_then (after_ops ops) (after_op op database)
 
 -- what an alternative makes, where it fits: its conditions hold, and its ops all have a value
-abbrev pub after_alternative : Alt → Places → Option Places
-after_alternative alt places = if all_hold alt.when.items places then after_ops alt.ops.items places else None
+abbrev pub after_alternative : Alt → Database → Option Database
+after_alternative alt database = if all_hold alt.when.items database then after_ops alt.ops.items database else None
 
 -- the outcome, and the database after it
 abbrev pub Effect : Type 0
-Effect = Outcome × Places
+Effect = Outcome × Database
 
 -- the first alternative that fits, counted from this number on; nothing where there is none
-abbrev pub merged : ℕ → List Alt → Places → Effect
-merged number [] places = (Nothing, places)
-merged number (alt ∷ alts) places =
-    option_map_or (λ after. (Merged number, after)) (after_alternative alt places) (merged (number + 1) alts places)
+abbrev pub merged : ℕ → List Alt → Database → Effect
+merged number [] database = (Nothing, database)
+merged number (alt ∷ alts) database =
+    option_map_or (λ after. (Merged number, after)) (after_alternative alt database) (merged (number + 1) alts database)
 
 -- the update, where its ops all have a value; else nothing
-abbrev pub updated : List Op → Places → Effect
-updated ops places = option_map_or (λ after. (Updated, after)) (after_ops ops places) (Nothing, places)
+abbrev pub updated : List Op → Database → Effect
+updated ops database = option_map_or (λ after. (Updated, after)) (after_ops ops database) (Nothing, database)
 
 -- Where the dependency check holds, the update alone is tried; where it doesn't, the merge procedure is.
-abbrev pub mean : Program → Places → Effect
-mean program places =
-    if all_hold program.check.items places then updated program.update.items places
-    else merged 0 program.merge.items places
+abbrev pub mean : Program → Database → Effect
+mean program database =
+    if all_hold program.check.items database then updated program.update.items database
+    else merged 0 program.merge.items database

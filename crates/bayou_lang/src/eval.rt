@@ -4,7 +4,7 @@ ghost use Rattle.std.specs.Option.{option_map};
 ghost use Rattle.arrayvec.specs.ArrayVec.{array_vec_len};
 ghost use Rattle.bayou_base.specs.declared.limits.TheConstants.{MAX_ALTERNATIVES, MAX_OPS};
 ghost use Rattle.bayou_lang.specs.declared.program.Alt.{Alt};
-ghost use Rattle.bayou_lang.specs.Places.{Places, changed, same_key, value_at};
+ghost use Rattle.bayou_lang.specs.Database.{Database, changed, same_key, value_at};
 ghost use Rattle.bayou_lang.specs.Changes.{ChangeOnly, after_changes, most_changes, most_ops, op_key, program_writes};
 ghost use Rattle.bayou_lang.specs.Meaning as meaning;
 
@@ -27,11 +27,11 @@ pub enum Outcome {
 
 /// A database as a program sees it.
 pub trait Look {
-    ghost places: { Self → Places };
+    ghost database: { Self → Database };
 
     /// What the key has, if anything.
     fn look(&self, key: &Key) -> Option<Value>
-        ensures { result ≡ value_at (places self.now) key.now };
+        ensures { result ≡ value_at (database self.now) key.now };
 }
 
 /// A database with changes over it, which the next op sees.
@@ -42,7 +42,7 @@ struct Overlay<'a, L> {
 }
 
 impl<L: Look> Look for Overlay<'_, L> {
-    ghost places = { λ overlay. after_changes overlay.changes.now.items (L.places overlay.under.now) };
+    ghost database = { λ overlay. after_changes overlay.changes.now.items (L.database overlay.under.now) };
 
     fn look(&self, key: &Key) -> Option<Value> {
         for change in self.changes.as_slice() {
@@ -55,7 +55,7 @@ impl<L: Look> Look for Overlay<'_, L> {
 }
 
 fn holds<L: Look>(condition: &Cond, look: &L) -> bool
-    ensures { result ≡ meaning.holds condition.now (L.places look.now) }
+    ensures { result ≡ meaning.holds condition.now (L.database look.now) }
 {
     match condition {
         Cond::Equals(key, value) => look.look(key).is_some_and(|found| found == *value),
@@ -68,7 +68,7 @@ fn holds<L: Look>(condition: &Cond, look: &L) -> bool
 }
 
 fn all_hold<L: Look>(conditions: &[Cond], look: &L) -> bool
-    ensures { result ≡ meaning.all_hold conditions.now (L.places look.now) }
+    ensures { result ≡ meaning.all_hold conditions.now (L.database look.now) }
 {
     for condition in conditions {
         if !holds(condition, look) {
@@ -88,7 +88,7 @@ fn sum_with(number: i64, value: &Value) -> Option<Value>
 }
 
 fn term_value<L: Look>(term: &Term, look: &L) -> Option<Value>
-    ensures { result ≡ meaning.term_value term.now (L.places look.now) }
+    ensures { result ≡ meaning.term_value term.now (L.database look.now) }
 {
     match term {
         Term::Lit(value) => Some(value.copy()),
@@ -123,8 +123,8 @@ fn set_change(changes: &mut Changes, change: Change)
 
 /// What an op changes where it is applied to this database, or `None` where it has no value.
 fn op_change<L: Look>(op: &Op, look: &L) -> Option<Change>
-    ensures value { meaning.after_op op.now (L.places look.now)
-        ≡ option_map (λ change. changed change.key change.value (L.places look.now)) result }
+    ensures value { meaning.after_op op.now (L.database look.now)
+        ≡ option_map (λ change. changed change.key change.value (L.database look.now)) result }
     ensures key { IfSome result (λ change. change.key ≡ op_key op.now) }
 {
     match op {
@@ -142,8 +142,8 @@ fn op_change<L: Look>(op: &Op, look: &L) -> Option<Change>
 /// What ops change, in order, each seeing those before it, or `None` where one has no value.
 fn ops_changes<L: Look>(ops: &[Op], look: &L) -> Option<Changes>
     requires { length ops.now ≤ MAX_OPS }
-    ensures value { meaning.after_ops ops.now (L.places look.now)
-        ≡ option_map (λ changes. after_changes changes.items (L.places look.now)) result }
+    ensures value { meaning.after_ops ops.now (L.database look.now)
+        ≡ option_map (λ changes. after_changes changes.items (L.database look.now)) result }
     ensures only { IfSome result (λ changes. ChangeOnly (map op_key ops.now) changes.items) }
     ensures few { IfSome result (λ changes. array_vec_len changes ≤ length ops.now) }
 {
@@ -188,8 +188,8 @@ impl Alternative for RestingAlt {
 
 /// What an alternative changes where it fits, else `None`.
 fn alternative_changes<A: Alternative, L: Look>(alternative: &A, look: &L) -> Option<Changes>
-    ensures value { meaning.after_alternative (A.alternative alternative.now) (L.places look.now)
-        ≡ option_map (λ changes. after_changes changes.items (L.places look.now)) result }
+    ensures value { meaning.after_alternative (A.alternative alternative.now) (L.database look.now)
+        ≡ option_map (λ changes. after_changes changes.items (L.database look.now)) result }
     ensures only { IfSome result (λ changes. ChangeOnly (map op_key (A.alternative alternative.now).ops.items) changes.items) }
     ensures few { IfSome result (λ changes. array_vec_len changes ≤ length (A.alternative alternative.now).ops.items) }
 {
@@ -204,8 +204,8 @@ fn alternative_changes<A: Alternative, L: Look>(alternative: &A, look: &L) -> Op
 /// The first alternative that fits, and what it changes.
 fn merge_changes<A: Alternative, L: Look>(alternatives: &[A], look: &L) -> (Outcome, Changes)
     requires { length alternatives.now ≤ MAX_ALTERNATIVES }
-    ensures value { meaning.merged 0 (map A.alternative alternatives.now) (L.places look.now)
-        ≡ (result.0, after_changes result.1.items (L.places look.now)) }
+    ensures value { meaning.merged 0 (map A.alternative alternatives.now) (L.database look.now)
+        ≡ (result.0, after_changes result.1.items (L.database look.now)) }
     ensures only { ChangeOnly (flat_map (λ alt. map op_key alt.ops.items) (map A.alternative alternatives.now)) result.1.items }
     ensures few { array_vec_len result.1 ≤ most_ops (map A.alternative alternatives.now) }
 {
@@ -222,8 +222,8 @@ fn merge_changes<A: Alternative, L: Look>(alternatives: &[A], look: &L) -> (Outc
 /// What an update changes, where its ops all have a value.
 fn update_changes<L: Look>(ops: &[Op], look: &L) -> (Outcome, Changes)
     requires { length ops.now ≤ MAX_OPS }
-    ensures value { meaning.updated ops.now (L.places look.now)
-        ≡ (result.0, after_changes result.1.items (L.places look.now)) }
+    ensures value { meaning.updated ops.now (L.database look.now)
+        ≡ (result.0, after_changes result.1.items (L.database look.now)) }
     ensures only { ChangeOnly (map op_key ops.now) result.1.items }
     ensures few { array_vec_len result.1 ≤ length ops.now }
 {
@@ -236,8 +236,8 @@ fn update_changes<L: Look>(ops: &[Op], look: &L) -> (Outcome, Changes)
 impl RestingProgram {
     /// What the program does to a database: how it is applied, and what it changes.
     pub fn eval<L: Look>(&self, look: &L) -> (Outcome, Changes)
-        ensures value { meaning.mean self.now (L.places look.now)
-            ≡ (result.0, after_changes result.1.items (L.places look.now)) }
+        ensures value { meaning.mean self.now (L.database look.now)
+            ≡ (result.0, after_changes result.1.items (L.database look.now)) }
         ensures only { ChangeOnly (program_writes self.now) result.1.items }
         ensures few { array_vec_len result.1 ≤ most_changes self.now }
     {
@@ -252,8 +252,8 @@ impl RestingProgram {
 impl Program {
     /// What the program does to a database: how it is applied, and what it changes.
     pub fn eval<L: Look>(&self, look: &L) -> (Outcome, Changes)
-        ensures value { meaning.mean self.now (L.places look.now)
-            ≡ (result.0, after_changes result.1.items (L.places look.now)) }
+        ensures value { meaning.mean self.now (L.database look.now)
+            ≡ (result.0, after_changes result.1.items (L.database look.now)) }
         ensures only { ChangeOnly (program_writes self.now) result.1.items }
     {
         if all_hold(self.check.as_slice(), look) {

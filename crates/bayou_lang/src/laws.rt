@@ -15,12 +15,12 @@ ghost use Rattle.bayou_lang.specs.declared.program.Term.TheVariants.{Plus};
 ghost use Rattle.bayou_lang.specs.declared.write.Write.{Write};
 ghost use Rattle.bayou_lang.specs.Equality.{same_program, same_write};
 ghost use Rattle.bayou_lang.specs.Meaning.{after_alternative, after_ops, all_hold, holds, mean, term_value};
-ghost use Rattle.bayou_lang.specs.Places.{Places, changed, empty, same_key, value_at};
+ghost use Rattle.bayou_lang.specs.Database.{Database, changed, empty, same_key, value_at};
 ghost use Rattle.bayou_lang.specs.Writes.{count_of, counted, in_stamp_order, lacking_of, raised_by, AreFitting, Fits, HaveDistinctStamps, HaveDistinctWids, HaveSameWrites, IsNextWrite, IsPrefixClosed};
 
 /// Two databases that have the same at each key are one.
 pub fn databases_are_what_they_have()
-    ensures { (a b : Places) → ((key : List ℕ) → value_at a key ≡ value_at b key) → a ≡ b }
+    ensures { (a b : Database) → ((key : List ℕ) → value_at a key ≡ value_at b key) → a ≡ b }
 {}
 
 /// The empty database has nothing at any key.
@@ -30,49 +30,49 @@ pub fn the_empty_database_has_nothing()
 
 /// A change gives its key the value, or takes it away, and leaves what each other key had.
 pub fn a_change_is_of_its_key()
-    ensures { (key : List ℕ) (value : Option Value) (places : Places) (other : List ℕ)
-        → value_at (changed key value places) other ≡ (if same_key key other then value else value_at places other) }
+    ensures { (key : List ℕ) (value : Option Value) (database : Database) (other : List ℕ)
+        → value_at (changed key value database) other ≡ (if same_key key other then value else value_at database other) }
 {}
 
 /// Equals holds exactly where the key is present with the value.
 pub fn equals_asks_for_the_value()
-    ensures { (key : List ℕ) (value : Value) (places : Places) → (holds (Equals key value) places ≡ true) ↔ (value_at places key ≡ Some value) }
+    ensures { (key : List ℕ) (value : Value) (database : Database) → (holds (Equals key value) database ≡ true) ↔ (value_at database key ≡ Some value) }
 {}
 
 /// Absent holds exactly where the key is absent.
 pub fn absent_asks_for_no_value()
-    ensures { (key : List ℕ) (places : Places) → (holds (Absent key) places ≡ true) ↔ (value_at places key ≡ None) }
+    ensures { (key : List ℕ) (database : Database) → (holds (Absent key) database ≡ true) ↔ (value_at database key ≡ None) }
 {}
 
 /// AtLeast holds exactly where the key has a number that isn't less.
 pub fn at_least_asks_for_a_number()
-    ensures { (key : List ℕ) (number : ℤ) (places : Places) → (holds (AtLeast key number) places ≡ true)
-        ↔ ((found : ℤ) × (value_at places key ≡ Some (Num found)) × (number ≤ℤ found)) }
+    ensures { (key : List ℕ) (number : ℤ) (database : Database) → (holds (AtLeast key number) database ≡ true)
+        ↔ ((found : ℤ) × (value_at database key ≡ Some (Num found)) × (number ≤ℤ found)) }
 {}
 
 /// Plus has a value exactly where the key has a number and the sum is an `i64`, and that value is the sum.
 pub fn plus_is_a_sum_that_fits()
-    ensures { (key : List ℕ) (number : ℤ) (places : Places) (value : Value) → (term_value (Plus key number) places ≡ Some value)
-        ↔ ((found : ℤ) × (value_at places key ≡ Some (Num found)) × FitsSigned w64 (found +ℤ number) × (value ≡ Num (found +ℤ number))) }
+    ensures { (key : List ℕ) (number : ℤ) (database : Database) (value : Value) → (term_value (Plus key number) database ≡ Some value)
+        ↔ ((found : ℤ) × (value_at database key ≡ Some (Num found)) × FitsSigned w64 (found +ℤ number) × (value ≡ Num (found +ℤ number))) }
 {}
 
 /// Where nothing is applied the database is as it was.
 pub fn nothing_leaves_the_database()
-    ensures { (program : Program) (places : Places) → (mean program places).0 ≡ Nothing → (mean program places).1 ≡ places }
+    ensures { (program : Program) (database : Database) → (mean program database).0 ≡ Nothing → (mean program database).1 ≡ database }
 {}
 
 /// Where the update is applied the dependency check holds, and every op had a value.
 pub fn updated_means_all_ops()
-    ensures { (program : Program) (places : Places) → (mean program places).0 ≡ Updated
-        → (all_hold program.check.items places ≡ true) × (after_ops program.update.items places ≡ Some (mean program places).1) }
+    ensures { (program : Program) (database : Database) → (mean program database).0 ≡ Updated
+        → (all_hold program.check.items database ≡ true) × (after_ops program.update.items database ≡ Some (mean program database).1) }
 {}
 
 /// Where an alternative is applied the dependency check fails, that alternative fits, and none before it does.
 pub fn merged_means_the_first_that_fits()
-    ensures { (program : Program) (places : Places) (number : ℕ) → (mean program places).0 ≡ Merged number
-        → (all_hold program.check.items places ≡ false)
-        × ((alt : Alt) × (slice_get program.merge.items number ≡ Some alt) × (after_alternative alt places ≡ Some (mean program places).1))
-        × ((earlier : ℕ) (alt : Alt) → earlier < number → slice_get program.merge.items earlier ≡ Some alt → after_alternative alt places ≡ None) }
+    ensures { (program : Program) (database : Database) (number : ℕ) → (mean program database).0 ≡ Merged number
+        → (all_hold program.check.items database ≡ false)
+        × ((alt : Alt) × (slice_get program.merge.items number ≡ Some alt) × (after_alternative alt database ≡ Some (mean program database).1))
+        × ((earlier : ℕ) (alt : Alt) → earlier < number → slice_get program.merge.items earlier ≡ Some alt → after_alternative alt database ≡ None) }
 {}
 
 /// The Writes in stamp order are those of the list, and none comes before one that stands before it.

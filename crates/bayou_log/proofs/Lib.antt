@@ -1,8 +1,8 @@
 pub mod Agrees
-pub mod InOrder
+pub mod CatchingUp
 pub mod Indexed
-pub mod Inserting
 pub mod ListingLaws
+pub mod Merging
 pub mod Missed
 pub mod Picked
 pub mod Slots

@@ -7,7 +7,7 @@ use Rattle.bayou_base.specs.declared.stamp.Stamp.{Stamp}
 use Rattle.bayou_base.specs.Order.{is_before}
 use Rattle.bayou_lang.specs.declared.write.Write.{Write}
 use Rattle.bayou_lang.specs.Meaning.{mean}
-use Rattle.bayou_lang.specs.Places.{Places, empty}
+use Rattle.bayou_lang.specs.Database.{Database, empty}
 use Rattle.bayou_lang.specs.Writes.{earlier_than, in_stamp_order, place_by_stamp, HaveDistinctStamps}
 use Rattle.bayou_log.specs.Listing.{listed_after, listed_at, listing_of}
 use Rattle.bayou_log.specs.Replay.{after_writes, replay}
@@ -89,7 +89,7 @@ earlier_than-take (first ∷ rest) (suc place) write strict here =
     ap (λ t. cond t (first ∷ earlier_than write.stamp rest) (earlier_than write.stamp rest)) before
     ∙ ap (λ list. first ∷ list) (earlier_than-take rest place write strict.1 here)
 
-listed_after-at : (writes : List Write) (before : Places) (place : ℕ) (write : Write) → slice_get writes place ≡ Some write
+listed_after-at : (writes : List Write) (before : Database) (place : ℕ) (write : Write) → slice_get writes place ≡ Some write
     → slice_get (listed_after writes before) place ≡ Some (listed_at (after_writes (take place writes) before) write)
 listed_after-at [] before place write here = absurd cc
 listed_after-at (first ∷ rest) before zero write here = let same : first ≡ write = cc in ap (λ one. Some (listed_at before one)) same
@@ -104,7 +104,7 @@ listing_of-at writes place write distinct here =
     (sym (in_stamp_order-filter (λ other. is_before other.stamp write.stamp) writes
     ∙ earlier_than-take (in_stamp_order writes) place write (IsStrict-in_stamp_order writes distinct) here))
 
-length-listed_after : (writes : List Write) (before : Places) → length (listed_after writes before) ≡ length writes
+length-listed_after : (writes : List Write) (before : Database) → length (listed_after writes before) ≡ length writes
 length-listed_after [] before = refl
 length-listed_after (write ∷ writes) before = ap suc (length-listed_after writes (mean write.program before).1)
 

@@ -10,12 +10,12 @@ use Rattle.std.proofs.lemmas.List.{take_more, take_all, flat_map_more}
 use Rattle.std.proofs.lemmas.List.Elements.{All-append, All-weaker}
 use Rattle.std.proofs.lemmas.Map.Text.{is_eq-slice_cmp}
 use Rattle.bayou_base.specs.declared.value.Value.{Value}
-use Rattle.bayou_lang.specs.Places.{Places, same_key, changed, empty, value_at}
-use Rattle.bayou_lang.specs.Laws.Places.{changed-same, same_key-turned, same_places, value_at-changed, value_at-empty}
+use Rattle.bayou_lang.specs.Database.{Database, same_key, changed, empty, value_at}
+use Rattle.bayou_lang.specs.Laws.Database.{changed-same, same_key-turned, same_database, value_at-changed, value_at-empty}
 use Rattle.bayou_lang.specs.declared.program.Op.{Op}
 use Rattle.bayou_lang.specs.declared.change.Change.{Change}
 use Rattle.bayou_lang.specs.Changes.{op_key, after_changes}
-use Rattle.bayou_log.specs.Db.{Slots, places, room, has_room, HasRoomAt, KeepsRoom}
+use Rattle.bayou_log.specs.Db.{Slots, database_of, room, has_room, HasRoomAt, KeepsRoom}
 
 -- the test by which a map looks a key up
 abbrev pub map_test : List ℕ → List ℕ → Bool
@@ -31,11 +31,11 @@ slot_at slots key = lookup (map_test key) slots
 abbrev pub value_in : Option (Option Value) → Option Value
 value_in slot = option_and_then (λ value. value) slot
 
-pub places-slot_at : (slots : Slots) (key : List ℕ) → value_at (places slots) key ≡ value_in (slot_at slots key)
-places-slot_at [] key = value_at-empty key
-places-slot_at (slot ∷ slots) key =
-    value_at-changed slot.0 slot.1 (places slots) key
-    ∙ ap (cond (same_key slot.0 key) slot.1) (places-slot_at slots key)
+pub database_of-slot_at : (slots : Slots) (key : List ℕ) → value_at (database_of slots) key ≡ value_in (slot_at slots key)
+database_of-slot_at [] key = value_at-empty key
+database_of-slot_at (slot ∷ slots) key =
+    value_at-changed slot.0 slot.1 (database_of slots) key
+    ∙ ap (cond (same_key slot.0 key) slot.1) (database_of-slot_at slots key)
     ∙ ap (λ same. cond same slot.1 (value_in (slot_at slots key))) (same_key-turned slot.0 key ∙ ap (λ test. test slot.0) (sym (map_test_is_same_key key)))
     ∙ elim (map_test key slot.0) as (λ same. cond same slot.1 (value_in (slot_at slots key)) ≡ value_in (cond same (Some slot.1) (slot_at slots key))) [
       | true ↦ refl
@@ -58,15 +58,15 @@ has_room-slot_at slots key =
 abbrev pub SetsSlot : Slots → List ℕ → Option Value → Slots → Type 0
 SetsSlot old key value new = (other : List ℕ) → slot_at new other ≡ cond (map_test key other) (Some value) (slot_at old other)
 
-pub places-set : (old new : Slots) (key : List ℕ) (value : Option Value) → SetsSlot old key value new → places new ≡ changed key value (places old)
-places-set old new key value sets = same_places (places new) (changed key value (places old)) (λ other.
-    places-slot_at new other ∙ ap value_in (sets other)
+pub database_of-set : (old new : Slots) (key : List ℕ) (value : Option Value) → SetsSlot old key value new → database_of new ≡ changed key value (database_of old)
+database_of-set old new key value sets = same_database (database_of new) (changed key value (database_of old)) (λ other.
+    database_of-slot_at new other ∙ ap value_in (sets other)
     ∙ ap (λ test. value_in (cond (test other) (Some value) (slot_at old other))) (map_test_is_same_key key)
-    ∙ elim (same_key key other) as (λ same. value_in (cond same (Some value) (slot_at old other)) ≡ cond same value (value_at (places old) other)) [
+    ∙ elim (same_key key other) as (λ same. value_in (cond same (Some value) (slot_at old other)) ≡ cond same value (value_at (database_of old) other)) [
       | true ↦ refl
-      | false ↦ sym (places-slot_at old other)
+      | false ↦ sym (database_of-slot_at old other)
     ]
-    ∙ sym (value_at-changed key value (places old) other))
+    ∙ sym (value_at-changed key value (database_of old) other))
 
 -- there is room for what there was room for, and for the key
 pub has_room-set : (old new : Slots) (key : List ℕ) (value : Option Value) → SetsSlot old key value new → (other : List ℕ) → IsTrue (has_room (room old) other) → IsTrue (has_room (room new) other)
@@ -81,15 +81,15 @@ has_room-set_same old new key value sets =
     has_room-slot_at new key ∙ ap is_some (sets key) ∙ ap (λ t. is_some (cond t (Some value) (slot_at old key))) same
 
 -- a key that has no slot has nothing
-pub places-no_slot : (slots : Slots) (key : List ℕ) → is_some (slot_at slots key) ≡ false → value_at (places slots) key ≡ None
-places-no_slot slots key none =
-    places-slot_at slots key
+pub database_of-no_slot : (slots : Slots) (key : List ℕ) → is_some (slot_at slots key) ≡ false → value_at (database_of slots) key ≡ None
+database_of-no_slot slots key none =
+    database_of-slot_at slots key
     ∙ elim (slot_at slots key) as (λ slot. is_some slot ≡ false → value_in slot ≡ None) [ Some value ↦ λ e. cc | None ↦ λ e. refl ] none
 
 -- the slots with every value taken away
-pub places-emptied : (slots : Slots) → places (map (λ slot. (slot.0, None)) slots) ≡ empty
-places-emptied [] = refl
-places-emptied (slot ∷ slots) = ap (changed slot.0 None) (places-emptied slots) ∙ changed-same slot.0 None empty (value_at-empty slot.0)
+pub database_of-emptied : (slots : Slots) → database_of (map (λ slot. (slot.0, None)) slots) ≡ empty
+database_of-emptied [] = refl
+database_of-emptied (slot ∷ slots) = ap (changed slot.0 None) (database_of-emptied slots) ∙ changed-same slot.0 None empty (value_at-empty slot.0)
 
 pub room-emptied : (slots : Slots) → room (map (λ slot. (slot.0, None)) slots) ≡ room slots
 room-emptied [] = refl
@@ -130,13 +130,13 @@ room_has_slot slots key here none =
     cc
 
 -- the change at the end of a list is made first
-pub after_changes-push : (changes : List Change) (change : Change) (before : Places) → after_changes (changes ++ change ∷ []) before ≡ after_changes changes (changed change.key change.value before)
+pub after_changes-push : (changes : List Change) (change : Change) (before : Database) → after_changes (changes ++ change ∷ []) before ≡ after_changes changes (changed change.key change.value before)
 after_changes-push [] change before = refl
 after_changes-push (first ∷ changes) change before = ap (changed first.key first.value) (after_changes-push changes change before)
 
 -- a change is taken back by the value that the key had
-pub changed-back : (key : List ℕ) (value : Option Value) (before : Places) → changed key (value_at before key) (changed key value before) ≡ before
-changed-back key value before = same_places _ before (λ other.
+pub changed-back : (key : List ℕ) (value : Option Value) (before : Database) → changed key (value_at before key) (changed key value before) ≡ before
+changed-back key value before = same_database _ before (λ other.
     value_at-changed key (value_at before key) (changed key value before) other
     ∙ elim (same_key key other) as (λ same. same_key key other ≡ same → cond same (value_at before key) (value_at (changed key value before) other) ≡ value_at before other) [
       | true ↦ λ is. ap (value_at before) ((bytes_decides key other).0 is)

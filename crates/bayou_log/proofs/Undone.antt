@@ -6,7 +6,7 @@ use Rattle.bayou_lang.specs.declared.change.Change.{Change}
 use Rattle.bayou_lang.specs.declared.write.Write.{Write}
 use Rattle.bayou_lang.specs.Changes.{after_changes, most_changes, program_writes}
 use Rattle.bayou_lang.specs.Meaning.{mean}
-use Rattle.bayou_lang.specs.Places.{Places}
+use Rattle.bayou_lang.specs.Database.{Database}
 use Rattle.bayou_lang.specs.Writes.{in_stamp_order, place_by_stamp}
 use Rattle.bayou_base.specs.Order.{is_before}
 use Rattle.bayou_log.specs.Db.{has_room, HasRoomFor}
@@ -46,12 +46,12 @@ changes_in-undos_of (size ∷ sizes) changes all =
     let rest : all_of sizes ≡ length (drop size changes) = omega (arith, length-drop size changes) in
     omega (arith, length-reverse (take size changes), length-take-le size changes within, changes_in-undos_of sizes (drop size changes) rest, length-drop size changes)
 
-pub after_undoing-push : (undos : List (List Change)) (undo : List Change) (places : Places) → after_undoing (undos ++ undo ∷ []) places ≡ after_undoing undos (after_changes undo places)
-after_undoing-push [] undo places = refl
-after_undoing-push (first ∷ undos) undo places = ap (after_changes first) (after_undoing-push undos undo places)
+pub after_undoing-push : (undos : List (List Change)) (undo : List Change) (database : Database) → after_undoing (undos ++ undo ∷ []) database ≡ after_undoing undos (after_changes undo database)
+after_undoing-push [] undo database = refl
+after_undoing-push (first ∷ undos) undo database = ap (after_changes first) (after_undoing-push undos undo database)
 
 -- those behind some place taken back
-pub AreUndos-undoing : (undos : List (List Change)) (writes : List Write) (before : Places) (n : ℕ) → AreUndos undos writes before
+pub AreUndos-undoing : (undos : List (List Change)) (writes : List Write) (before : Database) (n : ℕ) → AreUndos undos writes before
     → after_undoing (drop n undos) (after_writes writes before) ≡ after_writes (take n writes) before
 AreUndos-undoing [] [] before zero are = refl
 AreUndos-undoing [] [] before (suc n) are = refl
@@ -61,7 +61,7 @@ AreUndos-undoing (undo ∷ undos) (write ∷ writes) before zero are =
     ap (after_changes undo) (AreUndos-undoing undos writes (mean write.program before).1 zero are.1) ∙ are.0.whole
 AreUndos-undoing (undo ∷ undos) (write ∷ writes) before (suc n) are = AreUndos-undoing undos writes (mean write.program before).1 n are.1
 
-pub AreUndos-take : (undos : List (List Change)) (writes : List Write) (before : Places) (n : ℕ) → AreUndos undos writes before
+pub AreUndos-take : (undos : List (List Change)) (writes : List Write) (before : Database) (n : ℕ) → AreUndos undos writes before
     → AreUndos (take n undos) (take n writes) before
 AreUndos-take undos writes before zero are = tt
 AreUndos-take [] [] before (suc n) are = tt
@@ -69,27 +69,27 @@ AreUndos-take [] (write ∷ writes) before (suc n) are = absurd are
 AreUndos-take (undo ∷ undos) [] before (suc n) are = absurd are
 AreUndos-take (undo ∷ undos) (write ∷ writes) before (suc n) are = (are.0, AreUndos-take undos writes (mean write.program before).1 n are.1)
 
-pub AreUndos-append : (undos more : List (List Change)) (writes others : List Write) (before : Places) → AreUndos undos writes before
+pub AreUndos-append : (undos more : List (List Change)) (writes others : List Write) (before : Database) → AreUndos undos writes before
     → AreUndos more others (after_writes writes before) → AreUndos (undos ++ more) (writes ++ others) before
 AreUndos-append [] more [] others before are rest = rest
 AreUndos-append [] more (write ∷ writes) others before are rest = absurd are
 AreUndos-append (undo ∷ undos) more [] others before are rest = absurd are
 AreUndos-append (undo ∷ undos) more (write ∷ writes) others before are rest = (are.0, AreUndos-append undos more writes others (mean write.program before).1 are.1 rest)
 
-pub AreUndos-length : (undos : List (List Change)) (writes : List Write) (before : Places) → AreUndos undos writes before → length undos ≡ length writes
+pub AreUndos-length : (undos : List (List Change)) (writes : List Write) (before : Database) → AreUndos undos writes before → length undos ≡ length writes
 AreUndos-length [] [] before are = refl
 AreUndos-length [] (write ∷ writes) before are = absurd are
 AreUndos-length (undo ∷ undos) [] before are = absurd are
 AreUndos-length (undo ∷ undos) (write ∷ writes) before are = ap suc (AreUndos-length undos writes (mean write.program before).1 are.1)
 
-pub AreUndos-few : (undos : List (List Change)) (writes : List Write) (before : Places) → AreUndos undos writes before → changes_in undos ≤ changes_of writes
+pub AreUndos-few : (undos : List (List Change)) (writes : List Write) (before : Database) → AreUndos undos writes before → changes_in undos ≤ changes_of writes
 AreUndos-few [] [] before are = omega arith
 AreUndos-few [] (write ∷ writes) before are = absurd are
 AreUndos-few (undo ∷ undos) [] before are = absurd are
 AreUndos-few (undo ∷ undos) (write ∷ writes) before are = omega (arith, are.0.few, AreUndos-few undos writes (mean write.program before).1 are.1)
 
 -- each key that is put back has room
-pub AreUndos-reached : (keys : List (List ℕ)) (undos : List (List Change)) (writes : List Write) (before : Places) → AreUndos undos writes before
+pub AreUndos-reached : (keys : List (List ℕ)) (undos : List (List Change)) (writes : List Write) (before : Database) → AreUndos undos writes before
     → All (λ write. HasRoomFor keys write.program) writes → All (λ undo. All (λ change. IsTrue (has_room keys change.key)) undo) undos
 AreUndos-reached keys [] [] before are reached = All-nil (λ undo. All (λ change. IsTrue (has_room keys change.key)) undo)
 AreUndos-reached keys [] (write ∷ writes) before are reached = absurd are

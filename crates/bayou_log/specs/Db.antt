@@ -4,7 +4,7 @@ use Rattle.std.specs.List.{list_any}
 use Rattle.std.specs.Map.{keys_of}
 use Rattle.bayou_base.specs.declared.value.Value.{Value}
 use Rattle.bayou_lang.specs.declared.program.Program.{Program}
-use Rattle.bayou_lang.specs.Places.{Places, changed, empty, same_key}
+use Rattle.bayou_lang.specs.Database.{Database, changed, empty, same_key}
 use Rattle.bayou_lang.specs.declared.change.Change.{Change}
 use Rattle.bayou_lang.specs.Changes.{after_changes, most_changes, program_writes}
 use Rattle.bayou_lang.specs.Meaning.{mean}
@@ -14,9 +14,9 @@ abbrev pub Slots : Type 0
 Slots = List (List ℕ × Option Value)
 
 -- the database with what the slots have
-abbrev pub places : Slots → Places
-places [] = empty
-places (slot ∷ slots) = changed slot.0 slot.1 (places slots)
+abbrev pub database_of : Slots → Database
+database_of [] = empty
+database_of (slot ∷ slots) = changed slot.0 slot.1 (database_of slots)
 
 -- the keys that there is room for
 abbrev pub room : Slots → List (List ℕ)
@@ -40,7 +40,7 @@ KeepsRoom old new = (key : List ℕ) → IsTrue (has_room old key) → IsTrue (h
 
 -- The changes take the program back, which was applied to this database (undo, Terry et al. 1995): they make of what it left
 -- the database before, whole. They are no more than the program may make, and of keys that it may write.
-pub record IsUndo (program : Program) (before : Places) (undo : List Change) : Type 0 where
+pub record IsUndo (program : Program) (before : Database) (undo : List Change) : Type 0 where
   pub whole : after_changes undo (mean program before).1 ≡ before
   pub among : All (λ change. Contains (program_writes program) change.key) undo
   pub few : length undo ≤ most_changes program

@@ -1,4 +1,5 @@
 pub mod Fields
 pub mod Index
 pub mod Lacking
+pub mod Runs
 pub mod Undone

@@ -3,8 +3,8 @@ ghost use Rattle.arrayvec.specs.ArrayVec.{array_vec_len};
 ghost use Rattle.std.specs.List.{flat_map};
 ghost use Rattle.bayou_lang.specs.Changes.{after_changes, op_key, ChangeOnly};
 ghost use Rattle.bayou_lang.specs.Meaning.{mean};
-ghost use Rattle.bayou_lang.specs.Places.{changed, empty, value_at};
-ghost use Rattle.bayou_log.specs.Db.{places, room, has_room, HasRoomAt, HasRoomFor, IsUndo, KeepsRoom};
+ghost use Rattle.bayou_lang.specs.Database.{changed, empty, value_at};
+ghost use Rattle.bayou_log.specs.Db.{database_of, room, has_room, HasRoomAt, HasRoomFor, IsUndo, KeepsRoom};
 
 use bayou_base::{Key, Value};
 use bayou_lang::{Change, Changes, Look, Op, Outcome, RestingAlt, RestingProgram, RestingWrite};
@@ -63,7 +63,7 @@ fn copy_of(slot: &Option<Value>) -> Option<Value>
 }
 
 fn make_room(slots: &mut Slots, key: &Key) -> Result<(), AllocError>
-    ensures same { places slots.new.entries ≡ places slots.old.entries }
+    ensures same { database_of slots.new.entries ≡ database_of slots.old.entries }
     ensures keeps { KeepsRoom (room slots.old.entries) (room slots.new.entries) }
     ensures ok { OnOk result (IsTrue (has_room (room slots.new.entries) key.now)) }
 {
@@ -74,7 +74,7 @@ fn make_room(slots: &mut Slots, key: &Key) -> Result<(), AllocError>
 }
 
 fn make_room_for(slots: &mut Slots, ops: &[Op]) -> Result<(), AllocError>
-    ensures same { places slots.new.entries ≡ places slots.old.entries }
+    ensures same { database_of slots.new.entries ≡ database_of slots.old.entries }
     ensures keeps { KeepsRoom (room slots.old.entries) (room slots.new.entries) }
     ensures ok { OnOk result (HasRoomAt (room slots.new.entries) (map op_key ops.now)) }
 {
@@ -85,7 +85,7 @@ fn make_room_for(slots: &mut Slots, ops: &[Op]) -> Result<(), AllocError>
 }
 
 fn make_room_for_all(slots: &mut Slots, alternatives: &[RestingAlt]) -> Result<(), AllocError>
-    ensures same { places slots.new.entries ≡ places slots.old.entries }
+    ensures same { database_of slots.new.entries ≡ database_of slots.old.entries }
     ensures keeps { KeepsRoom (room slots.old.entries) (room slots.new.entries) }
     ensures ok { OnOk result (HasRoomAt (room slots.new.entries) (flat_map (λ alt. map op_key alt.ops.items) alternatives.now)) }
 {
@@ -98,10 +98,10 @@ fn make_room_for_all(slots: &mut Slots, alternatives: &[RestingAlt]) -> Result<(
 /// Makes the change, and gives the one that puts back what the key had.
 fn replace(slots: &mut Slots, change: Change) -> Change
     requires { IsTrue (has_room (room slots.old.entries) change.key) }
-    ensures places { places slots.new.entries ≡ changed change.key change.value (places slots.old.entries) }
+    ensures database { database_of slots.new.entries ≡ changed change.key change.value (database_of slots.old.entries) }
     ensures room { room slots.new.entries ≡ room slots.old.entries }
     ensures key { result.key ≡ change.key }
-    ensures value { result.value ≡ value_at (places slots.old.entries) change.key }
+    ensures value { result.value ≡ value_at (database_of slots.old.entries) change.key }
 {
     let Change { key, value } = change;
     let Some(slot) = slots.get_mut(&key) else {
@@ -114,9 +114,9 @@ fn replace(slots: &mut Slots, change: Change) -> Change
 /// Makes the changes, the first of them last, and gives those that put back what the keys had.
 fn replace_all(slots: &mut Slots, mut changes: Changes) -> Changes
     requires { All (λ change. IsTrue (has_room (room slots.old.entries) change.key)) changes.items }
-    ensures places { places slots.new.entries ≡ after_changes changes.items (places slots.old.entries) }
+    ensures database { database_of slots.new.entries ≡ after_changes changes.items (database_of slots.old.entries) }
     ensures room { room slots.new.entries ≡ room slots.old.entries }
-    ensures undone { after_changes result.items (places slots.new.entries) ≡ places slots.old.entries }
+    ensures undone { after_changes result.items (database_of slots.new.entries) ≡ database_of slots.old.entries }
     ensures among { (keys : List (List ℕ)) → All (λ change. Contains keys change.key) changes.items → All (λ change. Contains keys change.key) result.items }
     ensures as_many { array_vec_len result ≡ array_vec_len changes }
 {
@@ -130,7 +130,7 @@ fn replace_all(slots: &mut Slots, mut changes: Changes) -> Changes
 impl Db {
     /// The empty database, with room for no key.
     pub fn new(alloc: Global) -> Self
-        ensures { places result ≡ empty }
+        ensures { database_of result ≡ empty }
     {
         Db {
             slots: BTreeMap::new(alloc),
@@ -140,7 +140,7 @@ impl Db {
     /// Makes room for every key that the program may write. Where memory is refused, the room that there was, and
     /// what was made, stays.
     pub fn prepare(&mut self, program: &RestingProgram) -> Result<(), AllocError>
-        ensures same { places self.new ≡ places self.old }
+        ensures same { database_of self.new ≡ database_of self.old }
         ensures keeps { KeepsRoom (room self.old) (room self.new) }
         ensures ok { OnOk result (HasRoomFor (room self.new) program.now) }
     {
@@ -151,7 +151,7 @@ impl Db {
 
     /// What the key has, if anything.
     pub fn get(&self, key: &Key) -> Option<Value>
-        ensures { result ≡ value_at (places self.now) key.now }
+        ensures { result ≡ value_at (database_of self.now) key.now }
     {
         match self.slots.get(key) {
             Some(slot) => copy_of(slot),
@@ -162,10 +162,10 @@ impl Db {
     /// Applies the program, which takes no memory. It gives, beside the outcome, what [`Db::undo`] needs to take that back.
     pub fn apply(&mut self, program: &RestingProgram) -> (Outcome, Undo)
         requires { HasRoomFor (room self.old) program.now }
-        ensures outcome { result.0 ≡ (mean program.now (places self.old)).0 }
-        ensures places { places self.new ≡ (mean program.now (places self.old)).1 }
+        ensures outcome { result.0 ≡ (mean program.now (database_of self.old)).0 }
+        ensures database { database_of self.new ≡ (mean program.now (database_of self.old)).1 }
         ensures room { room self.new ≡ room self.old }
-        ensures undo { IsUndo program.now (places self.old) result.1 }
+        ensures undo { IsUndo program.now (database_of self.old) result.1 }
     {
         let (outcome, changes) = program.eval(self);
         let before = replace_all(&mut self.slots, changes);
@@ -176,7 +176,7 @@ impl Db {
     /// undone since, the database is what it was before.
     pub fn undo(&mut self, undo: Undo)
         requires { All (λ change. IsTrue (has_room (room self.old) change.key)) undo }
-        ensures places { places self.new ≡ after_changes undo (places self.old) }
+        ensures database { database_of self.new ≡ after_changes undo (database_of self.old) }
         ensures room { room self.new ≡ room self.old }
     {
         replace_all(&mut self.slots, undo.before);
@@ -185,7 +185,7 @@ impl Db {
 
 /// An empty database with room for all that the Writes may write.
 pub(crate) fn prepared(alloc: Global, writes: &[RestingWrite]) -> Result<Db, AllocError>
-    ensures empty { IfOk result (λ db. places db ≡ empty) }
+    ensures empty { IfOk result (λ db. database_of db ≡ empty) }
     ensures room { IfOk result (λ db. All (λ write. HasRoomFor (room db) write.program) writes.now) }
 {
     let mut db = Db::new(alloc);
@@ -196,7 +196,7 @@ pub(crate) fn prepared(alloc: Global, writes: &[RestingWrite]) -> Result<Db, All
 }
 
 impl Look for Db {
-    ghost places = { places };
+    ghost database = { database_of };
 
     fn look(&self, key: &Key) -> Option<Value> {
         self.get(key)

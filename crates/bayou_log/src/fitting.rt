@@ -3,7 +3,7 @@ ghost use Rattle.std.specs.Prelude.{◌≡◌, ℕ, ◌+◌, ◌<◌, ◌↔◌,
 ghost use Rattle.bayou_base.specs.Vector.{Dominates};
 
 use bayou_base::Vector;
-use bayou_lang::Write;
+use bayou_lang::RestingWrite;
 
 /// Why a Write may not follow those that are held.
 #[derive(Clone, Copy, Debug, PartialEq, Eq)]
@@ -16,11 +16,10 @@ pub enum Misfit {
 }
 
 /// Whether it is of one of the servers, the next of its origin's, and all that its server held is counted.
-pub(crate) fn is_next(write: &Write, count: u8, held: &Vector) -> bool
+pub(crate) fn is_next(write: &RestingWrite, count: u8, held: &Vector) -> bool
     ensures { IsTrue result ↔ ((write.now.wid.origin.index < count)
         × (write.now.wid.seq ≡ slice_index held.now write.now.wid.origin.index + 1) × Dominates held.now write.now.deps) }
 {
-    write.wid.origin.index < count
-        && write.wid.seq == held.get(write.wid.origin) + 1
-        && held.dominates(&write.deps)
+    let wid = write.wid();
+    wid.origin.index < count && wid.seq == held.get(wid.origin) + 1 && held.dominates(write.deps())
 }

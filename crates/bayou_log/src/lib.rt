@@ -10,6 +10,9 @@
 //! the log's vector counts the Writes of each server; what else follows for such Writes is among
 //! `bayou_lang`'s laws.
 //!
+//! Writes may wait to be applied, so that many that come late cost one replay: [`WriteLog::place`] adds one that waits, and
+//! [`WriteLog::catch_up`] applies all that do. Meanwhile the database and the listing are those of the others, and all else is of all.
+//!
 //! A caller asks whether a Write fits ([`WriteLog::fits`]), or knows it of one that it makes itself, reserves before it
 //! inserts, and inserts none into a full log. The crate doesn't promise whose log it is: that a server's own Writes
 //! say all that was held before them is for the caller to keep.

@@ -1,6 +1,6 @@
 //! What became of each Write that a log holds.
 ghost use Rattle.std.specs.Prelude.{◌≡◌, ◌<◌, All, IfOk, length};
-ghost use Rattle.bayou_lang.specs.Places.{empty};
+ghost use Rattle.bayou_lang.specs.Database.{empty};
 ghost use Rattle.bayou_log.specs.Inner.Fields.{picked};
 ghost use Rattle.bayou_log.specs.Listing.{listed_after};
 

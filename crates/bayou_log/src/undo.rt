@@ -1,8 +1,8 @@
 //! What takes the applied Writes back, the last one first.
 ghost use Rattle.std.specs.Prelude.{◌≡◌, ℕ, ◌+◌, ◌<◌, ◌≤◌, [], ◌∷◌, ◌++◌, All, IsTrue, MatchOption, OnOk, drop, length, reverse, take, vec_capacity, vec_len};
 ghost use Rattle.arrayvec.specs.ArrayVec.{array_vec_len};
-ghost use Rattle.bayou_base.specs.declared.limits.TheConstants.{MAX_OPS};
-ghost use Rattle.bayou_log.specs.Db.{places, room, has_room, HasRoomFor};
+ghost use Rattle.bayou_base.specs.declared.limits.TheConstants.{MAX_OPS, MAX_WRITES};
+ghost use Rattle.bayou_log.specs.Db.{database_of, room, has_room, HasRoomFor};
 ghost use Rattle.bayou_log.specs.Inner.Fields.{picked};
 ghost use Rattle.bayou_log.specs.Inner.Undone.{after_undoing, changes_in, changes_of, AddsUndone};
 ghost use Rattle.bayou_log.specs.Replay.{after_writes};
@@ -81,18 +81,20 @@ impl UndoStack {
         self.sizes.len()
     }
 
-    /// Takes room for some changes more than those that are promised, and for one Write more.
-    pub(crate) fn reserve(&mut self, more: usize) -> Result<(), AllocError>
-        requires { more ≤ MAX_OPS }
+    /// Takes room for some changes more than those that are promised, and for one Write more than are held.
+    pub(crate) fn reserve(&mut self, held: usize, more: usize) -> Result<(), AllocError>
+        requires changes { more ≤ MAX_OPS }
+        requires held { length self.old.undos ≤ held }
+        requires within { held ≤ MAX_WRITES }
         ensures same { (self.new.undos ≡ self.old.undos) × (self.new.promised ≡ self.old.promised) }
         ensures kept { (self.old.room ≤ self.new.room) × (self.old.places ≤ self.new.places) }
-        ensures ok { OnOk result ((self.new.promised + more ≤ self.new.room) × (length self.new.undos < self.new.places)) }
+        ensures ok { OnOk result ((self.new.promised + more ≤ self.new.room) × (held < self.new.places)) }
     {
         let _ = self.changes.capacity();
         let wanted = self.promised + more;
         self.changes
             .try_reserve(wanted.saturating_sub(self.changes.len()))?;
-        self.sizes.try_reserve(1)?;
+        self.sizes.try_reserve(held + 1 - self.sizes.len())?;
         Ok(())
     }
 
@@ -130,7 +132,7 @@ impl UndoStack {
 pub(crate) fn take_back(db: &mut Db, undone: &mut UndoStack, left: usize)
     requires within { left ≤ length undone.old.undos }
     requires room { All (λ undo. All (λ change. IsTrue (has_room (room db.old) change.key)) undo) undone.old.undos }
-    ensures places { places db.new ≡ after_undoing (drop left undone.old.undos) (places db.old) }
+    ensures database { database_of db.new ≡ after_undoing (drop left undone.old.undos) (database_of db.old) }
     ensures room { room db.new ≡ room db.old }
     ensures undone { undone.new ≡ record undone.old { undos = take left undone.old.undos } }
 {
@@ -153,9 +155,9 @@ pub(crate) fn apply_in_turn(
     requires room { All (λ write. HasRoomFor (room db.old) write.program) writes.now }
     requires changes { changes_in undone.old.undos + changes_of (picked writes.now order.now) ≤ undone.old.room }
     requires entries { length undone.old.undos + length order.now ≤ undone.old.places }
-    ensures places { places db.new ≡ after_writes (picked writes.now order.now) (places db.old) }
+    ensures database { database_of db.new ≡ after_writes (picked writes.now order.now) (database_of db.old) }
     ensures room { room db.new ≡ room db.old }
-    ensures undone { AddsUndone (picked writes.now order.now) (places db.old) undone.old undone.new }
+    ensures undone { AddsUndone (picked writes.now order.now) (database_of db.old) undone.old undone.new }
 {
     for at in order {
         let (_, undo) = db.apply(writes[*at].program());

@@ -1,24 +1,24 @@
 ghost use Rattle.std.specs.Prelude.{◌≡◌, ◌≢◌, ℕ, ◌+◌, ◌<◌, ◌≤◌, ◌↔◌, [], ◌∷◌, ◌++◌, All, Contains, IsTrue, IfNone, IfOk, IfSome, OnOk, length, option_copied, slice_index, take};
 ghost use Rattle.bayou_base.specs.declared.limits.TheConstants.{SERVERS, MAX_WRITES};
 ghost use Rattle.bayou_lang.specs.declared.write.Write.{Write};
-ghost use Rattle.bayou_lang.specs.Places.{value_at};
+ghost use Rattle.bayou_lang.specs.Database.{value_at};
 ghost use Rattle.bayou_lang.specs.Writes.{count_of, covered_by, greatest_clock, lacking_of, AreFitting, Fits, HasNoGap};
 ghost use Rattle.bayou_base.specs.Vector.{Dominates};
 ghost use Rattle.bayou_log.specs.Fitting.{FitAnswer};
 ghost use Rattle.bayou_log.specs.Inner.Index.{IsLastClock};
 ghost use Rattle.bayou_log.specs.Inner.Lacking.{IsFirstMissed};
 ghost use Rattle.bayou_log.specs.Listing.{listing_of};
-ghost use Rattle.bayou_log.specs.Log.{IsReserved};
+ghost use Rattle.bayou_log.specs.Log.{IsReserved, applied};
 ghost use Rattle.bayou_log.specs.Replay.{replay};
 
 use crate::db::Db;
 use crate::fitting::{Misfit, is_next};
 use crate::index::Index;
 use crate::listing::{Listed, outcomes_in_turn};
-use crate::order::{earlier, place_of};
+use crate::order::{earlier, put_in_order};
 use crate::undo::{UndoStack, apply_in_turn, take_back};
 use bayou_base::{Key, MAX_WRITES, SERVERS, Value, Vector, Wid};
-use bayou_lang::{RestingWrite, Write};
+use bayou_lang::RestingWrite;
 use std::alloc::{AllocError, Global};
 use std::marker::Model;
 
@@ -27,12 +27,13 @@ use std::marker::Model;
 pub struct WriteLog {
     // In order of receipt.
     writes: Vec<RestingWrite>,
-    // Their places, in stamp order.
+    // The places of those that are applied, the first that came, in stamp order.
     order: Vec<usize>,
+    // The database of those.
     db: Db,
     // Where the Writes of each server stand among them.
     own: Index,
-    // What takes the Writes back, those in stamp order.
+    // What takes them back.
     undone: UndoStack,
     vector: Vector,
     // The greatest that a Write has, or 0.
@@ -42,9 +43,9 @@ pub struct WriteLog {
 }
 
 impl Model for WriteLog {
-    ghost use Rattle.std.specs.Prelude.{◌-◌, min, vec_len, vec_capacity};
+    ghost use Rattle.std.specs.Prelude.{◌-◌, length, min, take, vec_len, vec_capacity};
     ghost use Rattle.bayou_log.specs.Log.{Log};
-    ghost use Rattle.bayou_log.specs.Inner.Fields.{AgreesWith, AreKept, AreTakenBack};
+    ghost use Rattle.bayou_log.specs.Inner.Fields.{AgreesWith, AreApplied, AreKept, HasRoomForAll};
     ghost use Rattle.bayou_log.specs.Inner.Index.{AreIndexed};
     ghost use Rattle.bayou_log.specs.Db as database;
 
@@ -55,13 +56,16 @@ impl Model for WriteLog {
       count = l.count;
       limit = l.limit;
       room = record {
-        writes = min (min (vec_capacity l.writes - vec_len l.writes) (vec_capacity l.order - vec_len l.order)) (min (l.undone.places - vec_len l.writes) l.own.room);
+        writes = min (min (vec_capacity l.writes - vec_len l.writes) (vec_capacity l.order - vec_len l.writes)) (min (l.undone.places - vec_len l.writes) l.own.room);
         keys = database.room l.db;
         changes = l.undone.room - l.undone.promised;
       };
+      waiting = vec_len l.writes - vec_len l.order;
     } };
 
-    ghost invariant = { λ l. AreKept l.count l.limit l.writes.items × AgreesWith l.writes.items l.order.items l.db l.vector l.clock × AreTakenBack l.writes.items l.undone × AreIndexed l.own.rows l.writes.items };
+    ghost invariant = { λ l. AreKept l.count l.limit l.writes.items × AgreesWith l.writes.items l.db l.vector l.clock
+        × AreApplied (take (length l.order.items) l.writes.items) l.order.items l.db l.undone.undos × HasRoomForAll l.writes.items (vec_capacity l.order) l.undone
+        × AreIndexed l.own.rows l.writes.items };
 }
 
 impl WriteLog {
@@ -70,6 +74,7 @@ impl WriteLog {
         requires count { count ≤ SERVERS }
         requires limit { limit ≤ MAX_WRITES }
         ensures empty { result.receipts ≡ [] }
+        ensures waiting { result.waiting ≡ 0 }
         ensures count { result.count ≡ count }
         ensures limit { result.limit ≡ limit }
     {
@@ -120,9 +125,9 @@ impl WriteLog {
         self.writes.len() == self.limit as usize
     }
 
-    /// What the key has in the database that the Writes make, if anything.
+    /// What the key has in the database that the Writes make, but for those that wait, if anything.
     pub fn get(&self, key: &Key) -> Option<Value>
-        ensures { result ≡ value_at (replay self.now.receipts) key.now }
+        ensures { result ≡ value_at (replay (applied self.now)) key.now }
     {
         self.db.get(key)
     }
@@ -167,21 +172,22 @@ impl WriteLog {
 
     /// Whether the Write may be inserted, room aside. It takes no memory, and looks at one held Write of each
     /// server at the most.
-    pub fn fits(&self, write: &Write) -> Result<(), Misfit>
+    pub fn fits(&self, write: &RestingWrite) -> Result<(), Misfit>
         ensures { FitAnswer self.now.count self.now.receipts write.now result }
     {
         if !self.has_no_gap(write) {
             return Err(Misfit::Gap);
         }
-        let own_are_held = self.vector.get(write.wid.origin) == write.deps.get(write.wid.origin);
-        if !own_are_held || write.stamp.clock != self.clock_among(&write.deps) + 1 {
+        let origin = write.wid().origin;
+        let own_are_held = self.vector.get(origin) == write.deps().get(origin);
+        if !own_are_held || write.stamp().clock != self.clock_among(write.deps()) + 1 {
             return Err(Misfit::BadStamp);
         }
         Ok(())
     }
 
     /// Whether no Write before this one is missing.
-    fn has_no_gap(&self, write: &Write) -> bool
+    fn has_no_gap(&self, write: &RestingWrite) -> bool
         ensures { IsTrue result ↔ HasNoGap self.now.count self.now.receipts write.now }
     {
         is_next(write, self.count, &self.vector)
@@ -216,10 +222,10 @@ impl WriteLog {
         self.writes[self.own.place(server, seq)].stamp().clock
     }
 
-    /// The Writes held, in stamp order, each with the outcome that it has in the replay. It takes time as an insertion
-    /// before all other Writes does.
+    /// The Writes held, but for those that wait, in stamp order, each with the outcome that it has in the replay. It takes time as an
+    /// insertion before all other Writes does.
     pub fn listing(&self, alloc: Global) -> Result<Vec<Listed>, AllocError>
-        ensures { IfOk result (λ list. list.items ≡ listing_of self.now.receipts) }
+        ensures { IfOk result (λ list. list.items ≡ listing_of (applied self.now)) }
     {
         outcomes_in_turn(alloc, &self.writes, &self.order)
     }
@@ -284,37 +290,51 @@ impl WriteLog {
         ensures kept { (other : Write) → IsReserved self.old.room other → IsReserved self.new.room other }
         ensures ok { OnOk result (IsReserved self.new.room write.now) }
     {
+        let held = self.writes.len();
         self.writes.try_reserve(1)?;
-        self.order.try_reserve(1)?;
+        self.order.try_reserve(held + 1 - self.order.len())?;
         self.own.reserve()?;
-        self.undone.reserve(write.program().most_changes())?;
+        self.undone.reserve(held, write.program().most_changes())?;
         self.db.prepare(write.program())
     }
 
-    /// Adds the Write, which takes no memory. Those that come after it in stamp order are taken back, the last first, and are
-    /// applied again behind it (Terry et al. 1995).
-    pub fn insert(&mut self, write: RestingWrite)
+    /// Adds the Write, which takes no memory. It waits, with those that do, until [`WriteLog::catch_up`].
+    pub fn place(&mut self, write: RestingWrite)
         requires fits { Fits self.old.count self.old.receipts write }
         requires reserved { IsReserved self.old.room write }
         requires below_limit { length self.old.receipts < self.old.limit }
-        ensures { self.new ≡ record self.old { receipts = self.old.receipts ++ write ∷ []; room = self.new.room } }
+        ensures { self.new ≡ record self.old { receipts = self.old.receipts ++ write ∷ []; room = self.new.room; waiting = self.old.waiting + 1 } }
     {
-        let at = self.writes.len();
-        let place = place_of(write.stamp(), &self.writes, &self.order);
-        self.own.add(write.wid(), at as u32);
+        self.own.add(write.wid(), self.writes.len() as u32);
         self.vector.raise(write.wid());
         self.clock = self.clock.max(write.stamp().clock);
         self.undone.promise(write.program().most_changes());
-        let Ok(()) = self.order.insert(place, at) else {
-            unreachable!();
-        };
         self.writes.push_reserved(write);
-        take_back(&mut self.db, &mut self.undone, place);
+    }
+
+    /// Applies the Writes that wait, which takes no memory. Those that come after one of them in stamp order are taken back, the last
+    /// first, and are applied again behind it (Terry et al. 1995): once, however many wait.
+    pub fn catch_up(&mut self)
+        ensures { self.new ≡ record self.old { waiting = 0 } }
+    {
+        let first = put_in_order(&mut self.order, &self.writes);
+        take_back(&mut self.db, &mut self.undone, first);
         apply_in_turn(
             &mut self.db,
             &mut self.undone,
             &self.writes,
-            &self.order[place..],
+            &self.order[first..],
         );
+    }
+
+    /// Adds the Write, and applies it with those that wait, which takes no memory.
+    pub fn insert(&mut self, write: RestingWrite)
+        requires fits { Fits self.old.count self.old.receipts write }
+        requires reserved { IsReserved self.old.room write }
+        requires below_limit { length self.old.receipts < self.old.limit }
+        ensures { self.new ≡ record self.old { receipts = self.old.receipts ++ write ∷ []; room = self.new.room; waiting = 0 } }
+    {
+        self.place(write);
+        self.catch_up();
     }
 }

@@ -2,7 +2,7 @@
 use Rattle.std.proofs.Common.{◌≡◌, inl, inr, ℕ, List, [], Option, Err, subst, sym, refl}
 use Rattle.bayou_lang.specs.declared.write.Write.{Write}
 use Rattle.bayou_lang.specs.Writes.{lacking_of}
-use Rattle.bayou_frames.specs.declared.fault.Fault.TheVariants.{OutOfMemory}
+use Rattle.bayou_frames.specs.declared.fault.ChannelFault.TheVariants.{OutOfMemory}
 use Rattle.bayou_peer.specs.declared.fault.PullFault.TheVariants.{Stream}
 use Rattle.bayou_peer.specs.Meeting.{Meets, coming}
 use Rattle.bayou_answers.specs.declared.answer.Transfer.{Transfer}

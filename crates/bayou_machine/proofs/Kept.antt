@@ -69,12 +69,12 @@ no_slip_out inside claimed spent entry none claim filed =
     omega (arith, none, slips, ap (λ (book : Booked). book.totals.slips) claim)
 
 -- the entries are all that changed
-pub same_book : (old : Filings) (inside claimed spent : Booked) (filed : List Entry) → record { places = inside.places; entries = inside.entries } ≡ old
-    → claimed ≡ with_claim inside → spent.places ≡ claimed.places → spent.entries ≡ claimed.entries ++ filed
-    → record { places = spent.places; entries = spent.entries } ≡ record old { entries = old.entries ++ filed }
-same_book old inside claimed spent filed view claim places entries =
-    let p = places ∙ ap (λ (book : Booked). book.places) claim in
+pub same_book : (old : Filings) (inside claimed spent : Booked) (filed : List Entry) → record { capacity = inside.capacity; entries = inside.entries } ≡ old
+    → claimed ≡ with_claim inside → spent.capacity ≡ claimed.capacity → spent.entries ≡ claimed.entries ++ filed
+    → record { capacity = spent.capacity; entries = spent.entries } ≡ record old { entries = old.entries ++ filed }
+same_book old inside claimed spent filed view claim capacity entries =
+    let p = capacity ∙ ap (λ (book : Booked). book.capacity) claim in
     let e = entries ∙ ap (λ (book : Booked). book.entries ++ filed) claim in
-    ap (λ n. record { places = n; entries = spent.entries }) p
-    ∙ ap (λ list. record { places = inside.places; entries = list }) e
+    ap (λ n. record { capacity = n; entries = spent.entries }) p
+    ∙ ap (λ list. record { capacity = inside.capacity; entries = list }) e
     ∙ ap (λ (book : Filings). record book { entries = book.entries ++ filed }) view

@@ -1,6 +1,6 @@
 -- Which kinds of commands are operations.
 use Rattle.std.proofs.Common.{◌≡◌, ℕ, None, Some, refl}
-use Rattle.bayou_script.specs.Places.{operation_of}
+use Rattle.bayou_script.specs.Capacity.{operation_of}
 use Rattle.bayou_text.specs.declared.command.Attempt.{Attempt}
 use Rattle.bayou_text.specs.declared.command.Attempt.TheVariants.{Write, Read}
 use Rattle.bayou_text.specs.declared.command.TrialKind.{TrialKind}

@@ -2,8 +2,8 @@
 use Rattle.std.proofs.Common.{◌≡◌, ℕ, Option, None, Some, sym, subst}
 use Rattle.bayou_text.specs.Said.{Said, servers, session, write, read, log, fuse, lose, reopen, restart, pull, resend, totals, judge, survey, book, phase, entry, held}
 use Rattle.bayou_answers.specs.declared.answer.Answer.{Answer}
-use Rattle.bayou_script.specs.Places.{operation_of}
-use Rattle.bayou_machine.specs.Run.{Does, Leaves, ScriptState, Step, Tries, Turn}
+use Rattle.bayou_script.specs.Capacity.{operation_of}
+use Rattle.bayou_machine.specs.Run.{Does, Leaves, ScriptState, ScriptStep, Tries, Turn}
 
 -- what a turn is made of: a session's operation, or what leaves the book
 pub tries_turn : (old new : ScriptState) (who place : ℕ) (said : Said) (answer : Answer) → operation_of said ≡ Some (who, place)
@@ -48,6 +48,6 @@ leaves_turn old new (entry what counts) answer is leaves = absurd leaves.step
 leaves_turn old new (held at written counts) answer is leaves = absurd leaves.step
 
 -- what servers and sessions do alone leaves the book
-pub left_turn : (old new : ScriptState) (said : Said) (answer : Answer) → operation_of said ≡ None → Step old.standing said answer new.standing → new.book ≡ old.book
+pub left_turn : (old new : ScriptState) (said : Said) (answer : Answer) → operation_of said ≡ None → ScriptStep old.standing said answer new.standing → new.book ≡ old.book
     → Turn old said answer new
 left_turn old new said answer is step same = leaves_turn old new said answer is (record { step = step; same = same })

@@ -4,7 +4,7 @@ use Rattle.bayou_base.specs.declared.limits.TheConstants.{SERVERS}
 use Rattle.bayou_device.specs.Memory.{Memory}
 use Rattle.bayou_device.specs.MemoryDevice.{memory_device}
 use Rattle.bayou_lang.specs.Writes.{count_of, lacking_of}
-use Rattle.bayou_peer.specs.Lent.{TakesAt}
+use Rattle.bayou_server.specs.TakesAll.{TakesAt}
 use Rattle.bayou_peer.specs.Meeting.{Meets}
 use Rattle.bayou_peer.specs.Pulls.{Ways}
 use Rattle.bayou_server.specs.declared.answer.Stopped.{Stopped as StoppedServer}

@@ -9,9 +9,9 @@ use Rattle.bayou_session.specs.Needs.{Told}
 use Rattle.bayou_answers.specs.declared.answer.Answer.{Answer}
 use Rattle.bayou_answers.specs.declared.answer.Answer.TheVariants.{Wrote, Read, Refused}
 
--- the book of a script: how many places it has, and what was filed, in that order
+-- the book of a script: how many entries it may have, and what was filed, in that order
 pub record Filings : Type 0 where
-  pub places : ℕ
+  pub capacity : ℕ
   pub entries : List Entry
 
 -- what a session's operation was served, or that it was refused; nothing where no reply reached the session

@@ -15,7 +15,7 @@ use Rattle.bayou_answers.specs.declared.answer.Recovery.{Recovery}
 use Rattle.bayou_machine.specs.declared.script_server.ScriptServer.{ScriptServer}
 use Rattle.bayou_machine.specs.Exchange.{Exchanges, own_counts, zero_counts}
 use Rattle.bayou_machine.specs.Filed.{Files, Filings, totals_filed, what_told}
-use Rattle.bayou_script.specs.Places.{operation_of, places_for}
+use Rattle.bayou_script.specs.Capacity.{operation_of, capacity_for}
 use Rattle.bayou_machine.specs.Standing.{HasBegun, Standing, StandsAt, dumps_of, session_of, with_server, with_session}
 use Rattle.bayou_answers.specs.Verdicts.{IsSurveyOn, IsVerdictOn}
 use Rattle.bayou_machine.specs.ScriptServer.{IsFused, IsListed, IsRead, IsReopened, IsRestarted, IsShortened, IsWritten}
@@ -72,25 +72,25 @@ Recovers Does old place answer new =
     (recovery : Recovery) × (answer ≡ Recovered recovery) × Changes (λ name before after. Does name before recovery after) old place new
 
 -- From old, what a line says may get this answer and leave new. A log has no answer for want of memory, which ends the run.
-abbrev pub Step : Standing → Said → Answer → Standing → Type 0
-Step old (servers count limit) answer new = ⊥
-Step old (session who asks) answer new = Opens old who asks answer new
-Step old (write who place program) answer new = Operates (λ name. IsWritten name program) old who place answer new
-Step old (read who place key) answer new = Queries (λ name. IsRead name key) old who place answer new
-Step old (log place) answer new = (new ≡ old) × Sees (λ name replica. IsListed name replica answer) old place
-Step old (fuse place calls kept) answer new = (answer ≡ Done) × Changes (λ name before after. IsFused calls kept before after) old place new
-Step old (lose place count) answer new = (answer ≡ Done) × Changes (λ name before after. IsShortened count before after) old place new
-Step old (reopen place) answer new = Recovers IsReopened old place answer new
-Step old (restart place) answer new = Recovers (IsRestarted old.count old.limit) old place answer new
-Step old (pull to source cut) answer new = Exchanges own_counts cut old to source answer new
-Step old (resend to source) answer new = Exchanges zero_counts None old to source answer new
-Step old totals answer new = ⊥
-Step old judge answer new = ⊥
-Step old survey answer new = ⊥
-Step old book answer new = ⊥
-Step old phase answer new = (new ≡ old) × (answer ≡ Done)
-Step old (entry what counts) answer new = ⊥
-Step old (held place written counts) answer new = ⊥
+abbrev pub ScriptStep : Standing → Said → Answer → Standing → Type 0
+ScriptStep old (servers count limit) answer new = ⊥
+ScriptStep old (session who asks) answer new = Opens old who asks answer new
+ScriptStep old (write who place program) answer new = Operates (λ name. IsWritten name program) old who place answer new
+ScriptStep old (read who place key) answer new = Queries (λ name. IsRead name key) old who place answer new
+ScriptStep old (log place) answer new = (new ≡ old) × Sees (λ name replica. IsListed name replica answer) old place
+ScriptStep old (fuse place calls kept) answer new = (answer ≡ Done) × Changes (λ name before after. IsFused calls kept before after) old place new
+ScriptStep old (lose place count) answer new = (answer ≡ Done) × Changes (λ name before after. IsShortened count before after) old place new
+ScriptStep old (reopen place) answer new = Recovers IsReopened old place answer new
+ScriptStep old (restart place) answer new = Recovers (IsRestarted old.count old.limit) old place answer new
+ScriptStep old (pull to source cut) answer new = Exchanges own_counts cut old to source answer new
+ScriptStep old (resend to source) answer new = Exchanges zero_counts None old to source answer new
+ScriptStep old totals answer new = ⊥
+ScriptStep old judge answer new = ⊥
+ScriptStep old survey answer new = ⊥
+ScriptStep old book answer new = ⊥
+ScriptStep old phase answer new = (new ≡ old) × (answer ≡ Done)
+ScriptStep old (entry what counts) answer new = ⊥
+ScriptStep old (held place written counts) answer new = ⊥
 
 -- Servers and sessions have nothing to say of the book.
 abbrev pub asks_book : Said → Bool
@@ -129,12 +129,12 @@ pub record ScriptState : Type 0 where
 -- as a script begins, nothing was filed
 pub record IsNewRun (plan : Plan) (state : ScriptState) : Type 0 where
   pub standing : HasBegun plan.count plan.limit state.standing
-  pub places : state.book.places ≡ places_for plan.commands
+  pub capacity : state.book.capacity ≡ capacity_for plan.commands
   pub none_filed : state.book.entries ≡ []
 
 -- The session tries an operation at the server, and what it was told is filed, and nothing else.
 pub record Tries (old : ScriptState) (who place : ℕ) (said : Said) (answer : Answer) (new : ScriptState) : Type 0 where
-  pub step : Step old.standing said answer new.standing
+  pub step : ScriptStep old.standing said answer new.standing
   pub name : SessionId
   pub is_named : name.index ≡ who
   pub filed : List Entry
@@ -143,7 +143,7 @@ pub record Tries (old : ScriptState) (who place : ℕ) (said : Said) (answer : A
 
 -- nothing is filed
 pub record Leaves (old : ScriptState) (said : Said) (answer : Answer) (new : ScriptState) : Type 0 where
-  pub step : Step old.standing said answer new.standing
+  pub step : ScriptStep old.standing said answer new.standing
   pub same : new.book ≡ old.book
 
 -- what a session does is filed, and what is done to servers alone isn't

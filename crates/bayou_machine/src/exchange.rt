@@ -12,11 +12,11 @@ use crate::script_server::ScriptServer;
 use bayou_answers::Transfer;
 use bayou_base::Vector;
 use bayou_device::{MemoryDevice, OpenGate};
-use bayou_frames::Fault;
+use bayou_frames::ChannelFault;
 use bayou_peer::meeting::a_pull_takes_what_is_sent;
 use bayou_peer::{PullFault, Pulled, answer_offer_on, take_answer};
 use bayou_server::Server;
-use bayou_streams::Channel;
+use bayou_streams::CountedChannel;
 use std::alloc::{AllocError, Global};
 
 type Serving = Server<MemoryDevice<OpenGate>>;
@@ -29,7 +29,7 @@ fn answer_of(alloc: Global, server: &mut Serving, counts: &Vector) -> Result<Vec
     let _sound = server.receipts();
     // What it holds stays below its limit, which is within its range.
     let _limit = server.limit();
-    let mut channel = Channel::new((), Vec::new(alloc));
+    let mut channel = CountedChannel::new((), Vec::new(alloc));
     match answer_offer_on(alloc, server, counts, &mut channel) {
         Ok(_) => Ok(channel.into_parts().1),
         Err(_) => Err(AllocError),
@@ -68,7 +68,7 @@ impl ScriptServer {
         };
         match answer_of(alloc, server, counts) {
             Ok(answer) => Ok(answer),
-            Err(_) => Err(Transfer::Ended(Err(PullFault::Stream(Fault::OutOfMemory)))),
+            Err(_) => Err(Transfer::Ended(Err(PullFault::Stream(ChannelFault::OutOfMemory)))),
         }
     }
 

@@ -1,14 +1,14 @@
 //! The machine of a script: its servers, its sessions, the book of what they were served, and what each command is answered.
 //!
 //! Callers see a [`Machine`] as a `ScriptState`: how the script stands (`Standing`: how many servers there are and how many Writes each may hold,
-//! where each of them stands, and the sessions that were opened), and its book (`Filings`: how many places it has, and what was filed). A server
+//! where each of them stands, and the sessions that were opened), and its book (`Filings`: how many entries it may have, and what was filed). A server
 //! is a [`ScriptServer`], which serves on a device in memory, up or down, or is stopped. [`Machine::answer`] answers one command, as a relation
 //! (`Turn`) between the state before, the `Answer` (`bayou_answers`) and the state after: what the command names changes as the servers and
 //! sessions below promise, and nothing else, and of an operation just the entry of what its session was told is filed, behind what was. A
 //! `ScriptRun` is one command after another, from servers that were just started on empty devices.
 //!
-//! A caller owes that each command stands where it may: its servers are some of the machine's, and the book has a place left for an operation,
-//! as one with `places_for` (`bayou_script`) all commands has. It isn't promised that memory suffices: a server that finds none says so in its
+//! A caller owes that each command stands where it may: its servers are some of the machine's, and the book has room left for an operation,
+//! as one with `capacity_for` (`bayou_script`) all commands has. It isn't promised that memory suffices: a server that finds none says so in its
 //! answer, and only where a log finds none is there no answer; then nothing changed.
 #![tactic(auto)]
 

@@ -4,7 +4,7 @@ ghost use Rattle.bayou_answers.specs.declared.answer.Answer.TheVariants.{Booked}
 ghost use Rattle.bayou_audit.specs.Blanks.{AreBlanksOf, named};
 ghost use Rattle.bayou_base.specs.declared.limits.TheConstants.{SESSIONS as SESSIONS_NUMBER};
 ghost use Rattle.bayou_script.specs.Script.{is_served};
-ghost use Rattle.bayou_script.specs.Places.{operation_of};
+ghost use Rattle.bayou_script.specs.Capacity.{operation_of};
 ghost use Rattle.bayou_machine.specs.Run.{IsBooked, IsJudged, IsSurveyed, TakesMemory, Turn};
 ghost use Rattle.bayou_machine.specs.Standing.{FailsToBegin, HasBegun};
 ghost use Rattle.bayou_text.specs.Said.{command_said, operation_said, question_said};
@@ -34,27 +34,27 @@ impl<K: Ledgers> Model for Machine<K> {
 }
 
 impl<K: Ledgers> Machine<K> {
-    /// A script's servers as it begins, each on an empty device, no session, and a book with so many places, in which nothing was filed.
+    /// A script's servers as it begins, each on an empty device, no session, and a book of this capacity, in which nothing was filed.
     pub fn new(
         alloc: Global,
         blanks: Blanks,
         plan: Servers,
-        places: usize,
+        capacity: usize,
     ) -> Result<Self, BeginFault>
         requires blanks { AreBlanksOf blanks (named K.Slips.name K.Slips.parts) (named K.Reads.name K.Reads.parts) (named K.Writes.name K.Writes.parts) (named K.Refusals.name K.Refusals.parts) SESSIONS_NUMBER }
         ensures begun { IfOk result (λ machine. HasBegun plan.count plan.limit machine.standing) }
-        ensures none_filed { IfOk result (λ machine. machine.book ≡ record { places = places; entries = [] }) }
+        ensures none_filed { IfOk result (λ machine. machine.book ≡ record { capacity = capacity; entries = [] }) }
         ensures fault { IfErr result (FailsToBegin plan.count plan.limit) }
     {
         let parties = Parties::new(alloc, plan)?;
-        let book = ScriptBook::new(alloc, blanks, places)?;
+        let book = ScriptBook::new(alloc, blanks, capacity)?;
         Ok(Machine { parties, book })
     }
 
     /// The session tries an operation at the server; what it is told is filed.
     fn operate(&mut self, alloc: Global, operation: Operation) -> Answer
         requires served { IsTrue (is_served self.old.standing.count (operation_said operation)) }
-        requires room { length self.old.book.entries < self.old.book.places }
+        requires room { length self.old.book.entries < self.old.book.capacity }
         ensures { Turn self.old (operation_said operation) result self.new }
     {
         let (who, server) = (operation.session, operation.server);
@@ -113,7 +113,7 @@ impl<K: Ledgers> Machine<K> {
     #[tactic(auto, unfolding(bayou_script::specs::Script::are_servers))]
     pub fn answer(&mut self, alloc: Global, command: Command) -> Result<Answer, AllocError>
         requires served { IsTrue (is_served self.old.standing.count (command_said command)) }
-        requires room { operation_of (command_said command) ≢ None → length self.old.book.entries < self.old.book.places }
+        requires room { operation_of (command_said command) ≢ None → length self.old.book.entries < self.old.book.capacity }
         ensures { MatchResult result
             (λ answer. Turn self.old (command_said command) answer self.new)
             (λ _. TakesMemory (command_said command) × (self.new ≡ self.old)) }

@@ -43,7 +43,7 @@ impl Parties {
     ghost use Rattle.bayou_machine.specs.declared.script_server.ScriptServer.{ScriptServer as Stood};
     ghost use Rattle.bayou_judge.specs.History.{lent_lists, lists_of};
     ghost use Rattle.bayou_machine.specs.Standing.{FailsToBegin, HasBegun, StandsAt, dumps_of, session_of};
-    ghost use Rattle.bayou_machine.specs.Run.{Step};
+    ghost use Rattle.bayou_machine.specs.Run.{ScriptStep};
 
     /// The servers of a script as it begins, each on an empty device.
     pub(crate) fn new(alloc: Global, plan: Servers) -> Result<Self, BeginFault>
@@ -105,7 +105,7 @@ impl Parties {
 
     /// Opens the session.
     pub(crate) fn open(&mut self, who: SessionId, asks: Asks)
-        ensures { Step self.old (session who.index asks) Done self.new }
+        ensures { ScriptStep self.old (session who.index asks) Done self.new }
     {
         self.sessions[usize::from(who.index)] = Some(Session::new(who, asks));
     }
@@ -113,7 +113,7 @@ impl Parties {
     /// What the server holds. It may want memory that it has no answer for.
     pub(crate) fn list(&self, alloc: Global, server: ServerId) -> Result<Answer, AllocError>
         requires { server.index < self.now.count }
-        ensures { IfOk result (λ answer. Step self.now (log server.index) answer self.now) }
+        ensures { IfOk result (λ answer. ScriptStep self.now (log server.index) answer self.now) }
     {
         self.servers[usize::from(server.index)].list(alloc, server)
     }
@@ -126,7 +126,7 @@ impl Parties {
         program: RestingProgram,
     ) -> Answer
         requires { server.index < self.old.count }
-        ensures { Step self.old (write who.index server.index program) result self.new }
+        ensures { ScriptStep self.old (write who.index server.index program) result self.new }
     {
         let mut session = self.session(who);
         let at = &mut self.servers[usize::from(server.index)];
@@ -137,7 +137,7 @@ impl Parties {
 
     fn read(&mut self, who: SessionId, server: ServerId, key: Key) -> Answer
         requires { server.index < self.old.count }
-        ensures { Step self.old (read who.index server.index key) result self.new }
+        ensures { ScriptStep self.old (read who.index server.index key) result self.new }
     {
         let mut session = self.session(who);
         let answer = self.servers[usize::from(server.index)].read(who, &mut session, key);
@@ -149,7 +149,7 @@ impl Parties {
     #[tactic(auto, unfolding(bayou_script::specs::Script::are_servers))]
     pub(crate) fn operate(&mut self, alloc: Global, operation: Operation) -> Answer
         requires { IsTrue (is_served self.old.count (operation_said operation)) }
-        ensures { Step self.old (operation_said operation) result self.new }
+        ensures { ScriptStep self.old (operation_said operation) result self.new }
     {
         let Operation {
             session,
@@ -164,28 +164,28 @@ impl Parties {
 
     fn fuse(&mut self, server: ServerId, failure: PlannedFailure)
         requires { server.index < self.old.count }
-        ensures { Step self.old (fuse server.index failure.calls failure.kept) Done self.new }
+        ensures { ScriptStep self.old (fuse server.index failure.calls failure.kept) Done self.new }
     {
         self.servers[usize::from(server.index)].fuse(failure);
     }
 
     fn shorten(&mut self, server: ServerId, count: usize)
         requires { server.index < self.old.count }
-        ensures { Step self.old (lose server.index count) Done self.new }
+        ensures { ScriptStep self.old (lose server.index count) Done self.new }
     {
         self.servers[usize::from(server.index)].shorten(count);
     }
 
     fn reopen(&mut self, alloc: Global, server: ServerId) -> Recovery
         requires { server.index < self.old.count }
-        ensures { Step self.old (reopen server.index) (Recovered result) self.new }
+        ensures { ScriptStep self.old (reopen server.index) (Recovered result) self.new }
     {
         self.servers[usize::from(server.index)].reopen(alloc, server)
     }
 
     fn restart(&mut self, alloc: Global, server: ServerId) -> Recovery
         requires { server.index < self.old.count }
-        ensures { Step self.old (restart server.index) (Recovered result) self.new }
+        ensures { ScriptStep self.old (restart server.index) (Recovered result) self.new }
     {
         let at = usize::from(server.index);
         let (restarted, recovery) = self.servers.remove(at).restart(alloc, self.plan, server);
@@ -198,7 +198,7 @@ impl Parties {
     /// What becomes of a server that is put through this.
     pub(crate) fn put_through(&mut self, alloc: Global, trial: Trial) -> Answer
         requires { trial.server.index < self.old.count }
-        ensures { Step self.old (trial_said trial) result self.new }
+        ensures { ScriptStep self.old (trial_said trial) result self.new }
     {
         let server = trial.server;
         match trial.kind {
@@ -247,7 +247,7 @@ impl Parties {
     fn pull(&mut self, alloc: Global, to: ServerId, from: ServerId, cut: Option<u32>) -> Transfer
         requires to { to.index < self.old.count }
         requires from { from.index < self.old.count }
-        ensures { Step self.old (pull to.index from.index cut) (Exchanged result) self.new }
+        ensures { ScriptStep self.old (pull to.index from.index cut) (Exchanged result) self.new }
     {
         let counts = self.servers[usize::from(to.index)].counts();
         self.transfer(alloc, to, from, &counts, cut)
@@ -256,7 +256,7 @@ impl Parties {
     fn resend(&mut self, alloc: Global, to: ServerId, from: ServerId) -> Transfer
         requires to { to.index < self.old.count }
         requires from { from.index < self.old.count }
-        ensures { Step self.old (resend to.index from.index) (Exchanged result) self.new }
+        ensures { ScriptStep self.old (resend to.index from.index) (Exchanged result) self.new }
     {
         self.transfer(alloc, to, from, &Vector::zero(), None)
     }
@@ -265,7 +265,7 @@ impl Parties {
     pub(crate) fn exchange(&mut self, alloc: Global, exchange: Exchange) -> Transfer
         requires to { exchange.to.index < self.old.count }
         requires from { exchange.from.index < self.old.count }
-        ensures { Step self.old (exchange_said exchange) (Exchanged result) self.new }
+        ensures { ScriptStep self.old (exchange_said exchange) (Exchanged result) self.new }
     {
         let Exchange { to, from, extent } = exchange;
         match extent {

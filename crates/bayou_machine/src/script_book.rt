@@ -26,7 +26,7 @@ impl<K: Ledgers> Model for ScriptBook<K> {
 
     ghost Value = { Filings };
 
-    ghost view = { λ b. record { places = b.book.places; entries = b.book.entries } };
+    ghost view = { λ b. record { capacity = b.book.capacity; entries = b.book.entries } };
 
     ghost invariant = { λ b. (b.book.totals.slips ≡ 0) × AreOfSessions b.shares.items };
 }
@@ -57,12 +57,12 @@ fn what_of(answer: &Answer) -> Option<What>
 }
 
 impl<K: Ledgers> ScriptBook<K> {
-    /// A book with so many places, in which nothing was filed.
-    pub(crate) fn new(alloc: Global, blanks: Blanks, places: usize) -> Result<Self, AllocError>
+    /// A book of this capacity, in which nothing was filed.
+    pub(crate) fn new(alloc: Global, blanks: Blanks, capacity: usize) -> Result<Self, AllocError>
         requires blanks { AreBlanksOf blanks (named K.Slips.name K.Slips.parts) (named K.Reads.name K.Reads.parts) (named K.Writes.name K.Writes.parts) (named K.Refusals.name K.Refusals.parts) SESSIONS_NUMBER }
-        ensures { IfOk result (λ book. book ≡ record { places = places; entries = [] }) }
+        ensures { IfOk result (λ book. book ≡ record { capacity = capacity; entries = [] }) }
     {
-        let (book, shares) = Book::new(alloc, blanks, SESSIONS as u8, places)?;
+        let (book, shares) = Book::new(alloc, blanks, SESSIONS as u8, capacity)?;
         Ok(ScriptBook { book, shares })
     }
 
@@ -95,7 +95,7 @@ impl<K: Ledgers> ScriptBook<K> {
         server: ServerId,
         answer: &Answer,
     )
-        requires room { length self.old.entries < self.old.places }
+        requires room { length self.old.entries < self.old.capacity }
         requires place { what_told answer.now ≢ None → session.now.begun < MAX_PLACES }
         ensures { (filed : List Filed) × (self.new ≡ record self.old { entries = self.old.entries ++ filed })
             × Files who.index server.index session.now (what_told answer.now) filed }

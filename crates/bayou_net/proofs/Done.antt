@@ -7,9 +7,9 @@ use Rattle.std.proofs.lemmas.List.{append-nil, length-append}
 use Rattle.bayou_net.specs.Inner.Steps.{DoesOne, Waiting}
 use Rattle.bayou_net.specs.Serving.{HasBroken, HasDone, HasServed, ServeEnds, Serves, ServesAll, Steps}
 use Rattle.bayou_frames.specs.Laws.Bytes.{front_behind}
-use Rattle.bayou_frames.specs.Laws.Frames.{frames_size}
-use Rattle.bayou_frames.specs.declared.fault.Fault.{Fault}
-use Rattle.bayou_frames.specs.declared.fault.Fault.TheVariants as faults
+use Rattle.bayou_wire.specs.Laws.Frames.{frames_size}
+use Rattle.bayou_frames.specs.declared.fault.ChannelFault.{ChannelFault}
+use Rattle.bayou_frames.specs.declared.fault.ChannelFault.TheVariants as faults
 use Rattle.bayou_frames.specs.Framing.{IsReadFault}
 use Rattle.bayou_peer.specs.Offers.{Answers}
 use Rattle.bayou_frames.specs.Spelled.{answer_bytes}
@@ -97,7 +97,7 @@ module _ {S : Type 0} (steps : Steps S) where
       (subst (λ (w : Option (List ℕ)). HasServed steps start mid read rest number before w) (sym wrote) h)
 
   -- what ends it at a frame
-  pub ends_at_one : (start mid new : S) (read behind : List ℕ) (request : Frame) (number : ℕ) (before between after : Option (List ℕ)) (T : Type 0) (fault : Fault) → IsFrame request
+  pub ends_at_one : (start mid new : S) (read behind : List ℕ) (request : Frame) (number : ℕ) (before between after : Option (List ℕ)) (T : Type 0) (fault : ChannelFault) → IsFrame request
       → DoesOne {T = T} steps mid request between after (Err fault) new
       → HasServed steps start mid read (spelling request ++ behind) number before between → ServeEnds steps start new read before after ⊥ (Err fault)
   ends_at_one start mid new read behind request number before between after T faults.Read is none h = absurd none
@@ -116,7 +116,7 @@ module _ {S : Type 0} (steps : Steps S) where
       broken_one start mid new read behind request number before between after is does h
 
   -- an Offer whose answer was broken off
-  pub offer_broken : (old new : S) (counts : List ℕ) (before after : Option (List ℕ)) (T : Type 0) (fault : Fault) → IsSendFault fault
+  pub offer_broken : (old new : S) (counts : List ℕ) (before after : Option (List ℕ)) (T : Type 0) (fault : ChannelFault) → IsSendFault fault
       → Answers (steps.list old) counts before after (Err fault) → new ≡ old → DoesOne {T = T} steps old (Offer counts) before after (Err fault) new
   offer_broken old new counts before after T faults.Read is answers same = absurd is
   offer_broken old new counts before after T faults.Cut is answers same = absurd is
@@ -180,7 +180,7 @@ module _ {S : Type 0} (steps : Steps S) where
   ends_wanting start now read rest number before after h = broken start now read rest number before after h
 
   -- what may end a read ends it between two pieces
-  pub ends_reading : (start now : S) (read : List ℕ) (frames : Option (List ℕ)) (number : ℕ) (before after : Option (List ℕ)) (is_end : Type 0) (fault : Fault) → IsReadFault fault
+  pub ends_reading : (start now : S) (read : List ℕ) (frames : Option (List ℕ)) (number : ℕ) (before after : Option (List ℕ)) (is_end : Type 0) (fault : ChannelFault) → IsReadFault fault
       → Waiting steps start now read frames number before after → ServeEnds steps start now read before after is_end (Err fault)
   ends_reading start now read frames number before after is_end faults.Read is w = (w.held, number, w.partial, w.served)
   ends_reading start now read frames number before after is_end faults.TooManyTurns is w = broken start now read w.held number before after w.served
@@ -190,7 +190,7 @@ module _ {S : Type 0} (steps : Steps S) where
   ends_reading start now read frames number before after is_end faults.OutOfMemory is w = absurd is
 
   -- what ended it at a frame ended it, whether the input has ended or not
-  pub ends_anywhere : (start now : S) (read : List ℕ) (before after : Option (List ℕ)) (is_end : Type 0) (fault : Fault) → ServeEnds steps start now read before after ⊥ (Err fault)
+  pub ends_anywhere : (start now : S) (read : List ℕ) (before after : Option (List ℕ)) (is_end : Type 0) (fault : ChannelFault) → ServeEnds steps start now read before after ⊥ (Err fault)
       → ServeEnds steps start now read before after is_end (Err fault)
   ends_anywhere start now read before after is_end faults.Read e = e
   ends_anywhere start now read before after is_end faults.TooManyTurns e = e

@@ -6,7 +6,7 @@ use Rattle.bayou_journal.specs.Opening.{KeepsChains}
 use Rattle.bayou_lang.specs.declared.program.Program.{Program}
 use Rattle.bayou_lang.specs.declared.write.Write.{Write}
 use Rattle.bayou_net.specs.Serving.{Steps}
-use Rattle.bayou_node.specs.Answers.{BySome, InSome, IsAccepted, Pays}
+use Rattle.bayou_node.specs.Answers.{BySome, InSome, IsAccepted, Pays, TakesAtNode}
 use Rattle.bayou_node.specs.Books.{Begun}
 use Rattle.bayou_peer.specs.Pulls.{Ways}
 use Rattle.bayou_server.specs.declared.answer.Reopened.{Reopened}
@@ -55,11 +55,6 @@ desk_steps begun = record {
   reopens = λ paid answer then. BySome begun (λ old new. Reopens old answer new) × (then ≡ paid);
 }
 
--- A node is given a Write (anti-entropy, Petersen et al. 1997), and answers as something does that may be behind its lock. Of what stands beside
--- the node, a desk or nothing, no call changes anything; what is held between two calls isn't told, as others may change it.
-abbrev pub NodeTakes : {S : Type 0} → Begun → S → Write → Result Took TakeFault → S → Type 0
-NodeTakes begun before given answer after = BySome begun (λ old new. Takes old given answer new) × (after ≡ before)
-
 -- how a node takes Writes
 abbrev pub node_ways : Begun → Ways (Unit {0})
-node_ways begun = record { list = λ node. None; takes = NodeTakes begun }
+node_ways begun = record { list = λ node. None; takes = TakesAtNode begun }

@@ -8,15 +8,15 @@ use Rattle.bayou_lang.specs.declared.program.Program.{Program}
 use Rattle.bayou_lang.specs.declared.write.Write.{Write}
 use Rattle.bayou_lang.specs.Writes.{lacking_of}
 use Rattle.bayou_net.specs.Replies.{read_reply, reopen_reply, write_reply}
-use Rattle.bayou_frames.specs.declared.fault.Fault.{Fault}
-use Rattle.bayou_frames.specs.declared.fault.Fault.TheVariants as faults
+use Rattle.bayou_frames.specs.declared.fault.ChannelFault.{ChannelFault}
+use Rattle.bayou_frames.specs.declared.fault.ChannelFault.TheVariants as faults
 use Rattle.bayou_frames.specs.Spelled.{answer_bytes}
 use Rattle.bayou_server.specs.declared.answer.Reopened.{Reopened}
 use Rattle.bayou_server.specs.declared.fault.Behind.{Behind}
 use Rattle.bayou_server.specs.declared.fault.ReopenFault.{ReopenFault}
 use Rattle.bayou_server.specs.declared.fault.WriteFault.{WriteFault}
 use Rattle.bayou_streams.specs.Written.{AppendsFront}
-use Rattle.bayou_wire.specs.declared.fault.Fault.{Fault as BadBytes}
+use Rattle.bayou_wire.specs.declared.fault.DecodeFault.{DecodeFault}
 use Rattle.bayou_wire.specs.declared.frame.Frame.{Frame}
 use Rattle.bayou_wire.specs.declared.frame.Frame.TheVariants as frames
 use Rattle.bayou_wire.specs.declared.frame.Refusal.TheVariants as refusals
@@ -96,13 +96,13 @@ HasBroken steps old now read before after =
 -- the bytes begin with what is no request: a fault in a frame's place, or a reply
 abbrev pub IsNoRequest : List ℕ → Type 0
 IsNoRequest bytes =
-    ((fault : BadBytes) × IsFaulty bytes fault)
+    ((fault : DecodeFault) × IsFaulty bytes fault)
     ⊎ ((frame : Frame) × (behind : List ℕ) × IsFrame frame × (bytes ≡ spelling frame ++ behind) × (¬ (IsRequest frame)))
 
 -- How serving ends that read these bytes, and where this says whether the input has ended: at its end between two frames, with the number
 -- of requests; at its end within one; where the reader failed; at what is no request, which has no reply; or, with a front of the replies
 -- written, where the writer, the turns or memory ended it.
-abbrev pub ServeEnds : {S : Type 0} → Steps S → (old now : S) → (read : List ℕ) → (before after : Option (List ℕ)) → (is_end : Type 0) → Result ℕ Fault → Type 0
+abbrev pub ServeEnds : {S : Type 0} → Steps S → (old now : S) → (read : List ℕ) → (before after : Option (List ℕ)) → (is_end : Type 0) → Result ℕ ChannelFault → Type 0
 ServeEnds steps old now read before after is_end (Ok number) = is_end × HasServed steps old now read [] number before after
 ServeEnds steps old now read before after is_end (Err faults.Cut) =
     is_end × ((rest : List ℕ) × (number : ℕ) × (rest ≢ []) × IsPartial rest × HasServed steps old now read rest number before after)

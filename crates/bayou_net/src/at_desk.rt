@@ -14,11 +14,11 @@ use crate::served::Served;
 use crate::serving::serve_on;
 use bayou_base::{Accepted, Key, Seen, Vector};
 use bayou_device::Device;
-use bayou_frames::Fault;
+use bayou_frames::ChannelFault;
 use bayou_lang::{RestingProgram, RestingWrite};
 use bayou_node::{Desk, Desks, Node};
 use bayou_server::{Behind, ReopenFault, Reopened, WriteFault};
-use bayou_streams::Channel;
+use bayou_streams::CountedChannel;
 use std::alloc::{AllocError, Global};
 use std::io::{Read, Write};
 use std::sync::Wait;
@@ -71,8 +71,8 @@ pub fn serve<D: Device, L: Desks, G: RequestGate, R: Read, W: Write, T: Wait>(
     node: &Node<D, L>,
     desk: Desk<L>,
     gate: &G,
-    channel: &mut Channel<R, W>,
-) -> (Result<u32, Fault>, Desk<L>)
+    channel: &mut CountedChannel<R, W>,
+) -> (Result<u32, ChannelFault>, Desk<L>)
     ensures serves { (read : List ℕ) × Consumes (R.remaining channel.old.reader) (R.remaining channel.new.reader) read
         × ServeEnds (desk_steps L.begun) desk result.1 read (W.contents channel.old.writer) (W.contents channel.new.writer) (IsAtEnd (R.remaining channel.new.reader)) result.0 }
     ensures stopped { IfErr result.0 (Stops channel.new.read_failed channel.new.write_failed channel.new.turns_left) }

@@ -1,15 +1,14 @@
 //! A node that is lent to an engine, and to serve.
 ghost use Rattle.std.specs.Prelude.{◌≡◌, ◌≤◌, IfOk, length, take};
 ghost use Rattle.bayou_lang.specs.Writes.{count_of, lacking_of};
-ghost use Rattle.bayou_net.specs.Lent.{NodeTakes};
-ghost use Rattle.bayou_node.specs.Answers.{InSome};
+ghost use Rattle.bayou_node.specs.Answers.{InSome, TakesAtNode};
 
 use bayou_base::Vector;
 use bayou_device::Device;
 use bayou_lang::RestingWrite;
 use bayou_node::{Desks, Node};
 use bayou_peer::Replica;
-use bayou_server::{TakeFault, Took};
+use bayou_server::{TakeFault, Took, TookAll};
 use std::alloc::{AllocError, Global};
 use std::marker::Model;
 use std::sync::Wait;
@@ -34,7 +33,7 @@ impl<D: Device, L: Desks, K, T: Wait> Replica for AtNode<'_, D, L, K, T> {
 
     ghost list = { λ _. None };
 
-    ghost takes = { NodeTakes L.begun };
+    ghost takes = { TakesAtNode L.begun };
 
     fn offer(&mut self) -> Vector
         ensures same { self.new ≡ self.old }
@@ -58,5 +57,9 @@ impl<D: Device, L: Desks, K, T: Wait> Replica for AtNode<'_, D, L, K, T> {
 
     fn take(&mut self, alloc: Global, write: RestingWrite) -> Result<Took, TakeFault> {
         self.node.take(self.rt, alloc, write)
+    }
+
+    fn take_all(&mut self, alloc: Global, writes: Vec<RestingWrite>) -> TookAll {
+        self.node.take_all(self.rt, alloc, writes)
     }
 }

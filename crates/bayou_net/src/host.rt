@@ -5,7 +5,7 @@ use crate::gate::RequestGate;
 use bayou_base::limits::READ_BYTES;
 use bayou_device::Device;
 use bayou_node::{Desk, Desks, Node};
-use bayou_streams::{Channel, Turn};
+use bayou_streams::{CountedChannel, Turn};
 use std::alloc::Global;
 use std::io::Read;
 use std::net::{Shutdown, TcpStream};
@@ -42,7 +42,7 @@ impl<D: Device + Send + Sync, L: Desks + Send + Sync, G: RequestGate + Send + Sy
 }
 
 // Drops what still comes, until the other end says nothing more, or the turns are spent.
-fn drop_rest<R: Read, W>(channel: &mut Channel<R, W>) {
+fn drop_rest<R: Read, W>(channel: &mut CountedChannel<R, W>) {
     let mut piece = [0; READ_BYTES];
     loop {
         match channel.read_turn(&mut piece) {
@@ -65,7 +65,7 @@ pub fn serve_connection<D: Device, L: Desks, G: RequestGate, T: Wait>(
 ) -> Desk<L> {
     // A socket that can't be told so sends small replies later.
     let _ = stream.set_nodelay(true);
-    let mut channel = Channel::new(stream, stream);
+    let mut channel = CountedChannel::new(stream, stream);
     let desk = serve(rt, alloc, node, desk, gate, &mut channel).1;
     let _ = stream.shutdown(Shutdown::Write);
     drop_rest(&mut channel);

@@ -4,7 +4,7 @@
 //! program and a reopening. [`serve_on`] is lent one, and a channel (`bayou_streams`): it does each request in its order and writes its
 //! reply, until the input ends between two frames. [`serve`] does so at a node (`bayou_node`), for whoever has a desk there. By
 //! [`answer_offer`], [`serve_offer`], [`pull`] and [`pull_from`] a node takes part in anti-entropy (`bayou_peer`): its lock is free between two
-//! batches and between two Items, so that others are served meanwhile; of what it holds no more is told than that it may be behind its lock.
+//! batches that it sends and between a few Writes that it takes, so that others are served meanwhile; of what it holds no more is told than that it may be behind its lock.
 //!
 //! Callers owe nothing: strangers may send any bytes, and what is no request ends the connection without a reply. Want of memory is an
 //! answer, or a reply, only where a growth was refused. It isn't promised that a stream gives or takes anything.
@@ -25,7 +25,7 @@ pub mod sockets;
 pub use at_desk::serve;
 pub use gate::{NoGate, RequestGate};
 pub use host::{Host, serve_connection};
-pub use listening::{Broken, Ended, ListenFault, listen, listen_on};
+pub use listening::{ListenFault, ListenerBroken, ListenerEnded, listen, listen_on};
 pub use node::{answer_offer, pull, pull_from, serve_offer};
 pub use replying::{reopen_fault_of, write_fault_of};
 pub use served::Served;

@@ -15,7 +15,7 @@ use std::thread::{JoinHandle, Scope, Threads};
 
 /// What is left once a listener ended: all its desks, in any order.
 #[derive(Drop)]
-pub struct Ended<S: Drop> {
+pub struct ListenerEnded<S: Drop> {
     pub desks: Vec<S>,
     /// How many connections were served.
     pub connections: usize,
@@ -32,7 +32,7 @@ pub enum ListenFault {
 
 /// A listener that ended before it was told to, once all its connections ended.
 #[derive(Drop)]
-pub struct Broken<S: Drop> {
+pub struct ListenerBroken<S: Drop> {
     pub fault: ListenFault,
     /// All its desks, in any order.
     pub desks: Vec<S>,
@@ -145,7 +145,7 @@ pub fn listen_on<H: Host + Sync, T: Threads + Wait + Send + Sync>(
     listener: &TcpListener,
     desks: Vec<H::Desk>,
     stop: &AtomicBool,
-) -> Result<Ended<H::Desk>, Broken<H::Desk>>
+) -> Result<ListenerEnded<H::Desk>, ListenerBroken<H::Desk>>
     ensures { MatchResult result
         (λ ended. (vec_len ended.desks ≡ vec_len desks) × (ended.connections ≤ vec_len desks))
         (λ broken. vec_len broken.desks ≡ vec_len desks) }
@@ -155,7 +155,7 @@ pub fn listen_on<H: Host + Sync, T: Threads + Wait + Send + Sync>(
         Vec::with_capacity(alloc, total),
         Vec::with_capacity(alloc, total),
     ) else {
-        return Err(Broken {
+        return Err(ListenerBroken {
             fault: ListenFault::OutOfMemory,
             desks,
         });
@@ -181,8 +181,8 @@ pub fn listen_on<H: Host + Sync, T: Threads + Wait + Send + Sync>(
     let connections = hands.connections;
     let desks = collect(rt, hands);
     match ended {
-        Ok(()) => Ok(Ended { desks, connections }),
-        Err(fault) => Err(Broken { fault, desks }),
+        Ok(()) => Ok(ListenerEnded { desks, connections }),
+        Err(fault) => Err(ListenerBroken { fault, desks }),
     }
 }
 
@@ -200,7 +200,7 @@ pub fn listen<
     desks: Vec<Desk<L>>,
     gate: &G,
     stop: &AtomicBool,
-) -> Result<Ended<Desk<L>>, Broken<Desk<L>>>
+) -> Result<ListenerEnded<Desk<L>>, ListenerBroken<Desk<L>>>
     ensures { MatchResult result
         (λ ended. (vec_len ended.desks ≡ vec_len desks) × (ended.connections ≤ vec_len desks))
         (λ broken. vec_len broken.desks ≡ vec_len desks) }

@@ -1,4 +1,5 @@
-//! Anti-entropy at a server that others may call meanwhile: its lock is free between two batches of Items, and between two Items that come.
+//! Anti-entropy at a server that others may call meanwhile: its lock is free between two batches of Items that it sends, and
+//! between a few Writes that it takes together.
 ghost use Rattle.std.specs.Prelude.{◌≡◌, ◌+◌, ◌<◌, ◌≤◌, ◌^◌, ℕ, List, None, IfErr, IfOk, OnOk};
 ghost use Rattle.std.specs.Io.KnownBytes.{Appends, Consumes, IsAtEnd};
 ghost use Rattle.bayou_lang.specs.Writes.{count_of};
@@ -16,10 +17,10 @@ ghost use Rattle.bayou_wire.specs.Stream.{spelling};
 use crate::at_node::AtNode;
 use bayou_base::Vector;
 use bayou_device::Device;
-use bayou_frames::Fault;
+use bayou_frames::ChannelFault;
 use bayou_node::{Desks, Node};
 use bayou_peer::{PullFault, Pulled, answer_offer_on, pull_from_on, serve_offer_on};
-use bayou_streams::Channel;
+use bayou_streams::CountedChannel;
 use std::alloc::Global;
 use std::io::{Read, Write};
 use std::sync::Wait;
@@ -30,8 +31,8 @@ pub fn answer_offer<D: Device, L: Desks, R, W: Write, T: Wait>(
     alloc: Global,
     node: &Node<D, L>,
     counts: &Vector,
-    channel: &mut Channel<R, W>,
-) -> Result<u32, Fault>
+    channel: &mut CountedChannel<R, W>,
+) -> Result<u32, ChannelFault>
     ensures answers { Answers None counts.now (W.contents channel.old.writer) (W.contents channel.new.writer) result }
     ensures fault { IfErr result IsSendFault }
     ensures stopped { IfErr result (Stops channel.new.read_failed channel.new.write_failed channel.new.turns_left) }
@@ -46,8 +47,8 @@ pub fn serve_offer<D: Device, L: Desks, R: Read, W: Write, T: Wait>(
     rt: &T,
     alloc: Global,
     node: &Node<D, L>,
-    channel: &mut Channel<R, W>,
-) -> Result<u32, Fault>
+    channel: &mut CountedChannel<R, W>,
+) -> Result<u32, ChannelFault>
     ensures serves { (read : List ℕ) × Consumes (R.remaining channel.old.reader) (R.remaining channel.new.reader) read × StopsInTime read
         × OfferServed None read (W.contents channel.old.writer) (W.contents channel.new.writer) (IsAtEnd (R.remaining channel.new.reader)) result }
     ensures stopped { IfErr result (Stops channel.new.read_failed channel.new.write_failed channel.new.turns_left) }
@@ -62,7 +63,7 @@ pub fn pull_from<D: Device, L: Desks, R: Read, W: Write, T: Wait>(
     alloc: Global,
     node: &Node<D, L>,
     counts: &Vector,
-    channel: &mut Channel<R, W>,
+    channel: &mut CountedChannel<R, W>,
 ) -> Result<Pulled, PullFault>
     ensures offered { OnOk result (Appends (W.contents channel.old.writer) (W.contents channel.new.writer) (spelling (Offer counts.now))) }
     ensures part { AppendsFront (W.contents channel.old.writer) (W.contents channel.new.writer) (spelling (Offer counts.now)) }
@@ -80,7 +81,7 @@ pub fn pull<D: Device, L: Desks, R: Read, W: Write, T: Wait>(
     rt: &T,
     alloc: Global,
     node: &Node<D, L>,
-    channel: &mut Channel<R, W>,
+    channel: &mut CountedChannel<R, W>,
 ) -> Result<Pulled, PullFault>
     ensures offered { (counts : List ℕ) × InSome L.begun (λ core. counts ≡ count_of core.held)
         × AppendsFront (W.contents channel.old.writer) (W.contents channel.new.writer) (spelling (Offer counts))

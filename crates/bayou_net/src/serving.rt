@@ -5,7 +5,7 @@ ghost use Rattle.std.specs.Io.KnownBytes.{Consumes, IsAtEnd};
 ghost use Rattle.bayou_base.specs.declared.limits.TheConstants.{MAX_TURNS, READ_BYTES};
 ghost use Rattle.bayou_net.specs.Inner.Steps.{DoesOne, Goes, GoesOn, IsServeFault};
 ghost use Rattle.bayou_net.specs.Serving.{HasServed, IsRequest, ServeEnds};
-ghost use Rattle.bayou_frames.specs.declared.fault.Fault.TheVariants.{Cut};
+ghost use Rattle.bayou_frames.specs.declared.fault.ChannelFault.TheVariants.{Cut};
 ghost use Rattle.bayou_frames.specs.Stopping.{Stops};
 ghost use Rattle.bayou_wire.specs.declared.frame.Frame.TheVariants.{Offer};
 ghost use Rattle.bayou_wire.specs.Spelling.{IsFrame};
@@ -15,9 +15,9 @@ use crate::gate::RequestGate;
 use crate::replying::{is_request, reply_to};
 use crate::served::Served;
 use bayou_base::limits::READ_BYTES;
-use bayou_frames::{Fault, feed_piece, read_piece, send};
+use bayou_frames::{ChannelFault, feed_piece, read_piece, send};
 use bayou_peer::answer_offer_on;
-use bayou_streams::Channel;
+use bayou_streams::CountedChannel;
 use bayou_wire::{Frame, Frames};
 use std::alloc::Global;
 use std::io::{Read, Write};
@@ -27,8 +27,8 @@ fn do_other<S: Served, R, W: Write>(
     alloc: Global,
     served: &mut S,
     request: &Frame,
-    channel: &mut Channel<R, W>,
-) -> Result<(), Fault>
+    channel: &mut CountedChannel<R, W>,
+) -> Result<(), ChannelFault>
     requires request { IsRequest request.now }
     requires no_offer { (counts : List ℕ) → request.now ≢ Offer counts }
     ensures does { DoesOne (record { list = S.list; reads = S.reads; writes = S.writes; reopens = S.reopens }) served.old request.now (W.contents channel.old.writer) (W.contents channel.new.writer) result served.new }
@@ -47,8 +47,8 @@ fn do_one<S: Served, G: RequestGate, R, W: Write>(
     served: &mut S,
     gate: &G,
     request: &Frame,
-    channel: &mut Channel<R, W>,
-) -> Result<(), Fault>
+    channel: &mut CountedChannel<R, W>,
+) -> Result<(), ChannelFault>
     ensures does { DoesOne (record { list = S.list; reads = S.reads; writes = S.writes; reopens = S.reopens }) served.old request.now (W.contents channel.old.writer) (W.contents channel.new.writer) result served.new }
     ensures fault { IfErr result IsServeFault }
     ensures stopped { IfErr result (Stops channel.new.read_failed channel.new.write_failed channel.new.turns_left) }
@@ -56,7 +56,7 @@ fn do_one<S: Served, G: RequestGate, R, W: Write>(
     ensures reader { (channel.new.reader ≡ channel.old.reader) × (channel.new.read_failed ≡ channel.old.read_failed) }
 {
     if !is_request(request) {
-        return Err(Fault::BadFrame);
+        return Err(ChannelFault::BadFrame);
     }
     gate.pass();
     match request {
@@ -75,8 +75,8 @@ fn serve_came<S: Served, G: RequestGate, R, W: Write>(
     gate: &G,
     frames: &[Frame],
     number: &mut u32,
-    channel: &mut Channel<R, W>,
-) -> Result<(), Fault>
+    channel: &mut CountedChannel<R, W>,
+) -> Result<(), ChannelFault>
     requires few { number.old + length frames.now < 2 ^ 32 }
     ensures goes { (start : S) (read behind : List ℕ) (before : Option (List ℕ)) → AllByRecursion IsFrame frames.now
         → HasServed (record { list = S.list; reads = S.reads; writes = S.writes; reopens = S.reopens }) start served.old read (spellings frames.now ++ behind) number.old before (W.contents channel.old.writer)
@@ -101,8 +101,8 @@ fn serve_piece<S: Served, G: RequestGate, R, W: Write>(
     frames: &mut Frames,
     piece: &[u8],
     number: &mut u32,
-    channel: &mut Channel<R, W>,
-) -> Result<(), Fault>
+    channel: &mut CountedChannel<R, W>,
+) -> Result<(), ChannelFault>
     requires few { (held : List ℕ) × IsPartial held × (frames.old ≡ Some held)
         × (3 * number.old + (length held + length piece.now) ≤ READ_BYTES * MAX_TURNS) }
     ensures goes { (start : S) (read held : List ℕ) (before : Option (List ℕ)) → IsPartial held → frames.old ≡ Some held
@@ -116,7 +116,7 @@ fn serve_piece<S: Served, G: RequestGate, R, W: Write>(
     let came = feed_piece(alloc, frames, piece)?;
     serve_came(alloc, served, gate, &came.frames, number, channel)?;
     if came.is_bad {
-        return Err(Fault::BadFrame);
+        return Err(ChannelFault::BadFrame);
     }
     Ok(())
 }
@@ -128,8 +128,8 @@ pub fn serve_on<S: Served, G: RequestGate, R: Read, W: Write>(
     alloc: Global,
     served: &mut S,
     gate: &G,
-    channel: &mut Channel<R, W>,
-) -> Result<u32, Fault>
+    channel: &mut CountedChannel<R, W>,
+) -> Result<u32, ChannelFault>
     ensures serves { (read : List ℕ) × Consumes (R.remaining channel.old.reader) (R.remaining channel.new.reader) read
         × ServeEnds (record { list = S.list; reads = S.reads; writes = S.writes; reopens = S.reopens }) served.old served.new read (W.contents channel.old.writer) (W.contents channel.new.writer) (IsAtEnd (R.remaining channel.new.reader)) result }
     ensures stopped { IfErr result (Stops channel.new.read_failed channel.new.write_failed channel.new.turns_left) }
@@ -149,7 +149,7 @@ pub fn serve_on<S: Served, G: RequestGate, R: Read, W: Write>(
 }
 
 // The number, where no frame is begun.
-fn ended(frames: &Frames, number: u32) -> Result<u32, Fault>
+fn ended(frames: &Frames, number: u32) -> Result<u32, ChannelFault>
     ensures { MatchResult result
         (λ count. (count ≡ number) × (frames.now ≡ Some []))
         (λ fault. (fault ≡ Cut) × (frames.now ≢ Some [])) }
@@ -157,5 +157,5 @@ fn ended(frames: &Frames, number: u32) -> Result<u32, Fault>
     if frames.is_between() {
         return Ok(number);
     }
-    Err(Fault::Cut)
+    Err(ChannelFault::Cut)
 }

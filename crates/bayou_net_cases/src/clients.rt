@@ -3,7 +3,7 @@ ghost use Rattle.std.specs.Prelude.{◌≡◌};
 ghost use Rattle.bayou_audit.specs.Blanks.{AreBlanksOf, named};
 
 use crate::fixtures::{blanks, key, must_be_so, must_hold, put, server_id};
-use crate::streams::{Counting, Slow, counting_writer, slow_reader};
+use crate::streams::{Counting, Slow, counting_writer, slow_reader, slow_writer};
 use crate::words::{bytes, parts};
 use bayou_audit::{AuditBook, Blanks, Four, Ledgers, Share, Totals};
 use bayou_base::{Asks, Entry, SERVERS, Seen, SessionId, Vector};
@@ -170,7 +170,7 @@ fn tries<S, T, U, V, R>(
     is_read: bool,
     reader: Slow<'_>,
     writer: &mut Counting,
-    places: usize,
+    capacity: usize,
 ) -> Tried
 where
     S: Ledger + Send + Sync,
@@ -180,7 +180,7 @@ where
     R: Wait + Abort,
     requires blanks { AreBlanksOf blanks (named S.name S.parts) (named T.name T.parts) (named U.name U.parts) (named V.name V.parts) 1 }
 {
-    let (book, shares) = AuditBook::<Four<S, T, U, V>>::new(alloc, blanks, 1, places).expect(
+    let (book, shares) = AuditBook::<Four<S, T, U, V>>::new(alloc, blanks, 1, capacity).expect(
         rt, "no book",
     );
     tried_with(rt, alloc, &book, shares, is_read, reader, writer)
@@ -296,9 +296,9 @@ fn tried_anew<R: Wait + Abort>(
     is_read: bool,
     reader: Slow<'_>,
     writer: &mut Counting,
-    places: usize,
+    capacity: usize,
 ) -> Tried {
-    tries::<Brand, Brand, Brand, Brand, R>(rt, alloc, blanks(1), is_read, reader, writer, places)
+    tries::<Brand, Brand, Brand, Brand, R>(rt, alloc, blanks(1), is_read, reader, writer, capacity)
 }
 
 fn row_holds<R: Wait + Abort>(rt: &R, alloc: Global, row: &str, most: usize) -> bool {
@@ -311,7 +311,7 @@ fn row_holds<R: Wait + Abort>(rt: &R, alloc: Global, row: &str, most: usize) -> 
     }
 }
 
-/// Whether a session that is replied this, in pieces of at most so many bytes, is told what is expected.
+/// Whether a session that is replied this, in pieces of at most so many bytes, and sends in such, is told what is expected.
 fn is_told<R: Wait + Abort>(
     rt: &R,
     alloc: Global,
@@ -320,7 +320,7 @@ fn is_told<R: Wait + Abort>(
     most: usize,
     expected: &str,
 ) -> bool {
-    let mut writer = counting_writer(alloc, 0);
+    let mut writer = slow_writer(alloc, most, 0);
     let tried = tried_anew(
         rt,
         alloc,
@@ -332,19 +332,85 @@ fn is_told<R: Wait + Abort>(
     is_tried(rt, alloc, &tried, &writer.bytes, is_read, expected)
 }
 
-/// Whether nothing is told and nothing entered where the call of the reader of this number fails, or the one of the writer, over a link
-/// that is closed then.
-fn is_lost<R: Wait + Abort>(
-    rt: &R,
-    alloc: Global,
-    read_fails_at: u32,
-    write_fails_at: u32,
-) -> bool {
-    let reply = bytes(rt, alloc, "0022 11 00 <one>");
-    let mut writer = counting_writer(alloc, write_fails_at);
-    let reader = slow_reader(&reply, 1, read_fails_at);
-    let tried = tried_anew(rt, alloc, true, reader, &mut writer, 2);
-    tells_nothing(&tried) && (write_fails_at == 0) != writer.bytes.is_empty()
+/// A read or a Write over a link that moves one byte at a call, and how many calls of its reader, or of its writer, it takes.
+struct Failing {
+    is_read: bool,
+    is_of_reader: bool,
+    calls: u32,
+}
+
+static FAILING: [Failing; 4] = [
+    Failing {
+        is_read: true,
+        is_of_reader: true,
+        calls: 36,
+    },
+    Failing {
+        is_read: true,
+        is_of_reader: false,
+        calls: 37,
+    },
+    Failing {
+        is_read: false,
+        is_of_reader: true,
+        calls: 44,
+    },
+    Failing {
+        is_read: false,
+        is_of_reader: false,
+        calls: 51,
+    },
+];
+
+/// What is sent for it, and what is replied where it is served.
+fn request_and_reply(rt: &impl Abort, alloc: Global, is_read: bool) -> (Vec<u8>, Vec<u8>) {
+    let (request, reply) = if is_read {
+        (READ, "0022 11 00 <one>")
+    } else {
+        (WRITE, "002a 12 00 00000002 00000002 <one>")
+    };
+    (bytes(rt, alloc, request), bytes(rt, alloc, reply))
+}
+
+/// Whether nothing is told and nothing entered where this call fails, over a link that is closed then, once a front of the request was sent;
+/// but that the operation is served where the call is one behind its last.
+fn fails_at<R: Wait + Abort>(rt: &R, alloc: Global, failing: &Failing, at: u32) -> bool {
+    let (request, reply) = request_and_reply(rt, alloc, failing.is_read);
+    let (read, write) = if failing.is_of_reader {
+        (at, 0)
+    } else {
+        (0, at)
+    };
+    let mut writer = slow_writer(alloc, 1, write);
+    let reader = slow_reader(&reply, 1, read);
+    let tried = tried_anew(rt, alloc, failing.is_read, reader, &mut writer, 2);
+    if at > failing.calls {
+        return tells_first(&tried);
+    }
+    tells_nothing(&tried) && is_sent_up_to(&writer, &request, write)
+}
+
+/// Whether as much of the request was sent as came before this call of the writer, if one failed, and no call came behind it.
+pub fn is_sent_up_to(writer: &Counting, request: &[u8], fails_at: u32) -> bool {
+    let calls = match fails_at {
+        0 => request.len(),
+        _ => fails_at as usize,
+    };
+    let count = match fails_at {
+        0 => request.len(),
+        _ => calls.saturating_sub(1),
+    };
+    writer.calls as usize == calls
+        && writer.bytes.len() == count
+        && request.starts_with(&writer.bytes)
+}
+
+/// Whether the first operation was served, and the second one, whose call failed, is lost.
+fn tells_first(tried: &Tried) -> bool {
+    tried.first.word == "served"
+        && !tried.first.is_closed
+        && is_over(&tried.second, &tried.first.totals)
+        && tried.is_first
 }
 
 fn tells_nothing(tried: &Tried) -> bool {
@@ -355,7 +421,7 @@ fn tells_nothing(tried: &Tried) -> bool {
         && tried.is_first
 }
 
-/// Whether an operation that the book has no place for isn't sent.
+/// Whether an operation that the book has no room for isn't sent.
 fn is_full<R: Wait + Abort>(rt: &R, alloc: Global) -> bool {
     let reply = bytes(rt, alloc, "0022 11 00 <one> 0022 11 00 <one>");
     let mut writer = counting_writer(alloc, 0);
@@ -371,7 +437,7 @@ fn tells_one(tried: &Tried) -> bool {
         && tried.is_first
 }
 
-/// Whether a row holds, whatever pieces its reply comes in.
+/// Whether a row holds, whatever pieces its request and its reply move in.
 fn holds_in_pieces<R: Wait + Abort>(rt: &R, alloc: Global, row: &str) -> bool {
     row_holds(rt, alloc, row, 1) && row_holds(rt, alloc, row, 36) && row_holds(rt, alloc, row, 4096)
 }
@@ -390,14 +456,21 @@ fn a_session_is_told_of_nothing_behind_a_reply(rt: HostRuntime) {
     }
 }
 
-#[test]
-fn each_read_of_a_link_may_fail(rt: HostRuntime) {
-    for at in 1..37_u32 {
-        must_be_so(&rt, is_lost(&rt, rt.alloc(), at, 0), at as usize);
+/// Each call fails so, in turn, from the first to one behind the last.
+fn each_fails<R: Wait + Abort>(rt: &R, alloc: Global, failing: &Failing) {
+    for at in 1..failing.calls.saturating_add(2) {
+        must_be_so(rt, fails_at(rt, alloc, failing, at), at as usize);
     }
 }
 
 #[test]
-fn a_write_to_a_link_may_fail_and_a_book_be_full(rt: HostRuntime) {
-    assert!(rt; is_lost(&rt, rt.alloc(), 0, 1) && is_full(&rt, rt.alloc()));
+fn each_read_and_write_of_a_link_may_fail(rt: HostRuntime) {
+    for failing in &FAILING {
+        each_fails(&rt, rt.alloc(), failing);
+    }
+}
+
+#[test]
+fn a_book_may_be_full(rt: HostRuntime) {
+    assert!(rt; is_full(&rt, rt.alloc()));
 }

@@ -7,7 +7,7 @@ use crate::words::{bytes, is_said};
 use bayou_net::{NoGate, RequestGate, serve};
 use bayou_node::{Desk, Desks, Node};
 use bayou_server::Server;
-use bayou_streams::Channel;
+use bayou_streams::CountedChannel;
 use std::alloc::Global;
 use std::marker::Brand;
 use std::process::Abort;
@@ -57,7 +57,7 @@ fn writes<L: Desks, G: RequestGate, R: Wait + Abort>(
     gate: &G,
 ) -> Option<Desk<L>> {
     let sent = bytes(rt, alloc, WRITE);
-    let mut channel = Channel::new(sent.as_slice(), Vec::new(alloc));
+    let mut channel = CountedChannel::new(sent.as_slice(), Vec::new(alloc));
     let (answer, desk) = serve(rt, alloc, node, desk, gate, &mut channel);
     let (_, written) = channel.into_parts();
     if answer == Ok(1) && is_accepted(alloc, &written) {

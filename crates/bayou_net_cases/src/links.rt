@@ -1,7 +1,8 @@
 //! A link over which a journal is to be opened again, and all Writes held are asked for: what is told of each reply, byte for byte, whatever
 //! pieces it comes in.
+use crate::clients::is_sent_up_to;
 use crate::fixtures::{must_be_so, must_hold};
-use crate::streams::{Counting, Slow, counting_writer, slow_reader};
+use crate::streams::{Counting, Slow, slow_reader, slow_writer};
 use crate::words::{bytes, is_said, parts};
 use bayou_base::Wid;
 use bayou_client::{Link, LinkFault};
@@ -32,6 +33,9 @@ dump 0022 11 00 <none> => BadFrame
 dump 003a 15 00 00000001 00000001 <none> <put-1> 2001 => BadFrame
 dump 003a 15 00 00000001 00000001 <none> <put-1> => Lost
 dump 003a 15 00 00000001 00000001 <none> <put-1> 0005 16 000000 => Lost";
+
+/// A reply that tells of an adopted Write, in 9 bytes.
+const REOPENED: &str = "0007 14 01 00 00000001";
 
 /// A reply of an Item and an End, in 67 bytes.
 const DUMPED: &str = "003a 15 00 00000001 00000001 <none> <put-1> 0005 16 00000001";
@@ -92,10 +96,10 @@ fn asked(
     (word, link.is_closed())
 }
 
-/// Whether this is what is told where this is replied, in pieces of at most so many bytes; then the request was sent, and the link is closed
-/// if no answer came.
+/// Whether this is what is told where this is replied, in pieces of at most so many bytes; then the request was sent, in such too, and the
+/// link is closed if no answer came.
 fn is_told(alloc: Global, is_dump: bool, reply: &[u8], most: usize, expected: &str) -> bool {
-    let mut writer = counting_writer(alloc, 0);
+    let mut writer = slow_writer(alloc, most, 0);
     let (word, is_closed) = asked(alloc, is_dump, slow_reader(reply, most, 0), &mut writer);
     let is_lost = expected == "Lost" || expected == "BadFrame";
     let request = if is_dump { "0001 04" } else { "0001 03" };
@@ -124,23 +128,73 @@ fn a_link_tells_what_answers_it(rt: HostRuntime) {
     }
 }
 
-/// Whether a dump is lost, and its link closed, where the call of the reader of this number fails, or the one of the writer.
-fn is_lost(rt: &impl Abort, alloc: Global, read_fails_at: u32, write_fails_at: u32) -> bool {
-    let reply = bytes(rt, alloc, DUMPED);
-    let mut writer = counting_writer(alloc, write_fails_at);
-    let (word, is_closed) = asked(
+/// A dump or a reopening over a link that moves one byte at a call, and how many calls of its reader, or of its writer, it takes.
+struct Failing {
+    is_dump: bool,
+    is_of_reader: bool,
+    calls: u32,
+}
+
+static FAILING: [Failing; 4] = [
+    Failing {
+        is_dump: true,
+        is_of_reader: true,
+        calls: 67,
+    },
+    Failing {
+        is_dump: true,
+        is_of_reader: false,
+        calls: 3,
+    },
+    Failing {
+        is_dump: false,
+        is_of_reader: true,
+        calls: 9,
+    },
+    Failing {
+        is_dump: false,
+        is_of_reader: false,
+        calls: 3,
+    },
+];
+
+/// Whether nothing is told where this call fails, over a link that is closed then, once a front of the request was sent; but that it is
+/// answered where the call is one behind its last.
+fn fails_at(rt: &impl Abort, alloc: Global, failing: &Failing, at: u32) -> bool {
+    let reply = bytes(rt, alloc, if failing.is_dump { DUMPED } else { REOPENED });
+    let (read, write) = if failing.is_of_reader {
+        (at, 0)
+    } else {
+        (0, at)
+    };
+    let mut writer = slow_writer(alloc, 1, write);
+    let reader = slow_reader(&reply, 1, read);
+    let (word, is_closed) = asked(alloc, failing.is_dump, reader, &mut writer);
+    if at > failing.calls {
+        return word == "one" && !is_closed;
+    }
+    let request = bytes(
+        rt,
         alloc,
-        true,
-        slow_reader(&reply, 1, read_fails_at),
-        &mut writer,
+        if failing.is_dump {
+            "0001 04"
+        } else {
+            "0001 03"
+        },
     );
-    word == "Lost" && is_closed && (write_fails_at == 0) != writer.bytes.is_empty()
+    word == "Lost" && is_closed && is_sent_up_to(&writer, &request, write)
+}
+
+/// Each call fails so, in turn, from the first to one behind the last.
+fn each_fails(rt: &impl Abort, alloc: Global, failing: &Failing) {
+    for at in 1..failing.calls.saturating_add(2) {
+        must_be_so(rt, fails_at(rt, alloc, failing, at), at as usize);
+    }
 }
 
 #[test]
-fn each_call_of_a_dump_may_fail(rt: HostRuntime) {
-    for at in 1..68_u32 {
-        must_be_so(&rt, is_lost(&rt, rt.alloc(), at, 0), at as usize);
+fn each_call_of_a_dump_and_of_a_reopening_may_fail(rt: HostRuntime) {
+    for failing in &FAILING {
+        each_fails(&rt, rt.alloc(), failing);
     }
-    assert!(rt; is_lost(&rt, rt.alloc(), 0, 1));
 }

@@ -4,7 +4,7 @@ use crate::words::bytes;
 use bayou_device::{Gate, MemoryDevice};
 use bayou_net::{RequestGate, serve_on};
 use bayou_server::Server;
-use bayou_streams::Channel;
+use bayou_streams::CountedChannel;
 use std::alloc::Global;
 use std::cell::Cell;
 use std::io;
@@ -133,7 +133,7 @@ fn does_two<'a>(
         event: PASSED,
         diary,
     };
-    let mut channel = Channel::new(reader, writer);
+    let mut channel = CountedChannel::new(reader, writer);
     serve_on(alloc, server, &gate, &mut channel) == Ok(2)
 }
 

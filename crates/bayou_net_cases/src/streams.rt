@@ -1,10 +1,10 @@
 //! A server that is asked over a stream: what it answers, byte for byte, whatever pieces the requests come in.
 use crate::fixtures::{Memory, begun, must_be_so, must_hold};
 use crate::words::{bytes, is_said};
-use bayou_frames::Fault;
+use bayou_frames::ChannelFault;
 use bayou_net::{NoGate, serve_on};
 use bayou_server::Server;
-use bayou_streams::Channel;
+use bayou_streams::CountedChannel;
 use std::alloc::Global;
 use std::io;
 use std::io::{ErrorKind, Read, Write};
@@ -45,7 +45,7 @@ pub struct Slow<'a> {
     bytes: &'a [u8],
     most: usize,
     fails_at: u32,
-    calls: u32,
+    pub calls: u32,
 }
 
 /// Such a reader of these bytes.
@@ -72,21 +72,28 @@ impl Read for Slow<'_> {
     }
 }
 
-/// A writer that counts its calls, and fails at the call of this number.
+/// A writer that takes at most so many bytes at a call, counts its calls, and fails at the call of this number.
 #[derive(Drop)]
 pub struct Counting {
     pub bytes: Vec<u8>,
+    most: usize,
     fails_at: u32,
-    calls: u32,
+    pub calls: u32,
 }
 
 /// Such a writer, to which nothing was written.
-pub fn counting_writer(alloc: Global, fails_at: u32) -> Counting {
+pub fn slow_writer(alloc: Global, most: usize, fails_at: u32) -> Counting {
     Counting {
         bytes: Vec::new(alloc),
+        most,
         fails_at,
         calls: 0,
     }
+}
+
+/// One that takes all that it is given at a call.
+pub fn counting_writer(alloc: Global, fails_at: u32) -> Counting {
+    slow_writer(alloc, usize::MAX, fails_at)
 }
 
 impl Write for Counting {
@@ -95,8 +102,9 @@ impl Write for Counting {
         if self.calls == self.fails_at {
             return Err(io::Error::from(ErrorKind::BrokenPipe));
         }
-        self.bytes.extend_from_slice(buf)?;
-        Ok(buf.len())
+        let count = buf.len().min(self.most);
+        self.bytes.extend_from_slice(&buf[..count])?;
+        Ok(count)
     }
 
     fn flush(&mut self) -> io::Result<()> {
@@ -105,11 +113,11 @@ impl Write for Counting {
 }
 
 /// What the server comes to over the channel. Its call stands in one place: what it promises costs wherever it is called.
-fn served_over<I: Read, O: Write>(
+pub fn served_over<I: Read, O: Write>(
     alloc: Global,
     server: &mut Server<Memory>,
-    channel: &mut Channel<I, O>,
-) -> Result<u32, Fault> {
+    channel: &mut CountedChannel<I, O>,
+) -> Result<u32, ChannelFault> {
     serve_on(alloc, server, &NoGate, channel)
 }
 
@@ -117,7 +125,7 @@ fn served_over<I: Read, O: Write>(
 fn is_told(
     rt: &impl Abort,
     alloc: Global,
-    answer: Result<u32, Fault>,
+    answer: Result<u32, ChannelFault>,
     written: &[u8],
     expected: &str,
 ) -> bool {
@@ -128,14 +136,14 @@ fn is_told(
     }
 }
 
-/// Whether a new server, which is sent this in pieces of at most so many bytes, ends so.
+/// Whether a new server, which is sent this in pieces of at most so many bytes, and writes in such, ends so.
 fn serves(rt: &impl Abort, alloc: Global, sent: &[u8], most: usize, expected: &str) -> bool {
-    let mut channel = Channel::new(slow_reader(sent, most, 0), Vec::new(alloc));
+    let mut channel = CountedChannel::new(slow_reader(sent, most, 0), slow_writer(alloc, most, 0));
     let answer = served_over(alloc, begun(rt, alloc, 2).as_mut(), &mut channel);
-    is_told(rt, alloc, answer, &channel.into_parts().1, expected)
+    is_told(rt, alloc, answer, &channel.into_parts().1.bytes, expected)
 }
 
-/// Whether a row holds, whatever pieces its stream comes in.
+/// Whether a row holds, whatever pieces its streams move in.
 fn holds(rt: &impl Abort, alloc: Global, row: &str) -> bool {
     let (text, expected) = row.split_once(" => ").unwrap_or((row, row));
     let sent = bytes(rt, alloc, text);
@@ -157,13 +165,13 @@ const ROOM: &str = "0034 02 <none> <put-room>";
 const ROOM_TWICE: &str = "0026 01 <none> 04726f6f6d 0026 01 <none> 04726f6f6d";
 
 /// Whether serving ends at the end of the input where that comes between two requests, and is cut else, with a reply to each whole one.
-fn ends_at(answer: Result<u32, Fault>, written: &[u8], end: usize) -> bool {
+fn ends_at(answer: Result<u32, ChannelFault>, written: &[u8], end: usize) -> bool {
     let (expected, count) = match end {
         0 => (Ok(0), 0),
         40 => (Ok(1), 44),
         80 => (Ok(2), 88),
-        1..40 => (Err(Fault::Cut), 0),
-        _ => (Err(Fault::Cut), 44),
+        1..40 => (Err(ChannelFault::Cut), 0),
+        _ => (Err(ChannelFault::Cut), 44),
     };
     let begins_so = end < 40 || written.starts_with(&[0x00, 0x2a, 0x11]);
     answer == expected && written.len() == count && begins_so
@@ -171,7 +179,7 @@ fn ends_at(answer: Result<u32, Fault>, written: &[u8], end: usize) -> bool {
 
 /// Whether a server that holds the Write ends so where the two reads are cut at this byte.
 fn is_cut_at(alloc: Global, server: &mut Server<Memory>, sent: &[u8], end: usize) -> bool {
-    let mut channel = Channel::new(&sent[..end.min(sent.len())], Vec::new(alloc));
+    let mut channel = CountedChannel::new(&sent[..end.min(sent.len())], Vec::new(alloc));
     let answer = served_over(alloc, server, &mut channel);
     ends_at(answer, &channel.into_parts().1, end)
 }
@@ -184,7 +192,7 @@ fn requests_may_be_cut_at_each_byte(rt: HostRuntime) {
     let _ = served_over(
         alloc,
         server.as_mut(),
-        &mut Channel::new(write.as_slice(), Vec::new(alloc)),
+        &mut CountedChannel::new(write.as_slice(), Vec::new(alloc)),
     );
     let reads = bytes(&rt, alloc, ROOM_TWICE);
     for end in 0..81_usize {
@@ -197,11 +205,11 @@ const TWO: &str = "0031 02 <none> <put-1> 0023 01 <one> 0161";
 
 /// How serving ends, and how many bytes of replies are written, where the call of the reader of this number fails, thirty bytes each. The Write
 /// is whole at the second call, and the read at the third.
-fn ends_as(answer: Result<u32, Fault>, written: usize, fails_at: u32) -> bool {
+fn ends_as(answer: Result<u32, ChannelFault>, written: usize, fails_at: u32) -> bool {
     let (expected, count) = match fails_at {
-        1 | 2 => (Err(Fault::Read), 0),
-        3 => (Err(Fault::Read), 44),
-        4 => (Err(Fault::Read), 88),
+        1 | 2 => (Err(ChannelFault::Read), 0),
+        3 => (Err(ChannelFault::Read), 44),
+        4 => (Err(ChannelFault::Read), 88),
         _ => (Ok(2), 88),
     };
     answer == expected && written == count
@@ -210,7 +218,7 @@ fn ends_as(answer: Result<u32, Fault>, written: usize, fails_at: u32) -> bool {
 /// Whether serving two requests ends so.
 fn ends_reading(rt: &impl Abort, alloc: Global, fails_at: u32) -> bool {
     let sent = bytes(rt, alloc, TWO);
-    let mut channel = Channel::new(slow_reader(&sent, 30, fails_at), Vec::new(alloc));
+    let mut channel = CountedChannel::new(slow_reader(&sent, 30, fails_at), Vec::new(alloc));
     let answer = served_over(alloc, begun(rt, alloc, 2).as_mut(), &mut channel);
     ends_as(answer, channel.into_parts().1.len(), fails_at)
 }
@@ -227,10 +235,10 @@ fn each_read_of_requests_may_fail(rt: HostRuntime) {
 }
 
 /// The same of its writer: one call writes a reply.
-fn replies_end_as(answer: Result<u32, Fault>, writer: &Counting, fails_at: u32) -> bool {
+fn replies_end_as(answer: Result<u32, ChannelFault>, writer: &Counting, fails_at: u32) -> bool {
     let (expected, count, calls) = match fails_at {
-        1 => (Err(Fault::Write), 0, 1),
-        2 => (Err(Fault::Write), 44, 2),
+        1 => (Err(ChannelFault::Write), 0, 1),
+        2 => (Err(ChannelFault::Write), 44, 2),
         _ => (Ok(2), 88, 2),
     };
     answer == expected && writer.bytes.len() == count && writer.calls == calls
@@ -243,7 +251,7 @@ fn writes_to_an_end(
     sent: &[u8],
     fails_at: u32,
 ) -> bool {
-    let mut channel = Channel::new(sent, counting_writer(alloc, fails_at));
+    let mut channel = CountedChannel::new(sent, counting_writer(alloc, fails_at));
     let answer = served_over(alloc, server, &mut channel);
     replies_end_as(answer, &channel.into_parts().1, fails_at) && server.receipts().len() == 1
 }

@@ -3,9 +3,15 @@
 use Rattle.std.specs.Prelude.{◌≡◌, ℕ, ◌+◌, ◌<◌, ◌≤◌, List, Result, Ok, Err, slice_index}
 use Rattle.bayou_base.specs.declared.answer.Accepted.{Accepted}
 use Rattle.bayou_base.specs.Vector.{Dominates}
+use Rattle.bayou_lang.specs.declared.write.Write.{Write}
 use Rattle.bayou_node.specs.Books.{Begun, IsServerOf}
+use Rattle.bayou_server.specs.declared.answer.Took.{Took}
+use Rattle.bayou_server.specs.declared.answer.TookAll.{TookAll}
+use Rattle.bayou_server.specs.declared.fault.TakeFault.{TakeFault}
 use Rattle.bayou_server.specs.declared.fault.WriteFault.{WriteFault}
 use Rattle.bayou_server.specs.Server.{Core, IsSoundServer, own_count}
+use Rattle.bayou_server.specs.Takes.{Takes}
+use Rattle.bayou_server.specs.TakesAll.{TakesAll}
 
 -- what may be behind the lock: it is this server, with its limit; it is sound; and it has made no fewer Writes itself than it had as its
 -- node was made
@@ -34,3 +40,12 @@ pub record IsAccepted (server : ℕ) (need : List ℕ) (paid : ℕ) (accepted : 
 abbrev pub Pays : (old : ℕ) → Result Accepted WriteFault → (new : ℕ) → Type 0
 Pays old (Ok accepted) new = new ≡ old + 1
 Pays old (Err fault) new = new ≡ old
+
+-- A Write is given to what may be behind the lock (anti-entropy, Petersen et al. 1997). Of what stands beside the node no call changes
+-- anything; what is held between two calls isn't told, as others may change it.
+abbrev pub TakesAtNode : {S : Type 0} → Begun → S → Write → Result Took TakeFault → S → Type 0
+TakesAtNode begun before given answer after = BySome begun (λ old new. Takes old given answer new) × (after ≡ before)
+
+-- Several Writes are given to it, one after another, between two of which others may call.
+abbrev pub TakesAllAtNode : Begun → (given left : List Write) → TookAll → Type 0
+TakesAllAtNode begun given left told = TakesAll {S = Unit {0}} (TakesAtNode begun) tt given left told tt

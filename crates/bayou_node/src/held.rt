@@ -1,4 +1,5 @@
-ghost use Rattle.std.specs.Prelude.{◌≡◌, ◌≤◌, ◌<◌, ◌+◌, Err, IfOk, MatchResult, length, slice_index, sum, take};
+ghost use Rattle.std.specs.Prelude.{◌≡◌, ◌≤◌, ◌<◌, ◌+◌, ◌⊎◌, [], None, Err, IfOk, MatchResult, length, slice_index, sum, take};
+ghost use Rattle.std.specs.Vec.Iter.{into_iter_items};
 ghost use Rattle.bayou_base.specs.declared.limits.TheConstants.{MAX_WRITES};
 ghost use Rattle.bayou_lang.specs.declared.program.Program.{Program as Asked};
 ghost use Rattle.bayou_lang.specs.Writes.{count_of, lacking_of};
@@ -11,6 +12,7 @@ ghost use Rattle.bayou_server.specs.Reopens.{Reopens, own_adopted};
 ghost use Rattle.bayou_server.specs.Server.{own_count};
 ghost use Rattle.bayou_server.specs.Stored.{ReopensJournal, StoresTaken, StoresWrite};
 ghost use Rattle.bayou_server.specs.Takes.{Takes};
+ghost use Rattle.bayou_server.specs.TakesAll.{TakesAll, TakesAt};
 ghost use Rattle.bayou_server.specs.Writes.{Writes};
 
 use crate::desk::{Desk, Desks};
@@ -19,10 +21,11 @@ use bayou_base::{Accepted, Key, Seen, Vector};
 use bayou_device::Device;
 use bayou_lang::{RestingProgram, RestingWrite};
 use bayou_log::Listed;
-use bayou_server::{Behind, ReopenFault, Reopened, Server, TakeFault, Took, WriteFault};
+use bayou_server::{Behind, ReopenFault, Reopened, Server, TakeFault, Took, TookAll, WriteFault};
 use std::alloc::{AllocError, Global};
 use std::marker::Model;
 use std::sync::ledger::{Blank, Book, Share};
+use std::vec::IntoIter;
 
 /// The value of a node's lock: a server with its books.
 #[derive(Drop)]
@@ -171,6 +174,22 @@ impl<D: Device, L: Desks> Held<D, L> {
         ensures exact { IsExact L.begun self.old × IsExact L.begun self.new }
     {
         self.server.take(alloc, write)
+    }
+
+    /// As [`Server::take_next`].
+    pub fn take_next(
+        &mut self,
+        alloc: Global,
+        writes: &mut IntoIter<RestingWrite>,
+        most: u32,
+    ) -> TookAll
+        ensures takes { TakesAll (TakesAt D.Device) self.old.server (into_iter_items writes.old) (into_iter_items writes.new) result self.new.server }
+        ensures whole { result.fault ≡ None → (into_iter_items writes.new ≡ []) ⊎ (result.taken + result.had ≡ most) }
+        ensures others { (self.new.stored ≡ self.old.stored) × (self.new.accepted ≡ self.old.accepted) × (self.new.adopted ≡ self.old.adopted) }
+        ensures keeps { StillHolds self.old.server.core self.new.server.core }
+        ensures exact { IsExact L.begun self.old × IsExact L.begun self.new }
+    {
+        self.server.take_next(alloc, writes, most)
     }
 
     /// As [`Server::reopen`]. A Write of the server's own that is adopted is counted.

@@ -1,10 +1,11 @@
-ghost use Rattle.std.specs.Prelude.{◌≡◌, ◌≤◌, ◌<◌, ℕ, Err, IfOk, MatchResult, length, take};
+ghost use Rattle.std.specs.Prelude.{◌≡◌, ◌≤◌, ◌<◌, ◌^◌, ℕ, List, [], None, Err, IfOk, MatchResult, length, take};
 ghost use Rattle.bayou_base.specs.Vector.{Dominates};
 ghost use Rattle.bayou_base.specs.declared.limits.TheConstants.{MAX_WRITES};
 ghost use Rattle.bayou_lang.specs.declared.program.Program.{Program as Asked};
+ghost use Rattle.bayou_lang.specs.declared.write.Write.{Write};
 ghost use Rattle.bayou_lang.specs.Writes.{count_of, lacking_of};
 ghost use Rattle.bayou_log.specs.Listing.{listing_of};
-ghost use Rattle.bayou_node.specs.Answers.{BySome, InSome, IsAccepted, Pays};
+ghost use Rattle.bayou_node.specs.Answers.{BySome, InSome, IsAccepted, Pays, TakesAllAtNode};
 ghost use Rattle.bayou_node.specs.Books.{AreNewDesks, IsBlankOf, begun_of};
 ghost use Rattle.bayou_node.specs.Settles.{IsNodeSettled};
 ghost use Rattle.bayou_server.specs.Reads.{Reads};
@@ -15,11 +16,12 @@ ghost use Rattle.bayou_server.specs.Writes.{Writes};
 use crate::desk::{Desk, Desks};
 use crate::held::Held;
 use crate::node_settled::{DeskMissing, NodeSettled, NotMade};
+use bayou_base::limits::TAKES_AT_ONCE;
 use bayou_base::{Accepted, Key, Seen, ServerId, Vector};
 use bayou_device::Device;
 use bayou_lang::{RestingProgram, RestingWrite};
 use bayou_log::Listed;
-use bayou_server::{Behind, ReopenFault, Reopened, Server, TakeFault, Took, WriteFault};
+use bayou_server::{Behind, ReopenFault, Reopened, Server, TakeFault, Took, TookAll, WriteFault};
 use std::alloc::{AllocError, Global};
 use std::marker::Model;
 use std::sync::ledger::Blank;
@@ -137,6 +139,29 @@ impl<D: Device, L: Desks> Node<D, L> {
         ensures { BySome L.begun (λ old new. Takes old write result new) }
     {
         self.held.lock(rt).take(alloc, write)
+    }
+
+    /// As [`Held::take_next`], a few at a time, between which the lock is free.
+    pub fn take_all<R: Wait>(&self, rt: &R, alloc: Global, writes: Vec<RestingWrite>) -> TookAll
+        requires few { length writes.items < 2 ^ 32 }
+        ensures { (left : List Write) × TakesAllAtNode L.begun writes.items left result × (result.fault ≡ None → left ≡ []) }
+    {
+        let mut told = TookAll {
+            taken: 0,
+            had: 0,
+            fault: None,
+        };
+        let mut writes = writes.into_iter();
+        while writes.len() > 0 && told.fault.is_none() {
+            let more = self
+                .held
+                .lock(rt)
+                .take_next(alloc, &mut writes, TAKES_AT_ONCE);
+            told.taken += more.taken;
+            told.had += more.had;
+            told.fault = more.fault;
+        }
+        told
     }
 
     /// As [`Held::reopen`].

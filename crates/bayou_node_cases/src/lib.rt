@@ -7,6 +7,8 @@
 #[cfg(test)]
 mod books;
 #[cfg(test)]
+mod breaks;
+#[cfg(test)]
 mod dice;
 #[cfg(test)]
 mod fakes;

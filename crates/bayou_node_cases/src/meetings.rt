@@ -1,12 +1,12 @@
 //! One node that pulls from another, over memory.
 use crate::fixtures::Memory;
 use bayou_base::Vector;
-use bayou_frames::Fault;
+use bayou_frames::ChannelFault;
 use bayou_net::{answer_offer, pull_from};
 use bayou_node::{Desks, Node};
 use bayou_peer::PullFault;
 use bayou_server::TakeFault;
-use bayou_streams::Channel;
+use bayou_streams::CountedChannel;
 use std::alloc::Global;
 use std::io;
 use std::sync::Wait;
@@ -17,8 +17,8 @@ fn answered<L: Desks, R: Wait>(
     alloc: Global,
     node: &Node<Memory, L>,
     counts: &Vector,
-) -> Result<Vec<u8>, Fault> {
-    let mut channel = Channel::new((), Vec::new(alloc));
+) -> Result<Vec<u8>, ChannelFault> {
+    let mut channel = CountedChannel::new((), Vec::new(alloc));
     answer_offer(rt, alloc, node, counts, &mut channel)?;
     Ok(channel.into_parts().1)
 }
@@ -35,7 +35,7 @@ pub fn meets<L: Desks, M: Desks, R: Wait>(
     let Ok(answer) = answered(rt, alloc, from, &counts) else {
         return false;
     };
-    let mut channel = Channel::new(answer.as_slice(), io::sink());
+    let mut channel = CountedChannel::new(answer.as_slice(), io::sink());
     match pull_from(rt, alloc, to, &counts, &mut channel) {
         Ok(_) => true,
         Err(fault) => {

@@ -6,11 +6,11 @@ use crate::fixtures::{Memory, Served, must_be_so, new_site, vector};
 use crate::items::{is_stream, item, stream};
 use crate::pulls::full;
 use bayou_base::Vector;
-use bayou_frames::Fault;
+use bayou_frames::ChannelFault;
 use bayou_net::{answer_offer, pull, pull_from, serve_offer};
 use bayou_node::{Desks, Node};
 use bayou_peer::{PullFault, Pulled};
-use bayou_streams::Channel;
+use bayou_streams::CountedChannel;
 use std::alloc::Global;
 use std::cell::Cell;
 use std::io;
@@ -43,8 +43,8 @@ fn ends(alloc: Global, written: &[u8], text: &str, is_answered: bool) -> bool {
 }
 
 /// What comes from a stream, which takes what is written.
-fn between<'a>(alloc: Global, sent: &'a [u8]) -> Channel<&'a [u8], Vec<u8>> {
-    Channel::new(sent, Vec::new(alloc))
+fn between<'a>(alloc: Global, sent: &'a [u8]) -> CountedChannel<&'a [u8], Vec<u8>> {
+    CountedChannel::new(sent, Vec::new(alloc))
 }
 
 fn serves<L: Desks, R: Wait + Abort>(rt: &R, alloc: Global, node: &Kept<L>) -> bool {
@@ -76,7 +76,7 @@ fn takes_again<L: Desks, R: Wait + Abort>(rt: &R, alloc: Global, node: &Kept<L>)
 fn pulls<L: Desks, R: Wait + Abort>(rt: &R, alloc: Global, node: &Kept<L>) -> bool {
     let mut channel = between(alloc, &[]);
     let answer = pull(rt, alloc, node, &mut channel);
-    let is_cut = answer == Err(PullFault::Stream(Fault::Cut));
+    let is_cut = answer == Err(PullFault::Stream(ChannelFault::Cut));
     ends(
         alloc,
         &channel.into_parts().1,
@@ -161,10 +161,10 @@ fn is_free_between_items<L: Desks, R: Wait + Abort>(
         given: 0,
         is_so: true,
     };
-    let mut channel = Channel::new(reader, io::sink());
+    let mut channel = CountedChannel::new(reader, io::sink());
     let answer = pull(rt, alloc, node, &mut channel);
     let (reader, _) = channel.into_parts();
-    answer == Err(PullFault::Stream(Fault::Cut)) && reader.is_so && reader.given == 3
+    answer == Err(PullFault::Stream(ChannelFault::Cut)) && reader.is_so && reader.given == 3
 }
 
 #[test]
@@ -215,7 +215,7 @@ fn batches<L: Desks, R: Wait + Abort>(
         held: 40,
         calls: &calls,
     };
-    let mut channel = Channel::new((), writer);
+    let mut channel = CountedChannel::new((), writer);
     let answer = answer_offer(rt, alloc, node, &Vector::zero(), &mut channel);
     if answer != Ok(40) {
         return 0;

@@ -5,12 +5,12 @@ use crate::fixtures::{Served, begun, holds, must_be_so, must_hold, vector};
 use crate::items::{Given, item, stream, write};
 use crate::takes;
 use bayou_base::Vector;
-use bayou_frames::Fault;
+use bayou_frames::ChannelFault;
 use bayou_peer::{
     PullFault, Pulled, answer_offer_on, cut_after, pull_from_on, pull_on, serve_offer_on,
 };
 use bayou_server::{StartFault, TakeFault};
-use bayou_streams::Channel;
+use bayou_streams::CountedChannel;
 use std::alloc::{AllocError, Global};
 use std::io;
 use std::io::{Read, Write};
@@ -21,21 +21,31 @@ const THREE: &str = "<item-1> <item-2> <item-3> 0005 16 00000003";
 
 /// What the server makes of what comes over the channel. Each call of the peer stands in one place: what it promises costs wherever it is
 /// called.
-fn pulled_over<I: Read, O: Write>(
+pub fn pulled_over<I: Read, O: Write>(
     alloc: Global,
     server: &mut Served,
-    channel: &mut Channel<I, O>,
+    channel: &mut CountedChannel<I, O>,
 ) -> Result<Pulled, PullFault> {
     pull_on(alloc, server, channel)
 }
 
-/// How many Items the server answers to an Offer of these counts.
-fn answered_over<I, O: Write>(
+/// The same, of the answer to an Offer of these counts.
+pub fn pulled_from_over<I: Read, O: Write>(
     alloc: Global,
     server: &mut Served,
     counts: &Vector,
-    channel: &mut Channel<I, O>,
-) -> Result<u32, Fault> {
+    channel: &mut CountedChannel<I, O>,
+) -> Result<Pulled, PullFault> {
+    pull_from_on(alloc, server, counts, channel)
+}
+
+/// How many Items the server answers to an Offer of these counts.
+pub fn answered_over<I, O: Write>(
+    alloc: Global,
+    server: &mut Served,
+    counts: &Vector,
+    channel: &mut CountedChannel<I, O>,
+) -> Result<u32, ChannelFault> {
     answer_offer_on(alloc, server, counts, channel)
 }
 
@@ -43,8 +53,8 @@ fn answered_over<I, O: Write>(
 pub fn served_over<I: Read, O: Write>(
     alloc: Global,
     server: &mut Served,
-    channel: &mut Channel<I, O>,
-) -> Result<u32, Fault> {
+    channel: &mut CountedChannel<I, O>,
+) -> Result<u32, ChannelFault> {
     serve_offer_on(alloc, server, channel)
 }
 
@@ -75,15 +85,19 @@ pub fn full(rt: &impl Abort, alloc: Global, index: u8, [first, second]: [u8; 2])
 
 /// The server's answer to an Offer of these counts, and the number of Items that it tells. There is room for it, so any want of
 /// memory is the server's.
-fn answered(alloc: Global, server: &mut Served, counts: &Vector) -> Result<(Vec<u8>, u32), Fault> {
-    let mut channel = Channel::new((), Vec::with_capacity(alloc, 4096)?);
+fn answered(
+    alloc: Global,
+    server: &mut Served,
+    counts: &Vector,
+) -> Result<(Vec<u8>, u32), ChannelFault> {
+    let mut channel = CountedChannel::new((), Vec::with_capacity(alloc, 4096)?);
     let number = answered_over(alloc, server, counts, &mut channel)?;
     Ok((channel.into_parts().1, number))
 }
 
 /// What the server makes of what is sent to it.
 fn pulled(alloc: Global, server: &mut Served, sent: &[u8]) -> Result<Pulled, PullFault> {
-    pulled_over(alloc, server, &mut Channel::new(sent, io::sink()))
+    pulled_over(alloc, server, &mut CountedChannel::new(sent, io::sink()))
 }
 
 /// So many came that were new, and so many that were held.
@@ -126,8 +140,9 @@ fn an_offer_is_answered_byte_for_byte(rt: HostRuntime) {
 
 /// Whether the server, to which nothing is sent, writes these bytes.
 fn writes(alloc: Global, server: &mut Served, offer: &[u8]) -> bool {
-    let mut channel = Channel::new(io::empty(), Vec::new(alloc));
-    let is_cut = pulled_over(alloc, server, &mut channel) == Err(PullFault::Stream(Fault::Cut));
+    let mut channel = CountedChannel::new(io::empty(), Vec::new(alloc));
+    let is_cut = pulled_over(alloc, server, &mut channel)
+        == Err(PullFault::Stream(ChannelFault::Cut));
     is_cut && channel.into_parts().1.as_slice() == offer
 }
 
@@ -181,7 +196,7 @@ fn pulled_in_pieces(
         fails_at: 0,
         calls: 0,
     };
-    pulled_over(alloc, server, &mut Channel::new(reader, io::sink()))
+    pulled_over(alloc, server, &mut CountedChannel::new(reader, io::sink()))
 }
 
 /// Whether that is what is printed of a server that holds so many Writes and answers so.
@@ -241,8 +256,8 @@ fn both(alloc: Global) -> Result<Vec<u8>, AllocError> {
 /// Whether the server, which is sent all of them, takes each once.
 fn takes_both(rt: &impl Abort, alloc: Global, puller: &mut Served, sent: &[u8]) -> bool {
     let is_taken = pulled(alloc, puller, sent) == came(40, 0);
-    let mut channel = Channel::new(sent, io::sink());
-    let again = pull_from_on(alloc, puller, &Vector::zero(), &mut channel);
+    let mut channel = CountedChannel::new(sent, io::sink());
+    let again = pulled_from_over(alloc, puller, &Vector::zero(), &mut channel);
     is_taken && again == came(0, 40) && holds(rt, puller, 20, 20)
 }
 
@@ -290,7 +305,7 @@ fn takes_the_rest(alloc: Global, server: &mut Served, puller: &mut Served, count
 /// Whether a server that is sent this front of two Items and the End takes what came whole, and then what it lacks.
 fn takes_front(rt: &impl Abort, alloc: Global, server: &mut Served, front: &[u8]) -> bool {
     let mut puller = full(rt, alloc, 3, [0, 0]);
-    let is_cut = pulled(alloc, puller.as_mut(), front) == Err(PullFault::Stream(Fault::Cut));
+    let is_cut = pulled(alloc, puller.as_mut(), front) == Err(PullFault::Stream(ChannelFault::Cut));
     let held = whole_in(front.len());
     let is_held = holds(rt, puller.as_ref(), held, 0);
     is_cut && is_held && takes_the_rest(alloc, server, puller.as_mut(), 2_u32.saturating_sub(held))
@@ -317,13 +332,13 @@ fn ends_at_read(rt: &impl Abort, alloc: Global, sent: &[u8], fails_at: u32) -> b
         fails_at,
         calls: 0,
     };
-    let mut channel = Channel::new(reader, io::sink());
+    let mut channel = CountedChannel::new(reader, io::sink());
     let answer = pulled_over(alloc, puller.as_mut(), &mut channel);
     let (reader, _) = channel.into_parts();
     let (expected, held) = match fails_at {
         5 => (came(3, 0), 3),
         _ => (
-            Err(PullFault::Stream(Fault::Read)),
+            Err(PullFault::Stream(ChannelFault::Read)),
             fails_at.saturating_sub(1),
         ),
     };
@@ -359,13 +374,13 @@ pub const fn tens_before(fails_at: u32) -> usize {
 /// Whether a pull, whose writer takes ten bytes at a call and fails at this one, ends there with nothing read or taken.
 fn ends_at_write(rt: &impl Abort, alloc: Global, sent: &[u8], offer: &[u8], fails_at: u32) -> bool {
     let mut puller = full(rt, alloc, 3, [0, 0]);
-    let mut channel = Channel::new(sent, failing(alloc, fails_at));
+    let mut channel = CountedChannel::new(sent, failing(alloc, fails_at));
     let answer = pulled_over(alloc, puller.as_mut(), &mut channel);
     let (reader, writer) = channel.into_parts();
     let (expected, held, written, left) = match fails_at {
         5 => (came(3, 0), 3, 35, 0),
         _ => (
-            Err(PullFault::Stream(Fault::Write)),
+            Err(PullFault::Stream(ChannelFault::Write)),
             0,
             tens_before(fails_at),
             187,
@@ -397,12 +412,12 @@ fn answers_up_to(
     whole: &[u8],
     fails_at: u32,
 ) -> bool {
-    let mut channel = Channel::new((), failing(alloc, fails_at));
+    let mut channel = CountedChannel::new((), failing(alloc, fails_at));
     let answer = answered_over(alloc, server, &Vector::zero(), &mut channel);
     let written = channel.into_parts().1.bytes;
     let (expected, count) = match fails_at {
         20 => (Ok(3), 187),
-        _ => (Err(Fault::Write), tens_before(fails_at)),
+        _ => (Err(ChannelFault::Write), tens_before(fails_at)),
     };
     let is_written = whole.starts_with(&written) && written.len() == count;
     answer == expected && is_written && holds(rt, server, 3, 0)
@@ -426,10 +441,12 @@ fn a_full_writer_fails(rt: HostRuntime) {
     let alloc = rt.alloc();
     let mut server = full(&rt, alloc, 2, [3, 0]);
     let mut nothing: [u8; 0] = [];
-    let mut channel = Channel::new(io::empty(), nothing.as_mut_slice());
+    let mut channel = CountedChannel::new(io::empty(), nothing.as_mut_slice());
     let answer = answered_over(alloc, server.as_mut(), &Vector::zero(), &mut channel);
     let offer = pulled_over(alloc, server.as_mut(), &mut channel);
-    assert!(rt; answer == Err(Fault::Write) && offer == Err(PullFault::Stream(Fault::Write)));
+    assert!(rt;
+        answer == Err(ChannelFault::Write) && offer == Err(PullFault::Stream(ChannelFault::Write))
+    );
 }
 
 /// A Write that is held comes at each read, without an end: the stream is given up after 1,000,000 calls, one of which wrote the
@@ -444,11 +461,11 @@ fn a_stream_without_an_end_is_given_up(rt: HostRuntime) {
         pace: 1,
         calls: 0,
     };
-    let mut channel = Channel::new(reader, io::sink());
+    let mut channel = CountedChannel::new(reader, io::sink());
     let answer = pulled_over(alloc, puller.as_mut(), &mut channel);
     let (reader, _) = channel.into_parts();
     let is_so = holds(&rt, puller.as_ref(), 1, 0) && reader.calls == 999_999;
-    assert!(rt; answer == Err(PullFault::Stream(Fault::TooManyTurns)) && is_so);
+    assert!(rt; answer == Err(PullFault::Stream(ChannelFault::TooManyTurns)) && is_so);
 }
 
 /// After how many Items an answer of three is cut, and how many of its bytes are left.
@@ -485,25 +502,25 @@ fn begun_at_last(rt: &impl Abort, alloc: Global, index: u8) -> Result<Box<Served
 }
 
 /// The server's answer to an Offer of nothing, and once more where memory ran out.
-fn answered_at_last(alloc: Global, server: &mut Served) -> Result<(Vec<u8>, u32), Fault> {
+fn answered_at_last(alloc: Global, server: &mut Served) -> Result<(Vec<u8>, u32), ChannelFault> {
     match answered(alloc, server, &Vector::zero()) {
-        Err(Fault::OutOfMemory) => answered(alloc, server, &Vector::zero()),
+        Err(ChannelFault::OutOfMemory) => answered(alloc, server, &Vector::zero()),
         answer => answer,
     }
 }
 
 /// The number that the server answers to this Offer.
-fn served_for(alloc: Global, server: &mut Served, offer: &[u8]) -> Result<u32, Fault> {
-    served_over(alloc, server, &mut Channel::new(offer, io::sink()))
+fn served_for(alloc: Global, server: &mut Served, offer: &[u8]) -> Result<u32, ChannelFault> {
+    served_over(alloc, server, &mut CountedChannel::new(offer, io::sink()))
 }
 
 /// The number that the server answers to an Offer of nothing which it reads, and once more where memory ran out.
-fn served_at_last(alloc: Global, server: &mut Served) -> Result<u32, Fault> {
+fn served_at_last(alloc: Global, server: &mut Served) -> Result<u32, ChannelFault> {
     let mut offer = [0; 35];
     offer[1] = 0x21;
     offer[2] = 5;
     match served_for(alloc, server, &offer) {
-        Err(Fault::OutOfMemory) => served_for(alloc, server, &offer),
+        Err(ChannelFault::OutOfMemory) => served_for(alloc, server, &offer),
         answer => answer,
     }
 }
@@ -512,7 +529,7 @@ fn served_at_last(alloc: Global, server: &mut Served) -> Result<u32, Fault> {
 fn is_want(fault: PullFault) -> bool {
     matches!(
         fault,
-        PullFault::Stream(Fault::OutOfMemory)
+        PullFault::Stream(ChannelFault::OutOfMemory)
             | PullFault::Refused(TakeFault::OutOfMemory)
             | PullFault::Refused(TakeFault::Journal)
     )

@@ -4,8 +4,8 @@ use crate::fakes::{EndlessReader, FakeReader};
 use crate::fixtures::{Served, holds, must_be_so, must_hold};
 use crate::items::{is_stream, stream};
 use crate::pulls::{failing, full, served_over, tens_before};
-use bayou_frames::Fault;
-use bayou_streams::Channel;
+use bayou_frames::ChannelFault;
+use bayou_streams::CountedChannel;
 use std::alloc::Global;
 use std::io;
 
@@ -29,7 +29,12 @@ const STREAMS: &str = "0021 05 <none> => Ok(3) <item-1> <item-2> <item-3> 0005 1
 2001 => Err(BadFrame)";
 
 /// Whether that is what is printed of the answer, and then the bytes that were written.
-fn is_told(alloc: Global, answer: Result<u32, Fault>, written: &[u8], expected: &str) -> bool {
+fn is_told(
+    alloc: Global,
+    answer: Result<u32, ChannelFault>,
+    written: &[u8],
+    expected: &str,
+) -> bool {
     let Ok(told) = format!(in alloc; "{answer:?}") else {
         return false;
     };
@@ -47,7 +52,7 @@ fn serves(alloc: Global, server: &mut Served, sent: &[u8], most: usize, expected
         fails_at: 0,
         calls: 0,
     };
-    let mut channel = Channel::new(reader, Vec::new(alloc));
+    let mut channel = CountedChannel::new(reader, Vec::new(alloc));
     let answer = served_over(alloc, server, &mut channel);
     is_told(alloc, answer, &channel.into_parts().1, expected)
 }
@@ -82,12 +87,12 @@ fn answers_read(alloc: Global, server: &mut Served, sent: &[u8], fails_at: u32) 
         fails_at,
         calls: 0,
     };
-    let mut channel = Channel::new(reader, Vec::new(alloc));
+    let mut channel = CountedChannel::new(reader, Vec::new(alloc));
     let answer = served_over(alloc, server, &mut channel);
     let (reader, written) = channel.into_parts();
     let (expected, count) = match fails_at {
         8 => (Ok(3), 187),
-        _ => (Err(Fault::Read), 0),
+        _ => (Err(ChannelFault::Read), 0),
     };
     answer == expected && written.len() == count && reader.calls == fails_at.min(7)
 }
@@ -106,12 +111,12 @@ fn each_read_of_an_offer_may_fail(rt: HostRuntime) {
 
 /// Whether an answer, whose writer takes ten bytes at a call and fails at this one, ends there.
 fn answers_up_to(alloc: Global, server: &mut Served, offer: &[u8], fails_at: u32) -> bool {
-    let mut channel = Channel::new(offer, failing(alloc, fails_at));
+    let mut channel = CountedChannel::new(offer, failing(alloc, fails_at));
     let answer = served_over(alloc, server, &mut channel);
     let written = channel.into_parts().1.bytes.len();
     let (expected, count) = match fails_at {
         20 => (Ok(3), 187),
-        _ => (Err(Fault::Write), tens_before(fails_at)),
+        _ => (Err(ChannelFault::Write), tens_before(fails_at)),
     };
     answer == expected && written == count
 }
@@ -138,8 +143,8 @@ fn an_offer_that_never_comes_is_given_up(rt: HostRuntime) {
         pace: u32::MAX,
         calls: 0,
     };
-    let mut channel = Channel::new(reader, io::sink());
+    let mut channel = CountedChannel::new(reader, io::sink());
     let answer = served_over(alloc, server.as_mut(), &mut channel);
     let (reader, _) = channel.into_parts();
-    assert!(rt; answer == Err(Fault::TooManyTurns) && reader.calls == 1_000_000);
+    assert!(rt; answer == Err(ChannelFault::TooManyTurns) && reader.calls == 1_000_000);
 }

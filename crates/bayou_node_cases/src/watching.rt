@@ -1,11 +1,11 @@
 //! A pull that is watched from both sides: the reader that gives Items sees how many were taken.
 use crate::items::item;
 use bayou_base::Vector;
-use bayou_frames::Fault;
+use bayou_frames::ChannelFault;
 use bayou_lang::RestingWrite;
 use bayou_peer::{PullFault, Replica, pull_from_on};
-use bayou_server::{TakeFault, Took};
-use bayou_streams::Channel;
+use bayou_server::{TakeFault, Took, TookAll};
+use bayou_streams::CountedChannel;
 use std::alloc::{AllocError, Global};
 use std::cell::Cell;
 use std::io;
@@ -40,6 +40,16 @@ impl Replica for Counting<'_> {
     fn take(&mut self, _alloc: Global, _write: RestingWrite) -> Result<Took, TakeFault> {
         self.taken.set(self.taken.get().saturating_add(1));
         Ok(Took::New)
+    }
+
+    fn take_all(&mut self, _alloc: Global, writes: Vec<RestingWrite>) -> TookAll {
+        let count = writes.len() as u32;
+        self.taken.set(self.taken.get().saturating_add(count));
+        TookAll {
+            taken: count,
+            had: 0,
+            fault: None,
+        }
     }
 }
 
@@ -78,9 +88,9 @@ fn each_item_is_taken_before_the_next_is_read(rt: HostRuntime) {
         given: 0,
         is_so: true,
     };
-    let mut channel = Channel::new(reader, io::sink());
+    let mut channel = CountedChannel::new(reader, io::sink());
     let answer = pull_from_on(alloc, &mut replica, &Vector::zero(), &mut channel);
     let (reader, _) = channel.into_parts();
-    let is_cut = answer == Err(PullFault::Stream(Fault::Cut));
+    let is_cut = answer == Err(PullFault::Stream(ChannelFault::Cut));
     assert!(rt; is_cut && reader.is_so && taken.get() == 4);
 }

@@ -3,14 +3,14 @@ use crate::fixtures::{must_be_so, must_hold};
 use crate::notation::{AS_PRINTED, bytes_of, expanded, parts, repeated};
 use bayou_lang::Write;
 use bayou_wire::{
-    Fault, Frame, decode_frame, decode_write, encode_frame, encode_item, encode_resting_write,
-    encode_write, frame_len,
+    DecodeFault, Frame, decode_frame, decode_write, encode_frame, encode_item,
+    encode_resting_write, encode_write, frame_len,
 };
 use std::alloc::Global;
 use std::process::Abort;
 
 /// The fault as it prints itself behind `!`.
-fn told_fault(rt: &impl Abort, alloc: Global, fault: Fault) -> String {
+fn told_fault(rt: &impl Abort, alloc: Global, fault: DecodeFault) -> String {
     format!(in alloc; "!{fault:?}").expect(rt, "no memory")
 }
 

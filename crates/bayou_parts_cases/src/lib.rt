@@ -37,4 +37,6 @@ mod sessions;
 #[cfg(test)]
 mod streams;
 #[cfg(test)]
+mod taking;
+#[cfg(test)]
 mod vectors;

@@ -24,10 +24,10 @@ fn first(rt: &impl Abort, server: u8) -> Write {
 
 /// Reserves and inserts the Write, where it may be inserted.
 fn add(alloc: Global, log: &mut WriteLog, write: &Write) -> Result<bool, AllocError> {
-    if log.is_full() || log.fits(write).is_err() {
+    let write = write.rest(alloc)?;
+    if log.is_full() || log.fits(&write).is_err() {
         return Ok(false);
     }
-    let write = write.rest(alloc)?;
     log.reserve(&write)?;
     log.insert(write);
     Ok(true)
@@ -234,6 +234,51 @@ fn a_full_log_takes_no_write(rt: HostRuntime) {
     assert!(rt; takes_one(&rt, rt.alloc(), &mut log));
 }
 
+/// Adds the Write, where it may be added, so that it waits.
+fn place(alloc: Global, log: &mut WriteLog, write: &Write) -> Result<bool, AllocError> {
+    let write = write.rest(alloc)?;
+    if log.is_full() || log.fits(&write).is_err() {
+        return Ok(false);
+    }
+    log.reserve(&write)?;
+    log.place(write);
+    Ok(true)
+}
+
+/// Adds the five Writes in this order, which are applied after so many each time, and in the end. What waits isn't read.
+fn waits(rt: &impl Abort, alloc: Global, log: &mut WriteLog, order: &[u8], size: usize) -> bool {
+    let mut is_so = true;
+    for (at, server) in order.iter().enumerate() {
+        let before = log.get(&key(rt, "a"));
+        is_so &= place(alloc, log, &first(rt, *server)) == Ok(true);
+        is_so &= log.get(&key(rt, "a")) == before;
+        if (at + 1) % size.max(1) == 0 {
+            log.catch_up();
+        }
+    }
+    log.catch_up();
+    is_so
+}
+
+/// Whether a new log has their listing and their database then.
+fn catches_up(rt: &impl Abort, alloc: Global, order: &[u8], size: usize) -> bool {
+    let mut log = empty_log(rt, alloc, 5, 5);
+    let are_placed = waits(rt, alloc, &mut log, order, size);
+    let a = key(rt, "a");
+    are_placed
+        && lists_all(alloc, &log, 5)
+        && is_plain(alloc, &log, &a)
+        && told(&log, &a) == (5, 1115)
+}
+
+#[test]
+fn writes_that_wait_are_applied_together(rt: HostRuntime) {
+    for number in 0..ORDERS {
+        let is_so = catches_up(&rt, rt.alloc(), &order_of(number), number % 5 + 1);
+        must_be_so(&rt, is_so, number);
+    }
+}
+
 /// A Write by its origin, its seq, its clock and what its server held, and what a log says of it.
 type Offer = (u8, u32, u32, [u32; 2], Result<(), Misfit>);
 
@@ -250,15 +295,24 @@ static OFFERS: [Offer; 8] = [
 ];
 
 /// Whether the log says that of the Write.
-fn is_told(rt: &impl Abort, log: &WriteLog, (origin, seq, clock, deps, answer): &Offer) -> bool {
-    log.fits(&write(rt, *origin, *seq, *clock, *deps, put(rt, 1))) == *answer
+fn is_told(
+    rt: &impl Abort,
+    alloc: Global,
+    log: &WriteLog,
+    (origin, seq, clock, deps, answer): &Offer,
+) -> bool {
+    let offered = write(rt, *origin, *seq, *clock, *deps, put(rt, 1));
+    match offered.rest(alloc) {
+        Ok(offered) => log.fits(&offered) == *answer,
+        Err(_) => false,
+    }
 }
 
 /// The log takes the first Write, and tells of each that is offered then.
 fn tells_all(rt: &impl Abort, alloc: Global, log: &mut WriteLog) {
     let is_added = answers(rt, alloc, log, 0, Ok(true));
     for (at, offer) in OFFERS.iter().enumerate() {
-        must_be_so(rt, is_added && is_told(rt, log, offer), at);
+        must_be_so(rt, is_added && is_told(rt, alloc, log, offer), at);
     }
 }
 

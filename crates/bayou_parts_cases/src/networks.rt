@@ -2,28 +2,29 @@
 use crate::fixtures::must_hold;
 use arrayvec::ArrayString;
 use bayou_script::{
-    Draft, Front, NetworkCommand, NetworkDraft, Part, Refusal, TextReader, next_phase, places_for,
+    Draft, Front, InputRefusal, NetworkCommand, NetworkDraft, Part, TextReader, capacity_for,
+    next_phase,
 };
 use std::alloc::Global;
 use std::fmt;
 use std::fmt::Write;
 
 /// What the text says, read as a text of its kind.
-fn read<F: Front>(alloc: Global, text: &str) -> Result<F::Text, Refusal> {
+fn read<F: Front>(alloc: Global, text: &str) -> Result<F::Text, InputRefusal> {
     let mut reader = TextReader::<F>::new(alloc);
     reader.feed(alloc, text.as_bytes())?;
     reader.finish(alloc)
 }
 
 /// Whether the text is refused with this, or is taken, where there is nothing.
-fn is_told<T: Drop>(answer: Result<T, Refusal>, expected: &str) -> bool {
+fn is_told<T: Drop>(answer: Result<T, InputRefusal>, expected: &str) -> bool {
     match answer {
         Ok(_) => expected.is_empty(),
-        Err(Refusal::Line { number, fault }) => {
+        Err(InputRefusal::Line { number, fault }) => {
             let mut told: ArrayString<64> = ArrayString::new();
             write!(told, "line {number}: {fault}").is_ok() && told.as_str() == expected
         }
-        Err(Refusal::OutOfMemory) => false,
+        Err(InputRefusal::OutOfMemory) => false,
     }
 }
 
@@ -173,16 +174,16 @@ fn phases_of_scripts(rt: HostRuntime) {
     }
 }
 
-/// How many places the book of the script has that the text is.
-fn places_of(alloc: Global, text: &str) -> Option<usize> {
+/// How many entries the book of the script may have that the text is.
+fn capacity_of(alloc: Global, text: &str) -> Option<usize> {
     let script = read::<Draft>(alloc, text).ok()?;
-    Some(places_for(&script.commands))
+    Some(capacity_for(&script.commands))
 }
 
 /// The same of a script over a network.
-fn places_there(alloc: Global, text: &str) -> Option<usize> {
+fn capacity_there(alloc: Global, text: &str) -> Option<usize> {
     let script = read::<NetworkDraft>(alloc, text).ok()?;
-    Some(places_for(&script.commands))
+    Some(capacity_for(&script.commands))
 }
 
 /// Scripts, and how many operations they try, or one where they try none.
@@ -199,11 +200,11 @@ static PLACES: [(&str, usize); 3] = [
 ];
 
 #[test]
-fn places_of_books(rt: HostRuntime) {
+fn capacities_of_books(rt: HostRuntime) {
     let alloc = rt.alloc();
     for (text, expected) in PLACES.iter() {
-        let is_so = places_of(alloc, text) == Some(*expected)
-            && places_there(alloc, text) == Some(*expected);
+        let is_so = capacity_of(alloc, text) == Some(*expected)
+            && capacity_there(alloc, text) == Some(*expected);
         must_hold(&rt, is_so, text);
     }
 }

@@ -11,11 +11,11 @@ use Rattle.bayou_base.specs.Vector.{raised}
 use Rattle.bayou_lang.specs.declared.write.Write.{Write}
 use Rattle.bayou_lang.specs.Ranges.{IsWrite}
 use Rattle.bayou_lang.specs.Writes.{lacking_of, raised_by}
-use Rattle.bayou_frames.specs.declared.fault.Fault.{Fault}
+use Rattle.bayou_frames.specs.declared.fault.ChannelFault.{ChannelFault}
 use Rattle.bayou_peer.specs.Offers.{Answers, Sends}
 use Rattle.bayou_peer.specs.Inner.Sending.{HasSent, SendsBatch, SendsItems}
 use Rattle.bayou_frames.specs.Laws.Bytes.{front_behind, front_of_more, front_of_whole}
-use Rattle.bayou_frames.specs.Laws.Frames.{spelling_of}
+use Rattle.bayou_wire.specs.Laws.Frames.{spelling_of}
 use Rattle.bayou_frames.specs.Spelled.{answer_bytes, item_bytes, items_of}
 use Rattle.bayou_streams.specs.Written.{AppendsFront}
 use Rattle.bayou_wire.specs.declared.frame.Frame.{Frame}
@@ -73,7 +73,7 @@ lacks_on (Some held) told now writes most raises is others =
     ∙ ap (λ rest. writes ++ rest) (sym (ap (λ counts. lacking_of counts held) raises ∙ others))
 
 -- a fault ended it
-pub sends_fault : (spelled : List Write → List ℕ) (writes : List Write) (before after : Option (List ℕ)) (fault : Fault) → AppendsFront before after (spelled writes)
+pub sends_fault : (spelled : List Write → List ℕ) (writes : List Write) (before after : Option (List ℕ)) (fault : ChannelFault) → AppendsFront before after (spelled writes)
     → Sends spelled writes before after (Err fault)
 sends_fault spelled writes before after fault part = record { whole = tt; part = part; number = tt; each = tt }
 
@@ -113,7 +113,7 @@ sent_whole list counts told now before mid after number more (sent, lacks, wrote
 sent_whole list counts told now before mid after number more sent (write ∷ writes, others, sends) none all = absurd (omega (arith, sends.number, none))
 
 -- a fault ends a batch
-pub sent_part : (list : Option (List Write)) (counts told now : List ℕ) (before mid after : Option (List ℕ)) (number : ℕ) (fault : Fault)
+pub sent_part : (list : Option (List Write)) (counts told now : List ℕ) (before mid after : Option (List ℕ)) (number : ℕ) (fault : ChannelFault)
     → HasSent list counts told before mid number → SendsBatch list told now mid after (Err fault) → SendsItems list counts before after (Err fault)
 sent_part None counts told now before mid after number fault (sent, lacks, wrote, counted, each) (writes, others, sends) =
     let part = front_behind before mid after (item_bytes sent) (item_bytes writes) wrote sends.part in
@@ -129,13 +129,13 @@ sent_part (Some held) counts told now before mid after number fault (sent, lacks
 -- ---- the End behind them
 
 -- the Items were not all sent
-pub answers_items : (list : Option (List Write)) (counts : List ℕ) (before after : Option (List ℕ)) (fault : Fault) → SendsItems list counts before after (Err fault)
+pub answers_items : (list : Option (List Write)) (counts : List ℕ) (before after : Option (List ℕ)) (fault : ChannelFault) → SendsItems list counts before after (Err fault)
     → Answers list counts before after (Err fault)
 answers_items list counts before after fault (writes, lacks, sends) =
     (writes, lacks, sends_fault answer_bytes writes before after fault (front_of_more before after (item_bytes writes) (spelling (End (length writes))) sends.part))
 
 -- they were, and no End
-pub answers_part : (list : Option (List Write)) (counts : List ℕ) (before mid after : Option (List ℕ)) (number : ℕ) (bytes : List ℕ) (fault : Fault)
+pub answers_part : (list : Option (List Write)) (counts : List ℕ) (before mid after : Option (List ℕ)) (number : ℕ) (bytes : List ℕ) (fault : ChannelFault)
     → SendsItems list counts before mid (Ok number) → SpellsFrame bytes (End number) → AppendsFront mid after bytes → Answers list counts before after (Err fault)
 answers_part list counts before mid after number bytes fault (writes, lacks, sends) spells part =
     let end : bytes ≡ spelling (End (length writes)) = spelling_of (End number) bytes spells ∙ ap (λ n. spelling (End n)) sends.number in

@@ -4,11 +4,11 @@ use Rattle.std.proofs.lemmas.List.{append-nil}
 use Rattle.std.specs.List.{AllByRecursion}
 use Rattle.bayou_lang.specs.declared.write.Write.{Write}
 use Rattle.bayou_lang.specs.Ranges.{IsWrite}
-use Rattle.bayou_frames.specs.declared.fault.Fault.TheVariants.{BadFrame, Cut}
+use Rattle.bayou_frames.specs.declared.fault.ChannelFault.TheVariants.{BadFrame, Cut}
 use Rattle.bayou_peer.specs.declared.fault.PullFault.TheVariants.{Stream}
 use Rattle.bayou_peer.specs.declared.pulling.Pulled.{Pulled}
 use Rattle.bayou_peer.specs.Pulls.{EndsOf, HasNoPlace, IsBad, Received, Ways}
-use Rattle.bayou_frames.specs.Laws.Frames.{begins_one, faulty_on, not_faulty, not_partial, partial_not_faulty}
+use Rattle.bayou_wire.specs.Laws.Frames.{begins_one, faulty_on, not_faulty, not_partial, partial_not_faulty}
 use Rattle.bayou_frames.specs.Spelled.{items_of}
 use Rattle.bayou_wire.specs.declared.frame.Frame.TheVariants.{End, Item}
 use Rattle.bayou_wire.specs.declared.layout.TheConstants as layout

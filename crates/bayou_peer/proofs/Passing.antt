@@ -6,7 +6,7 @@ use Rattle.std.specs.List.{AllByRecursion}
 use Rattle.bayou_lang.specs.declared.write.Write.{Write}
 use Rattle.bayou_lang.specs.Ranges.{IsWrite}
 use Rattle.bayou_peer.specs.Meeting.{cut_answer}
-use Rattle.bayou_frames.specs.Laws.Frames.{spelling_length}
+use Rattle.bayou_wire.specs.Laws.Frames.{spelling_length}
 use Rattle.bayou_frames.specs.Spelled.{answer_bytes, items_of}
 use Rattle.bayou_wire.specs.declared.frame.Frame.{Frame}
 use Rattle.bayou_wire.specs.declared.frame.Frame.TheVariants.{Item, End}

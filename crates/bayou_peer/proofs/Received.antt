@@ -1,23 +1,25 @@
 -- What a pull has received so far, and how it grows by an Item.
-use Rattle.std.proofs.Common.{arith, inr, ◌≡◌, ◌≢◌, Bool, true, ℕ, ◌+◌, ◌*◌, ◌<◌, ◌≤◌, length, List, [], ◌∷◌, ◌++◌, Option, None, Some, Result, Ok, Err, IfSome, IfOk, IfErr, refl, sym, ap, subst, ◌∙◌, append_assoc}
+use Rattle.std.proofs.Common.{arith, inr, ◌≡◌, Bool, true, ℕ, ◌+◌, ◌*◌, ◌<◌, ◌≤◌, length, List, [], ◌∷◌, ◌++◌, Option, None, Some, Result, Ok, Err, IfSome, IfOk, IfErr, refl, sym, ap, subst, ◌∙◌, append_assoc}
 use Rattle.std.specs.List.{AllByRecursion}
 use Rattle.std.proofs.lemmas.List.{append-nil, length-append, length-map}
 use Rattle.bayou_lang.specs.declared.write.Write.{Write}
 use Rattle.bayou_lang.specs.Ranges.{IsWrite}
 use Rattle.bayou_base.specs.declared.limits.TheConstants.{MAX_TURNS, READ_BYTES}
-use Rattle.bayou_frames.specs.declared.fault.Fault.{Fault}
-use Rattle.bayou_frames.specs.declared.fault.Fault.TheVariants as faults
-use Rattle.bayou_frames.specs.declared.fault.Fault.TheVariants.{BadFrame}
+use Rattle.bayou_frames.specs.declared.fault.ChannelFault.{ChannelFault}
+use Rattle.bayou_frames.specs.declared.fault.ChannelFault.TheVariants as faults
+use Rattle.bayou_frames.specs.declared.fault.ChannelFault.TheVariants.{BadFrame}
 use Rattle.bayou_frames.specs.Framing.{IsReadFault}
 use Rattle.bayou_peer.specs.declared.fault.PullFault.{PullFault}
 use Rattle.bayou_peer.specs.declared.fault.PullFault.TheVariants.{Stream, Refused}
 use Rattle.bayou_peer.specs.declared.pulling.Pulled.{Pulled}
 use Rattle.bayou_peer.specs.Pulls.{HasNoPlace, PullEnds, Received, Stands, Ways}
-use Rattle.bayou_frames.specs.Laws.Frames.{frames_size}
+use Rattle.bayou_wire.specs.Laws.Frames.{frames_size}
 use Rattle.bayou_frames.specs.Spelled.{items_of}
 use Rattle.bayou_frames.specs.Stopping.{IsSendFault}
 use Rattle.bayou_peer.specs.Inner.Steps.{Goes, Standing}
-use Rattle.bayou_peer.specs.Taking.{Lists, TakesEach, hads, new_ones, news}
+use Rattle.bayou_peer.specs.Taking.{Lists, new_ones}
+use Rattle.bayou_server.specs.TakesAll.{TakesEach, hads, news}
+use Rattle.bayou_server.specs.Laws.TakesAll.{hads_push, news_push, one_took, takes_push}
 use Rattle.bayou_server.specs.declared.answer.Took.{Took}
 use Rattle.bayou_server.specs.declared.answer.Took.TheVariants.{New, Had}
 use Rattle.bayou_server.specs.declared.fault.TakeFault.{TakeFault}
@@ -27,20 +29,6 @@ use Rattle.bayou_wire.specs.Spelling.{IsFrame}
 use Rattle.bayou_wire.specs.Stream.{spelling, spellings}
 
 -- ---- one more at the end
-
-news_push : (tooks : List Took) (took : Took) → news (tooks ++ took ∷ []) ≡ news tooks + news (took ∷ [])
-news_push [] took = omega arith
-news_push (New ∷ tooks) took = omega (arith, news_push tooks took)
-news_push (Had ∷ tooks) took = news_push tooks took
-
-hads_push : (tooks : List Took) (took : Took) → hads (tooks ++ took ∷ []) ≡ hads tooks + hads (took ∷ [])
-hads_push [] took = omega arith
-hads_push (New ∷ tooks) took = hads_push tooks took
-hads_push (Had ∷ tooks) took = omega (arith, hads_push tooks took)
-
-one_took : (took : Took) → news (took ∷ []) + hads (took ∷ []) ≡ 1
-one_took New = refl
-one_took Had = refl
 
 all_push : (writes : List Write) (write : Write) → AllByRecursion IsWrite writes → IsWrite write → AllByRecursion IsWrite (writes ++ write ∷ [])
 all_push [] write all is = (is, tt)
@@ -54,13 +42,6 @@ items_push (w ∷ writes) write behind =
     ∙ sym (append_assoc (spelling (Item w)) (spellings (items_of (writes ++ write ∷ []))) behind)
 
 module _ {S : Type 0} (takes : S → Write → Result Took TakeFault → S → Type 0) where
-  takes_push : (start mid new : S) (writes : List Write) (tooks : List Took) (write : Write) (took : Took) → TakesEach takes start writes tooks mid → takes mid write (Ok took) new
-      → TakesEach takes start (writes ++ write ∷ []) (tooks ++ took ∷ []) new
-  takes_push start mid new [] [] write took same last = (new, subst (λ (s : S). takes s write (Ok took) new) same last, refl)
-  takes_push start mid new [] (t ∷ tooks) write took none last = absurd none
-  takes_push start mid new (w ∷ writes) [] write took none last = absurd none
-  takes_push start mid new (w ∷ writes) (t ∷ tooks) write took each last = (each.0, each.1, takes_push each.0 mid new writes tooks write took each.2 last)
-
   ones_push : (start mid : S) (writes : List Write) (tooks : List Took) (write : Write) (took : Took) → TakesEach takes start writes tooks mid
       → new_ones (writes ++ write ∷ []) (tooks ++ took ∷ []) ≡ new_ones writes tooks ++ new_ones (write ∷ []) (took ∷ [])
   ones_push start mid [] [] write took same = refl
@@ -117,19 +98,14 @@ received_refused {S} ways start mid new read behind write given fault taken had 
 
 -- ---- an End
 
--- An End stands next: it ends the pull where it tells the number of the Items, and else it has no place there.
-pub received_end : {S : Type 0} (ways : Ways S) (start now : S) (read behind : List ℕ) (frame : Frame) (count : ℕ) (pulled : Pulled) (result : Result Bool PullFault) → frame ≡ End count → IsFrame frame
-    → IfOk result (λ ended. (ended ≡ true) × (count ≡ pulled.taken + pulled.had)) → IfErr result (λ fault. (fault ≡ Stream BadFrame) × (count ≢ pulled.taken + pulled.had))
-    → Received ways start now read (spelling frame ++ behind) pulled.taken pulled.had → Goes ways start now read behind pulled result
-received_end {S} ways start now read behind frame count pulled (Ok ended) same is at bad r =
-    rw at.0 (
-      behind,
-      subst (λ (n : ℕ). Received ways start now read (spelling (End n) ++ behind) pulled.taken pulled.had) at.1
-          (subst (λ (f : Frame). Received ways start now read (spelling f ++ behind) pulled.taken pulled.had) same r),
-    )
-received_end {S} ways start now read behind frame count pulled (Err fault) same is at bad r =
-    let place : HasNoPlace (pulled.taken + pulled.had) frame = rw same bad.1 in
-    rw bad.0 (spelling frame ++ behind, pulled.taken, pulled.had, inr (frame, behind, is, refl, place), r)
+-- Another frame stands next: an End of their number ends the pull, and any other has no place there.
+pub received_other : {S : Type 0} (ways : Ways S) (start now : S) (read behind rest : List ℕ) (frame : Frame) (pulled : Pulled) (result : Result Bool PullFault) → IsFrame frame
+    → IfOk result (λ ended. (ended ≡ true) × (frame ≡ End (pulled.taken + pulled.had))) → IfErr result (λ fault. (fault ≡ Stream BadFrame) × HasNoPlace (pulled.taken + pulled.had) frame)
+    → Received ways start now read (spelling frame ++ behind) pulled.taken pulled.had → Goes ways start now read rest pulled result
+received_other {S} ways start now read behind rest frame pulled (Ok ended) is at bad r =
+    rw at.0 (behind, subst (λ (f : Frame). Received ways start now read (spelling f ++ behind) pulled.taken pulled.had) at.1 r)
+received_other {S} ways start now read behind rest frame pulled (Err fault) is at bad r =
+    rw bad.0 (spelling frame ++ behind, pulled.taken, pulled.had, inr (frame, behind, is, refl, bad.1), r)
 
 -- the rest in another way
 pub received_rest : {S : Type 0} (ways : Ways S) (start now : S) (read rest left : List ℕ) (taken had : ℕ) → rest ≡ left → Received ways start now read rest taken had → Received ways start now read left taken had
@@ -195,7 +171,7 @@ pub stands : {S : Type 0} (ways : Ways S) (start now : S) (read : List ℕ) (fra
 stands {S} ways start now read frames pulled s = (s.held, pulled.taken, pulled.had, s.partial, s.received)
 
 -- what may end a read ends the pull between two pieces
-pub ends_reading : {S : Type 0} (ways : Ways S) (start now : S) (read : List ℕ) (is_end : Type 0) (fault : Fault) → IsReadFault fault → Stands ways start now read
+pub ends_reading : {S : Type 0} (ways : Ways S) (start now : S) (read : List ℕ) (is_end : Type 0) (fault : ChannelFault) → IsReadFault fault → Stands ways start now read
     → PullEnds ways start now read is_end (Err (Stream fault))
 ends_reading {S} ways start now read is_end faults.Read is s = s
 ends_reading {S} ways start now read is_end faults.TooManyTurns is s = s
@@ -227,7 +203,7 @@ standing_room {S} ways start now read frames pulled s piece turns later first sh
 -- ---- before anything was read
 
 -- what may end the Offer's sending ends the pull before anything is read
-pub ends_sending : {S : Type 0} (ways : Ways S) (start : S) (is_end : Type 0) (fault : Fault) → IsSendFault fault → PullEnds ways start start [] is_end (Err (Stream fault))
+pub ends_sending : {S : Type 0} (ways : Ways S) (start : S) (is_end : Type 0) (fault : ChannelFault) → IsSendFault fault → PullEnds ways start start [] is_end (Err (Stream fault))
 ends_sending {S} ways start is_end faults.Read is = absurd is
 ends_sending {S} ways start is_end faults.TooManyTurns is = ([], 0, 0, tt, received_start ways start 0 0 refl refl)
 ends_sending {S} ways start is_end faults.Write is = (refl, refl)

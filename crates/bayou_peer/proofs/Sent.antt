@@ -5,15 +5,15 @@ use Rattle.std.proofs.lemmas.List.{length-take, take_all}
 use Rattle.std.specs.List.{AllByRecursion}
 use Rattle.bayou_lang.specs.declared.write.Write.{Write}
 use Rattle.bayou_lang.specs.Ranges.{IsWrite}
-use Rattle.bayou_frames.specs.declared.fault.Fault.TheVariants as faults
+use Rattle.bayou_frames.specs.declared.fault.ChannelFault.TheVariants as faults
 use Rattle.bayou_peer.specs.declared.fault.PullFault.{PullFault}
 use Rattle.bayou_peer.specs.declared.fault.PullFault.TheVariants.{Stream, Refused}
 use Rattle.bayou_peer.specs.declared.pulling.Pulled.{Pulled}
 use Rattle.bayou_peer.specs.Meeting.{IsCutOff, Meets, TakesFirst, coming, cut_answer}
 use Rattle.bayou_peer.specs.Pulls.{EndsInMemory, EndsOf, HasNoPlace, PullEnds, Received, Ways}
-use Rattle.bayou_frames.specs.Laws.Frames.{begins_one, faulty_on, not_faulty, not_partial, partial_not_faulty}
+use Rattle.bayou_wire.specs.Laws.Frames.{begins_one, faulty_on, not_faulty, not_partial, partial_not_faulty}
 use Rattle.bayou_frames.specs.Spelled.{answer_bytes, items_of}
-use Rattle.bayou_wire.specs.declared.fault.Fault.{Fault}
+use Rattle.bayou_wire.specs.declared.fault.DecodeFault.{DecodeFault}
 use Rattle.bayou_wire.specs.declared.frame.Frame.{Frame}
 use Rattle.bayou_wire.specs.declared.frame.Frame.TheVariants.{Item, End}
 use Rattle.bayou_wire.specs.Spelling.{IsFrame}
@@ -197,7 +197,7 @@ module _ {S : Type 0} (ways : Ways S) (cut : Option ℕ) (sent : List Write) (fe
         absurd (item_is_no_end next number (sym apart.0))
   ] refl
 
-  no_fault : (now : S) (rest : List ℕ) (fault : Fault) (taken had : ℕ) → IsFaulty rest fault → Front now rest taken had → ⊥
+  no_fault : (now : S) (rest : List ℕ) (fault : DecodeFault) (taken had : ℕ) → IsFaulty rest fault → Front now rest taken had → ⊥
   no_fault now rest fault taken had faulty f = elim f.left as (λ left. f.left ≡ left → ⊥) [
     | [] ↦ λ none.
         let at_tail : rest ≡ tail = f.behind ∙ ap (λ (l : List Write). spellings (items_of l) ++ tail) none in

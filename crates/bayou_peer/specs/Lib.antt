@@ -1,5 +1,4 @@
 pub mod Inner
-pub mod Lent
 pub mod Meeting
 pub mod Offers
 pub mod Pulls

@@ -1,13 +1,13 @@
 -- What a pull makes of Writes that another server sends it (anti-entropy, Petersen et al. 1997).
 use Rattle.std.specs.Prelude.{◌≡◌, ◌≤◌, ℕ, List, [], ◌∷◌, ◌++◌, Option, None, Some, Result, Ok, Err, if◌then◌else◌, length, nat_le, take}
 use Rattle.bayou_lang.specs.declared.write.Write.{Write}
-use Rattle.bayou_frames.specs.declared.fault.Fault.TheVariants as faults
+use Rattle.bayou_frames.specs.declared.fault.ChannelFault.TheVariants as faults
 use Rattle.bayou_peer.specs.declared.fault.PullFault.{PullFault}
 use Rattle.bayou_peer.specs.declared.fault.PullFault.TheVariants.{Stream, Refused}
 use Rattle.bayou_peer.specs.declared.pulling.Pulled.{Pulled}
 use Rattle.bayou_peer.specs.Pulls.{Ways}
 use Rattle.bayou_frames.specs.Spelled.{answer_bytes, items_of}
-use Rattle.bayou_peer.specs.Taking.{TakesEach, hads, news}
+use Rattle.bayou_server.specs.TakesAll.{TakesEach, hads, news}
 use Rattle.bayou_server.specs.declared.answer.Took.{Took}
 use Rattle.bayou_wire.specs.Stream.{spellings}
 

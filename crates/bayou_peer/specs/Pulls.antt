@@ -3,15 +3,16 @@ use Rattle.std.specs.Prelude.{◌≡◌, ◌≢◌, ◌⊎◌, ℕ, ◌+◌, Lis
 use Rattle.std.specs.List.{AllByRecursion}
 use Rattle.bayou_lang.specs.declared.write.Write.{Write}
 use Rattle.bayou_lang.specs.Ranges.{IsWrite}
-use Rattle.bayou_frames.specs.declared.fault.Fault.TheVariants as faults
+use Rattle.bayou_frames.specs.declared.fault.ChannelFault.TheVariants as faults
 use Rattle.bayou_peer.specs.declared.fault.PullFault.{PullFault}
 use Rattle.bayou_peer.specs.declared.fault.PullFault.TheVariants.{Stream, Refused}
 use Rattle.bayou_peer.specs.declared.pulling.Pulled.{Pulled}
 use Rattle.bayou_frames.specs.Spelled.{items_of}
-use Rattle.bayou_peer.specs.Taking.{TakesEach, hads, new_ones, news}
+use Rattle.bayou_peer.specs.Taking.{new_ones}
+use Rattle.bayou_server.specs.TakesAll.{TakesEach, hads, news}
 use Rattle.bayou_server.specs.declared.answer.Took.{Took}
 use Rattle.bayou_server.specs.declared.fault.TakeFault.{TakeFault}
-use Rattle.bayou_wire.specs.declared.fault.Fault.{Fault}
+use Rattle.bayou_wire.specs.declared.fault.DecodeFault.{DecodeFault}
 use Rattle.bayou_wire.specs.declared.frame.Frame.{Frame}
 use Rattle.bayou_wire.specs.declared.frame.Frame.TheVariants.{Item, End, Read, Write as WriteFrame, Reopen, Dump, Offer, Seen, Accepted, Refused as RefusedFrame, Reopened}
 use Rattle.bayou_wire.specs.Spelling.{IsFrame}
@@ -52,7 +53,7 @@ HasNoPlace number (Reopened adopted) = Unit {0}
 -- the bytes begin with what may not follow so many Items: a fault in a frame's place, or a frame that has no place there
 abbrev pub IsBad : ℕ → List ℕ → Type 0
 IsBad number bytes =
-    ((fault : Fault) × IsFaulty bytes fault)
+    ((fault : DecodeFault) × IsFaulty bytes fault)
     ⊎ ((frame : Frame) × (behind : List ℕ) × IsFrame frame × (bytes ≡ spelling frame ++ behind) × HasNoPlace number frame)
 
 -- each whole Item that was read was taken, and less than a frame is behind them

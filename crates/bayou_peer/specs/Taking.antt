@@ -1,5 +1,5 @@
 -- What becomes of a replica as it is given Writes, one after another (anti-entropy, Petersen et al. 1997).
-use Rattle.std.specs.Prelude.{◌≡◌, ◌≢◌, ℕ, suc, List, [], ◌∷◌, ◌++◌, Option, None, Some, Result, Ok, Err, All, Contains}
+use Rattle.std.specs.Prelude.{◌≡◌, ◌≢◌, List, [], ◌∷◌, ◌++◌, Option, None, Some, Result, Ok, Err, All, Contains}
 use Rattle.bayou_lang.specs.declared.write.Write.{Write}
 use Rattle.bayou_server.specs.declared.answer.Took.{Took}
 use Rattle.bayou_server.specs.declared.answer.Took.TheVariants.{New, Had}
@@ -25,21 +25,6 @@ new_ones (write ∷ writes) [] = []
 new_ones (write ∷ writes) (New ∷ tooks) = write ∷ new_ones writes tooks
 new_ones (write ∷ writes) (Had ∷ tooks) = new_ones writes tooks
 
--- how many were new
-abbrev pub news : List Took → ℕ
-news [] = 0
-news (New ∷ tooks) = suc (news tooks)
-news (Had ∷ tooks) = news tooks
-
--- and how many were held already
-abbrev pub hads : List Took → ℕ
-hads [] = 0
-hads (New ∷ tooks) = hads tooks
-hads (Had ∷ tooks) = suc (hads tooks)
-
--- the Writes were given one after another, and each was taken so
-abbrev pub TakesEach : {S : Type 0} → (S → Write → Result Took TakeFault → S → Type 0) → S → List Write → List Took → S → Type 0
-TakesEach {S} takes old [] [] new = new ≡ old
-TakesEach {S} takes old (write ∷ writes) (took ∷ tooks) new = (mid : S) × takes old write (Ok took) mid × TakesEach takes mid writes tooks new
-TakesEach {S} takes old [] (took ∷ tooks) new = ⊥
-TakesEach {S} takes old (write ∷ writes) [] new = ⊥
+-- how something takes a Write, and what it then holds, where it tells that
+abbrev pub TakenBy : {S : Type 0} → (S → Option (List Write)) → (S → Write → Result Took TakeFault → S → Type 0) → S → Write → Result Took TakeFault → S → Type 0
+TakenBy list takes old given answer new = takes old given answer new × Lists (list old) given answer (list new)

@@ -8,8 +8,8 @@ ghost use Rattle.bayou_frames.specs.Stopping.{IsSendFault, Stops};
 use crate::replica::Replica;
 use crate::sending::send_batch;
 use bayou_base::Vector;
-use bayou_frames::{Fault, read_offer, send};
-use bayou_streams::Channel;
+use bayou_frames::{ChannelFault, read_offer, send};
+use bayou_streams::CountedChannel;
 use bayou_wire::{Frame, encode_frame};
 use std::alloc::Global;
 use std::io::{Read, Write};
@@ -19,8 +19,8 @@ fn send_items<P: Replica, R, W: Write>(
     alloc: Global,
     replica: &mut P,
     counts: &Vector,
-    channel: &mut Channel<R, W>,
-) -> Result<u32, Fault>
+    channel: &mut CountedChannel<R, W>,
+) -> Result<u32, ChannelFault>
     ensures same { replica.new ≡ replica.old }
     ensures sends { SendsItems (P.list replica.old) counts.now (W.contents channel.old.writer) (W.contents channel.new.writer) result }
     ensures fault { IfErr result IsSendFault }
@@ -45,8 +45,8 @@ pub fn answer_offer_on<P: Replica, R, W: Write>(
     alloc: Global,
     replica: &mut P,
     counts: &Vector,
-    channel: &mut Channel<R, W>,
-) -> Result<u32, Fault>
+    channel: &mut CountedChannel<R, W>,
+) -> Result<u32, ChannelFault>
     ensures same { replica.new ≡ replica.old }
     ensures answers { Answers (P.list replica.old) counts.now (W.contents channel.old.writer) (W.contents channel.new.writer) result }
     ensures fault { IfErr result IsSendFault }
@@ -64,8 +64,8 @@ pub fn answer_offer_on<P: Replica, R, W: Write>(
 pub fn serve_offer_on<P: Replica, R: Read, W: Write>(
     alloc: Global,
     replica: &mut P,
-    channel: &mut Channel<R, W>,
-) -> Result<u32, Fault>
+    channel: &mut CountedChannel<R, W>,
+) -> Result<u32, ChannelFault>
     ensures same { replica.new ≡ replica.old }
     ensures serves { (read : List ℕ) × Consumes (R.remaining channel.old.reader) (R.remaining channel.new.reader) read × StopsInTime read
         × OfferServed (P.list replica.old) read (W.contents channel.old.writer) (W.contents channel.new.writer) (IsAtEnd (R.remaining channel.new.reader)) result }

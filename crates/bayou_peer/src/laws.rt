@@ -1,6 +1,6 @@
 //! What the clauses of a pull come to: a law is the contract of a function that does nothing.
 ghost use Rattle.std.specs.Prelude.{◌≡◌, ◌+◌, ◌<◌, ◌^◌, ℕ, List, Ok, Err};
-ghost use Rattle.bayou_frames.specs.declared.fault.Fault.TheVariants.{BadFrame, Cut};
+ghost use Rattle.bayou_frames.specs.declared.fault.ChannelFault.TheVariants.{BadFrame, Cut};
 ghost use Rattle.bayou_peer.specs.declared.fault.PullFault.TheVariants.{Stream};
 ghost use Rattle.bayou_peer.specs.declared.pulling.Pulled.{Pulled as Told};
 ghost use Rattle.bayou_peer.specs.Pulls.{EndsOf};

@@ -1,11 +1,11 @@
 //! A server that is lent to an engine.
-ghost use Rattle.bayou_peer.specs.Lent.{TakesAt};
+ghost use Rattle.bayou_server.specs.TakesAll.{TakesAt};
 
 use crate::replica::Replica;
 use bayou_base::Vector;
 use bayou_device::Device;
 use bayou_lang::RestingWrite;
-use bayou_server::{Server, TakeFault, Took};
+use bayou_server::{Server, TakeFault, Took, TookAll};
 use std::alloc::{AllocError, Global};
 
 impl<D: Device> Replica for Server<D> {
@@ -32,5 +32,10 @@ impl<D: Device> Replica for Server<D> {
 
     fn take(&mut self, alloc: Global, write: RestingWrite) -> Result<Took, TakeFault> {
         Server::take(self, alloc, write)
+    }
+
+    fn take_all(&mut self, alloc: Global, writes: Vec<RestingWrite>) -> TookAll {
+        let count = writes.len() as u32;
+        Server::take_next(self, alloc, &mut writes.into_iter(), count)
     }
 }

@@ -2,28 +2,27 @@ ghost use Rattle.std.specs.Prelude.{◌≡◌, ◌≢◌, ◌+◌, ◌*◌, ◌<
 ghost use Rattle.std.specs.List.{AllByRecursion};
 ghost use Rattle.std.specs.Io.KnownBytes.{Appends, Consumes, IsAtEnd};
 ghost use Rattle.bayou_base.specs.declared.limits.TheConstants.{MAX_TURNS, READ_BYTES};
-ghost use Rattle.bayou_lang.specs.Ranges.{IsWrite};
+ghost use Rattle.bayou_lang.specs.declared.write.Write.{Write as Written};
 ghost use Rattle.bayou_lang.specs.Writes.{count_of};
-ghost use Rattle.bayou_frames.specs.declared.fault.Fault.TheVariants.{BadFrame};
+ghost use Rattle.bayou_frames.specs.declared.fault.ChannelFault.TheVariants.{BadFrame};
 ghost use Rattle.bayou_peer.specs.declared.fault.PullFault.TheVariants.{Stream};
-ghost use Rattle.bayou_peer.specs.Pulls.{EndsInMemory, EndsOf, PullEnds, Received};
-ghost use Rattle.bayou_peer.specs.Inner.Steps.{Goes, GoesOn, IsTakeFault};
+ghost use Rattle.bayou_peer.specs.Pulls.{EndsInMemory, EndsOf, HasNoPlace, PullEnds, Received};
+ghost use Rattle.bayou_peer.specs.Inner.Steps.{AreItemsInFront, Goes, GoesOn, IsTakeFault};
 ghost use Rattle.bayou_peer.specs.Stopping.{StopsPull};
 ghost use Rattle.bayou_streams.specs.Written.{AppendsFront};
-ghost use Rattle.bayou_wire.specs.declared.frame.Frame.TheVariants.{Item, Offer};
+ghost use Rattle.bayou_wire.specs.declared.frame.Frame.TheVariants.{End, Item, Offer};
 ghost use Rattle.bayou_wire.specs.Spelling.{IsFrame};
 ghost use Rattle.bayou_wire.specs.Stream.{IsPartial, spelling, spellings};
 
 use crate::fault::PullFault;
 use crate::replica::Replica;
 use bayou_base::Vector;
-use bayou_base::limits::READ_BYTES;
-use bayou_frames::{Fault, feed_piece, read_piece, send};
-use bayou_lang::Write as Held;
-use bayou_server::Took;
-use bayou_streams::Channel;
+use bayou_base::limits::{PULL_BYTES, READ_BYTES};
+use bayou_frames::{ChannelFault, feed_piece, read_piece, send};
+use bayou_lang::RestingWrite;
+use bayou_streams::CountedChannel;
 use bayou_wire::{Frame, Frames, encode_frame};
-use std::alloc::Global;
+use std::alloc::{AllocError, Global};
 use std::io::{Read, Write};
 
 /// What a pull did.
@@ -35,34 +34,18 @@ pub struct Pulled {
     pub had: u32,
 }
 
-// Takes the Write of an Item, and counts it. No End comes by it.
-fn take_item<P: Replica>(
-    alloc: Global,
-    replica: &mut P,
-    write: &Held,
-    pulled: &mut Pulled,
-) -> Result<bool, PullFault>
-    requires few { pulled.old.taken + pulled.old.had + 1 < 2 ^ 32 }
-    ensures goes { (start : P) (read behind : List ℕ) → IsWrite write.now
-        → Received (record { list = P.list; takes = P.takes }) start replica.old read (spelling (Item write.now) ++ behind) pulled.old.taken pulled.old.had
-        → Goes (record { list = P.list; takes = P.takes }) start replica.new read behind pulled.new result }
-    ensures fault { IfErr result IsTakeFault }
-    ensures counted { pulled.new.taken + pulled.new.had ≤ pulled.old.taken + pulled.old.had + 1 }
+// The Writes of the Items that stand in front of the frames.
+fn items_in_front(alloc: Global, frames: &[Frame]) -> Result<Vec<RestingWrite>, AllocError>
+    ensures items { IfOk result (λ writes. AreItemsInFront frames.now writes.items) }
 {
-    let Ok(resting) = write.rest(alloc) else {
-        return Err(PullFault::Stream(Fault::OutOfMemory));
-    };
-    match replica.take(alloc, resting) {
-        Ok(Took::New) => {
-            pulled.taken += 1;
-            Ok(false)
-        }
-        Ok(Took::Had) => {
-            pulled.had += 1;
-            Ok(false)
-        }
-        Err(fault) => Err(PullFault::Refused(fault)),
+    let mut writes = Vec::new(alloc);
+    for frame in frames {
+        let Frame::Item(write) = frame else {
+            return Ok(writes);
+        };
+        writes.push(write.rest(alloc)?)?;
     }
+    Ok(writes)
 }
 
 // The End ends the pull where it tells the number of the Items.
@@ -72,34 +55,25 @@ fn take_end(count: u32, pulled: &Pulled) -> Result<bool, PullFault>
     ensures bad { IfErr result (λ fault. (fault ≡ Stream BadFrame) × (count ≢ pulled.now.taken + pulled.now.had)) }
 {
     if count != pulled.taken + pulled.had {
-        return Err(PullFault::Stream(Fault::BadFrame));
+        return Err(PullFault::Stream(ChannelFault::BadFrame));
     }
     Ok(true)
 }
 
-// Takes a frame: an Item is taken, and an End of their number ends the pull. No other frame has a place there. It tells whether the
-// pull came to its End.
-fn take_frame<P: Replica>(
-    alloc: Global,
-    replica: &mut P,
-    frame: &Frame,
-    pulled: &mut Pulled,
-) -> Result<bool, PullFault>
-    requires few { pulled.old.taken + pulled.old.had + 1 < 2 ^ 32 }
-    ensures goes { (start : P) (read behind : List ℕ) → IsFrame frame.now
-        → Received (record { list = P.list; takes = P.takes }) start replica.old read (spelling frame.now ++ behind) pulled.old.taken pulled.old.had
-        → Goes (record { list = P.list; takes = P.takes }) start replica.new read behind pulled.new result }
-    ensures fault { IfErr result IsTakeFault }
-    ensures counted { pulled.new.taken + pulled.new.had ≤ pulled.old.taken + pulled.old.had + 1 }
+// Takes a frame behind the Items: an End of their number ends the pull. No other frame has a place there.
+fn take_other(frame: &Frame, pulled: &Pulled) -> Result<bool, PullFault>
+    requires other { (write : Written) → frame.now ≢ Item write }
+    requires few { pulled.now.taken + pulled.now.had < 2 ^ 32 }
+    ensures ends { IfOk result (λ ended. (ended ≡ true) × (frame.now ≡ End (pulled.now.taken + pulled.now.had))) }
+    ensures bad { IfErr result (λ fault. (fault ≡ Stream BadFrame) × HasNoPlace (pulled.now.taken + pulled.now.had) frame.now) }
 {
     match frame {
-        Frame::Item(write) => take_item(alloc, replica, write, pulled),
         Frame::End(count) => take_end(*count, pulled),
-        _ => Err(PullFault::Stream(Fault::BadFrame)),
+        _ => Err(PullFault::Stream(ChannelFault::BadFrame)),
     }
 }
 
-// Takes the frames that came, up to what ends the pull, and tells whether that was its End.
+// Takes the frames that came, up to what ends the pull, and tells whether that was its End. The Items that came together are taken together.
 fn take_came<P: Replica>(
     alloc: Global,
     replica: &mut P,
@@ -112,12 +86,20 @@ fn take_came<P: Replica>(
         → Goes (record { list = P.list; takes = P.takes }) start replica.new read behind pulled.new result }
     ensures fault { IfErr result IsTakeFault }
 {
-    for frame in frames {
-        if take_frame(alloc, replica, frame, pulled)? {
-            return Ok(true);
-        }
+    let Ok(items) = items_in_front(alloc, frames) else {
+        return Err(PullFault::Stream(ChannelFault::OutOfMemory));
+    };
+    let count = items.len();
+    let told = replica.take_all(alloc, items);
+    pulled.taken += told.taken;
+    pulled.had += told.had;
+    if let Some(fault) = told.fault {
+        return Err(PullFault::Refused(fault));
     }
-    Ok(false)
+    match frames.get(count) {
+        Some(frame) => take_other(frame, pulled),
+        None => Ok(false),
+    }
 }
 
 // Takes a piece of what comes, and tells whether the pull came to its End.
@@ -140,7 +122,7 @@ fn take_piece<P: Replica>(
         return Ok(true);
     }
     if came.is_bad {
-        return Err(PullFault::Stream(Fault::BadFrame));
+        return Err(PullFault::Stream(ChannelFault::BadFrame));
     }
     Ok(false)
 }
@@ -149,7 +131,7 @@ fn take_piece<P: Replica>(
 fn receive<P: Replica, R: Read, W>(
     alloc: Global,
     replica: &mut P,
-    channel: &mut Channel<R, W>,
+    channel: &mut CountedChannel<R, W>,
 ) -> Result<Pulled, PullFault>
     ensures ends { (read : List ℕ) × Consumes (R.remaining channel.old.reader) (R.remaining channel.new.reader) read
         × PullEnds (record { list = P.list; takes = P.takes }) replica.old replica.new read (IsAtEnd (R.remaining channel.new.reader)) result }
@@ -164,7 +146,7 @@ fn receive<P: Replica, R: Read, W>(
     loop {
         let count = read_piece(channel, &mut piece)?;
         if count == 0 {
-            return Err(PullFault::Stream(Fault::Cut));
+            return Err(PullFault::Stream(ChannelFault::Cut));
         }
         if take_piece(alloc, replica, &mut frames, &piece[..count], &mut pulled)? {
             return Ok(pulled);
@@ -172,7 +154,7 @@ fn receive<P: Replica, R: Read, W>(
     }
 }
 
-/// Takes the Writes of an answer in memory, each as it comes, up to the End, as [`pull_from_on`] takes what a stream brings. Bytes in memory
+/// Takes the Writes of an answer in memory, a piece at a time, up to the End, as [`pull_from_on`] takes what a stream brings. Bytes in memory
 /// don't fail and take no turns; those that end before the End are a cut answer.
 pub fn take_answer<P: Replica>(
     alloc: Global,
@@ -187,21 +169,21 @@ pub fn take_answer<P: Replica>(
     let mut pulled = Pulled { taken: 0, had: 0 };
     let mut rest = answer;
     while !rest.is_empty() {
-        let (piece, behind) = rest.split_at(rest.len().min(READ_BYTES));
+        let (piece, behind) = rest.split_at(rest.len().min(PULL_BYTES));
         if take_piece(alloc, replica, &mut frames, piece, &mut pulled)? {
             return Ok(pulled);
         }
         rest = behind;
     }
-    Err(PullFault::Stream(Fault::Cut))
+    Err(PullFault::Stream(ChannelFault::Cut))
 }
 
-/// Sends the vector as an Offer, and takes the Writes that come, each as it comes, up to the End.
+/// Sends the vector as an Offer, and takes the Writes that come, those of one read together and before the next read, up to the End.
 pub fn pull_from_on<P: Replica, R: Read, W: Write>(
     alloc: Global,
     replica: &mut P,
     counts: &Vector,
-    channel: &mut Channel<R, W>,
+    channel: &mut CountedChannel<R, W>,
 ) -> Result<Pulled, PullFault>
     ensures offered { OnOk result (Appends (W.contents channel.old.writer) (W.contents channel.new.writer) (spelling (Offer counts.now))) }
     ensures part { AppendsFront (W.contents channel.old.writer) (W.contents channel.new.writer) (spelling (Offer counts.now)) }
@@ -212,7 +194,7 @@ pub fn pull_from_on<P: Replica, R: Read, W: Write>(
     ensures turns { channel.new.turns_left ≤ channel.old.turns_left }
 {
     let Ok(offer) = encode_frame(alloc, &Frame::Offer(*counts)) else {
-        return Err(PullFault::Stream(Fault::OutOfMemory));
+        return Err(PullFault::Stream(ChannelFault::OutOfMemory));
     };
     send(channel, &offer)?;
     receive(alloc, replica, channel)
@@ -222,7 +204,7 @@ pub fn pull_from_on<P: Replica, R: Read, W: Write>(
 pub fn pull_on<P: Replica, R: Read, W: Write>(
     alloc: Global,
     replica: &mut P,
-    channel: &mut Channel<R, W>,
+    channel: &mut CountedChannel<R, W>,
 ) -> Result<Pulled, PullFault>
     ensures offered { (counts : List ℕ) × IfSome (P.list replica.old) (λ held. counts ≡ count_of held)
         × AppendsFront (W.contents channel.old.writer) (W.contents channel.new.writer) (spelling (Offer counts))

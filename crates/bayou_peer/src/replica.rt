@@ -1,14 +1,14 @@
-ghost use Rattle.std.specs.Prelude.{◌≡◌, ◌≤◌, List, Option, Result, IfOk, IfSome, length, take};
+ghost use Rattle.std.specs.Prelude.{◌≡◌, ◌<◌, ◌≤◌, ◌^◌, List, [], None, Option, Result, IfOk, IfSome, drop, length, take};
 ghost use Rattle.bayou_lang.specs.declared.write.Write.{Write as Written};
 ghost use Rattle.bayou_lang.specs.Writes.{count_of, lacking_of, raised_by};
-ghost use Rattle.bayou_peer.specs.Taking.{Lists};
+ghost use Rattle.bayou_peer.specs.Taking.{Lists, TakenBy};
+ghost use Rattle.bayou_server.specs.TakesAll.{TakesAll};
 ghost use Rattle.bayou_server.specs.declared.answer.Took.{Took as Taken};
 ghost use Rattle.bayou_server.specs.declared.fault.TakeFault.{TakeFault as Refusal};
-ghost use Rattle.std.specs.Prelude.{drop};
 
 use bayou_base::Vector;
 use bayou_lang::RestingWrite;
-use bayou_server::{TakeFault, Took};
+use bayou_server::{TakeFault, Took, TookAll};
 use std::alloc::{AllocError, Global};
 
 /// What takes part in anti-entropy (Petersen et al. 1997): something that holds Writes, says which, and takes others.
@@ -43,4 +43,10 @@ pub trait Replica {
     fn take(&mut self, alloc: Global, write: RestingWrite) -> Result<Took, TakeFault>
         ensures took { takes self.old write result self.new }
         ensures listed { Lists (list self.old) write result (list self.new) };
+
+    /// Takes the Writes, one after another, as [`Replica::take`] does, up to one that is refused.
+    fn take_all(&mut self, alloc: Global, writes: Vec<RestingWrite>) -> TookAll
+        requires few { length writes.items < 2 ^ 32 }
+        ensures took { (left : List Written) × TakesAll (TakenBy list takes) self.old writes.items left result self.new
+            × (result.fault ≡ None → left ≡ []) };
 }

@@ -11,9 +11,9 @@ ghost use Rattle.bayou_frames.specs.Stopping.{IsSendFault, Stops};
 use crate::replica::Replica;
 use bayou_base::Vector;
 use bayou_base::limits::ITEMS_AT_ONCE;
-use bayou_frames::{Fault, send};
+use bayou_frames::{ChannelFault, send};
 use bayou_lang::RestingWrite;
-use bayou_streams::Channel;
+use bayou_streams::CountedChannel;
 use bayou_wire::encode_item;
 use std::alloc::{AllocError, Global};
 use std::io::Write;
@@ -44,8 +44,8 @@ pub(crate) fn send_batch<P: Replica, R, W: Write>(
     alloc: Global,
     replica: &mut P,
     told: &mut Vector,
-    channel: &mut Channel<R, W>,
-) -> Result<u32, Fault>
+    channel: &mut CountedChannel<R, W>,
+) -> Result<u32, ChannelFault>
     ensures same { replica.new ≡ replica.old }
     ensures sends { SendsBatch (P.list replica.old) told.old told.new (W.contents channel.old.writer) (W.contents channel.new.writer) result }
     ensures few { IfOk result (λ number. number ≤ ITEMS_AT_ONCE) }

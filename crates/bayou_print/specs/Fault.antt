@@ -7,15 +7,15 @@ use Rattle.bayou_answers.specs.declared.answer.Answer.{Answer}
 use Rattle.bayou_answers.specs.declared.answer.Answer.TheVariants.{Judged, Surveyed}
 use Rattle.bayou_answers.specs.declared.fault.BeginFault.{BeginFault}
 use Rattle.bayou_answers.specs.declared.fault.BeginFault.TheVariants as begin
-use Rattle.bayou_script.specs.declared.fault.Refusal.{Refusal}
-use Rattle.bayou_script.specs.declared.fault.Refusal.TheVariants as refusal
+use Rattle.bayou_script.specs.declared.fault.InputRefusal.{InputRefusal}
+use Rattle.bayou_script.specs.declared.fault.InputRefusal.TheVariants as refusal
 use Rattle.bayou_print.specs.declared.ended.Ended.{Ended}
 use Rattle.bayou_print.specs.declared.ended.Ended.TheVariants as ended
 use Rattle.bayou_print.specs.declared.fault.RunFault.{RunFault}
 use Rattle.bayou_print.specs.declared.fault.RunFault.TheVariants.{Line, Memory, Device, Network, Input, Output}
 
 -- what a run ends with whose script is refused
-abbrev pub fault_of : Refusal → RunFault
+abbrev pub fault_of : InputRefusal → RunFault
 fault_of (refusal.Line number fault) = Line number fault
 fault_of refusal.OutOfMemory = Memory
 

@@ -3,11 +3,11 @@ use Rattle.std.specs.Prelude.{◌≡◌, ◌⊎◌, ℕ, Bool, List, Result, Ok,
 use Rattle.bayou_print.specs.declared.fault.RunFault.{RunFault}
 use Rattle.bayou_print.specs.Fault.{IsFaultLine}
 use Rattle.bayou_print.specs.Turns.{HasEnded}
-use Rattle.bayou_streams.specs.Account.{Account, Takes, TakesFront}
+use Rattle.bayou_streams.specs.Account.{Account, TakesBytes, TakesFront}
 
 -- The text was put behind what the output took; or a front of it, and a call of the output failed, or there was no turn left.
 abbrev pub IsPut : (text : List ℕ) → (old new : Account) → (has_failed : Bool) → Type 0
-IsPut text old new has_failed = Takes old new text ⊎ (TakesFront old new text × HasEnded has_failed new.turns_left)
+IsPut text old new has_failed = TakesBytes old new text ⊎ (TakesFront old new text × HasEnded has_failed new.turns_left)
 
 -- the line of a fault was put there
 abbrev pub TellsFault : (old new : Account) → (has_failed : Bool) → Type 0

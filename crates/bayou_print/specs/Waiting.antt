@@ -2,7 +2,7 @@
 use Rattle.std.specs.Prelude.{◌≡◌, ℕ, List, ◌++◌, Option}
 use Rattle.bayou_streams.specs.declared.output.Output.{Output}
 use Rattle.bayou_print.specs.declared.waiting.Waiting.{Waiting}
-use Rattle.bayou_streams.specs.Account.{Account, Takes, account}
+use Rattle.bayou_streams.specs.Account.{Account, TakesBytes, account}
 
 -- an output, and what waits to be written to it
 pub record Stage : Type 0 where
@@ -17,4 +17,4 @@ stage contents output waiting = record { output = account contents output; waiti
 pub record Gathers (old new : Stage) (text missing : List ℕ) : Type 0 where
   pub taken : List ℕ
   pub split : old.waiting ++ text ≡ taken ++ (new.waiting ++ missing)
-  pub took : Takes old.output new.output taken
+  pub took : TakesBytes old.output new.output taken

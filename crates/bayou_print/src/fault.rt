@@ -1,6 +1,6 @@
 use arrayvec::ArrayString;
 use bayou_answers::BeginFault;
-use bayou_script::{Refusal, ScriptFault};
+use bayou_script::{InputRefusal, ScriptFault};
 use std::alloc::{AllocError, AllocFailed};
 use std::fmt::Write;
 use thiserror::Error;
@@ -89,16 +89,16 @@ impl<T: Drop> From<AllocFailed<T>> for RunFault {
     }
 }
 
-impl From<Refusal> for RunFault {
+impl From<InputRefusal> for RunFault {
     ghost use Rattle.std.specs.Prelude.{◌≡◌};
     ghost use Rattle.bayou_print.specs.Fault.{fault_of};
 
     ghost from_gives = { λ refusal fault. fault ≡ fault_of refusal };
 
-    fn from(refusal: Refusal) -> RunFault {
+    fn from(refusal: InputRefusal) -> RunFault {
         match refusal {
-            Refusal::Line { number, fault } => RunFault::Line { number, fault },
-            Refusal::OutOfMemory => RunFault::Memory,
+            InputRefusal::Line { number, fault } => RunFault::Line { number, fault },
+            InputRefusal::OutOfMemory => RunFault::Memory,
         }
     }
 }

@@ -9,7 +9,7 @@ use crate::verdict::{refused_line, verdict_line};
 use bayou_answers::{Answer, Recovery, Transfer};
 use bayou_audit::Totals;
 use bayou_base::{Accepted, Key, Seen, ServerId, SessionId, Value, Vector, Wid};
-use bayou_frames::Fault as Stream;
+use bayou_frames::ChannelFault;
 use bayou_lang::Outcome;
 use bayou_log::Listed;
 use bayou_node::NodeSettled;
@@ -234,12 +234,12 @@ fn pulling_word(fault: &PullFault) -> &'static str
 {
     match fault {
         PullFault::Refused(refusal) => taking_word(refusal),
-        PullFault::Stream(Stream::Read) => "read",
-        PullFault::Stream(Stream::Write) => "write",
-        PullFault::Stream(Stream::Cut) => "cut",
-        PullFault::Stream(Stream::BadFrame) => "frame",
-        PullFault::Stream(Stream::TooManyTurns) => "turns",
-        PullFault::Stream(Stream::OutOfMemory) => "memory",
+        PullFault::Stream(ChannelFault::Read) => "read",
+        PullFault::Stream(ChannelFault::Write) => "write",
+        PullFault::Stream(ChannelFault::Cut) => "cut",
+        PullFault::Stream(ChannelFault::BadFrame) => "frame",
+        PullFault::Stream(ChannelFault::TooManyTurns) => "turns",
+        PullFault::Stream(ChannelFault::OutOfMemory) => "memory",
     }
 }
 

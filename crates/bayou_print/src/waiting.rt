@@ -1,7 +1,7 @@
 //! Lines wait for one another, and are written in pieces.
 ghost use Rattle.std.specs.Prelude.{◌≡◌, ◌≤◌, ◌⊎◌, [], Err, List, Ok, ℕ, IfErr, IfOk, OnOk};
 ghost use Rattle.std.specs.Io.{IsEmptyOrEndsWith};
-ghost use Rattle.bayou_streams.specs.Account.{Takes, TakesFront};
+ghost use Rattle.bayou_streams.specs.Account.{TakesBytes, TakesFront};
 
 use crate::fault::RunFault;
 use crate::writing::write_text;
@@ -34,7 +34,7 @@ impl Waiting {
 
     /// Writes them. Where that fails, those that weren't taken are gone.
     pub fn write<W: Write>(&mut self, output: &mut Output<W>) -> Result<(), RunFault>
-        ensures whole { OnOk result (Takes (account W.contents output.old) (account W.contents output.new) self.old.lines.items) }
+        ensures whole { OnOk result (TakesBytes (account W.contents output.old) (account W.contents output.new) self.old.lines.items) }
         ensures part { TakesFront (account W.contents output.old) (account W.contents output.new) self.old.lines.items }
         ensures none { self.new.lines.items ≡ [] }
         ensures fault { IfErr result IsRunFault }
@@ -83,7 +83,7 @@ impl Waiting {
         output: &mut Output<W>,
     ) -> Result<A, RunFault>
         requires ended { IfErr ended (EndsWriting output.old.channel.write_failed output.old.channel.turns_left) }
-        ensures whole { OnOk result (Takes (account W.contents output.old) (account W.contents output.new) self.lines.items) }
+        ensures whole { OnOk result (TakesBytes (account W.contents output.old) (account W.contents output.new) self.lines.items) }
         ensures part { TakesFront (account W.contents output.old) (account W.contents output.new) self.lines.items }
         ensures same { IfOk result (λ told. ended ≡ Ok told) }
         ensures cause { IfErr result (λ fault. (ended ≡ Err fault) ⊎ (fault ≡ OutputFault)) }

@@ -1,6 +1,6 @@
 ghost use Rattle.std.specs.Prelude.{◌≡◌, ◌≤◌, true, OnOk, IfErr};
 ghost use Rattle.std.specs.Io.{IsEmptyOrEndsWith};
-ghost use Rattle.bayou_streams.specs.Account.{Takes, TakesFront, account};
+ghost use Rattle.bayou_streams.specs.Account.{TakesBytes, TakesFront, account};
 ghost use Rattle.bayou_print.specs.declared.fault.RunFault.TheVariants.{Output as OutputFault};
 ghost use Rattle.bayou_print.specs.Telling.{IsPut};
 ghost use Rattle.bayou_print.specs.Turns.{HasEnded};
@@ -11,7 +11,7 @@ use std::io::Write;
 
 /// Writes the whole text. It ends with `Output` only where a call of the writer failed or all turns of a line were taken.
 pub fn write_text<W: Write>(output: &mut Output<W>, text: &[u8]) -> Result<(), RunFault>
-    ensures whole { OnOk result (Takes (account W.contents output.old) (account W.contents output.new) text.now) }
+    ensures whole { OnOk result (TakesBytes (account W.contents output.old) (account W.contents output.new) text.now) }
     ensures fault { IfErr result (λ fault. fault ≡ OutputFault) }
     ensures ended { IfErr result (λ fault. HasEnded output.new.channel.write_failed output.new.channel.turns_left) }
     // No call of it failed where the whole was written.

@@ -3,7 +3,7 @@ use Rattle.std.proofs.Common.{◌≡◌, ℕ, suc, ◌≤◌, Bool, true, false,
 use Rattle.std.proofs.lemmas.List.{take_all}
 use Rattle.std.specs.Option.{is_some}
 use Rattle.bayou_text.specs.Said.{Said}
-use Rattle.bayou_script.specs.Places.{operation_of, operations}
+use Rattle.bayou_script.specs.Capacity.{operation_of, operations}
 
 module _ {C : Type 0} (line : C → Said) where
   -- whether a command is one of a session's operations

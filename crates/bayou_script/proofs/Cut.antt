@@ -9,8 +9,8 @@ use Rattle.bayou_text.specs.declared.line.LineFault.TheVariants as faults
 use Rattle.bayou_text.specs.declared.line.Shape.TheVariants as shape
 use Rattle.bayou_text.specs.Lines.{too_long}
 use Rattle.bayou_text.specs.Said.{Said}
-use Rattle.bayou_script.specs.declared.fault.Refusal.{Refusal}
-use Rattle.bayou_script.specs.declared.fault.Refusal.TheVariants.{Line, OutOfMemory}
+use Rattle.bayou_script.specs.declared.fault.InputRefusal.{InputRefusal}
+use Rattle.bayou_script.specs.declared.fault.InputRefusal.TheVariants.{Line, OutOfMemory}
 use Rattle.bayou_script.specs.declared.fault.ScriptFault.TheVariants.{BadShape}
 use Rattle.bayou_script.specs.Inner.Taking.{FaultAt}
 use Rattle.bayou_script.specs.Order.{HasFault, InOrderBy, Order, RefusedBy, at_line, in_itself, lines_of}
@@ -64,20 +64,20 @@ pub Cuts-all : (bytes : List ℕ) (ended : List (List ℕ)) (line : List ℕ) �
 Cuts-all bytes ended line cut =
     ap lines_of (sym (append-nil bytes)) ∙ cut [] ∙ ap (λ (l : List (List ℕ)). ended ++ l) (begun_nil line [])
 
-refused_line : (order : Order) (lines ended : List (List ℕ)) (bytes : List ℕ) (others : List (List ℕ)) (front : List Said) (refusal : Refusal)
+refused_line : (order : Order) (lines ended : List (List ℕ)) (bytes : List ℕ) (others : List (List ℕ)) (front : List Said) (refusal : InputRefusal)
     → lines ≡ ended ++ bytes ∷ others → InOrderBy order ended front → FaultAt order (length ended + 1) front bytes refusal → RefusedBy order lines refusal
 refused_line order lines ended bytes others front (Line told fault) split in_order (number, has) =
     at_line ended bytes others front split in_order number (subst (λ n. HasFault order n front bytes fault) (sym number) has)
 refused_line order lines ended bytes others front OutOfMemory split in_order fault = tt
 
 -- a line that has ended is at fault
-pub refused_ended : (order : Order) (bytes : List ℕ) (ended : List (List ℕ)) (line : List ℕ) (front : List Said) (refusal : Refusal) → Cuts bytes ended line
+pub refused_ended : (order : Order) (bytes : List ℕ) (ended : List (List ℕ)) (line : List ℕ) (front : List Said) (refusal : InputRefusal) → Cuts bytes ended line
     → InOrderBy order ended front → FaultAt order (length ended + 1) front line refusal → IsRefusedSoFar order (bytes ++ 10 ∷ []) refusal
 refused_ended order bytes ended line front refusal cut in_order fault = λ more.
     refused_line order (lines_of ((bytes ++ 10 ∷ []) ++ more)) ended line (lines_of more) front refusal (ends_there bytes ended line more cut) in_order fault
 
 -- so is the last
-pub refused_last : (order : Order) (bytes : List ℕ) (ended : List (List ℕ)) (line : List ℕ) (front : List Said) (refusal : Refusal) → Cuts bytes ended line
+pub refused_last : (order : Order) (bytes : List ℕ) (ended : List (List ℕ)) (line : List ℕ) (front : List Said) (refusal : InputRefusal) → Cuts bytes ended line
     → InOrderBy order ended front → FaultAt order (length ended + 1) front line refusal → RefusedBy order (lines_of bytes) refusal
 refused_last order bytes ended line front refusal cut in_order fault =
     refused_line order (lines_of bytes) ended line [] front refusal (Cuts-all bytes ended line cut) in_order fault
@@ -94,7 +94,7 @@ refused_long order bytes ended line byte number front other cut in_order is long
     (in_itself (faults.BadShape shape.Line) (λ none. let zero_long = ap length none in absurd (omega arith)) (too_long past refl) refl)
 
 -- what is refused so far stays refused
-pub IsRefusedSoFar-more : (order : Order) (bytes rest : List ℕ) (refusal : Refusal) → IsRefusedSoFar order bytes refusal → IsRefusedSoFar order (bytes ++ rest) refusal
+pub IsRefusedSoFar-more : (order : Order) (bytes rest : List ℕ) (refusal : InputRefusal) → IsRefusedSoFar order bytes refusal → IsRefusedSoFar order (bytes ++ rest) refusal
 IsRefusedSoFar-more order bytes rest refusal refused = λ more.
     subst (λ text. RefusedBy order (lines_of text) refusal) (sym (append_assoc bytes rest more)) (refused (rest ++ more))
 
@@ -106,7 +106,7 @@ pub one_more : (bytes piece : List ℕ) (i : ℕ) → i < length piece → (byte
 one_more bytes piece i within = append_assoc bytes (take i piece) (get_or piece i 0 ∷ []) ∙ ap (λ l. bytes ++ l) (sym (take_more piece i 0 within))
 
 -- what is refused within a piece is refused behind it
-pub refused_within : (order : Order) (bytes piece : List ℕ) (i : ℕ) (refusal : Refusal) → i < length piece
+pub refused_within : (order : Order) (bytes piece : List ℕ) (i : ℕ) (refusal : InputRefusal) → i < length piece
     → IsRefusedSoFar order ((bytes ++ take i piece) ++ get_or piece i 0 ∷ []) refusal → IsRefusedSoFar order (bytes ++ piece) refusal
 refused_within order bytes piece i refusal within refused =
     let some : IsRefusedSoFar order (bytes ++ take (i + 1) piece) refusal = subst (λ l. IsRefusedSoFar order l refusal) (one_more bytes piece i within) refused in

@@ -7,7 +7,7 @@ use Rattle.bayou_text.specs.declared.command.Question.{Question}
 use Rattle.bayou_text.specs.declared.command.TrialKind.{TrialKind}
 use Rattle.bayou_script.specs.Network.{runs_over_network}
 use Rattle.bayou_script.specs.Phases.{ends_phase, is_operation_of, is_opening, is_pull, is_rest}
-use Rattle.bayou_script.specs.Places.{operation_of}
+use Rattle.bayou_script.specs.Capacity.{operation_of}
 use Rattle.bayou_script.specs.Script.{at_server, is_audit, of_servers, of_session, use_of}
 
 -- what an operation of this session at this server is

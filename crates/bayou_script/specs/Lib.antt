@@ -1,4 +1,5 @@
 pub mod AuditFile
+pub mod Capacity
 pub mod Inner
 pub mod Kinds
 pub mod Laws
@@ -6,7 +7,6 @@ pub mod Network
 pub mod NetworkSaid
 pub mod Order
 pub mod Phases
-pub mod Places
 pub mod Plan
 pub mod Reading
 pub mod Script

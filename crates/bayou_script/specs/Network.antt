@@ -4,7 +4,7 @@ use Rattle.std.specs.List.{list_all}
 use Rattle.std.specs.Option.{is_some}
 use Rattle.bayou_base.specs.declared.limits.TheConstants.{NET_SERVERS}
 use Rattle.bayou_text.specs.Said.{Said, servers, fuse, lose, restart, pull, resend}
-use Rattle.bayou_script.specs.declared.fault.Refusal.{Refusal}
+use Rattle.bayou_script.specs.declared.fault.InputRefusal.{InputRefusal}
 use Rattle.bayou_script.specs.declared.fault.ScriptFault.{ScriptFault}
 use Rattle.bayou_script.specs.Order.{IsRefusedBy, Order, RefusedBy}
 use Rattle.bayou_script.specs.Script.{IsScript, Plan, script_order}
@@ -39,5 +39,5 @@ abbrev pub IsNetworkRefused : List (List ℕ) → ℕ → ScriptFault → Type 0
 IsNetworkRefused lines number fault = IsRefusedBy network_order lines number fault
 
 -- why the lines aren't taken as a script over a network, where memory didn't run out
-abbrev pub NetworkRefusedFor : List (List ℕ) → Refusal → Type 0
+abbrev pub NetworkRefusedFor : List (List ℕ) → InputRefusal → Type 0
 NetworkRefusedFor lines refusal = RefusedBy network_order lines refusal

@@ -6,8 +6,8 @@ use Rattle.bayou_text.specs.declared.line.LineFault.TheVariants as line
 use Rattle.bayou_text.specs.Lines.{IsFaultOf}
 use Rattle.bayou_text.specs.Said.{Said}
 use Rattle.bayou_text.specs.Table.{Spells}
-use Rattle.bayou_script.specs.declared.fault.Refusal.{Refusal}
-use Rattle.bayou_script.specs.declared.fault.Refusal.TheVariants.{Line, OutOfMemory}
+use Rattle.bayou_script.specs.declared.fault.InputRefusal.{InputRefusal}
+use Rattle.bayou_script.specs.declared.fault.InputRefusal.TheVariants.{Line, OutOfMemory}
 use Rattle.bayou_script.specs.declared.fault.ScriptFault.{ScriptFault}
 use Rattle.bayou_script.specs.declared.fault.ScriptFault.TheVariants.{NotJson, BadShape, BadKey, BadProgram, OutOfPlace}
 
@@ -52,6 +52,6 @@ pub data IsRefusedBy (order : Order) (lines : List (List ℕ)) (number : ℕ) (f
   at_end : InOrderBy order lines [] → number ≡ 1 → fault ≡ OutOfPlace → IsRefusedBy order lines number fault
 
 -- why the lines aren't taken, where memory didn't run out
-abbrev pub RefusedBy : Order → List (List ℕ) → Refusal → Type 0
+abbrev pub RefusedBy : Order → List (List ℕ) → InputRefusal → Type 0
 RefusedBy order lines (Line number fault) = IsRefusedBy order lines number fault
 RefusedBy order lines OutOfMemory = Unit {0}

@@ -2,7 +2,7 @@
 use Rattle.std.specs.Prelude.{◌≡◌, ◌+◌, ℕ, List, [], ◌∷◌, ◌++◌, length}
 use Rattle.std.specs.List.{onto_first}
 use Rattle.bayou_text.specs.Said.{Said}
-use Rattle.bayou_script.specs.declared.fault.Refusal.{Refusal}
+use Rattle.bayou_script.specs.declared.fault.InputRefusal.{InputRefusal}
 use Rattle.bayou_script.specs.declared.audit_draft.AuditDraft.{AuditDraft}
 use Rattle.bayou_script.specs.declared.draft.Draft.{Draft}
 use Rattle.bayou_script.specs.declared.network_draft.NetworkDraft.{NetworkDraft}
@@ -40,8 +40,8 @@ abbrev pub HasReadAudit : TextReader AuditDraft → List ℕ → Type 0
 HasReadAudit reader bytes = HasReadBy audit_order IsAuditDraftOf reader bytes
 
 -- the lines are refused so, whatever follows these bytes
-abbrev pub IsRefusedSoFar : Order → List ℕ → Refusal → Type 0
+abbrev pub IsRefusedSoFar : Order → List ℕ → InputRefusal → Type 0
 IsRefusedSoFar order bytes refusal = (more : List ℕ) → RefusedBy order (lines_of (bytes ++ more)) refusal
 
-abbrev pub RefusedSoFar : List ℕ → Refusal → Type 0
+abbrev pub RefusedSoFar : List ℕ → InputRefusal → Type 0
 RefusedSoFar bytes refusal = IsRefusedSoFar script_order bytes refusal

@@ -4,7 +4,7 @@ use Rattle.std.specs.List.{list_all, list_any}
 use Rattle.std.specs.Option.{is_some}
 use Rattle.bayou_base.specs.declared.limits.TheConstants.{DEFAULT_LIMIT, MAX_LINES}
 use Rattle.bayou_text.specs.Said.{Said, servers, session, write, read, log, fuse, lose, reopen, restart, pull, resend, totals, judge, survey, book, phase, entry, held}
-use Rattle.bayou_script.specs.declared.fault.Refusal.{Refusal}
+use Rattle.bayou_script.specs.declared.fault.InputRefusal.{InputRefusal}
 use Rattle.bayou_script.specs.declared.fault.ScriptFault.{ScriptFault}
 use Rattle.bayou_script.specs.Order.{InOrderBy, IsRefusedBy, Order, RefusedBy}
 pub use Rattle.bayou_script.specs.Order.{lines_of}
@@ -118,5 +118,5 @@ pub record IsScript (lines : List (List ℕ)) (plan : Plan) : Type 0 where
   pub limit : plan.limit ≡ unwrap_or most DEFAULT_LIMIT
 
 -- why the lines aren't taken as a script, where memory didn't run out
-abbrev pub RefusedFor : List (List ℕ) → Refusal → Type 0
+abbrev pub RefusedFor : List (List ℕ) → InputRefusal → Type 0
 RefusedFor lines refusal = RefusedBy script_order lines refusal

@@ -2,7 +2,7 @@ ghost use Rattle.std.specs.Prelude.{◌≡◌, ◌<◌, ◌≤◌, [], ℕ, List
 ghost use Rattle.bayou_base.specs.declared.limits.TheConstants.{SERVERS};
 
 use crate::audit::AuditFile;
-use crate::fault::Refusal;
+use crate::fault::InputRefusal;
 use crate::text::Front;
 use bayou_base::{Entry, MAX_ENTRIES, ServerId};
 use bayou_lang::RestingWrite;
@@ -23,13 +23,13 @@ pub struct AuditDraft {
 
 impl AuditDraft {
     ghost use Rattle.bayou_text.specs.Said.{Said, audit_said, entry as entry_line, held as held_line, servers as servers_line};
-    ghost use Rattle.bayou_script.specs.declared.fault.Refusal.TheVariants.{OutOfMemory};
+    ghost use Rattle.bayou_script.specs.declared.fault.InputRefusal.TheVariants.{OutOfMemory};
     ghost use Rattle.bayou_script.specs.AuditFile.{audit_order};
     ghost use Rattle.bayou_script.specs.Inner.AuditDraft.{IsAuditDraftOf};
     ghost use Rattle.bayou_script.specs.Order.{HasAdded};
 
     /// Starts so many servers, which hold nothing yet, where none were started.
-    fn start(&mut self, alloc: Global, count: u8) -> Result<bool, Refusal>
+    fn start(&mut self, alloc: Global, count: u8) -> Result<bool, InputRefusal>
         requires { (0 < count) × (count ≤ SERVERS) }
         ensures { (number : ℕ) (front : List Said) (most : Option ℕ) → IsAuditDraftOf self.old front
             → MatchResult result (HasAdded audit_order IsAuditDraftOf number front (servers_line count most) self.new) (λ refusal. refusal ≡ OutOfMemory) }
@@ -47,7 +47,7 @@ impl AuditDraft {
     }
 
     /// Adds the entry, whose vector, if it has one, has so many counts.
-    fn add_entry(&mut self, entry: Entry, counts: Option<u8>) -> Result<bool, Refusal>
+    fn add_entry(&mut self, entry: Entry, counts: Option<u8>) -> Result<bool, InputRefusal>
         ensures { (number : ℕ) (front : List Said) → IsAuditDraftOf self.old front
             → MatchResult result (HasAdded audit_order IsAuditDraftOf number front (entry_line entry counts) self.new) (λ refusal. refusal ≡ OutOfMemory) }
     {
@@ -67,7 +67,7 @@ impl AuditDraft {
         server: ServerId,
         write: RestingWrite,
         counts: u8,
-    ) -> Result<bool, Refusal>
+    ) -> Result<bool, InputRefusal>
         ensures { (number : ℕ) (front : List Said) → IsAuditDraftOf self.old front
             → MatchResult result (HasAdded audit_order IsAuditDraftOf number front (held_line server.index write counts) self.new) (λ refusal. refusal ≡ OutOfMemory) }
     {
@@ -83,7 +83,7 @@ impl AuditDraft {
     }
 
     /// Adds what a line behind the first says, if that has its place.
-    fn add_told(&mut self, told: AuditLine) -> Result<bool, Refusal>
+    fn add_told(&mut self, told: AuditLine) -> Result<bool, InputRefusal>
         ensures { (number : ℕ) (front : List Said) → IsAuditDraftOf self.old front
             → MatchResult result (HasAdded audit_order IsAuditDraftOf number front (audit_said told) self.new) (λ refusal. refusal ≡ OutOfMemory) }
     {
@@ -120,7 +120,7 @@ impl Front for AuditDraft {
         }
     }
 
-    fn add(&mut self, alloc: Global, _number: u64, line: Line) -> Result<bool, Refusal> {
+    fn add(&mut self, alloc: Global, _number: u64, line: Line) -> Result<bool, InputRefusal> {
         match line {
             Line::Servers { count, .. } => self.start(alloc, count),
             Line::Audit(told) => self.add_told(told),
@@ -128,9 +128,9 @@ impl Front for AuditDraft {
         }
     }
 
-    fn finish(self) -> Result<AuditFile, Refusal> {
+    fn finish(self) -> Result<AuditFile, InputRefusal> {
         if self.count == 0 {
-            return Err(Refusal::out_of_place(1));
+            return Err(InputRefusal::out_of_place(1));
         }
         Ok(AuditFile {
             count: self.count,

@@ -5,7 +5,7 @@ ghost use Rattle.bayou_text.specs.Said.{command_said};
 ghost use Rattle.bayou_script.specs.Inner.Started.{are_started};
 ghost use Rattle.bayou_script.specs.Script.{use_of};
 
-use crate::fault::Refusal;
+use crate::fault::InputRefusal;
 use crate::script::Script;
 use crate::stage::Stage;
 use crate::text::Front;
@@ -27,13 +27,13 @@ impl Draft {
     ghost use Rattle.std.specs.Prelude.{◌≡◌, ◌≤◌, ℕ, List, MatchResult};
     ghost use Rattle.bayou_base.specs.declared.limits.TheConstants.{MAX_LINES as MOST_LINES};
     ghost use Rattle.bayou_text.specs.Said.{Said};
-    ghost use Rattle.bayou_script.specs.declared.fault.Refusal.TheVariants.{OutOfMemory};
+    ghost use Rattle.bayou_script.specs.declared.fault.InputRefusal.TheVariants.{OutOfMemory};
     ghost use Rattle.bayou_script.specs.Inner.Draft.{IsDraftOf};
     ghost use Rattle.bayou_script.specs.Order.{HasAdded};
     ghost use Rattle.bayou_script.specs.Script.{script_order};
 
     /// Adds the command, if it has its place.
-    fn push(&mut self, command: Command) -> Result<bool, Refusal>
+    fn push(&mut self, command: Command) -> Result<bool, InputRefusal>
         ensures { (number : ℕ) (front : List Said) → number ≤ MOST_LINES → IsDraftOf self.old front
             → MatchResult result (HasAdded script_order IsDraftOf number front (command_said command) self.new) (λ refusal. refusal ≡ OutOfMemory) }
     {
@@ -68,7 +68,7 @@ impl Front for Draft {
         }
     }
 
-    fn add(&mut self, _alloc: Global, number: u64, line: Line) -> Result<bool, Refusal> {
+    fn add(&mut self, _alloc: Global, number: u64, line: Line) -> Result<bool, InputRefusal> {
         if number > MAX_LINES {
             return Ok(false);
         }
@@ -79,13 +79,13 @@ impl Front for Draft {
         }
     }
 
-    fn finish(self) -> Result<Script, Refusal> {
+    fn finish(self) -> Result<Script, InputRefusal> {
         match self.stage.servers {
             Some(servers) => Ok(Script {
                 servers,
                 commands: self.commands,
             }),
-            None => Err(Refusal::out_of_place(1)),
+            None => Err(InputRefusal::out_of_place(1)),
         }
     }
 }

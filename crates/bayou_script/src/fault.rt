@@ -24,16 +24,16 @@ pub enum ScriptFault {
 
 /// Why a text wasn't taken as a script, or as an audit file.
 #[derive(Clone, Copy, Debug, PartialEq, Eq)]
-pub enum Refusal {
+pub enum InputRefusal {
     /// Its line of this number, counted from 1 on, has this fault.
     Line { number: u64, fault: ScriptFault },
     /// An allocation was refused, or there are more lines than 64 bits can number. It says nothing of the text's faults.
     OutOfMemory,
 }
 
-impl Refusal {
+impl InputRefusal {
     ghost use Rattle.std.specs.Prelude.{◌≡◌};
-    ghost use Rattle.bayou_script.specs.declared.fault.Refusal.TheVariants.{Line};
+    ghost use Rattle.bayou_script.specs.declared.fault.InputRefusal.TheVariants.{Line};
     ghost use Rattle.bayou_script.specs.declared.fault.ScriptFault.TheVariants.{OutOfPlace};
     ghost use Rattle.bayou_script.specs.Inner.Taking.{refusal_of};
 
@@ -42,44 +42,44 @@ impl Refusal {
         ensures { result ≡ refusal_of number fault }
     {
         let fault = match fault {
-            LineFault::OutOfMemory => return Refusal::OutOfMemory,
+            LineFault::OutOfMemory => return InputRefusal::OutOfMemory,
             LineFault::NotJson => ScriptFault::NotJson,
             LineFault::BadShape(_) => ScriptFault::BadShape,
             LineFault::Key(_) => ScriptFault::BadKey,
             LineFault::Program(_) => ScriptFault::BadProgram,
         };
-        Refusal::Line { number, fault }
+        InputRefusal::Line { number, fault }
     }
 
     /// The refusal of a text whose line of this number has no place there.
     pub(crate) fn out_of_place(number: u64) -> Self
         ensures { result ≡ Line number OutOfPlace }
     {
-        Refusal::Line {
+        InputRefusal::Line {
             number,
             fault: ScriptFault::OutOfPlace,
         }
     }
 }
 
-impl From<AllocError> for Refusal {
+impl From<AllocError> for InputRefusal {
     ghost use Rattle.std.specs.Prelude.{◌≡◌};
-    ghost use Rattle.bayou_script.specs.declared.fault.Refusal.TheVariants.{OutOfMemory};
+    ghost use Rattle.bayou_script.specs.declared.fault.InputRefusal.TheVariants.{OutOfMemory};
 
     ghost from_gives = { λ _ refusal. refusal ≡ OutOfMemory };
 
-    fn from(_error: AllocError) -> Refusal {
-        Refusal::OutOfMemory
+    fn from(_error: AllocError) -> InputRefusal {
+        InputRefusal::OutOfMemory
     }
 }
 
-impl<T: Drop> From<AllocFailed<T>> for Refusal {
+impl<T: Drop> From<AllocFailed<T>> for InputRefusal {
     ghost use Rattle.std.specs.Prelude.{◌≡◌};
-    ghost use Rattle.bayou_script.specs.declared.fault.Refusal.TheVariants.{OutOfMemory};
+    ghost use Rattle.bayou_script.specs.declared.fault.InputRefusal.TheVariants.{OutOfMemory};
 
     ghost from_gives = { λ _ refusal. refusal ≡ OutOfMemory };
 
-    fn from(_error: AllocFailed<T>) -> Refusal {
-        Refusal::OutOfMemory
+    fn from(_error: AllocFailed<T>) -> InputRefusal {
+        InputRefusal::OutOfMemory
     }
 }

@@ -49,7 +49,7 @@ pub fn all_that_was_said_is_arranged()
         → length (filter holds (arranged lines)) ≡ length (filter holds (filter (λ said. not (ends_phase said)) lines)) }
 {}
 
-/// Commands of a kind are alike in what they use, in which part of a phase they are, and in whether they claim a place in the book.
+/// Commands of a kind are alike in what they use, in which part of a phase they are, and in whether they claim room in the book.
 pub fn commands_of_a_kind_are_alike()
     ensures operations { (who place : ℕ) (tried : Attempt) → IsOperation who place tried }
     ensures trials { (place : ℕ) (how : TrialKind) → IsTrial place how }

@@ -22,13 +22,13 @@
 
 pub mod audit;
 mod audit_draft;
+pub mod capacity;
 mod draft;
 pub mod fault;
 pub mod laws;
 pub mod network;
 mod network_draft;
 pub mod phases;
-pub mod places;
 pub mod reader;
 pub mod script;
 pub mod spoken;
@@ -38,12 +38,12 @@ mod uses;
 
 pub use audit::AuditFile;
 pub use audit_draft::AuditDraft;
+pub use capacity::capacity_for;
 pub use draft::Draft;
-pub use fault::{Refusal, ScriptFault};
+pub use fault::{InputRefusal, ScriptFault};
 pub use network::NetworkCommand;
 pub use network_draft::NetworkDraft;
 pub use phases::{Part, next_phase};
-pub use places::places_for;
 pub use reader::{AuditReader, NetworkScriptReader, ScriptReader};
 pub use script::{NetworkScript, Script, Servers};
 pub use spoken::Spoken;

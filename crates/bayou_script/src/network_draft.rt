@@ -5,7 +5,7 @@ ghost use Rattle.bayou_script.specs.Inner.Started.{are_few, are_started};
 ghost use Rattle.bayou_script.specs.NetworkSaid.{network_said};
 ghost use Rattle.bayou_script.specs.Script.{use_of};
 
-use crate::fault::Refusal;
+use crate::fault::InputRefusal;
 use crate::network::NetworkCommand;
 use crate::script::NetworkScript;
 use crate::stage::Stage;
@@ -30,7 +30,7 @@ impl NetworkDraft {
     ghost use Rattle.bayou_base.specs.declared.limits.TheConstants.{MAX_LINES as MOST_LINES};
     ghost use Rattle.bayou_text.specs.Said.{Said, command_said, servers as servers_line};
     ghost use Rattle.bayou_text.specs.Table.{Spells};
-    ghost use Rattle.bayou_script.specs.declared.fault.Refusal.TheVariants.{OutOfMemory};
+    ghost use Rattle.bayou_script.specs.declared.fault.InputRefusal.TheVariants.{OutOfMemory};
     ghost use Rattle.bayou_script.specs.Inner.NetworkDraft.{IsNetworkDraftOf};
     ghost use Rattle.bayou_script.specs.Order.{HasAdded};
     ghost use Rattle.bayou_script.specs.Network.{network_order};
@@ -45,7 +45,7 @@ impl NetworkDraft {
     }
 
     /// Adds the command, if it has its place and runs over a network.
-    fn push(&mut self, command: Command) -> Result<bool, Refusal>
+    fn push(&mut self, command: Command) -> Result<bool, InputRefusal>
         ensures { (number : ℕ) (front : List Said) → number ≤ MOST_LINES → IsNetworkDraftOf self.old front
             → MatchResult result (HasAdded network_order IsNetworkDraftOf number front (command_said command) self.new) (λ refusal. refusal ≡ OutOfMemory) }
     {
@@ -83,7 +83,7 @@ impl Front for NetworkDraft {
         }
     }
 
-    fn add(&mut self, _alloc: Global, number: u64, line: Line) -> Result<bool, Refusal> {
+    fn add(&mut self, _alloc: Global, number: u64, line: Line) -> Result<bool, InputRefusal> {
         if number > MAX_LINES {
             return Ok(false);
         }
@@ -94,13 +94,13 @@ impl Front for NetworkDraft {
         }
     }
 
-    fn finish(self) -> Result<NetworkScript, Refusal> {
+    fn finish(self) -> Result<NetworkScript, InputRefusal> {
         match self.stage.servers {
             Some(servers) => Ok(NetworkScript {
                 servers,
                 commands: self.commands,
             }),
-            None => Err(Refusal::out_of_place(1)),
+            None => Err(InputRefusal::out_of_place(1)),
         }
     }
 }

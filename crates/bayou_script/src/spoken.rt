@@ -4,7 +4,7 @@ ghost use Rattle.std.specs.Option.{is_some};
 ghost use Rattle.bayou_text.specs.Said.{Said, command_said};
 ghost use Rattle.bayou_script.specs.NetworkSaid.{network_said};
 ghost use Rattle.bayou_script.specs.Phases.{ends_phase};
-ghost use Rattle.bayou_script.specs.Places.{operation_of};
+ghost use Rattle.bayou_script.specs.Capacity.{operation_of};
 
 use crate::network::NetworkCommand;
 use bayou_text::Command;
@@ -18,7 +18,7 @@ pub trait Spoken: Drop {
     fn ends_phase(&self) -> bool
         ensures { result ≡ ends_phase (line self.now) };
 
-    /// Whether it is an operation, which claims a place in the book.
+    /// Whether it is an operation, which claims room in the book.
     fn is_operation(&self) -> bool
         ensures { result ≡ is_some (operation_of (line self.now)) };
 }

@@ -1,21 +1,21 @@
 //! Where a command may stand in a script: what the lines before it started and opened.
 ghost use Rattle.std.specs.Prelude.{◌≡◌, ◌≤◌, [], ◌∷◌, ◌++◌, ℕ, List, Option, Some, IsTrue};
-ghost use Rattle.bayou_script.specs.Inner.Using.{places_of};
+ghost use Rattle.bayou_script.specs.Inner.Using.{server_numbers};
 ghost use Rattle.bayou_script.specs.Script.{are_servers};
 
 use crate::script::Servers;
-use crate::uses::{Places, Uses};
+use crate::uses::{UsedServers, Uses};
 use bayou_base::{DEFAULT_LIMIT, SESSIONS, SessionId};
 
 /// Whether these are servers that there are, none of them twice.
 #[tactic(auto, unfolding(crate::specs::Script::are_servers))]
-fn are_servers(count: u8, places: Places) -> bool
-    ensures { result ≡ are_servers count (places_of places) }
+fn are_servers(count: u8, used: UsedServers) -> bool
+    ensures { result ≡ are_servers count (server_numbers used) }
 {
-    match places {
-        Places::Nowhere => true,
-        Places::At(server) => server.index < count,
-        Places::Between(to, from) => {
+    match used {
+        UsedServers::Nowhere => true,
+        UsedServers::At(server) => server.index < count,
+        UsedServers::Between(to, from) => {
             to.index < count && from.index < count && from.index != to.index
         }
     }
@@ -57,7 +57,7 @@ impl Stage {
             → IsTrue result → IsStageOf self.new others (front ++ servers_line count limit ∷ []) }
         ensures few { IsTrue (are_few self.old.servers) → count ≤ MOST_OVER_NETWORK → IsTrue (are_few self.new.servers) }
         // Those that a command was said to stay.
-        ensures started { (places : List ℕ) → IsTrue (are_started self.old.servers places) → IsTrue (are_started self.new.servers places) }
+        ensures started { (numbers : List ℕ) → IsTrue (are_started self.old.servers numbers) → IsTrue (are_started self.new.servers numbers) }
     {
         if self.servers.is_some() {
             return false;
@@ -77,7 +77,7 @@ impl Stage {
     fn is_behind(&self, servers: Servers, uses: Uses) -> bool
         requires { self.now.servers ≡ Some servers }
         ensures place { (others front : List Said) (used : Use) → IsStageOf self.now others front → AreUses uses used → result ≡ is_behind front used }
-        ensures served { IsTrue result → IsTrue (are_servers servers.count (places_of uses.servers)) }
+        ensures served { IsTrue result → IsTrue (are_servers servers.count (server_numbers uses.servers)) }
     {
         let opens_once = match uses.opens {
             Some(session) => !self.is_open(session),
@@ -95,7 +95,7 @@ impl Stage {
         ensures place { (others front : List Said) (used : Use) → IsStageOf self.old others front → AreUses uses used → result ≡ is_behind front used }
         ensures stage { (others front : List Said) (told : Said) → IsStageOf self.old others front → AreUses uses (use_of told)
             → IsTrue result → IsStageOf self.new (others ++ told ∷ []) (front ++ told ∷ []) }
-        ensures served { IsTrue result → IsTrue (are_started self.new.servers (places_of uses.servers)) }
+        ensures served { IsTrue result → IsTrue (are_started self.new.servers (server_numbers uses.servers)) }
         ensures same { self.new.servers ≡ self.old.servers }
     {
         let Some(servers) = self.servers else {

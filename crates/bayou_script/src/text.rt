@@ -2,11 +2,11 @@
 ghost use Rattle.std.specs.Prelude.{◌≡◌, ◌+◌, [], ◌∷◌, ◌++◌, ℕ, IfOk, List, MatchResult, length};
 ghost use Rattle.bayou_script.specs.Inner.Taking.{FaultAt};
 ghost use Rattle.bayou_script.specs.Order.{HasAdded, InOrderBy, Order, RefusedBy};
-ghost use Rattle.bayou_script.specs.declared.fault.Refusal.TheVariants.{OutOfMemory};
+ghost use Rattle.bayou_script.specs.declared.fault.InputRefusal.TheVariants.{OutOfMemory};
 ghost use Rattle.bayou_text.specs.Said.{Said, said};
 ghost use Rattle.bayou_text.specs.Table.{Spells};
 
-use crate::fault::{Refusal, ScriptFault};
+use crate::fault::{InputRefusal, ScriptFault};
 use bayou_base::MAX_LINE_BYTES;
 use bayou_text::{Line, read_line};
 use std::alloc::Global;
@@ -33,20 +33,25 @@ pub trait Front: Drop {
         ensures { keeps result [] };
 
     /// Adds what the line of this number says, if that has its place, and answers whether it has.
-    fn add(&mut self, alloc: Global, number: u64, line: Line) -> Result<bool, Refusal>
+    fn add(&mut self, alloc: Global, number: u64, line: Line) -> Result<bool, InputRefusal>
         requires { (bytes : List ℕ) × Spells bytes (said line) }
         ensures { (front : List Said) → keeps self.old front
             → MatchResult result (HasAdded order keeps number front (said line) self.new) (λ refusal. refusal ≡ OutOfMemory) };
 
     /// What a text says of which this is all.
-    fn finish(self) -> Result<Self::Text, Refusal>
+    fn finish(self) -> Result<Self::Text, InputRefusal>
         ensures said { (lines : List (List ℕ)) (front : List Said) → InOrderBy order lines front → keeps self front
             → MatchResult result (says lines) (RefusedBy order lines) }
         ensures told { IfOk result tells };
 }
 
 /// Adds what the line of this number says. An empty line says nothing.
-fn add_line<F: Front>(text: &mut F, alloc: Global, number: u64, bytes: &[u8]) -> Result<(), Refusal>
+fn add_line<F: Front>(
+    text: &mut F,
+    alloc: Global,
+    number: u64,
+    bytes: &[u8],
+) -> Result<(), InputRefusal>
     ensures { (before : List (List ℕ)) (front : List Said) → number ≡ length before + 1 → InOrderBy F.order before front → F.keeps text.old front
         → MatchResult result
         (λ _. (after : List Said) × InOrderBy F.order (before ++ bytes.now ∷ []) after × F.keeps text.new after)
@@ -57,12 +62,12 @@ fn add_line<F: Front>(text: &mut F, alloc: Global, number: u64, bytes: &[u8]) ->
     }
     let line = match read_line(alloc, bytes) {
         Ok(line) => line,
-        Err(fault) => return Err(Refusal::of_line(number, fault)),
+        Err(fault) => return Err(InputRefusal::of_line(number, fault)),
     };
     if text.add(alloc, number, line)? {
         Ok(())
     } else {
-        Err(Refusal::out_of_place(number))
+        Err(InputRefusal::out_of_place(number))
     }
 }
 
@@ -91,13 +96,13 @@ impl<F: Front> TextReader<F> {
     }
 
     /// Takes the line that has ended.
-    fn end_line(&mut self, alloc: Global) -> Result<(), Refusal>
+    fn end_line(&mut self, alloc: Global) -> Result<(), InputRefusal>
         ensures { (bytes : List ℕ) → HasReadBy F.order F.keeps self.old bytes
             → MatchResult result (λ _. HasReadBy F.order F.keeps self.new (bytes ++ 10 ∷ [])) (IsRefusedSoFar F.order (bytes ++ 10 ∷ [])) }
     {
         add_line(&mut self.front, alloc, self.number, self.line.as_slice())?;
         let Some(next) = self.number.checked_add(1) else {
-            return Err(Refusal::OutOfMemory);
+            return Err(InputRefusal::OutOfMemory);
         };
         self.number = next;
         self.line.clear();
@@ -105,13 +110,13 @@ impl<F: Front> TextReader<F> {
     }
 
     /// Takes a byte of the line that hasn't ended. A line that is too long needn't end to be refused.
-    fn go_on(&mut self, byte: u8) -> Result<(), Refusal>
+    fn go_on(&mut self, byte: u8) -> Result<(), InputRefusal>
         requires { ¬ (byte ≡ 10) }
         ensures { (bytes : List ℕ) → HasReadBy F.order F.keeps self.old bytes
             → MatchResult result (λ _. HasReadBy F.order F.keeps self.new (bytes ++ byte ∷ [])) (IsRefusedSoFar F.order (bytes ++ byte ∷ [])) }
     {
         if self.line.len() >= MAX_LINE_BYTES {
-            return Err(Refusal::Line {
+            return Err(InputRefusal::Line {
                 number: self.number,
                 fault: ScriptFault::BadShape,
             });
@@ -121,7 +126,7 @@ impl<F: Front> TextReader<F> {
     }
 
     /// Takes the next byte.
-    fn take(&mut self, alloc: Global, byte: u8) -> Result<(), Refusal>
+    fn take(&mut self, alloc: Global, byte: u8) -> Result<(), InputRefusal>
         ensures { (bytes : List ℕ) → HasReadBy F.order F.keeps self.old bytes
             → MatchResult result (λ _. HasReadBy F.order F.keeps self.new (bytes ++ byte ∷ [])) (IsRefusedSoFar F.order (bytes ++ byte ∷ [])) }
     {
@@ -133,7 +138,7 @@ impl<F: Front> TextReader<F> {
 
     /// Reads on. The least line with a fault is told as soon as its fault is sure, whatever stands behind it; then the reader
     /// is of no more use.
-    pub fn feed(&mut self, alloc: Global, piece: &[u8]) -> Result<(), Refusal>
+    pub fn feed(&mut self, alloc: Global, piece: &[u8]) -> Result<(), InputRefusal>
         ensures { (bytes : List ℕ) → HasReadBy F.order F.keeps self.old bytes
             → MatchResult result (λ _. HasReadBy F.order F.keeps self.new (bytes ++ piece.now)) (IsRefusedSoFar F.order (bytes ++ piece.now)) }
     {
@@ -144,7 +149,7 @@ impl<F: Front> TextReader<F> {
     }
 
     /// What all the lines have said. What stands behind the last line feed is the last of them.
-    fn end(self, alloc: Global) -> Result<F, Refusal>
+    fn end(self, alloc: Global) -> Result<F, InputRefusal>
         ensures { (bytes : List ℕ) → HasReadBy F.order F.keeps self bytes
             → MatchResult result
             (λ text. (front : List Said) × InOrderBy F.order (lines_of bytes) front × F.keeps text front)
@@ -156,7 +161,7 @@ impl<F: Front> TextReader<F> {
     }
 
     /// What the text says that was read. What stands behind the last line feed is its last line.
-    pub fn finish(self, alloc: Global) -> Result<F::Text, Refusal>
+    pub fn finish(self, alloc: Global) -> Result<F::Text, InputRefusal>
         ensures said { (bytes : List ℕ) → HasReadBy F.order F.keeps self bytes
             → MatchResult result (F.says (lines_of bytes)) (RefusedBy F.order (lines_of bytes)) }
         ensures told { IfOk result F.tells }

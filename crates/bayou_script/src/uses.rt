@@ -1,7 +1,7 @@
 //! What a command uses.
 ghost use Rattle.std.specs.Prelude.{◌≡◌, None};
 ghost use Rattle.bayou_text.specs.Said.{command_said, question_said};
-ghost use Rattle.bayou_script.specs.declared.uses.Places.TheVariants.{At, Between, Nowhere};
+ghost use Rattle.bayou_script.specs.declared.uses.UsedServers.TheVariants.{At, Between, Nowhere};
 ghost use Rattle.bayou_script.specs.Inner.Using.{AreUses};
 ghost use Rattle.bayou_script.specs.Script.{use_of};
 
@@ -10,7 +10,7 @@ use bayou_text::{Command, Question};
 
 /// The servers that a command speaks to.
 #[derive(Clone, Copy)]
-pub(crate) enum Places {
+pub(crate) enum UsedServers {
     Nowhere,
     At(ServerId),
     /// The second sends Writes to the first.
@@ -24,7 +24,7 @@ pub(crate) struct Uses {
     pub opens: Option<SessionId>,
     /// The session that it speaks for, which is open.
     pub session: Option<SessionId>,
-    pub servers: Places,
+    pub servers: UsedServers,
 }
 
 /// Of a command that speaks to one server, for a session or for none.
@@ -34,7 +34,7 @@ fn at_server(session: Option<SessionId>, server: ServerId) -> Uses
     Uses {
         opens: None,
         session,
-        servers: Places::At(server),
+        servers: UsedServers::At(server),
     }
 }
 
@@ -45,7 +45,7 @@ fn between(to: ServerId, from: ServerId) -> Uses
     Uses {
         opens: None,
         session: None,
-        servers: Places::Between(to, from),
+        servers: UsedServers::Between(to, from),
     }
 }
 
@@ -56,7 +56,7 @@ fn nothing() -> Uses
     Uses {
         opens: None,
         session: None,
-        servers: Places::Nowhere,
+        servers: UsedServers::Nowhere,
     }
 }
 
@@ -78,7 +78,7 @@ pub(crate) fn used_by(command: &Command) -> Uses
         Command::Session { session, .. } => Uses {
             opens: Some(*session),
             session: None,
-            servers: Places::Nowhere,
+            servers: UsedServers::Nowhere,
         },
         Command::Operation(operation) => at_server(Some(operation.session), operation.server),
         Command::Trial(trial) => at_server(None, trial.server),

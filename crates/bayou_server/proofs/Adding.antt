@@ -60,7 +60,7 @@ entry_is journal log id doubt made bytes together up spelled = record {
 pub after_adding : {D : Type 0} (journal new : JournalState D) (log after : Log) (id : ℕ) (doubt : Option Write) (made : Write) (bytes : List ℕ)
     → BelongTogether journal log id doubt → is_some doubt ≡ false → MayBeInDoubt id log.count log.limit log.receipts made → bytes ≡ write_bytes made
     → new ≡ record journal { device = new.device; last = link journal.last bytes }
-    → after ≡ record log { receipts = log.receipts ++ made ∷ []; room = after.room } → BelongTogether new after id doubt
+    → after ≡ record log { receipts = log.receipts ++ made ∷ []; room = after.room; waiting = after.waiting } → BelongTogether new after id doubt
 after_adding {D} journal new log after id doubt made bytes together up may spelled new_is after_is =
     let before = stands_up journal log id doubt together up in
     let owner : new.server ≡ id = ap (λ (j : JournalState D). j.server) new_is ∙ together.owner in
@@ -103,7 +103,7 @@ pub record Adds {D : Type 0} (journal : JournalState D) (log reserved : Log) (id
 
 -- the core, once the Write is held
 held_core : (log reserved new : Log) (id : ℕ) (doubt left : Option Write) (made : Write) → reserved ≡ record log { room = reserved.room }
-    → new ≡ record reserved { receipts = reserved.receipts ++ made ∷ []; room = new.room } → left ≡ doubt
+    → new ≡ record reserved { receipts = reserved.receipts ++ made ∷ []; room = new.room; waiting = new.waiting } → left ≡ doubt
     → core_of new id left ≡ record (core_of log id doubt) { held = log.receipts ++ made ∷ [] }
 held_core log reserved new id doubt left made same is kept =
     ap (λ (l : Log). core_of l id left) is
@@ -174,7 +174,7 @@ pub settled_together : {D : Type 0} (d : Ghosts D) (journal new : JournalState D
 settled_together d journal new log reserved after id doubt left made bytes (Ok done) Held adds appends settles =
     subst (λ (o : Option Write). BelongTogether new after id o) (sym settles.1)
     (after_adding journal new log after id doubt made bytes adds.together (ap is_some adds.up) adds.may adds.spelled appends.ends
-    (settles.0 ∙ ap (λ (l : Log). record l { receipts = l.receipts ++ made ∷ []; room = after.room }) adds.same))
+    (settles.0 ∙ ap (λ (l : Log). record l { receipts = l.receipts ++ made ∷ []; room = after.room; waiting = after.waiting }) adds.same))
 settled_together d journal new log reserved after id doubt left made bytes (Err reason) InDoubt adds appends settles =
     after_failing journal new log reserved after id doubt left made bytes adds
     (appends.fault (fault_of d journal new log id doubt bytes reason adds.together adds.up appends)) settles.0 settles.1

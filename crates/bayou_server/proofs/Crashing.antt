@@ -21,7 +21,7 @@ use Rattle.bayou_server.specs.declared.fault.TakeFault.{TakeFault}
 use Rattle.bayou_server.specs.declared.fault.TakeFault.TheVariants as taking
 use Rattle.bayou_server.specs.declared.fault.WriteFault.{WriteFault}
 use Rattle.bayou_server.specs.declared.fault.WriteFault.TheVariants as writing
-use Rattle.bayou_server.specs.Honest.{HasCrashed, IsHonestDevice, IsHonestServer, IsKept, IsKeptServer, IsLeft, KeepsWrites}
+use Rattle.bayou_server.specs.Honest.{HasCrashed, IsHonestServerDevice, IsHonestServer, IsKept, IsKeptServer, IsLeft, KeepsWrites}
 use Rattle.bayou_server.specs.Reopens.{Reopens}
 use Rattle.bayou_server.specs.Server.{Core, IsSoundServer, ServerState}
 use Rattle.bayou_server.specs.Stored.{ReopensJournal, StoresTaken, StoresWrite}
@@ -40,7 +40,7 @@ kept_of_left : {D : Type 0} (d : Ghosts D) (id : ℕ) (held : List Write) (doubt
 kept_of_left d id held None device left = left
 kept_of_left d id held (Some doubt) device left = record { bodies = left.bodies; stores = left.stores; keeps = left.honest.kept }
 
-pub device_keeps : {D : Type 0} (d : Ghosts D) (id : ℕ) (held : List Write) (doubt : Option Write) (device : D) → IsHonestDevice d id held doubt device → KeepsWrites d id held device
+pub device_keeps : {D : Type 0} (d : Ghosts D) (id : ℕ) (held : List Write) (doubt : Option Write) (device : D) → IsHonestServerDevice d id held doubt device → KeepsWrites d id held device
 device_keeps d id held doubt device honest = record { bodies = honest.bodies; stores = honest.stores; keeps = honest.honest.kept }
 
 pub honest_keeps : {D : Type 0} (d : Ghosts D) (server : ServerState D) → IsHonestServer d server → IsKeptServer d server
@@ -128,7 +128,7 @@ reopened {D} d laws result old new modelled sound was reopens told keeps = by re
 -- ---- a crash
 
 pub crashed : {D : Type 0} (d : Ghosts D) → CrashedHonestly d → (id : ℕ) (held : List Write) (doubt : Option Write) (before device : D) → KeepsWrites d id held before
-    → HasCrashed d id held doubt before device → IsHonestDevice d id held doubt device
+    → HasCrashed d id held doubt before device → IsHonestServerDevice d id held doubt device
 crashed d law id held doubt before device keeps crash =
     let same : keeps.bodies ≡ crash.bodies = keeps.stores ∙ sym crash.stores in
     record {

@@ -32,7 +32,7 @@ use Rattle.bayou_server.specs.declared.fault.TakeFault.TheVariants as taking
 use Rattle.bayou_server.specs.declared.fault.WriteFault.{WriteFault}
 use Rattle.bayou_server.specs.declared.fault.WriteFault.TheVariants as writing
 use Rattle.bayou_server.specs.Faults.{open_fault}
-use Rattle.bayou_server.specs.Honest.{AreHonest, IsHonestAnswer, IsHonestDevice, IsHonestRefusal, IsHonestServer, IsLeft, IsWholeDevice, OnlyTears, StoresDoubt}
+use Rattle.bayou_server.specs.Honest.{AreHonest, IsHonestAnswer, IsHonestServerDevice, IsHonestRefusal, IsHonestServer, IsLeft, IsWholeDevice, StoresDoubt}
 use Rattle.bayou_server.specs.Reopens.{Recovers, Reopens}
 use Rattle.bayou_server.specs.Server.{Core, IsSoundServer, MayBeInDoubt, MayHold, ServerState}
 use Rattle.bayou_server.specs.Starts.{FailsToStart, StopsAtEntry}
@@ -97,7 +97,7 @@ doubt_is_write core sound = by core.doubt sound.doubted
 
 -- ---- servers that are up and down
 
-pub honest_of : {D : Type 0} (d : Ghosts D) → WholeIsHonest d → (id : ℕ) (held : List Write) (doubt : Option Write) (device : D) → IsLeft d id held doubt device → IsHonestDevice d id held doubt device
+pub honest_of : {D : Type 0} (d : Ghosts D) → WholeIsHonest d → (id : ℕ) (held : List Write) (doubt : Option Write) (device : D) → IsLeft d id held doubt device → IsHonestServerDevice d id held doubt device
 honest_of d law id held None device left = record {
   bodies = left.bodies;
   body = None;
@@ -107,7 +107,7 @@ honest_of d law id held None device left = record {
 }
 honest_of d law id held (Some doubt) device left = left
 
-left_of : {D : Type 0} (d : Ghosts D) (id : ℕ) (held : List Write) (doubt : Option Write) (device : D) → IsSome doubt → IsHonestDevice d id held doubt device → IsLeft d id held doubt device
+left_of : {D : Type 0} (d : Ghosts D) (id : ℕ) (held : List Write) (doubt : Option Write) (device : D) → IsSome doubt → IsHonestServerDevice d id held doubt device → IsLeft d id held doubt device
 left_of d id held None device down honest = absurd cc
 left_of d id held (Some doubt) device down honest = honest
 
@@ -147,7 +147,7 @@ added {D} d old new made modelled up is has was =
       whole = record { whole = content; synced = has.synced };
     }
 
-failed : {D : Type 0} (d : Ghosts D) → AppendFails d → BodiesOfWrites → (old new : ServerState D) (made : Write) → OnlyTears d → old.core.doubt ≡ None → All IsWrite old.core.held → IsWrite made
+failed : {D : Type 0} (d : Ghosts D) → AppendFails d → BodiesOfWrites → (old new : ServerState D) (made : Write) → journals.OnlyTears d → old.core.doubt ≡ None → All IsWrite old.core.held → IsWrite made
     → new.core ≡ record old.core { doubt = Some made } → HasFailed d old new → KeepsChains (d.kept old.device) (d.kept new.device) → IsHonestServer d old → IsHonestServer d new
 failed {D} d law laws old new made tears up all spelled is has keeps was = settles d new (record old.core { doubt = Some made }) is left
   where
@@ -169,7 +169,7 @@ failed {D} d law laws old new made tears up all spelled is has keeps was = settl
     tears_it : FailsToAdd d.may_leave (entry (chain_end VERSION old.core.id one) has.entry_of.body) (d.content old.device) (d.content new.device)
     tears_it = subst (λ (p : List ℕ). FailsToAdd d.may_leave p (d.content old.device) (d.content new.device)) has.entry_of.is (has.left tears.modelled)
 
-    left : IsHonestDevice d old.core.id old.core.held (Some made) new.device
+    left : IsHonestServerDevice d old.core.id old.core.held (Some made) new.device
     left = record {
       bodies = one;
       body = Some has.entry_of.body;
@@ -180,7 +180,7 @@ failed {D} d law laws old new made tears up all spelled is has keeps was = settl
           before tears_it keeps;
     }
 
-pub written : {D : Type 0} (d : Ghosts D) → AppendFails d → BodiesOfWrites → (need : List ℕ) (program : Program) (result : Result Accepted WriteFault) (old new : ServerState D) → OnlyTears d
+pub written : {D : Type 0} (d : Ghosts D) → AppendFails d → BodiesOfWrites → (need : List ℕ) (program : Program) (result : Result Accepted WriteFault) (old new : ServerState D) → journals.OnlyTears d
     → IsSoundServer old.core → IsSoundServer new.core → IsHonestServer d old → Writes old.core need program result new.core → StoresWrite d old result new → KeepsChains (d.kept old.device) (d.kept new.device)
     → IsHonestServer d new
 written d law laws need program (Ok accepted) old new tears sound next was writes stores keeps = added d old new writes.made tears.modelled writes.makes.ready.up writes.is stores was
@@ -191,7 +191,7 @@ written d law laws need program (Err writing.OutOfMemory) old new tears sound ne
 written d law laws need program (Err writing.Journal) old new tears sound next was writes stores keeps =
     failed d law laws old new writes.made tears writes.makes.ready.up sound.spelled writes.makes.spelled writes.is stores keeps was
 
-pub taken : {D : Type 0} (d : Ghosts D) → AppendFails d → BodiesOfWrites → (given : Write) (result : Result Took TakeFault) (old new : ServerState D) → OnlyTears d
+pub taken : {D : Type 0} (d : Ghosts D) → AppendFails d → BodiesOfWrites → (given : Write) (result : Result Took TakeFault) (old new : ServerState D) → journals.OnlyTears d
     → IsSoundServer old.core → IsSoundServer new.core → IsHonestServer d old → Takes old.core given result new.core → StoresTaken d old result new → KeepsChains (d.kept old.device) (d.kept new.device)
     → IsHonestServer d new
 taken d law laws given (Ok New) old new tears sound next was takes stores keeps = added d old new given tears.modelled takes.0.fit.foreign.up takes.2 stores was
@@ -221,11 +221,11 @@ nothing_other bodies (Some body) held doubt found stores both (inr same) other =
 
 -- what the journal's laws ask for
 record Reads {D : Type 0} (d : Ghosts D) (id : ℕ) (held : List Write) (doubt : Option Write) (device : D) : Type 0 where
-  pub one : IsHonestDevice d id held doubt device
+  pub one : IsHonestServerDevice d id held doubt device
   pub are : AreBodies one.bodies
   pub is : IfSome one.body IsBody
 
-reads_of : {D : Type 0} (d : Ghosts D) → BodiesOfWrites → (core : Core) (device : D) → IsSoundServer core → IsHonestDevice d core.id core.held core.doubt device → Reads d core.id core.held core.doubt device
+reads_of : {D : Type 0} (d : Ghosts D) → BodiesOfWrites → (core : Core) (device : D) → IsSoundServer core → IsHonestServerDevice d core.id core.held core.doubt device → Reads d core.id core.held core.doubt device
 reads_of d laws core device sound one = record {
   one = one;
   are = laws one.bodies core.held sound.spelled one.stores;
@@ -238,7 +238,7 @@ found_in d law {id} old new bodies modelled reads opens =
     (law VERSION id reads.one.bodies reads.one.body old new (record { bodies = bodies; dropped = opens.dropped }) (chain_end VERSION id bodies) modelled reads.are reads.is reads.one.honest opens.opened).0
 
 again : {D : Type 0} (d : Ghosts D) → HonestAgain d → {id : ℕ} {held : List Write} {doubt : Option Write} (old new : D) (bodies : List (List ℕ)) → d.is_modelled → Reads d id held doubt old
-    → OpensWith d id old new bodies → IsHonestDevice d id held doubt new
+    → OpensWith d id old new bodies → IsHonestServerDevice d id held doubt new
 again d law {id} old new bodies modelled reads opens = record {
   bodies = reads.one.bodies;
   body = reads.one.body;
@@ -247,8 +247,8 @@ again d law {id} old new bodies modelled reads opens = record {
   honest = law VERSION id reads.one.bodies reads.one.body old new (record { bodies = bodies; dropped = opens.dropped }) (chain_end VERSION id bodies) modelled reads.are reads.is reads.one.honest opens.opened;
 }
 
-refused : {D : Type 0} (d : Ghosts D) → RefusedHonestly d → {id : ℕ} {held : List Write} {doubt : Option Write} (old new : D) (fault : OpenFault) → OnlyTears d → Reads d id held doubt old
-    → HasRefused d VERSION id old new fault → KeepsChains (d.kept old) (d.kept new) → IsHonestDevice d id held doubt new
+refused : {D : Type 0} (d : Ghosts D) → RefusedHonestly d → {id : ℕ} {held : List Write} {doubt : Option Write} (old new : D) (fault : OpenFault) → journals.OnlyTears d → Reads d id held doubt old
+    → HasRefused d VERSION id old new fault → KeepsChains (d.kept old) (d.kept new) → IsHonestServerDevice d id held doubt new
 refused d law {id} old new fault tears reads told keeps = record {
   bodies = reads.one.bodies;
   body = reads.one.body;
@@ -271,7 +271,7 @@ pub answers : {D : Type 0} (d : Ghosts D) → WholeIsHonest d → OpensHonestly 
     → IsHonestServer d old → Reopens old.core result new.core → ReopensJournal d old result new → IsHonestAnswer result
 answers {D} d wholes law passes laws result old new modelled sound was reopens told = by result told
   where
-    one : IsHonestDevice d old.core.id old.core.held old.core.doubt old.device
+    one : IsHonestServerDevice d old.core.id old.core.held old.core.doubt old.device
     one = honest_of d wholes old.core.id old.core.held old.core.doubt old.device was
 
     reads : Reads d old.core.id old.core.held old.core.doubt old.device
@@ -301,17 +301,17 @@ recovered d old new None (down, is) whole =
 recovered d old new (Some wid) (doubt, was, name, is) whole =
     settles d new (record old.core { held = old.core.held ++ doubt ∷ []; doubt = None }) is (subst (λ (h : List Write). IsWholeDevice d old.core.id h new.device) (ap (λ (c : Core). c.held) is) whole)
 
-pub reopened_left : {D : Type 0} (d : Ghosts D) → WholeIsHonest d → OpensHonestly d → HonestAgain d → RefusedHonestly d → BodiesOfWrites → (result : Result Reopened ReopenFault) (old new : ServerState D) → OnlyTears d
+pub reopened_left : {D : Type 0} (d : Ghosts D) → WholeIsHonest d → OpensHonestly d → HonestAgain d → RefusedHonestly d → BodiesOfWrites → (result : Result Reopened ReopenFault) (old new : ServerState D) → journals.OnlyTears d
     → IsSoundServer old.core → IsHonestServer d old → Reopens old.core result new.core → ReopensJournal d old result new → KeepsChains (d.kept old.device) (d.kept new.device) → IsHonestServer d new
 reopened_left {D} d wholes law agains refuses laws result old new tears sound was reopens told keeps = by result reopens told
   where
-    one : IsHonestDevice d old.core.id old.core.held old.core.doubt old.device
+    one : IsHonestServerDevice d old.core.id old.core.held old.core.doubt old.device
     one = honest_of d wholes old.core.id old.core.held old.core.doubt old.device was
 
     reads : Reads d old.core.id old.core.held old.core.doubt old.device
     reads = reads_of d laws old.core old.device sound one
 
-    down_still : IsSome old.core.doubt → new.core ≡ old.core → IsHonestDevice d old.core.id old.core.held old.core.doubt new.device → IsHonestServer d new
+    down_still : IsSome old.core.doubt → new.core ≡ old.core → IsHonestServerDevice d old.core.id old.core.held old.core.doubt new.device → IsHonestServer d new
     down_still down same honest = settles d new old.core same (left_of d old.core.id old.core.held old.core.doubt new.device down honest)
 
     by : (result : Result Reopened ReopenFault) → Reopens old.core result new.core → ReopensJournal d old result new → IsHonestServer d new
@@ -364,7 +364,7 @@ whole_list core bodies body found sound stores both honest = by body core.doubt 
     by (Some b) None is both same = absurd both
 
 pub whole_of_device : {D : Type 0} (d : Ghosts D) → OpensHonestly d → BodiesOfWrites → (core : Core) (device left : D) (bodies : List (List ℕ)) → d.is_modelled → IsSoundServer core
-    → IsHonestDevice d core.id core.held core.doubt device → OpensWith d core.id device left bodies → Whole core bodies
+    → IsHonestServerDevice d core.id core.held core.doubt device → OpensWith d core.id device left bodies → Whole core bodies
 whole_of_device d law laws core device left bodies modelled sound one opens =
     let reads = reads_of d laws core device sound one in
     whole_list core reads.one.bodies reads.one.body bodies sound reads.one.stores reads.one.stores_doubt (found_in d law device left bodies modelled reads opens)
@@ -375,7 +375,7 @@ refusal_of NotAJournal passing = passing
 refusal_of OtherServer passing = passing
 
 pub start_refused : {D : Type 0} (d : Ghosts D) → OpensHonestly d → Passes d → BeginsNone → BodiesOfWrites → (core : Core) (device left : D) (fault : StartFault) → d.is_modelled → IsSoundServer core
-    → IsHonestDevice d core.id core.held core.doubt device → FailsToStart d core.id core.count core.limit device left fault → IsHonestRefusal fault
+    → IsHonestServerDevice d core.id core.held core.doubt device → FailsToStart d core.id core.count core.limit device left fault → IsHonestRefusal fault
 start_refused {D} d law passes none laws core device left fault modelled sound one told = by fault told
   where
     at_entry : (fault : StartFault) → StopsAtEntry d core.id core.count core.limit device left fault → ⊥
@@ -392,18 +392,18 @@ start_refused {D} d law passes none laws core device left fault modelled sound o
     by starting.LogFull told = at_entry starting.LogFull told
     by starting.OutOfMemory told = tt
 
-pub start_left : {D : Type 0} (d : Ghosts D) → HonestAgain d → RefusedHonestly d → BodiesOfWrites → (core : Core) (device left : D) (fault : StartFault) → OnlyTears d → IsSoundServer core
-    → IsHonestDevice d core.id core.held core.doubt device → FailsToStart d core.id core.count core.limit device left fault → KeepsChains (d.kept device) (d.kept left)
-    → IsHonestDevice d core.id core.held core.doubt left
+pub start_left : {D : Type 0} (d : Ghosts D) → HonestAgain d → RefusedHonestly d → BodiesOfWrites → (core : Core) (device left : D) (fault : StartFault) → journals.OnlyTears d → IsSoundServer core
+    → IsHonestServerDevice d core.id core.held core.doubt device → FailsToStart d core.id core.count core.limit device left fault → KeepsChains (d.kept device) (d.kept left)
+    → IsHonestServerDevice d core.id core.held core.doubt left
 start_left {D} d agains refuses laws core device left fault tears sound one told keeps = by fault told
   where
     reads : Reads d core.id core.held core.doubt device
     reads = reads_of d laws core device sound one
 
-    opened : (bodies : List (List ℕ)) → OpensWith d core.id device left bodies → IsHonestDevice d core.id core.held core.doubt left
+    opened : (bodies : List (List ℕ)) → OpensWith d core.id device left bodies → IsHonestServerDevice d core.id core.held core.doubt left
     opened bodies opens = again d agains device left bodies tears.modelled reads opens
 
-    by : (fault : StartFault) → FailsToStart d core.id core.count core.limit device left fault → IsHonestDevice d core.id core.held core.doubt left
+    by : (fault : StartFault) → FailsToStart d core.id core.count core.limit device left fault → IsHonestServerDevice d core.id core.held core.doubt left
     by (starting.Journal fault) told = refused d refuses device left (open_fault fault) tears reads told keeps
     by (starting.BadRecord at) told = opened told.bodies told.opened
     by (starting.Gap at) told = opened told.bodies told.opened

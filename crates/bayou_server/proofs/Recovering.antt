@@ -79,12 +79,17 @@ pub doubted_is_reserved : {D : Type 0} (journal : JournalState D) (log : Log) (i
     → IsReserved log.room write
 doubted_is_reserved journal log id doubt write together is = subst (λ (d : Option Write). Stands journal log d) is together.stands
 
+-- what is held and applied is held
+pub held_and_applied : (log after : Log) (writes : List Write) → after ≡ record log { receipts = writes; room = after.room; waiting = 0 }
+    → after ≡ record log { receipts = writes; room = after.room; waiting = after.waiting }
+held_and_applied log after writes is = is ∙ ap (λ n. record log { receipts = writes; room = after.room; waiting = n }) (sym (ap (λ (l : Log). l.waiting) is))
+
 -- the fields still belong together once the Write in doubt was adopted
 pub after_adopting : {D : Type 0} (journal new : JournalState D) (log after : Log) (id : ℕ) (doubt left : Option Write) (write : Write) (bodies : List (List ℕ))
     → BelongTogether journal log id doubt → doubt ≡ Some write → left ≡ None
     → new ≡ record journal { device = new.device; last = new.last; is_down = false }
     → new.last ≡ chain_end VERSION journal.server bodies → bodies ≡ bodies_of (log.receipts ++ write ∷ [])
-    → after ≡ record log { receipts = log.receipts ++ write ∷ []; room = after.room } → BelongTogether new after id left
+    → after ≡ record log { receipts = log.receipts ++ write ∷ []; room = after.room; waiting = after.waiting } → BelongTogether new after id left
 after_adopting {D} journal new log after id doubt left write bodies together is none new_is last bodies_are after_is =
     let may = doubted_may journal log id doubt write together is in
     let up : IsSoundServer (core_of log id None) = record { known = together.sound.known; holds = together.sound.holds; spelled = together.sound.spelled; doubted = tt } in

@@ -6,16 +6,15 @@ use Rattle.bayou_lang.specs.Laws.Equality.{same_write-decides}
 use Rattle.bayou_server.specs.Takes.{HasAnother}
 
 -- the two are one, and so the given one is held
-pub is_held : (writes : List Write) (held unfolded given : Write) (told : Bool) → Contains writes held → unfolded ≡ held → told ≡ same_write unfolded given → told ≡ true → Contains writes given
-is_held writes held unfolded given told among plain is equal =
-    subst (λ (w : Write). Contains writes w) (sym plain ∙ (same_write-decides unfolded given).0 (sym is ∙ equal)) among
+pub is_held : (writes : List Write) (held given : Write) (told : Bool) → Contains writes held → told ≡ same_write held given → told ≡ true → Contains writes given
+is_held writes held given told among is equal =
+    subst (λ (w : Write). Contains writes w) ((same_write-decides held given).0 (sym is ∙ equal)) among
 
 -- the two are not one, and so another one is held
-pub is_another : (writes : List Write) (held unfolded given : Write) (told : Bool) → Contains writes held → held.wid ≡ given.wid → unfolded ≡ held → told ≡ same_write unfolded given → told ≡ false
-    → HasAnother writes given
-is_another writes held unfolded given told among name plain is unequal = record {
+pub is_another : (writes : List Write) (held given : Write) (told : Bool) → Contains writes held → held.wid ≡ given.wid → told ≡ same_write held given → told ≡ false → HasAnother writes given
+is_another writes held given told among name is unequal = record {
   other = held;
   among = among;
   name = name;
-  differs = λ same. absurd (let yes = (same_write-decides unfolded given).1 (plain ∙ same) in cc);
+  differs = λ same. absurd (let yes = (same_write-decides held given).1 same in cc);
 }

@@ -13,10 +13,6 @@ use Rattle.bayou_server.specs.declared.fault.StartFault.TheVariants as starting
 use Rattle.bayou_server.specs.Server.{ServerState}
 use Rattle.bayou_server.specs.Stored.{Stores}
 
--- The clauses say what the device holds, and a call of it that fails adds no more than a front of its piece.
-abbrev pub OnlyTears : {D : Type 0} → Ghosts D → Type 0
-OnlyTears d = journals.OnlyTears d
-
 -- behind the bodies of the Writes held, that of the Write in doubt stands for it, if one is in doubt
 abbrev pub StoresDoubt : (bodies : List (List ℕ)) → Option (List ℕ) → (held : List Write) → Option Write → Type 0
 StoresDoubt bodies None held None = Unit {0}
@@ -26,7 +22,7 @@ StoresDoubt bodies (Some body) held None = ⊥
 
 -- The device is honest for the server's Writes: the entries of those held are kept, and no other entry goes on from them but that
 -- of the Write in doubt, if one is.
-pub record IsHonestDevice {D : Type 0} (d : Ghosts D) (id : ℕ) (held : List Write) (doubt : Option Write) (device : D) : Type 0 where
+pub record IsHonestServerDevice {D : Type 0} (d : Ghosts D) (id : ℕ) (held : List Write) (doubt : Option Write) (device : D) : Type 0 where
   pub bodies : List (List ℕ)
   pub body : Option (List ℕ)
   pub stores : Stores bodies held
@@ -42,7 +38,7 @@ pub record IsWholeDevice {D : Type 0} (d : Ghosts D) (id : ℕ) (held : List Wri
 -- what a server that is up has on its device, and one that is down
 abbrev pub IsLeft : {D : Type 0} → Ghosts D → (id : ℕ) → (held : List Write) → Option Write → (device : D) → Type 0
 IsLeft d id held None device = IsWholeDevice d id held device
-IsLeft d id held (Some doubt) device = IsHonestDevice d id held (Some doubt) device
+IsLeft d id held (Some doubt) device = IsHonestServerDevice d id held (Some doubt) device
 
 -- The server is over an honest device: while it is up a whole one.
 abbrev pub IsHonestServer : {D : Type 0} → Ghosts D → ServerState D → Type 0

@@ -1,10 +1,12 @@
 pub mod Faults
 pub mod Honest
 pub mod Inner
+pub mod Laws
 pub mod Reads
 pub mod Reopens
 pub mod Server
 pub mod Starts
 pub mod Stored
 pub mod Takes
+pub mod TakesAll
 pub mod Writes

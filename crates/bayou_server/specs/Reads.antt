@@ -2,7 +2,7 @@
 use Rattle.std.specs.Prelude.{◌≡◌, ℕ, List, Result, Ok, Err}
 use Rattle.bayou_base.specs.declared.answer.Seen.{Seen}
 use Rattle.bayou_base.specs.Vector.{Dominates}
-use Rattle.bayou_lang.specs.Places.{value_at}
+use Rattle.bayou_lang.specs.Database.{value_at}
 use Rattle.bayou_lang.specs.Writes.{count_of}
 use Rattle.bayou_log.specs.Replay.{replay}
 use Rattle.bayou_server.specs.declared.fault.Behind.{Behind}

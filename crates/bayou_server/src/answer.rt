@@ -1,5 +1,6 @@
 ghost use Rattle.std.specs.Prelude.{◌≡◌, IfOk};
 
+use crate::fault::TakeFault;
 use crate::server::copies;
 use bayou_base::Wid;
 use bayou_lang::RestingWrite;
@@ -13,6 +14,17 @@ pub enum Took {
     New,
     /// It held the Write already.
     Had,
+}
+
+/// What a server did with Writes that it was given, one after another.
+#[derive(Clone, Copy, Debug, PartialEq, Eq)]
+pub struct TookAll {
+    /// How many of them were new.
+    pub taken: u32,
+    /// How many it held already.
+    pub had: u32,
+    /// Why the next one was refused, where one was.
+    pub fault: Option<TakeFault>,
 }
 
 /// A server that is up again.

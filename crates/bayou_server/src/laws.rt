@@ -19,7 +19,8 @@ ghost use Rattle.bayou_server.specs.declared.fault.ReopenFault.{ReopenFault};
 ghost use Rattle.bayou_server.specs.declared.answer.Took.{Took};
 ghost use Rattle.bayou_server.specs.declared.fault.TakeFault.{TakeFault};
 ghost use Rattle.bayou_server.specs.declared.fault.WriteFault.{WriteFault};
-ghost use Rattle.bayou_server.specs.Honest.{AreHonest, HasCrashed, IsHonestAnswer, IsHonestDevice, IsHonestRefusal, IsHonestServer, IsKept, IsKeptServer, KeepsWrites, LosesNothing, OnlyTears};
+ghost use Rattle.bayou_journal.specs.Honest.{OnlyTears};
+ghost use Rattle.bayou_server.specs.Honest.{AreHonest, HasCrashed, IsHonestAnswer, IsHonestServerDevice, IsHonestRefusal, IsHonestServer, IsKept, IsKeptServer, KeepsWrites, LosesNothing};
 ghost use Rattle.bayou_server.specs.Reopens.{Recovers, Reopens};
 ghost use Rattle.bayou_server.specs.Server.{Core, IsSoundServer, ServerState, with_device};
 ghost use Rattle.bayou_server.specs.Starts.{FailsToStart, Starts, StartsOn, StopsAtEntry};
@@ -127,15 +128,15 @@ pub fn an_honest_server_is_reopened_honestly<D: Device>()
 /// refused for a device call or for memory alone: its journal is no other server's and none that isn't one, and has no bad record, no
 /// gap, and no Write too many. Over a device whose failed calls do no more than to tear, the device is honest then as it was before.
 pub fn a_start_on_an_honest_device_is_honest<D: Device>()
-    ensures held { (old : Core) (dropped : ℕ) (device : D) (server : ServerState D) → D.is_modelled → IsSoundServer old → IsHonestDevice D.Device old.id old.held old.doubt device
+    ensures held { (old : Core) (dropped : ℕ) (device : D) (server : ServerState D) → D.is_modelled → IsSoundServer old → IsHonestServerDevice D.Device old.id old.held old.doubt device
         → Starts old.id old.count old.limit server.core → StartsOn D.Device device server dropped → AreHonest old.held old.doubt server.core.held }
     ensures whole { (id count limit dropped : ℕ) (device : D) (server : ServerState D) → D.is_modelled
         → Starts id count limit server.core → StartsOn D.Device device server dropped → IsHonestServer D.Device server }
-    ensures refusal { (old : Core) (device left : D) (fault : StartFault) → D.is_modelled → IsSoundServer old → IsHonestDevice D.Device old.id old.held old.doubt device
+    ensures refusal { (old : Core) (device left : D) (fault : StartFault) → D.is_modelled → IsSoundServer old → IsHonestServerDevice D.Device old.id old.held old.doubt device
         → FailsToStart D.Device old.id old.count old.limit device left fault → IsHonestRefusal fault }
-    ensures left { (old : Core) (device left : D) (fault : StartFault) → OnlyTears D.Device → IsSoundServer old → IsHonestDevice D.Device old.id old.held old.doubt device
+    ensures left { (old : Core) (device left : D) (fault : StartFault) → OnlyTears D.Device → IsSoundServer old → IsHonestServerDevice D.Device old.id old.held old.doubt device
         → FailsToStart D.Device old.id old.count old.limit device left fault → KeepsChains (D.kept device) (D.kept left)
-        → IsHonestDevice D.Device old.id old.held old.doubt left }
+        → IsHonestServerDevice D.Device old.id old.held old.doubt left }
 {
     an_honest_device_opens_honestly::<D>();
     a_write_is_a_body();
@@ -156,7 +157,7 @@ pub fn what_is_held_is_kept<D: Device>()
         → IsKeptServer D.Device old → Reopens old.core result new.core → ReopensJournal D.Device old result new → KeepsChains (D.kept old.device) (D.kept new.device)
         → IsKeptServer D.Device new }
     ensures device { (id : ℕ) (held : List Write) (doubt : Option Write) (device : D) → IsKept D.Device id held doubt device → KeepsWrites D.Device id held device }
-    ensures honest_device { (id : ℕ) (held : List Write) (doubt : Option Write) (device : D) → IsHonestDevice D.Device id held doubt device → KeepsWrites D.Device id held device }
+    ensures honest_device { (id : ℕ) (held : List Write) (doubt : Option Write) (device : D) → IsHonestServerDevice D.Device id held doubt device → KeepsWrites D.Device id held device }
     ensures again { (id : ℕ) (held : List Write) (old new : D) → All IsWrite held → KeepsWrites D.Device id held old → KeepsChains (D.kept old) (D.kept new) → KeepsWrites D.Device id held new }
 {
     a_write_is_a_body();
@@ -168,7 +169,7 @@ pub fn what_is_held_is_kept<D: Device>()
 /// failed, or one at the call's begin, with the Write that comes in doubt.
 pub fn a_crash_leaves_an_honest_device<D: Device>()
     ensures honest { (id : ℕ) (held : List Write) (doubt : Option Write) (before device : D) → KeepsWrites D.Device id held before → HasCrashed D.Device id held doubt before device
-        → IsHonestDevice D.Device id held doubt device }
+        → IsHonestServerDevice D.Device id held doubt device }
     ensures started { (old : Core) (dropped : ℕ) (before device : D) (server : ServerState D) → D.is_modelled → IsSoundServer old → KeepsWrites D.Device old.id old.held before
         → HasCrashed D.Device old.id old.held old.doubt before device → Starts old.id old.count old.limit server.core → StartsOn D.Device device server dropped
         → AreHonest old.held old.doubt server.core.held × IsHonestServer D.Device server }
@@ -181,7 +182,7 @@ pub fn a_crash_leaves_an_honest_device<D: Device>()
 
 /// The device of an honest server is honest, be the server up or down.
 pub fn an_honest_server_has_an_honest_device<D: Device>()
-    ensures { (server : ServerState D) → IsHonestServer D.Device server → IsHonestDevice D.Device server.core.id server.core.held server.core.doubt server.device }
+    ensures { (server : ServerState D) → IsHonestServer D.Device server → IsHonestServerDevice D.Device server.core.id server.core.held server.core.doubt server.device }
 {
     an_append_leaves_an_honest_device::<D>();
 }

@@ -11,7 +11,8 @@
 //!
 //! A server makes Writes of programs, and takes Writes that others accepted exactly where they fit, so that it holds none
 //! before one on which it rests; a taken Write leaves the count of the server's own as it was. Of each other the answer
-//! says why not, and nothing is left of it.
+//! says why not, and nothing is left of it. Several that are taken together ([`Server::take_next`]) are each stored and synced in
+//! turn, and applied once; nobody sees a database that lags.
 //!
 //! A Write is stored and synced before it is held, so that none is acknowledged that its journal hasn't got. Where a
 //! device call fails meanwhile, it isn't known whether the journal has it: the Write is in doubt, and the server refuses
@@ -39,6 +40,6 @@ mod start;
 mod storing;
 mod taking;
 
-pub use answer::{Reopened, Stopped, Took};
+pub use answer::{Reopened, Stopped, Took, TookAll};
 pub use fault::{Behind, JournalFault, NotStarted, ReopenFault, StartFault, TakeFault, WriteFault};
 pub use server::Server;

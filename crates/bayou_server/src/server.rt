@@ -1,35 +1,36 @@
-ghost use Rattle.std.specs.Prelude.{◌≡◌, ◌≢◌, ◌+◌, ◌<◌, ◌≤◌, ◌↔◌, ℕ, All, Contains, Err, IfErr, IfOk, IsSome, IsTrue, MatchOption, MatchResult, OnOk, length, take};
+ghost use Rattle.std.specs.Prelude.{◌≡◌, ◌≢◌, ◌+◌, ◌<◌, ◌≤◌, ◌↔◌, ◌⊎◌, ℕ, [], None, All, Contains, Err, IfErr, IfOk, IsSome, IsTrue, MatchOption, MatchResult, OnOk, length, take};
 ghost use Rattle.std.specs.Borrow.{Lends, sem};
+ghost use Rattle.std.specs.Vec.Iter.{into_iter_items};
 ghost use Rattle.bayou_base.specs.declared.limits.TheConstants.{SERVERS, MAX_WRITES};
 ghost use Rattle.bayou_journal.specs.Opening.{KeepsChains};
 ghost use Rattle.bayou_lang.specs.declared.program.Program.{Program as Asked};
 ghost use Rattle.bayou_lang.specs.Writes.{count_of, lacking_of};
 ghost use Rattle.bayou_log.specs.Listing.{listing_of};
 ghost use Rattle.bayou_server.specs.contracts.server.Server.{the_row};
-ghost use Rattle.bayou_server.specs.Inner.Storing.{Keeps, MayBeStored, StoresEntry};
 ghost use Rattle.bayou_server.specs.Reads.{Reads};
 ghost use Rattle.bayou_server.specs.Reopens.{Reopens, own_adopted};
 ghost use Rattle.bayou_server.specs.Server.{IsSoundServer, own_count, with_device};
 ghost use Rattle.bayou_server.specs.Starts.{FailsToStart, Starts, StartsOn};
 ghost use Rattle.bayou_server.specs.Stored.{IsStored, OpensInCalls, ReopensJournal, StoresTaken, StoresWrite};
 ghost use Rattle.bayou_server.specs.Takes.{Takes};
+ghost use Rattle.bayou_server.specs.TakesAll.{TakesAll, TakesAt};
 ghost use Rattle.bayou_server.specs.Writes.{Writes};
 
-use crate::answer::{Reopened, Stopped, Took};
+use crate::answer::{Reopened, Stopped, Took, TookAll};
 use crate::fault::{Behind, NotStarted, ReopenFault, StartFault, TakeFault, WriteFault};
 use crate::making::{accepted, refusal};
 use crate::reopen::has_doubt;
 use crate::start::log_of;
-use crate::storing::{Stored, settle};
-use crate::taking::decided;
+use crate::storing::{Stored, store};
+use crate::taking::{take_one, take_several};
 use bayou_base::{Accepted, Key, Seen, ServerId, Vector, Wid};
 use bayou_device::Device;
 use bayou_journal::Journal;
 use bayou_lang::{RestingProgram, RestingWrite};
 use bayou_log::{Listed, WriteLog};
-use bayou_wire::encode_resting_write;
 use std::alloc::{AllocError, Global};
 use std::marker::Model;
+use std::vec::IntoIter;
 
 /// One server of the store, over its device.
 #[derive(Drop)]
@@ -41,6 +42,7 @@ pub struct Server<D> {
 }
 
 impl<D> Model for Server<D> {
+    ghost use Rattle.std.specs.Prelude.{◌≡◌};
     ghost use Rattle.bayou_server.specs.Inner.Fields.{BelongTogether, core_of};
     ghost use Rattle.bayou_server.specs.Server.{ServerState};
 
@@ -48,7 +50,8 @@ impl<D> Model for Server<D> {
 
     ghost view = { λ s. record { core = core_of s.log s.id.index s.doubt; device = s.journal.device } };
 
-    ghost invariant = { λ s. BelongTogether s.journal s.log s.id.index s.doubt };
+    // None of the Writes held waits to be applied.
+    ghost invariant = { λ s. BelongTogether s.journal s.log s.id.index s.doubt × (s.log.waiting ≡ 0) };
 }
 
 impl<D: Device> Server<D> {
@@ -139,7 +142,16 @@ impl<D: Device> Server<D> {
         }
         let write = self.log.next_write(self.id, program);
         let accepted = accepted(&write);
-        match self.store(alloc, write)? {
+        let stored = store(
+            alloc,
+            &mut self.journal,
+            &mut self.log,
+            self.id,
+            &mut self.doubt,
+            write,
+        );
+        self.log.catch_up();
+        match stored? {
             Stored::Held => Ok(accepted),
             Stored::InDoubt => Err(WriteFault::Journal),
         }
@@ -169,28 +181,40 @@ impl<D: Device> Server<D> {
         ensures safe { D.is_modelled → KeepsChains (D.kept self.old.device) (D.kept self.new.device) }
         ensures calls { D.leads_to 2 self.old.device self.new.device }
     {
-        if let Some(answer) = decided(&self.log, self.id, &self.doubt, &write.unfold()) {
-            return answer;
-        }
-        match self.store(alloc, write)? {
-            Stored::Held => Ok(Took::New),
-            Stored::InDoubt => Err(TakeFault::Journal),
-        }
+        let answer = take_one(
+            alloc,
+            &mut self.journal,
+            &mut self.log,
+            self.id,
+            &mut self.doubt,
+            write,
+        );
+        self.log.catch_up();
+        answer
     }
 
-    // Stores the entry of the Write, which may be held next, and then holds it, or puts it in doubt.
-    fn store(&mut self, alloc: Global, write: RestingWrite) -> Result<Stored, AllocError>
-        requires { MayBeStored self.old.core write }
-        ensures keeps { MatchResult result (λ stored. Keeps self.old.core write stored self.new.core) (λ _. self.new.core ≡ self.old.core) }
-        ensures sound { IsSoundServer self.old.core × IsSoundServer self.new.core }
-        ensures stores { MatchResult result (λ stored. StoresEntry D.Device self.old stored self.new) (λ _. self.new.device ≡ self.old.device) }
-        ensures safe { D.is_modelled → KeepsChains (D.kept self.old.device) (D.kept self.new.device) }
-        ensures calls { D.leads_to 2 self.old.device self.new.device }
+    /// Takes the next of the Writes, as [`Server::take`] does, one after another: at most so many, up to one that is refused. They are
+    /// applied together, once, so that many that come late cost as much as one that does.
+    pub fn take_next(
+        &mut self,
+        alloc: Global,
+        writes: &mut IntoIter<RestingWrite>,
+        most: u32,
+    ) -> TookAll
+        ensures takes { TakesAll (TakesAt D.Device) self.old (into_iter_items writes.old) (into_iter_items writes.new) result self.new }
+        ensures whole { result.fault ≡ None → (into_iter_items writes.new ≡ []) ⊎ (result.taken + result.had ≡ most) }
     {
-        self.log.reserve(&write)?;
-        let body = encode_resting_write(alloc, &write)?;
-        let added = self.journal.append(&body);
-        Ok(settle(&mut self.log, &mut self.doubt, write, added))
+        let told = take_several(
+            alloc,
+            &mut self.journal,
+            &mut self.log,
+            self.id,
+            &mut self.doubt,
+            writes,
+            most,
+        );
+        self.log.catch_up();
+        told
     }
 
     /// Brings the server up again: it opens its journal again, and compares what it finds there with the Writes held. Device
@@ -306,6 +330,7 @@ impl<D: Device> Server<D> {
     pub fn stop(self) -> Stopped<D>
         ensures device { result.device ≡ self.device }
         ensures held { result.log.receipts ≡ self.core.held }
+        ensures caught_up { result.log.waiting ≡ 0 }
         ensures count { result.log.count ≡ self.core.count }
         ensures limit { result.log.limit ≡ self.core.limit }
         ensures doubt { result.doubt ≡ self.core.doubt }

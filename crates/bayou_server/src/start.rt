@@ -8,32 +8,38 @@ ghost use Rattle.bayou_server.specs.Starts.{RefusesBody, RefusesEntry};
 use crate::fault::StartFault;
 use bayou_base::ServerId;
 use bayou_journal::Opened;
-use bayou_lang::Write;
+use bayou_lang::RestingWrite;
 use bayou_log::WriteLog;
 use bayou_wire::decode_write;
 use std::alloc::Global;
 
 // Whether the Write may be added to those of the log of the server `id`.
-fn may_follow(log: &WriteLog, id: ServerId, write: &Write) -> bool
+fn may_follow(log: &WriteLog, id: ServerId, write: &RestingWrite) -> bool
     ensures { IsTrue result ↔ MayFollow id.index log.now.count log.now.receipts write.now }
 {
     let Ok(()) = log.fits(write) else {
         return false;
     };
-    write.wid.origin != id || write.deps == log.vector()
+    write.wid().origin != id || *write.deps() == log.vector()
 }
 
 // The Write that the body of the next entry spells, if the log of the server `id` takes it.
-fn next_of(log: &WriteLog, id: ServerId, body: &[u8]) -> Result<Write, StartFault>
+fn next_of(
+    alloc: Global,
+    log: &WriteLog,
+    id: ServerId,
+    body: &[u8],
+) -> Result<RestingWrite, StartFault>
     requires { log.now.limit ≤ MAX_WRITES }
     ensures { MatchResult result
         (IsAdmitted id.index log.now body.now)
-        (RefusesBody id.index log.now.count log.now.limit log.now.receipts body.now) }
+        (λ fault. (fault ≡ OutOfMemory) ⊎ RefusesBody id.index log.now.count log.now.limit log.now.receipts body.now fault) }
 {
     let at = log.receipts().len() as u32;
     let Ok(write) = decode_write(body) else {
         return Err(StartFault::BadRecord(at));
     };
+    let write = write.rest(alloc)?;
     if !may_follow(log, id, &write) {
         return Err(StartFault::Gap(at));
     }
@@ -43,20 +49,20 @@ fn next_of(log: &WriteLog, id: ServerId, body: &[u8]) -> Result<Write, StartFaul
     Ok(write)
 }
 
-// Adds the Write that the body of the next entry spells to the log of the server `id`.
+// Adds the Write that the body of the next entry spells to the log of the server `id`, where it waits.
 fn add_next(alloc: Global, log: &mut WriteLog, id: ServerId, body: &[u8]) -> Result<(), StartFault>
     requires { log.old.limit ≤ MAX_WRITES }
     ensures { MatchResult result
         (λ _. IsAdded id.index log.old body.now log.new)
         (λ fault. (fault ≡ OutOfMemory) ⊎ RefusesBody id.index log.old.count log.old.limit log.old.receipts body.now fault) }
 {
-    let write = next_of(log, id, body)?.rest(alloc)?;
+    let write = next_of(alloc, log, id, body)?;
     log.reserve(&write)?;
-    log.insert(write);
+    log.place(write);
     Ok(())
 }
 
-// The log of the Writes that the bodies spell, in their order.
+// The log of the Writes that the bodies spell, in their order. They are applied once all are added.
 pub fn log_of(
     alloc: Global,
     id: ServerId,
@@ -75,5 +81,6 @@ pub fn log_of(
     for at in 0..opened.len() {
         add_next(alloc, &mut log, id, opened.body(at))?;
     }
+    log.catch_up();
     Ok(log)
 }

@@ -1,12 +1,19 @@
-//! What comes of a Write once its entry was to be added to the journal.
-ghost use Rattle.std.specs.Prelude.{◌<◌, length};
+//! How a server stores one Write more: its entry behind the others of the journal, and then the Write. What of the log isn't applied
+//! waits for whoever calls.
+ghost use Rattle.std.specs.Prelude.{◌≡◌, ◌<◌, MatchResult, length};
+ghost use Rattle.bayou_journal.specs.Opening.{KeepsChains};
 ghost use Rattle.bayou_lang.specs.Writes.{Fits};
 ghost use Rattle.bayou_log.specs.Log.{IsReserved};
-ghost use Rattle.bayou_server.specs.Inner.Storing.{Settles};
+ghost use Rattle.bayou_server.specs.Inner.Fields.{BelongTogether, core_of, server_of};
+ghost use Rattle.bayou_server.specs.Inner.Storing.{Keeps, MayBeStored, Settles, StoresEntry};
 
-use bayou_journal::AppendFault;
+use bayou_base::ServerId;
+use bayou_device::Device;
+use bayou_journal::{AppendFault, Journal};
 use bayou_lang::RestingWrite;
 use bayou_log::WriteLog;
+use bayou_wire::encode_resting_write;
+use std::alloc::{AllocError, Global};
 
 // What came of it.
 pub enum Stored {
@@ -16,8 +23,8 @@ pub enum Stored {
     InDoubt,
 }
 
-// Holds the Write, where its entry was added, and else puts it in doubt.
-pub fn settle(
+// Holds the Write, where its entry was added, and else puts it in doubt. It waits to be applied.
+fn settle(
     log: &mut WriteLog,
     doubt: &mut Option<RestingWrite>,
     write: RestingWrite,
@@ -30,7 +37,7 @@ pub fn settle(
 {
     match added {
         Ok(()) => {
-            log.insert(write);
+            log.place(write);
             Stored::Held
         }
         Err(_) => {
@@ -38,4 +45,31 @@ pub fn settle(
             Stored::InDoubt
         }
     }
+}
+
+// Stores the entry of the Write, which may be held next, and then holds it, or puts it in doubt.
+pub fn store<D: Device>(
+    alloc: Global,
+    journal: &mut Journal<D>,
+    log: &mut WriteLog,
+    id: ServerId,
+    doubt: &mut Option<RestingWrite>,
+    write: RestingWrite,
+) -> Result<Stored, AllocError>
+    requires together { BelongTogether journal.old log.old id.index doubt.old }
+    requires may { MayBeStored (core_of log.old id.index doubt.old) write }
+    ensures together { BelongTogether journal.new log.new id.index doubt.new }
+    ensures keeps { MatchResult result
+        (λ stored. Keeps (core_of log.old id.index doubt.old) write stored (core_of log.new id.index doubt.new))
+        (λ _. core_of log.new id.index doubt.new ≡ core_of log.old id.index doubt.old) }
+    ensures stores { MatchResult result
+        (λ stored. StoresEntry D.Device (server_of journal.old log.old id.index doubt.old) stored (server_of journal.new log.new id.index doubt.new))
+        (λ _. journal.new.device ≡ journal.old.device) }
+    ensures safe { D.is_modelled → KeepsChains (D.kept journal.old.device) (D.kept journal.new.device) }
+    ensures calls { D.leads_to 2 journal.old.device journal.new.device }
+{
+    log.reserve(&write)?;
+    let body = encode_resting_write(alloc, &write)?;
+    let added = journal.append(&body);
+    Ok(settle(log, doubt, write, added))
 }

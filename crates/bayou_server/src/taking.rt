@@ -1,20 +1,28 @@
-//! How a server takes a Write that another server accepted: what it answers before it needs memory or its device.
-ghost use Rattle.bayou_server.specs.Inner.Fields.{core_of};
+//! How a server takes Writes that other servers accepted. What of the log isn't applied waits for whoever calls.
+ghost use Rattle.std.specs.Prelude.{◌≡◌, ◌+◌, ◌⊎◌, [], None};
+ghost use Rattle.std.specs.Vec.Iter.{into_iter_items};
+ghost use Rattle.bayou_server.specs.Inner.Fields.{BelongTogether, core_of, server_of};
 ghost use Rattle.bayou_server.specs.Inner.Taking.{IsDecided, IsRefused};
 ghost use Rattle.bayou_server.specs.Takes.{IsMissing};
+ghost use Rattle.bayou_server.specs.TakesAll.{TakesAll, TakesAt};
 
-use crate::answer::Took;
+use crate::answer::{Took, TookAll};
 use crate::fault::TakeFault;
+use crate::storing::{Stored, store};
 use bayou_base::ServerId;
-use bayou_lang::{RestingWrite, Write};
+use bayou_device::Device;
+use bayou_journal::Journal;
+use bayou_lang::RestingWrite;
 use bayou_log::{Misfit, WriteLog};
+use std::alloc::Global;
+use std::vec::IntoIter;
 
 // Why the Write, of whose name none is held, isn't added, if it may not be.
 fn refusal(
     log: &WriteLog,
     id: ServerId,
     doubt: &Option<RestingWrite>,
-    given: &Write,
+    given: &RestingWrite,
 ) -> Option<TakeFault>
     requires { IsMissing log.now.receipts given.now }
     ensures { IsRefused (core_of log.now id.index doubt.now) given.now result }
@@ -22,7 +30,7 @@ fn refusal(
     if doubt.is_some() {
         return Some(TakeFault::Down);
     }
-    if given.wid.origin == id {
+    if given.wid().origin == id {
         return Some(TakeFault::OwnLost);
     }
     match log.fits(given) {
@@ -34,16 +42,16 @@ fn refusal(
 }
 
 // The answer, where it follows from what is held and in doubt. Else the Write may be added.
-pub fn decided(
+fn decided(
     log: &WriteLog,
     id: ServerId,
     doubt: &Option<RestingWrite>,
-    given: &Write,
+    given: &RestingWrite,
 ) -> Option<Result<Took, TakeFault>>
     ensures { IsDecided (core_of log.now id.index doubt.now) given.now result }
 {
-    if let Some(held) = log.find(given.wid) {
-        if held.unfold() == *given {
+    if let Some(held) = log.find(given.wid()) {
+        if held == given {
             return Some(Ok(Took::Had));
         }
         return Some(Err(TakeFault::Conflict));
@@ -52,4 +60,62 @@ pub fn decided(
         Some(fault) => Some(Err(fault)),
         None => None,
     }
+}
+
+// Takes a Write that another server accepted: stores its entry, and then holds it.
+pub fn take_one<D: Device>(
+    alloc: Global,
+    journal: &mut Journal<D>,
+    log: &mut WriteLog,
+    id: ServerId,
+    doubt: &mut Option<RestingWrite>,
+    write: RestingWrite,
+) -> Result<Took, TakeFault>
+    requires { BelongTogether journal.old log.old id.index doubt.old }
+    ensures together { BelongTogether journal.new log.new id.index doubt.new }
+    ensures takes { TakesAt D.Device (server_of journal.old log.old id.index doubt.old) write result (server_of journal.new log.new id.index doubt.new) }
+{
+    if let Some(answer) = decided(log, id, doubt, &write) {
+        return answer;
+    }
+    match store(alloc, journal, log, id, doubt, write)? {
+        Stored::Held => Ok(Took::New),
+        Stored::InDoubt => Err(TakeFault::Journal),
+    }
+}
+
+// Takes the next of the Writes, one after another, at most so many, up to one that is refused.
+pub fn take_several<D: Device>(
+    alloc: Global,
+    journal: &mut Journal<D>,
+    log: &mut WriteLog,
+    id: ServerId,
+    doubt: &mut Option<RestingWrite>,
+    writes: &mut IntoIter<RestingWrite>,
+    most: u32,
+) -> TookAll
+    requires { BelongTogether journal.old log.old id.index doubt.old }
+    ensures together { BelongTogether journal.new log.new id.index doubt.new }
+    ensures takes { TakesAll (TakesAt D.Device) (server_of journal.old log.old id.index doubt.old) (into_iter_items writes.old) (into_iter_items writes.new) result (server_of journal.new log.new id.index doubt.new) }
+    ensures whole { result.fault ≡ None → (into_iter_items writes.new ≡ []) ⊎ (result.taken + result.had ≡ most) }
+{
+    let mut told = TookAll {
+        taken: 0,
+        had: 0,
+        fault: None,
+    };
+    while told.taken + told.had < most {
+        let Some(write) = writes.next() else {
+            return told;
+        };
+        match take_one(alloc, journal, log, id, doubt, write) {
+            Ok(Took::New) => told.taken += 1,
+            Ok(Took::Had) => told.had += 1,
+            Err(fault) => {
+                told.fault = Some(fault);
+                return told;
+            }
+        }
+    }
+    told
 }

@@ -15,7 +15,7 @@ use Rattle.std.specs.Prelude.{flat_map}
 use Rattle.bayou_print.specs.Verdicts.{surveyed_text, verdict_text}
 use Rattle.bayou_script.specs.AuditFile.{Evidence, IsAuditFile, audit_order}
 use Rattle.bayou_script.specs.Order.{lines_of}
-use Rattle.bayou_streams.specs.Account.{Account, Pays, Takes}
+use Rattle.bayou_streams.specs.Account.{Account, Pays, TakesBytes}
 use Rattle.bayou_base.specs.declared.limits.TheConstants.{MAX_TURNS}
 use Rattle.bayou_streams.specs.Laws.Taken.{Pays-part, Pays-whole}
 use Rattle.bayou_print.specs.Turns.{cut_lines}
@@ -112,8 +112,8 @@ AuditsAs-memory (Some input) contents = inl (Keeps-refl contents)
 -- a file that was read is audited as it is told
 pub AuditsAs-file : (known : Option (List ℕ)) (old new : Account) (evidence : Evidence) (result : Result Ended RunFault)
     → IfSome known (λ text. IsAuditFile (lines_of text) evidence)
-    → IfOk result (λ ended. (text : List ℕ) × IsAudit evidence ended text × Takes old new text)
-    → IfErr result (λ fault. IsRunFault fault × (text : List ℕ) × IsAuditPart evidence text × Takes old new text)
+    → IfOk result (λ ended. (text : List ℕ) × IsAudit evidence ended text × TakesBytes old new text)
+    → IfErr result (λ fault. IsRunFault fault × (text : List ℕ) × IsAuditPart evidence text × TakesBytes old new text)
     → IfSome known (λ input. AuditsAs input result old.contents new.contents)
 AuditsAs-file None old new evidence result file ok err = tt
 AuditsAs-file (Some input) old new evidence (Ok ended) file (text, is, took) err = (evidence, file, text, is, took.bytes)
@@ -150,8 +150,8 @@ refused_part evidence bad a b (Err fault) is (run, missing, gathered) =
 
 -- what was spent on it
 pub audit_paid : (evidence : Evidence) (old new : Account) (result : Result Ended RunFault) → old.turns_left ≤ MAX_TURNS
-    → IfOk result (λ ended. (text : List ℕ) × IsAudit evidence ended text × Takes old new text)
-    → IfErr result (λ fault. IsRunFault fault × (text : List ℕ) × IsAuditPart evidence text × Takes old new text)
+    → IfOk result (λ ended. (text : List ℕ) × IsAudit evidence ended text × TakesBytes old new text)
+    → IfErr result (λ fault. IsRunFault fault × (text : List ℕ) × IsAuditPart evidence text × TakesBytes old new text)
     → OnOk result (old.turns_left ≤ new.turns_left) → Pays old new (cut_lines result)
 audit_paid evidence old new (Ok ended) within (text, is, took) err ready = Pays-whole old new text took ready
 audit_paid evidence old new (Err fault) within ok (is, text, part, took) ready = Pays-part old new text within took

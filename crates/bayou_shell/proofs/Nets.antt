@@ -11,7 +11,7 @@ use Rattle.bayou_shell.specs.Inner.Faults.{IsReadFault}
 use Rattle.bayou_shell.specs.Net.{NetsAs, Runs}
 use Rattle.bayou_socket_run.specs.Faults.{IsNetFault, KeepsUnstarted}
 use Rattle.bayou_print.specs.Turns.{EndsReading}
-use Rattle.bayou_streams.specs.Account.{Account, Takes}
+use Rattle.bayou_streams.specs.Account.{Account, TakesBytes}
 
 -- where the input isn't taken as a script over a network, nothing is run
 pub NetsAs-unread : (runs : Runs) (known contents : Option (List ℕ)) (fault : RunFault) → IsReadFault network_order known fault
@@ -26,7 +26,7 @@ NetsAs-unread runs (Some input) contents Output is = absurd is
 
 -- a script that was read is run, and what is printed stands behind what was there
 pub NetsAs-script : (runs : Runs) (known : Option (List ℕ)) (old new : Account) (plan : Plan) (result : Result Ended RunFault)
-    → IfSome known (λ text. IsNetworkScript (lines_of text) plan) → runs plan result → IfErr result IsNetFault → KeepsUnstarted result old new → (text : List ℕ) × Takes old new text
+    → IfSome known (λ text. IsNetworkScript (lines_of text) plan) → runs plan result → IfErr result IsNetFault → KeepsUnstarted result old new → (text : List ℕ) × TakesBytes old new text
     → IfSome known (λ input. NetsAs runs input result old.contents new.contents)
 NetsAs-script runs None old new plan result script ran is kept took = tt
 NetsAs-script runs (Some input) old new plan (Ok ended) script ran is kept (text, took) = (plan, script, ran, text, took.bytes)

@@ -8,13 +8,13 @@ use Rattle.std.specs.List.{list_all}
 use Rattle.bayou_answers.specs.declared.answer.Answer.{Answer}
 use Rattle.bayou_answers.specs.declared.fault.BeginFault.{BeginFault}
 use Rattle.bayou_answers.specs.declared.fault.BeginFault.TheVariants as beginning
-use Rattle.bayou_script.specs.Places.{operations}
+use Rattle.bayou_script.specs.Capacity.{operations}
 use Rattle.bayou_machine.specs.Laws.Runs.{Run-more, Turn-moves, operations-first}
 use Rattle.bayou_machine.specs.Standing.{FailsToBegin}
 use Rattle.bayou_machine.specs.Run.{IsNewRun, ScriptRun, ScriptState, Turn}
 use Rattle.bayou_script.specs.Script.{IsScript, Plan, is_served, lines_of, script_order}
 use Rattle.bayou_base.specs.declared.limits.TheConstants.{MAX_TURNS}
-use Rattle.bayou_streams.specs.Account.{Account, Pays, Takes}
+use Rattle.bayou_streams.specs.Account.{Account, Pays, TakesBytes}
 use Rattle.bayou_streams.specs.Laws.Taken.{Pays-part, Pays-whole}
 use Rattle.bayou_text.specs.declared.command.Command.{Command}
 use Rattle.bayou_text.specs.Said.{Said, command_said}
@@ -62,7 +62,7 @@ pub record SoFar (plan : Plan) (ended : Ended) (state : ScriptState) (rest : Lis
   pub whole : plan.commands ≡ done ++ map command_said rest
   pub run : ScriptRun first done answers state
   pub count : state.standing.count ≡ plan.count
-  pub room : length state.book.entries + operations (map command_said rest) ≤ state.book.places
+  pub room : length state.book.entries + operations (map command_said rest) ≤ state.book.capacity
   pub served : IsTrue (list_all (λ command. is_served plan.count (command_said command)) rest)
   pub written : Gathers old new (answers_text plan.count answers) []
   pub verdicts : ended_status ended ≡ answers_status answers
@@ -83,7 +83,7 @@ SoFar-more plan ended told now state after command rest answer old mid new so_fa
       whole = so_far.whole ∙ sym (append_assoc so_far.done (said ∷ []) (map command_said rest));
       run = Run-more so_far.first state after so_far.done so_far.answers said answer so_far.run step;
       count = moves.count ∙ so_far.count;
-      room = omega (arith, so_far.room, moves.places, moves.filed, operations-first said (map command_said rest));
+      room = omega (arith, so_far.room, moves.capacity, moves.filed, operations-first said (map command_said rest));
       served = and_right (is_served plan.count said) _ so_far.served;
       written = subst (λ text. Gathers old new text []) (sym (answers_more plan.count so_far.answers answer))
           (Gathers-trans old mid new (answers_text plan.count so_far.answers) (answer_text plan.count answer) [] so_far.written written);
@@ -203,8 +203,8 @@ RunsAs-memory (Some input) contents status read_fails write_fails reads writes i
 -- a script that was read runs as it is told
 pub RunsAs-script : (known : Option (List ℕ)) (old new : Account) (plan : Plan) (result : Result Ended RunFault)
     → IfSome known (λ text. IsScript (lines_of text) plan)
-    → IfOk result (λ ended. (text : List ℕ) × Prints plan ended text × Takes old new text)
-    → IfErr result (λ fault. IsRunFault fault × (text : List ℕ) × PrintsPart plan text × Takes old new text)
+    → IfOk result (λ ended. (text : List ℕ) × Prints plan ended text × TakesBytes old new text)
+    → IfErr result (λ fault. IsRunFault fault × (text : List ℕ) × PrintsPart plan text × TakesBytes old new text)
     → IfSome known (λ input. RunsAs input result old.contents new.contents)
 RunsAs-script None old new plan result script ok err = tt
 RunsAs-script (Some input) old new plan (Ok done) script (text, prints, took) err = (plan, script, text, prints, took.bytes)
@@ -233,15 +233,15 @@ unbegun_writes fails turns beginning.Device = tt
 
 -- what was written is paid for
 pub run_paid : (plan : Plan) (old new : Account) (result : Result Ended RunFault) → old.turns_left ≤ MAX_TURNS
-    → IfOk result (λ ended. (text : List ℕ) × Prints plan ended text × Takes old new text)
-    → IfErr result (λ fault. IsRunFault fault × (text : List ℕ) × PrintsPart plan text × Takes old new text)
+    → IfOk result (λ ended. (text : List ℕ) × Prints plan ended text × TakesBytes old new text)
+    → IfErr result (λ fault. IsRunFault fault × (text : List ℕ) × PrintsPart plan text × TakesBytes old new text)
     → OnOk result (old.turns_left ≤ new.turns_left) → Pays old new (cut_lines result)
 run_paid plan old new (Ok ended) within (text, prints, took) err ready = Pays-whole old new text took ready
 run_paid plan old new (Err fault) within ok (is, text, part, took) ready = Pays-part old new text within took
 
 -- a fault of a run tells of no input
 pub run_reads : (fails : Bool) (turns : ℕ) (plan : Plan) (old new : Account) (result : Result Ended RunFault)
-    → IfErr result (λ fault. IsRunFault fault × (text : List ℕ) × PrintsPart plan text × Takes old new text) → IfErr result (EndsReading fails turns)
+    → IfErr result (λ fault. IsRunFault fault × (text : List ℕ) × PrintsPart plan text × TakesBytes old new text) → IfErr result (EndsReading fails turns)
 run_reads fails turns plan old new (Ok ended) err = tt
 run_reads fails turns plan old new (Err (Line number why)) (is, text, part, took) = absurd is
 run_reads fails turns plan old new (Err faults.Memory) (is, text, part, took) = tt

@@ -8,13 +8,13 @@ ghost use Rattle.bayou_shell.specs.Inner.Surveyed.{IsEvidenceSurveyed};
 ghost use Rattle.bayou_print.specs.Faults.{IsRunFault};
 ghost use Rattle.bayou_print.specs.Waiting.{Gathers, stage};
 ghost use Rattle.bayou_print.specs.Turns.{EndsReading, EndsWriting, cut_lines};
-ghost use Rattle.bayou_streams.specs.Account.{Pays, Takes, account};
+ghost use Rattle.bayou_streams.specs.Account.{Pays, TakesBytes, account};
 
 use crate::reading::read_audit;
 use bayou_judge::{BadEvidence, Surveyed, lend_dumps, survey, verdict_of};
 use bayou_print::{Ended, RunFault, Survey, Waiting, verdict_line, write_each};
 use bayou_script::AuditFile;
-use bayou_streams::{Channel, Output};
+use bayou_streams::{CountedChannel, Output};
 use std::alloc::Global;
 use std::io::{Read, Write};
 
@@ -85,8 +85,8 @@ fn audit<W: Write>(
     waiting: Waiting,
 ) -> Result<Ended, RunFault>
     requires none { waiting.lines.items ≡ [] }
-    ensures ok { IfOk result (λ ended. (text : List ℕ) × IsAudit (evidence_of file.now) ended text × Takes (account W.contents output.old) (account W.contents output.new) text) }
-    ensures err { IfErr result (λ fault. IsRunFault fault × (text : List ℕ) × IsAuditPart (evidence_of file.now) text × Takes (account W.contents output.old) (account W.contents output.new) text) }
+    ensures ok { IfOk result (λ ended. (text : List ℕ) × IsAudit (evidence_of file.now) ended text × TakesBytes (account W.contents output.old) (account W.contents output.new) text) }
+    ensures err { IfErr result (λ fault. IsRunFault fault × (text : List ℕ) × IsAuditPart (evidence_of file.now) text × TakesBytes (account W.contents output.old) (account W.contents output.new) text) }
     ensures ended { IfErr result (EndsWriting output.new.channel.write_failed output.new.channel.turns_left) }
     ensures ready { OnOk result (output.old.channel.turns_left ≤ output.new.channel.turns_left) }
 {
@@ -98,7 +98,7 @@ fn audit<W: Write>(
 /// Reads an audit file to its end, or to its least line with a fault, and writes the verdict on what it says, and the survey.
 pub fn run_audit<R: Read, W: Write>(
     alloc: Global,
-    input: &mut Channel<R, ()>,
+    input: &mut CountedChannel<R, ()>,
     output: &mut Output<W>,
 ) -> Result<Ended, RunFault>
     ensures audits { IfSome (R.remaining input.old.reader) (λ text. AuditsAs text result (W.contents output.old.channel.writer) (W.contents output.new.channel.writer)) }

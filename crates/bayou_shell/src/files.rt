@@ -1,7 +1,7 @@
 //! Inputs that have a name.
 ghost use Rattle.std.specs.Prelude.{ℕ, Bool, IfErr, IfOk, List};
 
-use bayou_streams::Channel;
+use bayou_streams::CountedChannel;
 use std::alloc::Global;
 use std::io;
 use std::io::Read;
@@ -25,6 +25,6 @@ pub trait Files {
         ensures refused { IfErr result (λ error. refuses name.now) };
 
     /// Is given the file back that was opened, as far as it was read.
-    fn keep(&mut self, file: Channel<Self::Reader, ()>)
+    fn keep(&mut self, file: CountedChannel<Self::Reader, ()>)
         ensures { kept self.new file.read_failed file.turns_left };
 }

@@ -7,7 +7,7 @@
 //! prints are the lines of its answers (`bayou_machine`). Which lines a run over sockets prints, no clause says: they are put
 //! behind what the writer holds, and nothing else is done there.
 //!
-//! Streams come as `bayou_streams`' `Channel` and `Output`, which alone call them: an input is read in at most
+//! Streams come as `bayou_streams`' `CountedChannel` and `Output`, which alone call them: an input is read in at most
 //! [`MAX_TURNS`](bayou_base::MAX_TURNS) turns, and each printed line is written in at most as many, however lines are gathered
 //! into pieces. That the input or the output is at fault is told only where a call of it failed, or no turn was left.
 //!

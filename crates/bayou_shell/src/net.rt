@@ -7,7 +7,7 @@ ghost use Rattle.bayou_streams.specs.Account.{Pays, account};
 use crate::networks::Networks;
 use crate::reading::read_network_script;
 use bayou_print::{Ended, RunFault};
-use bayou_streams::{Channel, Output};
+use bayou_streams::{CountedChannel, Output};
 use std::alloc::Global;
 use std::io::{Read, Write};
 
@@ -17,7 +17,7 @@ pub fn run_net<N: Networks, R: Read, W: Write>(
     alloc: Global,
     networks: &mut N,
     folder: &str,
-    input: &mut Channel<R, ()>,
+    input: &mut CountedChannel<R, ()>,
     output: &mut Output<W>,
 ) -> Result<Ended, RunFault>
     ensures nets { IfSome (R.remaining input.old.reader) (λ text. NetsAs (N.runs folder.now) text result (W.contents output.old.channel.writer) (W.contents output.new.channel.writer)) }

@@ -6,7 +6,7 @@ ghost use Rattle.bayou_script.specs.Plan.{network_plan_of};
 ghost use Rattle.bayou_script.specs.Script.{Plan};
 ghost use Rattle.bayou_socket_run.specs.Faults.{IsNetFault, KeepsUnstarted};
 ghost use Rattle.bayou_print.specs.Turns.{EndsWriting};
-ghost use Rattle.bayou_streams.specs.Account.{Takes, account};
+ghost use Rattle.bayou_streams.specs.Account.{TakesBytes, account};
 
 use bayou_print::{Ended, RunFault};
 use bayou_script::NetworkScript;
@@ -30,7 +30,7 @@ pub trait Networks {
     ) -> Result<Ended, RunFault>
         ensures runs { runs folder.now (network_plan_of script) result }
         // Lines are put behind what the output holds, and nothing else is done there.
-        ensures took { (text : List ℕ) × Takes (account W.contents output.old) (account W.contents output.new) text }
+        ensures took { (text : List ℕ) × TakesBytes (account W.contents output.old) (account W.contents output.new) text }
         ensures fault { IfErr result IsNetFault }
         // Where a server doesn't start, nothing is printed.
         ensures unstarted { KeepsUnstarted result (account W.contents output.old) (account W.contents output.new) }

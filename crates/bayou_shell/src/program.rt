@@ -7,7 +7,7 @@ ghost use Rattle.bayou_print.specs.declared.fault.RunFault.TheVariants.{Memory};
 ghost use Rattle.bayou_print.specs.Fault.{exit_status, status_of};
 ghost use Rattle.bayou_shell.specs.Program.{TellsOf, Works, WorksOn, WritesText, input_of_asked, refused_status, text_status};
 ghost use Rattle.bayou_socket_run.specs.Faults.{IsNetFault, KeepsUnstarted};
-ghost use Rattle.bayou_streams.specs.Account.{Pays, Takes, account};
+ghost use Rattle.bayou_streams.specs.Account.{Pays, TakesBytes, account};
 ghost use Rattle.bayou_print.specs.Telling.{TellsEnd, TellsFault};
 ghost use Rattle.bayou_print.specs.Turns.{EndsReading, EndsWriting, cut_lines};
 
@@ -21,7 +21,7 @@ use bayou_net::Sockets;
 use bayou_print::{Ended, RunFault, write_text};
 use bayou_script::NetworkScript;
 use bayou_socket_run::run_on_sockets;
-use bayou_streams::{Channel, Output};
+use bayou_streams::{CountedChannel, Output};
 use std::alloc::Global;
 use std::convert::AsStr;
 use std::fs::File;
@@ -98,7 +98,7 @@ fn work<N: Networks, R: Read, W: Write>(
     alloc: Global,
     task: Task,
     networks: &mut N,
-    input: &mut Channel<R, ()>,
+    input: &mut CountedChannel<R, ()>,
     output: &mut Output<W>,
 ) -> Result<Ended, RunFault>
     ensures works { IfSome (R.remaining input.old.reader) (λ text. Works N.runs (task_seen task.entry) text result (W.contents output.old.channel.writer) (W.contents output.new.channel.writer)) }
@@ -128,7 +128,7 @@ fn work_on<F: Files + Networks, W: Write>(
 {
     match files.open(alloc, name) {
         Ok(reader) => {
-            let mut file = Channel::new(reader, ());
+            let mut file = CountedChannel::new(reader, ());
             let ended = work(alloc, task, files, &mut file, output);
             files.keep(file);
             ended
@@ -142,7 +142,7 @@ fn do_task<F: Files + Networks, R: Read, W: Write>(
     alloc: Global,
     task: Task,
     files: &mut F,
-    input: &mut Channel<R, ()>,
+    input: &mut CountedChannel<R, ()>,
     output: &mut Output<W>,
 ) -> Result<Ended, RunFault>
     ensures standard { input_of_asked (task_seen task.entry) ≡ standard → IfSome (R.remaining input.old.reader) (λ text.
@@ -166,7 +166,7 @@ pub fn run_main<'a, S: AsStr, F: Files + Networks, R: Read, W: Write, E: Write>(
     alloc: Global,
     words: &'a [S],
     files: &mut F,
-    input: &mut Channel<R, ()>,
+    input: &mut CountedChannel<R, ()>,
     output: &mut Output<W>,
     errors: &mut Output<E>,
 ) -> u8
@@ -218,7 +218,7 @@ where
     T: Threads + Wait + fs::Files<File = File> + Sockets + Send + Sync,
     W: Write,
     E: Write,
-    ensures took { (text : List ℕ) × Takes (account W.contents output.old) (account W.contents output.new) text }
+    ensures took { (text : List ℕ) × TakesBytes (account W.contents output.old) (account W.contents output.new) text }
     ensures ended { (ended : Result Ended RunFault) × (result ≡ exit_status ended) × TellsEnd ended (account E.contents errors.old) (account E.contents errors.new) errors.new.channel.write_failed
         × IfErr ended IsNetFault
         × KeepsUnstarted ended (account W.contents output.old) (account W.contents output.new)

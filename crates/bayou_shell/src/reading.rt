@@ -13,7 +13,7 @@ use bayou_print::RunFault;
 use bayou_script::{
     AuditDraft, AuditFile, Draft, Front, NetworkDraft, NetworkScript, Script, TextReader,
 };
-use bayou_streams::{Channel, Turn};
+use bayou_streams::{CountedChannel, Turn};
 use std::alloc::Global;
 use std::io::Read;
 
@@ -21,7 +21,7 @@ use std::io::Read;
 /// line with a fault. It ends with `Input` only where a call of the reader failed or no turn is left.
 fn read_text<F: Front, R: Read>(
     alloc: Global,
-    input: &mut Channel<R, ()>,
+    input: &mut CountedChannel<R, ()>,
 ) -> Result<F::Text, RunFault>
     ensures text { IfOk result (λ said. IfSome (R.remaining input.old.reader) (λ text. F.says (lines_of text) said)) }
     ensures told { IfOk result F.tells }
@@ -44,7 +44,7 @@ fn read_text<F: Front, R: Read>(
 /// The script that the reader has left.
 pub(crate) fn read_script<R: Read>(
     alloc: Global,
-    input: &mut Channel<R, ()>,
+    input: &mut CountedChannel<R, ()>,
 ) -> Result<Script, RunFault>
     ensures script { IfOk result (λ script. IfSome (R.remaining input.old.reader) (λ text. IsScript (lines_of text) (plan_of script))) }
     ensures fault { IfErr result (IsReadFault script_order (R.remaining input.old.reader)) }
@@ -57,7 +57,7 @@ pub(crate) fn read_script<R: Read>(
 /// The script over a network that the reader has left.
 pub(crate) fn read_network_script<R: Read>(
     alloc: Global,
-    input: &mut Channel<R, ()>,
+    input: &mut CountedChannel<R, ()>,
 ) -> Result<NetworkScript, RunFault>
     ensures script { IfOk result (λ script. IfSome (R.remaining input.old.reader) (λ text. IsNetworkScript (lines_of text) (network_plan_of script))) }
     ensures runs { IfOk result (λ script. RunsOverNetwork (network_plan_of script)) }
@@ -71,7 +71,7 @@ pub(crate) fn read_network_script<R: Read>(
 /// The audit file that the reader has left.
 pub(crate) fn read_audit<R: Read>(
     alloc: Global,
-    input: &mut Channel<R, ()>,
+    input: &mut CountedChannel<R, ()>,
 ) -> Result<AuditFile, RunFault>
     ensures file { IfOk result (λ file. IfSome (R.remaining input.old.reader) (λ text. IsAuditFile (lines_of text) (evidence_of file))) }
     ensures fault { IfErr result (IsReadFault audit_order (R.remaining input.old.reader)) }

@@ -5,13 +5,13 @@ ghost use Rattle.bayou_text.specs.Said.{command_said};
 ghost use Rattle.bayou_answers.specs.declared.answer.Answer.{Answer};
 ghost use Rattle.bayou_base.specs.declared.limits.TheConstants.{SESSIONS as SESSIONS_NUMBER};
 ghost use Rattle.bayou_audit.specs.Blanks.{AreBlanksOf, named};
-ghost use Rattle.bayou_script.specs.Places.{operation_of};
+ghost use Rattle.bayou_script.specs.Capacity.{operation_of};
 ghost use Rattle.bayou_print.specs.Printed.{answer_text};
 ghost use Rattle.bayou_machine.specs.Run.{IsNewRun, Turn};
 ghost use Rattle.bayou_shell.specs.Run.{Prints, PrintsPart, RunsAs};
 ghost use Rattle.bayou_print.specs.Fault.{answer_status, ended_status};
 ghost use Rattle.bayou_print.specs.Faults.{IsRunFault};
-ghost use Rattle.bayou_streams.specs.Account.{Pays, Takes, account};
+ghost use Rattle.bayou_streams.specs.Account.{Pays, TakesBytes, account};
 ghost use Rattle.bayou_print.specs.Waiting.{Gathers, stage};
 ghost use Rattle.bayou_print.specs.Turns.{EndsReading, EndsWriting, cut_lines};
 
@@ -20,8 +20,8 @@ use bayou_audit::{Blanks, Four, Ledgers};
 use bayou_base::SESSIONS;
 use bayou_machine::Machine;
 use bayou_print::{Ended, RunFault, Waiting, write_answer};
-use bayou_script::{Script, Servers, places_for};
-use bayou_streams::{Channel, Output};
+use bayou_script::{Script, Servers, capacity_for};
+use bayou_streams::{CountedChannel, Output};
 use bayou_text::Command;
 use std::alloc::Global;
 use std::io::{Read, Write};
@@ -38,7 +38,7 @@ fn answer_one<K: Ledgers, W: Write>(
     waiting: &mut Waiting,
 ) -> Result<Ended, RunFault>
     requires served { IsTrue (is_served machine.old.standing.count (command_said command)) }
-    requires room { operation_of (command_said command) ≢ None → length machine.old.book.entries < machine.old.book.places }
+    requires room { operation_of (command_said command) ≢ None → length machine.old.book.entries < machine.old.book.capacity }
     ensures answered { MatchResult result
         (λ ended. (answer : Answer) × (ended_status ended ≡ answer_status answer)
         × Turn machine.old (command_said command) answer machine.new
@@ -92,9 +92,9 @@ fn answer_all<K: Ledgers, W: Write>(
 ) -> Result<Ended, RunFault>
     requires begun { IsNewRun (plan_of script) machine.old }
     requires none { waiting.lines.items ≡ [] }
-    ensures ok { IfOk result (λ ended. (text : List ℕ) × Prints (plan_of script) ended text × Takes (account W.contents output.old) (account W.contents output.new) text) }
+    ensures ok { IfOk result (λ ended. (text : List ℕ) × Prints (plan_of script) ended text × TakesBytes (account W.contents output.old) (account W.contents output.new) text) }
     ensures err { IfErr result (λ fault. IsRunFault fault
-        × (text : List ℕ) × PrintsPart (plan_of script) text × Takes (account W.contents output.old) (account W.contents output.new) text) }
+        × (text : List ℕ) × PrintsPart (plan_of script) text × TakesBytes (account W.contents output.old) (account W.contents output.new) text) }
     ensures ended { IfErr result (EndsWriting output.new.channel.write_failed output.new.channel.turns_left) }
     ensures ready { OnOk result (output.old.channel.turns_left ≤ output.new.channel.turns_left) }
 {
@@ -108,7 +108,7 @@ fn answer_all<K: Ledgers, W: Write>(
 fn run_with<K: Ledgers, R: Read, W: Write>(
     alloc: Global,
     blanks: Blanks,
-    input: &mut Channel<R, ()>,
+    input: &mut CountedChannel<R, ()>,
     output: &mut Output<W>,
 ) -> Result<Ended, RunFault>
     requires blanks { AreBlanksOf blanks (named K.Slips.name K.Slips.parts) (named K.Reads.name K.Reads.parts) (named K.Writes.name K.Writes.parts) (named K.Refusals.name K.Refusals.parts) SESSIONS_NUMBER }
@@ -120,8 +120,8 @@ fn run_with<K: Ledgers, R: Read, W: Write>(
 {
     let script = read_script(alloc, input)?;
     let waiting = Waiting::new(alloc)?;
-    let places = places_for(&script.commands);
-    let mut machine = Machine::<K>::new(alloc, blanks, script.servers, places)?;
+    let capacity = capacity_for(&script.commands);
+    let mut machine = Machine::<K>::new(alloc, blanks, script.servers, capacity)?;
     answer_all(alloc, script, &mut machine, output, waiting)
 }
 
@@ -129,7 +129,7 @@ fn run_with<K: Ledgers, R: Read, W: Write>(
 fn run_over<S, T, U, V, R, W>(
     alloc: Global,
     blanks: Blanks,
-    input: &mut Channel<R, ()>,
+    input: &mut CountedChannel<R, ()>,
     output: &mut Output<W>,
 ) -> Result<Ended, RunFault>
 where
@@ -152,7 +152,7 @@ where
 /// Reads a script to its end, or to its least line with a fault, and writes the lines of its answers.
 pub fn run_script<R: Read, W: Write>(
     alloc: Global,
-    input: &mut Channel<R, ()>,
+    input: &mut CountedChannel<R, ()>,
     output: &mut Output<W>,
 ) -> Result<Ended, RunFault>
     ensures runs { IfSome (R.remaining input.old.reader) (λ text. RunsAs text result (W.contents output.old.channel.writer) (W.contents output.new.channel.writer)) }

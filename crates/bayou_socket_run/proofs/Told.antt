@@ -1,7 +1,7 @@
 -- What is told of a run over a network, one text behind another.
 use Rattle.std.proofs.Common.{◌≡◌, ◌⊎◌, ℕ, Bool, List, [], ◌++◌, Result, Ok, Err, IfErr, inl, inr, refl, subst, sym}
-use Rattle.bayou_streams.specs.Account.{Account, Takes, TakesFront}
-use Rattle.bayou_streams.specs.Laws.Taken.{Takes-nil, Takes-trans}
+use Rattle.bayou_streams.specs.Account.{Account, TakesBytes, TakesFront}
+use Rattle.bayou_streams.specs.Laws.Taken.{TakesBytes-nil, TakesBytes-trans}
 use Rattle.bayou_print.specs.declared.ended.Ended.{Ended}
 use Rattle.bayou_print.specs.declared.fault.RunFault.{RunFault}
 use Rattle.bayou_print.specs.declared.fault.RunFault.TheVariants.{Line, Memory, Device, Network, Input, Output}
@@ -11,7 +11,7 @@ use Rattle.bayou_print.specs.Waiting.{Gathers, Stage}
 use Rattle.bayou_socket_run.specs.Inner.Telling.{Tells}
 use Rattle.bayou_socket_run.specs.Faults.{IsNetFault, KeepsUnstarted}
 use Rattle.bayou_print.specs.Turns.{EndsWriting}
-use Rattle.bayou_print.specs.Laws.Gathered.{Gathers-nil, Gathers-trans, Takes-rest}
+use Rattle.bayou_print.specs.Laws.Gathered.{Gathers-nil, Gathers-trans, TakesBytes-rest}
 
 -- some text was taken or waits
 abbrev pub Whole : Stage → Stage → Type 0
@@ -61,27 +61,27 @@ start_writes fails turns Input is = absurd is
 start_writes fails turns Output is = absurd is
 
 -- what waited at the end was written too, or a part of it
-pub took_part : (a b : Stage) (c : Account) → a.waiting ≡ [] → Part a b → TakesFront b.output c b.waiting → (text : List ℕ) × Takes a.output c text
-took_part a b c none (text, missing, some) more = let (front, rest, split, took) = Takes-rest a b c text missing none some more in (front, took)
+pub took_part : (a b : Stage) (c : Account) → a.waiting ≡ [] → Part a b → TakesFront b.output c b.waiting → (text : List ℕ) × TakesBytes a.output c text
+took_part a b c none (text, missing, some) more = let (front, rest, split, took) = TakesBytes-rest a b c text missing none some more in (front, took)
 
-pub took_nothing : (a : Account) → (text : List ℕ) × Takes a a text
-took_nothing a = ([], Takes-nil a)
+pub took_nothing : (a : Account) → (text : List ℕ) × TakesBytes a a text
+took_nothing a = ([], TakesBytes-nil a)
 
 pub tells_part : (result : Result Ended RunFault) (a b : Stage) → Tells result a b → Part a b
 tells_part (Ok ended) a b told = part_of_whole a b told
 tells_part (Err fault) a b (is, text, missing, some) = (text, missing, some)
 
 -- what was told was written, as far as it was
-pub took_told : (result : Result Ended RunFault) (a b : Stage) (c : Account) → a.waiting ≡ [] → Tells result a b → TakesFront b.output c b.waiting → (text : List ℕ) × Takes a.output c text
+pub took_told : (result : Result Ended RunFault) (a b : Stage) (c : Account) → a.waiting ≡ [] → Tells result a b → TakesFront b.output c b.waiting → (text : List ℕ) × TakesBytes a.output c text
 took_told result a b c none told more = took_part a b c none (tells_part result a b told) more
 
 -- an end that is told in other words
-pub took_same : (a c d : Account) → c ≡ d → (text : List ℕ) × Takes a c text → (text : List ℕ) × Takes a d text
-took_same a c d same told = subst (λ end. (text : List ℕ) × Takes a end text) same told
+pub took_same : (a c d : Account) → c ≡ d → (text : List ℕ) × TakesBytes a c text → (text : List ℕ) × TakesBytes a d text
+took_same a c d same told = subst (λ end. (text : List ℕ) × TakesBytes a end text) same told
 
 -- one text behind another
-pub took_both : (a b c : Account) → (text : List ℕ) × Takes a b text → (text : List ℕ) × Takes b c text → (text : List ℕ) × Takes a c text
-took_both a b c (first, one) (second, two) = (first ++ second, Takes-trans a b c first second one two)
+pub took_both : (a b c : Account) → (text : List ℕ) × TakesBytes a b text → (text : List ℕ) × TakesBytes b c text → (text : List ℕ) × TakesBytes a c text
+took_both a b c (first, one) (second, two) = (first ++ second, TakesBytes-trans a b c first second one two)
 
 -- what may end a start may end a run
 pub start_net : (fault : RunFault) → IsStartFault fault → IsNetFault fault

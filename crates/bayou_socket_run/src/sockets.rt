@@ -9,7 +9,7 @@ ghost use Rattle.bayou_print.specs.Waiting.{stage};
 ghost use Rattle.bayou_socket_run.specs.Inner.Telling.{Tells};
 ghost use Rattle.bayou_socket_run.specs.Faults.{IsNetFault, KeepsUnstarted};
 ghost use Rattle.bayou_print.specs.Turns.{EndsWriting};
-ghost use Rattle.bayou_streams.specs.Account.{Takes, account};
+ghost use Rattle.bayou_streams.specs.Account.{TakesBytes, account};
 
 use crate::faults::in_run;
 use crate::journals::{Journaled, start_all};
@@ -22,7 +22,7 @@ use bayou_fleet::{Fleet, FleetFault, FourServers, Network, RunSession, Seat, sta
 use bayou_net::Sockets;
 use bayou_node::Desks;
 use bayou_print::{Ended, RunFault, Waiting};
-use bayou_script::{NetworkCommand, NetworkScript, Servers, places_for};
+use bayou_script::{NetworkCommand, NetworkScript, Servers, capacity_for};
 use bayou_streams::Output;
 use std::alloc::{AllocError, Global};
 use std::collections::VecDeque;
@@ -135,7 +135,7 @@ where
     K: Ledgers + Send + Sync,
     T: Threads + Wait + Sockets + Send + Sync,
     W: Write,
-    ensures took { (text : List ℕ) × Takes (account W.contents output.old) (account W.contents output.new) text }
+    ensures took { (text : List ℕ) × TakesBytes (account W.contents output.old) (account W.contents output.new) text }
     ensures fault { IfErr result IsPhaseFault }
     ensures ended { IfErr result (EndsWriting output.new.channel.write_failed output.new.channel.turns_left) }
     ensures ready { OnOk result (output.old.channel.turns_left ≤ output.new.channel.turns_left) }
@@ -153,7 +153,7 @@ fn conclude<F: Fleet, K: Ledgers, T: Wait, W: Write>(
     servers: Servers,
     output: &mut Output<W>,
 ) -> Result<Ended, RunFault>
-    ensures took { (text : List ℕ) × Takes (account W.contents output.old) (account W.contents output.new) text }
+    ensures took { (text : List ℕ) × TakesBytes (account W.contents output.old) (account W.contents output.new) text }
     ensures fault { IfErr result IsPhaseFault }
     ensures ended { IfErr result (EndsWriting output.new.channel.write_failed output.new.channel.turns_left) }
     ensures ready { OnOk result (output.old.channel.turns_left ≤ output.new.channel.turns_left) }
@@ -177,7 +177,7 @@ where
     K: Ledgers + Send + Sync,
     T: Threads + Wait + Sockets + Send + Sync,
     W: Write,
-    ensures took { (text : List ℕ) × Takes (account W.contents output.old) (account W.contents output.new) text }
+    ensures took { (text : List ℕ) × TakesBytes (account W.contents output.old) (account W.contents output.new) text }
     ensures fault { IfErr result IsPhaseFault }
     ensures ended { IfErr result (EndsWriting output.new.channel.write_failed output.new.channel.turns_left) }
     ensures ready { OnOk result (output.old.channel.turns_left ≤ output.new.channel.turns_left) }
@@ -202,7 +202,7 @@ where
     K: Ledgers + Send + Sync,
     T: Threads + Wait + Sockets + Send + Sync,
     W: Write,
-    ensures took { (text : List ℕ) × Takes (account W.contents output.old) (account W.contents output.new) text }
+    ensures took { (text : List ℕ) × TakesBytes (account W.contents output.old) (account W.contents output.new) text }
     ensures fault { IfErr result IsPhaseFault }
     ensures ended { IfErr result (EndsWriting output.new.channel.write_failed output.new.channel.turns_left) }
     ensures ready { OnOk result (output.old.channel.turns_left ≤ output.new.channel.turns_left) }
@@ -263,7 +263,7 @@ where
     requires second { IfSome second (λ ready. IsBlankOf ready.blank B.name B.parts setting.agenda.connections × (begun_of ready.server.value.core ≡ B.begun)) }
     requires third { IfSome third (λ ready. IsBlankOf ready.blank C.name C.parts setting.agenda.connections × (begun_of ready.server.value.core ≡ C.begun)) }
     requires fourth { IfSome fourth (λ ready. IsBlankOf ready.blank E.name E.parts setting.agenda.connections × (begun_of ready.server.value.core ≡ E.begun)) }
-    ensures took { (text : List ℕ) × Takes (account W.contents output.old) (account W.contents output.new) text }
+    ensures took { (text : List ℕ) × TakesBytes (account W.contents output.old) (account W.contents output.new) text }
     ensures fault { IfErr result IsPhaseFault }
     ensures ended { IfErr result (EndsWriting output.new.channel.write_failed output.new.channel.turns_left) }
     ensures ready { OnOk result (output.old.channel.turns_left ≤ output.new.channel.turns_left) }
@@ -313,7 +313,7 @@ where
     K: Ledgers + Send + Sync,
     T: Threads + Wait + Sockets + Send + Sync,
     W: Write,
-    ensures took { (text : List ℕ) × Takes (account W.contents output.old) (account W.contents output.new) text }
+    ensures took { (text : List ℕ) × TakesBytes (account W.contents output.old) (account W.contents output.new) text }
     ensures fault { IfErr result IsPhaseFault }
     ensures ended { IfErr result (EndsWriting output.new.channel.write_failed output.new.channel.turns_left) }
     ensures ready { OnOk result (output.old.channel.turns_left ≤ output.new.channel.turns_left) }
@@ -370,17 +370,17 @@ where
     T: Threads + Wait + Sockets + Send + Sync,
     W: Write,
     requires blanks { AreBlanksOf blanks (named S.name S.parts) (named R.name R.parts) (named U.name U.parts) (named V.name V.parts) SESSIONS_NUMBER }
-    ensures took { (text : List ℕ) × Takes (account W.contents output.old) (account W.contents output.new) text }
+    ensures took { (text : List ℕ) × TakesBytes (account W.contents output.old) (account W.contents output.new) text }
     ensures fault { IfErr result IsPhaseFault }
     ensures ended { IfErr result (EndsWriting output.new.channel.write_failed output.new.channel.turns_left) }
     ensures ready { OnOk result (output.old.channel.turns_left ≤ output.new.channel.turns_left) }
 {
-    let places = places_for(&script.commands);
+    let capacity = capacity_for(&script.commands);
     let Ok((book, shares)) = AuditBook::<Four<S, R, U, V>>::new(
         alloc,
         blanks,
         SESSIONS as u8,
-        places,
+        capacity,
     ) else {
         return Err(RunFault::Memory);
     };
@@ -414,7 +414,7 @@ pub fn run_on_sockets<T, W>(
 where
     T: Threads + Wait + Files<File = File> + Sockets + Send + Sync,
     W: Write,
-    ensures took { (text : List ℕ) × Takes (account W.contents output.old) (account W.contents output.new) text }
+    ensures took { (text : List ℕ) × TakesBytes (account W.contents output.old) (account W.contents output.new) text }
     ensures fault { IfErr result IsNetFault }
     ensures unstarted { KeepsUnstarted result (account W.contents output.old) (account W.contents output.new) }
     ensures ended { IfErr result (EndsWriting output.new.channel.write_failed output.new.channel.turns_left) }

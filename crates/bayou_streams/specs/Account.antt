@@ -17,7 +17,7 @@ account contents output = record { contents = contents output.channel.writer; sp
 
 -- An output took the text, and what it spent is what it has less, but for the turns that each line brings: as a count that stands at
 -- its greatest tells it.
-pub record Takes (old new : Account) (text : List ℕ) : Type 0 where
+pub record TakesBytes (old new : Account) (text : List ℕ) : Type 0 where
   pub bytes : Appends old.contents new.contents text
   pub lines : new.lines ≡ counted old.lines (line_feeds text)
   pub turns : new.spent + new.turns_left ≤ old.spent + old.turns_left + MAX_TURNS * line_feeds text
@@ -25,7 +25,7 @@ pub record Takes (old new : Account) (text : List ℕ) : Type 0 where
 
 -- it took a front of the text: nothing, a part of it, or all of it
 abbrev pub TakesFront : Account → Account → List ℕ → Type 0
-TakesFront old new text = (front rest : List ℕ) × (text ≡ front ++ rest) × Takes old new front
+TakesFront old new text = (front rest : List ℕ) × (text ≡ front ++ rest) × TakesBytes old new front
 
 -- Some text was written, with at most so many turns for each line that ends in it, and as many for so many lines more, of which
 -- a part was written, or nothing.

@@ -24,6 +24,6 @@ failed_behind has_failed (Err Failed) = true
 failed_behind has_failed (Err TooManyTurns) = has_failed
 
 -- a fault is told only where a call failed, or no turn is left
-abbrev pub Stops : Bool → ℕ → StreamFault → Type 0
-Stops has_failed turns_left Failed = has_failed ≡ true
-Stops has_failed turns_left TooManyTurns = turns_left ≡ 0
+abbrev pub StopsStream : Bool → ℕ → StreamFault → Type 0
+StopsStream has_failed turns_left Failed = has_failed ≡ true
+StopsStream has_failed turns_left TooManyTurns = turns_left ≡ 0

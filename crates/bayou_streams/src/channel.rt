@@ -33,7 +33,7 @@ pub enum Turn {
 
 /// A reader and a writer, and the turns that are left to the two together.
 #[derive(Drop)]
-pub struct Channel<R, W> {
+pub struct CountedChannel<R, W> {
     reader: R,
     writer: W,
     turns_left: u32,
@@ -42,7 +42,7 @@ pub struct Channel<R, W> {
     ghost in_budget: { turns_left ≤ MAX_TURNS },
 }
 
-impl<R, W> Channel<R, W> {
+impl<R, W> CountedChannel<R, W> {
     /// The two with [`MAX_TURNS`] turns.
     pub fn new(reader: R, writer: W) -> Self
         ensures reader { result.reader ≡ reader }
@@ -50,7 +50,7 @@ impl<R, W> Channel<R, W> {
         ensures left { result.turns_left ≡ MAX_TURNS }
         ensures clean { (result.read_failed ≡ false) × (result.write_failed ≡ false) }
     {
-        Channel {
+        CountedChannel {
             reader,
             writer,
             turns_left: MAX_TURNS,
@@ -103,7 +103,7 @@ fn write_turn_of(turn: Result<Turn, StreamFault>, text: &[u8]) -> Result<Turn, S
     turn
 }
 
-impl<R: Read, W> Channel<R, W> {
+impl<R: Read, W> CountedChannel<R, W> {
     /// Calls the reader once, where a turn is left, to read the next bytes into the front of the piece. None come only at the
     /// end, or where the piece has no room.
     pub fn read_turn(&mut self, piece: &mut [u8]) -> Result<Turn, StreamFault>
@@ -127,7 +127,7 @@ impl<R: Read, W> Channel<R, W> {
     }
 }
 
-impl<R, W: Write> Channel<R, W> {
+impl<R, W: Write> CountedChannel<R, W> {
     /// Calls the writer once, where a turn is left, to write a front of the text.
     pub fn write_turn(&mut self, text: &[u8]) -> Result<Turn, StreamFault>
         ensures bound { WritesAtMost (count_of result) text.now }

@@ -4,17 +4,17 @@ ghost use Rattle.std.specs.Io.{IsEmptyOrEndsWith, WritesAtMost};
 ghost use Rattle.std.specs.Io.KnownBytes.{WriteAppends};
 ghost use Rattle.bayou_base.specs.declared.limits.TheConstants.{MAX_TURNS};
 ghost use Rattle.bayou_streams.specs.declared.channel.StreamFault.TheVariants.{TooManyTurns};
-ghost use Rattle.bayou_streams.specs.Account.{Takes, TakesFront, account};
+ghost use Rattle.bayou_streams.specs.Account.{TakesBytes, TakesFront, account};
 ghost use Rattle.bayou_streams.specs.Lines.{counted, line_feeds, taken_of, turns_behind};
-ghost use Rattle.bayou_streams.specs.Turns.{Stops, count_of, failed_behind, turns_of};
+ghost use Rattle.bayou_streams.specs.Turns.{StopsStream, count_of, failed_behind, turns_of};
 
-use crate::channel::{Channel, StreamFault, Turn};
+use crate::channel::{CountedChannel, StreamFault, Turn};
 use std::io::Write;
 
 /// A writer, and the turns that are left to it for the line that it is at.
 #[derive(Drop)]
 pub struct Output<W> {
-    channel: Channel<(), W>,
+    channel: CountedChannel<(), W>,
     /// How many turns were made.
     spent: u64,
     /// How many line feeds the writer took.
@@ -31,7 +31,7 @@ impl<W: Write> Output<W> {
         ensures clean { result.channel.write_failed ≡ false }
     {
         Output {
-            channel: Channel::new((), writer),
+            channel: CountedChannel::new((), writer),
             spent: 0,
             lines: 0,
         }
@@ -76,9 +76,9 @@ impl<W: Write> Output<W> {
     /// Writes the whole text, each line in at most [`MAX_TURNS`](bayou_base::MAX_TURNS) turns. Where it ends in a fault, a
     /// front of the text was written.
     pub fn write_lines(&mut self, text: &[u8]) -> Result<(), StreamFault>
-        ensures whole { OnOk result (Takes (account W.contents self.old) (account W.contents self.new) text.now) }
+        ensures whole { OnOk result (TakesBytes (account W.contents self.old) (account W.contents self.new) text.now) }
         ensures part { TakesFront (account W.contents self.old) (account W.contents self.new) text.now }
-        ensures stops { IfErr result (Stops self.new.channel.write_failed self.new.channel.turns_left) }
+        ensures stops { IfErr result (StopsStream self.new.channel.write_failed self.new.channel.turns_left) }
         // No call of it failed where the whole was written.
         ensures clean { OnOk result (self.new.channel.write_failed ≡ true → self.old.channel.write_failed ≡ true) }
         // Behind a whole line there are as many turns left as there may be.

@@ -1,7 +1,7 @@
 -- What a reader that takes memory answers, seen as what bytes say, or as their fault.
 use Rattle.std.proofs.Common.{◌≡◌, ℕ, inl, inr, List, length, Ok, Err, IfOk, IfErr, nat_lt, false, refl, sym, ◌∙◌, arith, tests}
 use Rattle.bayou_base.specs.declared.limits.TheConstants.{MAX_LINE_BYTES}
-use Rattle.bayou_text.proofs.LineTable.{spells_from_line, line_from_spells}
+use Rattle.bayou_text.specs.Laws.Inner.LineTable.{spells_from_line, line_from_spells}
 use Rattle.bayou_text.specs.declared.line.Line.{Line}
 use Rattle.bayou_text.specs.declared.line.LineFault.{LineFault}
 use Rattle.bayou_text.specs.declared.line.LineFault.TheVariants as fault

@@ -1,11 +1,3 @@
 pub mod Views
-pub mod Lists
-pub mod Counts
 pub mod Faults
-pub mod Readers
-pub mod PartTable
-pub mod ProgramTable
-pub mod Named
-pub mod AuditTable
-pub mod LineTable
 pub mod LineLaws

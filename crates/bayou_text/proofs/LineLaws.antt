@@ -5,7 +5,7 @@ use Rattle.std.specs.Str.{is_utf8}
 use Rattle.std.proofs.lemmas.Bool.{cases_lt}
 use Rattle.std.proofs.lemmas.Str.{IsUtf8-from_is_utf8, is_utf8-from_IsUtf8}
 use Rattle.bayou_base.specs.declared.limits.TheConstants.{MAX_LINE_BYTES}
-use Rattle.bayou_text.proofs.LineTable.{spells_from_line, line_from_spells}
+use Rattle.bayou_text.specs.Laws.Inner.LineTable.{spells_from_line, line_from_spells}
 use Rattle.bayou_text.specs.declared.line.LineFault.{LineFault}
 use Rattle.bayou_text.specs.declared.line.LineFault.TheVariants.{BadShape, NotJson}
 use Rattle.bayou_text.specs.declared.line.Shape.TheVariants.{Line}

@@ -40,9 +40,7 @@ use Rattle.bayou_text.specs.declared.command.TrialKind.{TrialKind}
 use Rattle.bayou_text.specs.declared.command.TrialKind.TheVariants as kind
 use Rattle.bayou_text.specs.declared.line.Line.{Line}
 use Rattle.bayou_text.specs.declared.line.Line.TheVariants as line
-use Rattle.bayou_text.proofs.LineTable.{line_read}
-use Rattle.bayou_text.proofs.ProgramTable.{program_found}
-use Rattle.bayou_text.proofs.Readers.{listed_items, asks_found}
+use Rattle.bayou_text.specs.Laws.Lines.{asks_found, line_read, listed_items, program_found}
 use Rattle.bayou_text_writer.proofs.Vectors.{vector_spelled}
 use Rattle.bayou_text.specs.Asks.{asks_in}
 use Rattle.bayou_text.specs.Lines.{line_in, servers_in, opening_in, writing_in, reading_in, alone_in, fusing_in, losing_in, trial_of, bare_in, asked_of, pulling_in, resending_in, exchange_of}

@@ -13,7 +13,7 @@ use Rattle.bayou_text.specs.declared.line.LineFault.TheVariants.{BadShape}
 use Rattle.bayou_text.specs.declared.line.Shape.TheVariants.{Line as TooLong}
 use Rattle.bayou_text.specs.Lines.{line_of, text_line}
 use Rattle.bayou_text.specs.Table.{Spells}
-use Rattle.bayou_text.proofs.LineTable.{spells_from_line}
+use Rattle.bayou_text.specs.Laws.Lines.{spells_from_line}
 use Rattle.std.proofs.lemmas.Str.{IsUtf8-string_bytes}
 use Rattle.bayou_text.specs.Ranges.{IsReadable}
 use Rattle.bayou_text_writer.specs.Inner.Kept.{IsLine}

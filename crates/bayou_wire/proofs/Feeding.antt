@@ -3,15 +3,15 @@ use Rattle.std.proofs.Common.{◌≡◌, ℕ, zero, suc, ◌-◌, ◌≤◌, Lis
 use Rattle.std.specs.Prelude.{◌⊎◌}
 use Rattle.std.specs.List.{flat_map, AllByRecursion}
 use Rattle.std.proofs.lemmas.List.{append-nil, take_all, drop_at, take-append-drop, length-append}
-use Rattle.bayou_wire.specs.declared.fault.Fault.{Fault}
-use Rattle.bayou_wire.specs.declared.fault.Fault.TheVariants.{TooLong, BadKind, BadBody, Trailing}
+use Rattle.bayou_wire.specs.declared.fault.DecodeFault.{DecodeFault}
+use Rattle.bayou_wire.specs.declared.fault.DecodeFault.TheVariants.{TooLong, BadKind, BadBody, Trailing}
 use Rattle.bayou_wire.specs.declared.frame.Frame.{Frame}
 use Rattle.bayou_wire.specs.declared.stream.FeedFault.{FeedFault}
 use Rattle.bayou_wire.specs.declared.stream.FeedFault.TheVariants as feeds
 use Rattle.bayou_wire.specs.Spelling.{IsFrame, frame_bytes, packed}
 use Rattle.bayou_wire.specs.Stream.{HasLength, HasPackedFault, Packs, IsFaulty, IsPartial, IsRest, Splits, Holds, TakesIn, Fed, Feeds, IsLeft, stream_of, frames_given, bytes_fed}
 use Rattle.bayou_wire.specs.Inner.Reading.{IsRestOf, IsTaken}
-use Rattle.bayou_wire.proofs.Fronts.{frame_begins_one, partial_not_faulty, whole_not_faulty, whole_not_partial}
+use Rattle.bayou_wire.specs.Laws.Inner.Fronts.{frame_begins_one, partial_not_faulty, whole_not_faulty, whole_not_partial}
 
 -- ---- what is held back
 
@@ -36,30 +36,30 @@ packs_front bytes kind payload more p =
     let within : length (packed kind payload) ≤ 8194 = omega (arith, p.short) in
     record { short = p.short; begins = ap (take 8194) p.begins ∙ take_beyond (packed kind payload) more 8194 within }
 
-packed_fault_front : (bytes : List ℕ) (fault : Fault) → HasPackedFault bytes fault → HasPackedFault (take 8194 bytes) fault
+packed_fault_front : (bytes : List ℕ) (fault : DecodeFault) → HasPackedFault bytes fault → HasPackedFault (take 8194 bytes) fault
 packed_fault_front bytes fault h = (h.0, h.1, take (8194 - length (packed h.0 h.1)) h.2, packs_front bytes h.0 h.1 h.2 h.3, h.4)
 
-faulty_front : (bytes : List ℕ) (fault : Fault) → IsFaulty bytes fault → IsFaulty (take 8194 bytes) fault
+faulty_front : (bytes : List ℕ) (fault : DecodeFault) → IsFaulty bytes fault → IsFaulty (take 8194 bytes) fault
 faulty_front bytes TooLong f = (f.0, f.1, length_front bytes f.0 f.2)
 faulty_front bytes BadKind f = packed_fault_front bytes BadKind f
 faulty_front bytes BadBody (inl none) = inl (length_front bytes 0 none)
 faulty_front bytes BadBody (inr f) = inr (packed_fault_front bytes BadBody f)
 faulty_front bytes Trailing f = packed_fault_front bytes Trailing f
 
-holds : (rest : List ℕ) (fault : Option Fault) → IsRestOf rest fault → IsRest rest × Holds rest (take 8194 rest)
+holds : (rest : List ℕ) (fault : Option DecodeFault) → IsRestOf rest fault → IsRest rest × Holds rest (take 8194 rest)
 holds rest None partial = (inl partial, inl (partial, take_all 8194 rest (partial_short rest partial)))
 holds rest (Some fault) f = (inr (fault, f), inr (fault, faulty_front rest fault f, (drop 8194 rest, sym (take-append-drop 8194 rest))))
 
-no_fault_first : (rest : List ℕ) (frames : List Frame) (fault : Option Fault) → IsRestOf rest fault → (frames ≡ [] → fault ≡ None) → frames ≡ [] → IsPartial rest
+no_fault_first : (rest : List ℕ) (frames : List Frame) (fault : Option DecodeFault) → IsRestOf rest fault → (frames ≡ [] → fault ≡ None) → frames ≡ [] → IsPartial rest
 no_fault_first rest frames fault is none nothing = subst (IsRestOf rest) (none nothing) is
 
-taken_rest : (bytes : List ℕ) (frames : List Frame) (left : ℕ) (fault : Option Fault) (t : IsTaken bytes frames left fault) → drop (length bytes - left) bytes ≡ t.rest
+taken_rest : (bytes : List ℕ) (frames : List Frame) (left : ℕ) (fault : Option DecodeFault) (t : IsTaken bytes frames left fault) → drop (length bytes - left) bytes ≡ t.rest
 taken_rest bytes frames left fault t =
     let front : List ℕ = flat_map frame_bytes frames in
     let n : length front ≡ length bytes - left = omega (arith, ap length t.whole, length-append front t.rest, t.size) in
     ap (drop (length bytes - left)) t.whole ∙ drop_at front t.rest (length bytes - left) n
 
-pub keeps-frames : (bytes : List ℕ) (frames : List Frame) (left : ℕ) (fault : Option Fault) → IsTaken bytes frames left fault → (frames ≡ [] → fault ≡ None)
+pub keeps-frames : (bytes : List ℕ) (frames : List Frame) (left : ℕ) (fault : Option DecodeFault) → IsTaken bytes frames left fault → (frames ≡ [] → fault ≡ None)
     → TakesIn bytes frames (take 8194 (drop (length bytes - left) bytes))
 keeps-frames bytes frames left fault t none =
     let h = holds t.rest fault t.is in
@@ -70,12 +70,12 @@ keeps-frames bytes frames left fault t none =
       no_fault = no_fault_first t.rest frames fault t.is none;
     })
 
-pub keeps-fault : (bytes : List ℕ) (frames : List Frame) (left : ℕ) (fault : Fault) → IsTaken bytes frames left (Some fault) → frames ≡ [] → IsFaulty bytes fault
+pub keeps-fault : (bytes : List ℕ) (frames : List Frame) (left : ℕ) (fault : DecodeFault) → IsTaken bytes frames left (Some fault) → frames ≡ [] → IsFaulty bytes fault
 keeps-fault bytes frames left fault t nothing =
     let e : bytes ≡ t.rest = t.whole ∙ ap (λ fs. stream_of fs t.rest) nothing in
     subst (λ (s : List ℕ). IsFaulty s fault) (sym e) t.is
 
-pub taken_left : (bytes : List ℕ) (frames : List Frame) (left : ℕ) (fault : Option Fault) → IsTaken bytes frames left fault → left ≤ length bytes
+pub taken_left : (bytes : List ℕ) (frames : List Frame) (left : ℕ) (fault : Option DecodeFault) → IsTaken bytes frames left fault → left ≤ length bytes
 taken_left bytes frames left fault t = omega (arith, ap length t.whole, length-append (flat_map frame_bytes frames) t.rest, t.size)
 
 -- ---- a fault stays, whatever follows
@@ -83,12 +83,12 @@ taken_left bytes frames left fault t = omega (arith, ap length t.whole, length-a
 length_on : (bytes more : List ℕ) (len : ℕ) → HasLength bytes len → HasLength (bytes ++ more) len
 length_on bytes more len h = (h.0, (h.1.0 ++ more, ap (λ s. s ++ more) h.1.1))
 
-packed_fault_on : (bytes more : List ℕ) (fault : Fault) → HasPackedFault bytes fault → HasPackedFault (bytes ++ more) fault
+packed_fault_on : (bytes more : List ℕ) (fault : DecodeFault) → HasPackedFault bytes fault → HasPackedFault (bytes ++ more) fault
 packed_fault_on bytes more fault h =
     let p : Packs (bytes ++ more) h.0 h.1 (h.2 ++ more) = record { short = h.3.short; begins = ap (λ s. s ++ more) h.3.begins ∙ append_assoc (packed h.0 h.1) h.2 more } in
     (h.0, h.1, h.2 ++ more, p, h.4)
 
-pub faulty_on : (bytes more : List ℕ) (fault : Fault) → IsFaulty bytes fault → IsFaulty (bytes ++ more) fault
+pub faulty_on : (bytes more : List ℕ) (fault : DecodeFault) → IsFaulty bytes fault → IsFaulty (bytes ++ more) fault
 faulty_on bytes more TooLong f = (f.0, f.1, length_on bytes more f.0 f.2)
 faulty_on bytes more BadKind f = packed_fault_on bytes more BadKind f
 faulty_on bytes more BadBody (inl none) = inl (length_on bytes more 0 none)
@@ -157,13 +157,13 @@ none_feeds (piece ∷ pieces) (Err (feeds.Fault fault) ∷ answers) new f = absu
 none_feeds (piece ∷ pieces) (Err feeds.OutOfMemory ∷ answers) new f = absurd f.1
 none_feeds (piece ∷ pieces) (Err feeds.Failed ∷ answers) new f = none_feeds pieces answers new (subst (λ (m : Option (List ℕ)). Feeds m pieces answers new) f.1 f.2)
 
-no_frames_from_fault : (bytes : List ℕ) (fault : Fault) (frames : List Frame) (now : List ℕ) → IsFaulty bytes fault → TakesIn bytes frames now → ⊥
+no_frames_from_fault : (bytes : List ℕ) (fault : DecodeFault) (frames : List Frame) (now : List ℕ) → IsFaulty bytes fault → TakesIn bytes frames now → ⊥
 no_frames_from_fault bytes fault [] now f t = partial_not_faulty t.left fault (t.no_fault refl) (subst (λ (s : List ℕ). IsFaulty s fault) t.splits.whole f)
 no_frames_from_fault bytes fault (g ∷ frames) now f t =
     whole_not_faulty bytes g (stream_of frames t.left) fault t.splits.each.0 (t.splits.whole ∙ append_assoc (frame_bytes g) (flat_map frame_bytes frames) t.left) f
 
 -- where a fault is held back, no frame is given
-faulty_feeds : (held : List ℕ) (fault : Fault) (pieces : List (List ℕ)) (answers : List (Result (List Frame) FeedFault)) (new : Option (List ℕ)) → IsFaulty held fault → Feeds (Some held) pieces answers new
+faulty_feeds : (held : List ℕ) (fault : DecodeFault) (pieces : List (List ℕ)) (answers : List (Result (List Frame) FeedFault)) (new : Option (List ℕ)) → IsFaulty held fault → Feeds (Some held) pieces answers new
     → (frames_given answers ≡ []) × (((new ≡ Some held) × (bytes_fed pieces answers ≡ [])) ⊎ (new ≡ None))
 faulty_feeds held fault [] [] new is f = (refl, inl (f, refl))
 faulty_feeds held fault [] (answer ∷ answers) new is f = absurd f

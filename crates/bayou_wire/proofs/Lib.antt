@@ -1,7 +1,1 @@
-pub mod Readers
-pub mod Vectors
-pub mod Formats
-pub mod Payloads
-pub mod Sizes
-pub mod Fronts
 pub mod Feeding

@@ -20,8 +20,8 @@ use Rattle.bayou_lang.specs.declared.program.Term.TheVariants.{Lit, Copy, Plus}
 use Rattle.bayou_lang.specs.declared.write.Write.{Write}
 use Rattle.bayou_lang.specs.Ranges.{IsKey, IsProgram, IsValue}
 pub use Rattle.bayou_lang.specs.Ranges.{IsWrite}
-use Rattle.bayou_wire.specs.declared.fault.Fault.{Fault}
-use Rattle.bayou_wire.specs.declared.fault.Fault.TheVariants as faults
+use Rattle.bayou_wire.specs.declared.fault.DecodeFault.{DecodeFault}
+use Rattle.bayou_wire.specs.declared.fault.DecodeFault.TheVariants as faults
 use Rattle.bayou_wire.specs.declared.frame.Refusal.{Refusal}
 use Rattle.bayou_wire.specs.declared.frame.Refusal.TheVariants as refusals
 use Rattle.bayou_wire.specs.declared.frame.Frame.{Frame}
@@ -183,7 +183,7 @@ abbrev pub BeginsWithWrite : List ℕ → List ℕ → Type 0
 BeginsWithWrite bytes rest = (write : Write) × IsWrite write × (bytes ≡ write_bytes write ++ rest)
 
 -- What decoding a Write answers. Trailing: a Write, and bytes behind it. BadBody: no front of the bytes is a Write.
-abbrev pub WriteAnswer : List ℕ → Result Write Fault → Type 0
+abbrev pub WriteAnswer : List ℕ → Result Write DecodeFault → Type 0
 WriteAnswer bytes (Ok write) = SpellsWrite bytes write
 WriteAnswer bytes (Err faults.Trailing) = (rest : List ℕ) × (rest ≢ []) × BeginsWithWrite bytes rest
 WriteAnswer bytes (Err faults.BadBody) = (rest : List ℕ) → ¬ (BeginsWithWrite bytes rest)

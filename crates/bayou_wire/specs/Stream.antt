@@ -5,8 +5,8 @@ use Rattle.std.specs.Global.{Vec}
 use Rattle.std.specs.List.{flat_map, AllByRecursion}
 use Rattle.std.specs.Int.{w16, to_be_bytes}
 use Rattle.bayou_base.specs.declared.limits.TheConstants.{MAX_FRAME_BYTES}
-use Rattle.bayou_wire.specs.declared.fault.Fault.{Fault}
-use Rattle.bayou_wire.specs.declared.fault.Fault.TheVariants.{TooLong, BadKind, BadBody, Trailing}
+use Rattle.bayou_wire.specs.declared.fault.DecodeFault.{DecodeFault}
+use Rattle.bayou_wire.specs.declared.fault.DecodeFault.TheVariants.{TooLong, BadKind, BadBody, Trailing}
 use Rattle.bayou_wire.specs.declared.frame.Frame.{Frame}
 use Rattle.bayou_wire.specs.declared.stream.FeedFault.{FeedFault}
 use Rattle.bayou_wire.specs.declared.stream.FeedFault.TheVariants as feeds
@@ -23,7 +23,7 @@ abbrev pub PayloadBegins : ℕ → List ℕ → List ℕ → Type 0
 PayloadBegins kind payload rest = (frame : Frame) × IsFrame frame × (kind_of frame ≡ kind) × (payload ≡ payload_bytes frame ++ rest)
 
 -- what is wrong with a kind and a payload
-abbrev pub IsPackedFault : ℕ → List ℕ → Fault → Type 0
+abbrev pub IsPackedFault : ℕ → List ℕ → DecodeFault → Type 0
 IsPackedFault kind payload BadKind = ¬ (IsKind kind)
 IsPackedFault kind payload Trailing = (rest : List ℕ) × (rest ≢ []) × PayloadBegins kind payload rest
 IsPackedFault kind payload BadBody = IsKind kind × ((rest : List ℕ) → ¬ (PayloadBegins kind payload rest))
@@ -39,12 +39,12 @@ abbrev pub HasLength : List ℕ → ℕ → Type 0
 HasLength bytes len = (len < 2 ^ 16) × ((more : List ℕ) × (bytes ≡ to_be_bytes w16 len ++ more))
 
 -- in a frame's place stands a whole kind and payload with this fault
-abbrev pub HasPackedFault : List ℕ → Fault → Type 0
+abbrev pub HasPackedFault : List ℕ → DecodeFault → Type 0
 HasPackedFault bytes fault =
     (kind : ℕ) × (payload : List ℕ) × (more : List ℕ) × Packs bytes kind payload more × IsPackedFault kind payload fault
 
 -- The fault that stands in a frame's place. A length of 0, and one above the limit, are told by the length alone; the others once the frame is whole.
-abbrev pub IsFaulty : List ℕ → Fault → Type 0
+abbrev pub IsFaulty : List ℕ → DecodeFault → Type 0
 IsFaulty bytes TooLong = (len : ℕ) × (MAX_FRAME_BYTES < len) × HasLength bytes len
 IsFaulty bytes BadKind = HasPackedFault bytes BadKind
 IsFaulty bytes BadBody = HasLength bytes 0 ⊎ HasPackedFault bytes BadBody
@@ -57,12 +57,12 @@ IsPartial (high ∷ []) = Unit {0}
 IsPartial (high ∷ low ∷ more) = (256 * high + low ≤ MAX_FRAME_BYTES) × (length more < 256 * high + low)
 
 -- the fault that stands in a frame's place, if any
-abbrev pub IsFaultAt : List ℕ → Option Fault → Type 0
+abbrev pub IsFaultAt : List ℕ → Option DecodeFault → Type 0
 IsFaultAt bytes (Some fault) = IsFaulty bytes fault
-IsFaultAt bytes None = (fault : Fault) → ¬ (IsFaulty bytes fault)
+IsFaultAt bytes None = (fault : DecodeFault) → ¬ (IsFaulty bytes fault)
 
 -- what decoding a frame answers
-abbrev pub FrameAnswer : List ℕ → Result Frame Fault → Type 0
+abbrev pub FrameAnswer : List ℕ → Result Frame DecodeFault → Type 0
 FrameAnswer bytes (Ok frame) = SpellsFrame bytes frame
 FrameAnswer bytes (Err TooLong) = IsFaulty bytes TooLong
 FrameAnswer bytes (Err BadKind) = IsFaulty bytes BadKind
@@ -86,7 +86,7 @@ stream_of frames rest = flat_map frame_bytes frames ++ rest
 
 -- a rest that is no whole frame: less than one, or one with a fault
 abbrev pub IsRest : List ℕ → Type 0
-IsRest rest = IsPartial rest ⊎ ((fault : Fault) × IsFaulty rest fault)
+IsRest rest = IsPartial rest ⊎ ((fault : DecodeFault) × IsFaulty rest fault)
 
 -- the stream is these frames, and then this rest
 pub record Splits (stream : List ℕ) (frames : List Frame) (left : List ℕ) : Type 0 where
@@ -98,7 +98,7 @@ pub record Splits (stream : List ℕ) (frames : List Frame) (left : List ℕ) : 
 
 -- what may be held back of this rest: all of it where it is less than a frame; where it has a fault, a front of it with that fault
 abbrev pub Holds : List ℕ → List ℕ → Type 0
-Holds rest held = (IsPartial rest × (held ≡ rest)) ⊎ ((fault : Fault) × IsFaulty held fault × ((behind : List ℕ) × (rest ≡ held ++ behind)))
+Holds rest held = (IsPartial rest × (held ≡ rest)) ⊎ ((fault : DecodeFault) × IsFaulty held fault × ((behind : List ℕ) × (rest ≡ held ++ behind)))
 
 -- the bytes are these frames and a rest, of which this is held back; with no frame there is no fault yet
 pub record TakesIn (bytes : List ℕ) (frames : List Frame) (held : List ℕ) : Type 0 where
@@ -120,7 +120,7 @@ Fed (Some held) piece (Ok frames) (Some now) = TakesIn (held ++ piece) frames no
 Fed (Some held) piece (Ok frames) None = ⊥
 Fed (Some held) piece (Err (feeds.Fault fault)) None = IsFaulty (held ++ piece) fault
 Fed (Some held) piece (Err (feeds.Fault fault)) (Some now) = ⊥
-Fed (Some held) piece (Err feeds.OutOfMemory) new = (new ≡ Some held) × ((fault : Fault) → ¬ (IsFaulty held fault))
+Fed (Some held) piece (Err feeds.OutOfMemory) new = (new ≡ Some held) × ((fault : DecodeFault) → ¬ (IsFaulty held fault))
 Fed (Some held) piece (Err feeds.Failed) new = ⊥
 Fed None piece (Err feeds.Failed) new = new ≡ None
 Fed None piece (Err (feeds.Fault fault)) new = ⊥
@@ -152,4 +152,4 @@ bytes_fed (piece ∷ pieces) (Err feeds.OutOfMemory ∷ answers) = bytes_fed pie
 -- what is held back, or that a fault was told, as the rest of the stream has it
 abbrev pub IsLeft : Option (List ℕ) → List ℕ → Type 0
 IsLeft (Some held) rest = Holds rest held
-IsLeft None rest = (fault : Fault) × IsFaulty rest fault
+IsLeft None rest = (fault : DecodeFault) × IsFaulty rest fault

@@ -1,13 +1,13 @@
 //! Decoders of whole inputs, and of what stands at the front of a stream.
 ghost use Rattle.std.specs.Prelude.{◌≡◌, ℕ, ◌+◌, ◌<◌, MatchOption, Result, length};
 ghost use Rattle.bayou_lang.specs.declared.write.Write.{Write as Written};
-ghost use Rattle.bayou_wire.specs.declared.fault.Fault.{Fault};
+ghost use Rattle.bayou_wire.specs.declared.fault.DecodeFault.{DecodeFault};
 ghost use Rattle.bayou_wire.specs.declared.frame.Frame.{Frame};
 ghost use Rattle.bayou_wire.specs.declared.layout.TheConstants.{LENGTH_BYTES};
 ghost use Rattle.bayou_wire.specs.Spelling.{WriteAnswer};
 ghost use Rattle.bayou_wire.specs.Stream.{FrameAnswer, HasLength};
 
-use crate::fault::Fault;
+use crate::fault::DecodeFault;
 use crate::frame::Frame;
 use crate::front::{Front, front_of};
 use crate::layout::LENGTH_BYTES;
@@ -15,16 +15,16 @@ use crate::take::write_of;
 use bayou_lang::Write;
 
 /// The Write that the bytes spell, all of them. Nothing is kept, whatever the answer is.
-pub fn decode_write(bytes: &[u8]) -> Result<Write, Fault>
+pub fn decode_write(bytes: &[u8]) -> Result<Write, DecodeFault>
     // What is answered is so.
     ensures answer { WriteAnswer bytes.now result }
     // Nothing else is.
-    ensures only { (other : Result Written Fault) → WriteAnswer bytes.now other → result ≡ other }
+    ensures only { (other : Result Written DecodeFault) → WriteAnswer bytes.now other → result ≡ other }
 {
     match write_of(bytes) {
-        None => Err(Fault::BadBody),
+        None => Err(DecodeFault::BadBody),
         Some((write, [])) => Ok(write),
-        Some((_, [_, ..])) => Err(Fault::Trailing),
+        Some((_, [_, ..])) => Err(DecodeFault::Trailing),
     }
 }
 
@@ -39,16 +39,16 @@ pub fn frame_len(bytes: &[u8]) -> Option<usize>
 }
 
 /// The frame that the bytes spell, all of them. Nothing is kept, whatever the answer is.
-pub fn decode_frame(bytes: &[u8]) -> Result<Frame, Fault>
+pub fn decode_frame(bytes: &[u8]) -> Result<Frame, DecodeFault>
     // What is answered is so.
     ensures answer { FrameAnswer bytes.now result }
     // Nothing else is.
-    ensures only { (other : Result Frame Fault) → FrameAnswer bytes.now other → result ≡ other }
+    ensures only { (other : Result Frame DecodeFault) → FrameAnswer bytes.now other → result ≡ other }
 {
     match front_of(bytes) {
-        Front::Partial => Err(Fault::BadBody),
+        Front::Partial => Err(DecodeFault::BadBody),
         Front::Faulty(fault) => Err(fault),
         Front::Whole(frame, []) => Ok(frame),
-        Front::Whole(_, [_, ..]) => Err(Fault::Trailing),
+        Front::Whole(_, [_, ..]) => Err(DecodeFault::Trailing),
     }
 }

@@ -1,6 +1,6 @@
 /// What is wrong with bytes that should be a Write or a frame.
 #[derive(Clone, Copy, Debug, PartialEq, Eq)]
-pub enum Fault {
+pub enum DecodeFault {
     /// A frame's length is above [`bayou_base::MAX_FRAME_BYTES`].
     TooLong,
     /// A frame's kind is none of those known.

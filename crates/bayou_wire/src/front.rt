@@ -2,7 +2,7 @@
 ghost use Rattle.std.specs.Prelude.{IfOk};
 ghost use Rattle.bayou_wire.specs.Inner.Reading.{IsFront, IsTaken, PackedAnswer};
 
-use crate::fault::Fault;
+use crate::fault::DecodeFault;
 use crate::frame::Frame;
 use crate::payload::{is_kind, payload_of};
 use bayou_base::MAX_FRAME_BYTES;
@@ -16,20 +16,20 @@ pub(crate) enum Front<'a> {
     /// A whole frame, and the bytes behind it.
     Whole(Frame, &'a [u8]),
     /// This, in a frame's place.
-    Faulty(Fault),
+    Faulty(DecodeFault),
 }
 
 /// The frame of this kind and payload, all of it.
-fn packed_of(kind: u8, payload: &[u8]) -> Result<Frame, Fault>
+fn packed_of(kind: u8, payload: &[u8]) -> Result<Frame, DecodeFault>
     ensures { PackedAnswer kind payload.now result }
 {
     if !is_kind(kind) {
-        return Err(Fault::BadKind);
+        return Err(DecodeFault::BadKind);
     }
     match payload_of(kind, payload) {
-        None => Err(Fault::BadBody),
+        None => Err(DecodeFault::BadBody),
         Some((frame, [])) => Ok(frame),
-        Some((_, [_, ..])) => Err(Fault::Trailing),
+        Some((_, [_, ..])) => Err(DecodeFault::Trailing),
     }
 }
 
@@ -42,14 +42,14 @@ pub(crate) fn front_of(bytes: &[u8]) -> Front<'_>
     };
     let len = usize::from(u16::from_be_bytes([*high, *low]));
     if MAX_FRAME_BYTES < len {
-        return Front::Faulty(Fault::TooLong);
+        return Front::Faulty(DecodeFault::TooLong);
     }
     if rest.len() < len {
         return Front::Partial;
     }
     let (packed, behind) = rest.split_at(len);
     let [kind, payload @ ..] = packed else {
-        return Front::Faulty(Fault::BadBody);
+        return Front::Faulty(DecodeFault::BadBody);
     };
     match packed_of(*kind, payload) {
         Ok(frame) => Front::Whole(frame, behind),
@@ -63,7 +63,7 @@ pub(crate) struct Taken {
     pub frames: Vec<Frame>,
     pub left: usize,
     /// What stands in a frame's place behind them, if it isn't less than a frame.
-    pub fault: Option<Fault>,
+    pub fault: Option<DecodeFault>,
 }
 
 /// The whole frames that the bytes begin with, up to a fault.

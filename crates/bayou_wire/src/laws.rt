@@ -3,7 +3,7 @@ ghost use Rattle.std.specs.Prelude.{◌≡◌, ℕ, ◌+◌, ◌<◌, ◌≤◌,
 ghost use Rattle.bayou_base.specs.declared.limits.TheConstants.{MAX_BODY_BYTES};
 ghost use Rattle.bayou_lang.specs.declared.write.Write.{Write};
 ghost use Rattle.bayou_wire.specs.declared.frame.Frame.{Frame};
-ghost use Rattle.bayou_wire.specs.declared.fault.Fault.{Fault};
+ghost use Rattle.bayou_wire.specs.declared.fault.DecodeFault.{DecodeFault};
 ghost use Rattle.bayou_wire.specs.declared.layout.TheConstants.{LENGTH_BYTES};
 ghost use Rattle.bayou_wire.specs.declared.stream.FeedFault.{FeedFault};
 ghost use Rattle.bayou_lang.specs.Ranges.{IsWrite};
@@ -27,12 +27,12 @@ pub fn no_frame_begins_another()
 
 /// Of each input there is one answer to whoever decodes a Write.
 pub fn one_write_answer()
-    ensures { (bytes : List ℕ) (a b : Result Write Fault) → WriteAnswer bytes a → WriteAnswer bytes b → a ≡ b }
+    ensures { (bytes : List ℕ) (a b : Result Write DecodeFault) → WriteAnswer bytes a → WriteAnswer bytes b → a ≡ b }
 {}
 
 /// Of each input there is one answer to whoever decodes a frame.
 pub fn one_frame_answer()
-    ensures { (bytes : List ℕ) (a b : Result Frame Fault) → FrameAnswer bytes a → FrameAnswer bytes b → a ≡ b }
+    ensures { (bytes : List ℕ) (a b : Result Frame DecodeFault) → FrameAnswer bytes a → FrameAnswer bytes b → a ≡ b }
 {}
 
 /// A stream is read in one way: its frames, and the rest that is no whole frame, are determined.
@@ -50,18 +50,18 @@ pub fn feeds_read_the_stream()
 
 /// Less than a whole frame has no fault.
 pub fn partial_bytes_have_no_fault()
-    ensures { (bytes : List ℕ) (fault : Fault) → IsPartial bytes → ¬ (IsFaulty bytes fault) }
+    ensures { (bytes : List ℕ) (fault : DecodeFault) → IsPartial bytes → ¬ (IsFaulty bytes fault) }
 {}
 
 /// Where a whole frame stands, there is no less than one, and no fault.
 pub fn a_whole_frame_has_no_fault()
     ensures partial { (frame : Frame) (behind : List ℕ) → IsFrame frame → ¬ (IsPartial (frame_bytes frame ++ behind)) }
-    ensures faulty { (frame : Frame) (behind : List ℕ) (fault : Fault) → IsFrame frame → ¬ (IsFaulty (frame_bytes frame ++ behind) fault) }
+    ensures faulty { (frame : Frame) (behind : List ℕ) (fault : DecodeFault) → IsFrame frame → ¬ (IsFaulty (frame_bytes frame ++ behind) fault) }
 {}
 
 /// What comes behind bytes that have a fault doesn't change it.
 pub fn a_fault_stays()
-    ensures { (bytes more : List ℕ) (fault : Fault) → IsFaulty bytes fault → IsFaulty (bytes ++ more) fault }
+    ensures { (bytes more : List ℕ) (fault : DecodeFault) → IsFaulty bytes fault → IsFaulty (bytes ++ more) fault }
 {}
 
 /// The length in front of a frame counts what is behind the length.

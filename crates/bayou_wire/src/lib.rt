@@ -27,6 +27,6 @@ mod take;
 
 pub use decode::{decode_frame, decode_write, frame_len};
 pub use encode::{encode_frame, encode_item, encode_resting_write, encode_write};
-pub use fault::Fault;
+pub use fault::DecodeFault;
 pub use frame::{Frame, Refusal};
 pub use stream::{FeedFault, Frames};

@@ -4,7 +4,7 @@ ghost use Rattle.bayou_wire.specs.declared.layout.TheConstants.{LENGTH_BYTES};
 ghost use Rattle.bayou_wire.specs.Inner.Reading.{FedOpen, IsFirst, IsTaken, Keeps};
 ghost use Rattle.bayou_wire.specs.Stream.{Fed, IsFaultAt, listed};
 
-use crate::fault::Fault;
+use crate::fault::DecodeFault;
 use crate::frame::Frame;
 use crate::front::{Front, Taken, front_of, take_frames};
 use crate::layout::LENGTH_BYTES;
@@ -17,7 +17,7 @@ use std::marker::Model;
 #[derive(Clone, Copy, Debug, PartialEq, Eq)]
 pub enum FeedFault {
     /// This stands in a frame's place, where no frame stands before it.
-    Fault(Fault),
+    Fault(DecodeFault),
     /// A fault was told before.
     Failed,
     /// A growth was refused. The piece counts as not fed.
@@ -45,7 +45,7 @@ impl Model for Frames {
 }
 
 /// The fault that stands in a frame's place in what is held back, if any.
-fn held_fault(held: &[u8]) -> Option<Fault>
+fn held_fault(held: &[u8]) -> Option<DecodeFault>
     ensures { IsFaultAt held.now result }
 {
     match front_of(held) {
@@ -56,7 +56,7 @@ fn held_fault(held: &[u8]) -> Option<Fault>
 }
 
 /// The fault that stands first, where no frame was taken before it.
-fn first_fault(taken: &Taken) -> Option<Fault>
+fn first_fault(taken: &Taken) -> Option<DecodeFault>
     ensures { IsFirst taken.now.frames.items taken.now.fault result }
 {
     match taken.frames.as_slice() {
@@ -135,7 +135,7 @@ impl Frames {
 
     /// The fault that stands in a frame's place in what is held back, if any. The next call of [`Frames::feed`] tells it. Where
     /// one was told before there is none.
-    pub fn fault(&self) -> Option<Fault>
+    pub fn fault(&self) -> Option<DecodeFault>
         ensures { MatchOption self.now (result ≡ None) (λ held. IsFaultAt held result) }
     {
         if self.failed {

@@ -24,7 +24,7 @@ use Rattle.bayou_world.specs.Inner.WorldServers.{held_by}
 use Rattle.bayou_world.specs.Inner.Tie.{Follows, IsFlightOf, IsOf, IsSeatOf, IsTied, seat}
 use Rattle.bayou_world.specs.Invariant.{IsVectorOf}
 use Rattle.bayou_world.specs.Machine.{Machine, writes}
-use Rattle.bayou_world.specs.Runs.{Run, asks_of, first_machine, new_session, places_for}
+use Rattle.bayou_world.specs.Runs.{Run, asks_of, first_machine, new_session, capacity_for}
 use Rattle.bayou_world.specs.RunHistories.{Begun, IsRunHistory}
 use Rattle.bayou_world.specs.declared.run_history.RunHistory.{RunHistory}
 use Rattle.bayou_audit.specs.declared.totals.Totals.{Totals}
@@ -39,11 +39,11 @@ use Rattle.bayou_world.proofs.Vectors.{IsVectorOf-none}
 
 pub record Keeps (old new : Machine) : Type 0 where
   pub count : new.count ≡ old.count
-  pub places : new.places ≡ old.places
+  pub capacity : new.capacity ≡ old.capacity
   pub filed : new.filed ≡ old.filed
 
-kept : (old new is : Machine) → new ≡ is → is.count ≡ old.count → is.places ≡ old.places → is.filed ≡ old.filed → Keeps old new
-kept old new is same count places filed = subst (Keeps old) (sym same) (record { count = count; places = places; filed = filed })
+kept : (old new is : Machine) → new ≡ is → is.count ≡ old.count → is.capacity ≡ old.capacity → is.filed ≡ old.filed → Keeps old new
+kept old new is same count capacity filed = subst (Keeps old) (sym same) (record { count = count; capacity = capacity; filed = filed })
 
 read_keeps : (old : Machine) (who place : ℕ) (key : List ℕ) (reply : Reply) (new : Machine) → ReadStep old who place key reply new → Keeps old new
 read_keeps old who place key reply new (ReadStep.skipped cannot is same) = kept old new _ same refl refl refl
@@ -117,7 +117,7 @@ beside : (old new : State) (booking : Booking) (Does : Machine → Machine → T
 beside old new booking Does keeps follows machine good tied book =
     let step = follows machine good tied in
     let same = keeps machine step.0 step.1 in
-    (step.0, step.1, step.2, record { places = book.places ∙ sym same.places; entries = book.entries ∙ sym same.filed })
+    (step.0, step.1, step.2, record { capacity = book.capacity ∙ sym same.capacity; entries = book.entries ∙ sym same.filed })
 
 pub read_beside : (old new : State) (booking : Booking) (who place : ℕ) (key : List ℕ) (reply : Reply) → Follows old (λ machine next. ReadStep machine who place key reply next) new
     → FollowsInBook old booking (λ machine next. ReadStep machine who place key reply next) new booking
@@ -207,9 +207,9 @@ new_world_session who (Some asks) (Some world_session) is =
       own = All-nil (λ (entry : Entry). entry.session.index ≡ who);
     }
 
-pub begins_tied : (servers : List WorldServer) (world_sessions : List (Option WorldSession)) (count limit places : ℕ) (list : List Told) → AreStarted count count limit servers → AreFirstSeats SESSIONS list world_sessions
-    → IsTied servers world_sessions [] [] [] (first_machine count limit places (asks_of list))
-begins_tied servers world_sessions count limit places list started seated = record {
+pub begins_tied : (servers : List WorldServer) (world_sessions : List (Option WorldSession)) (count limit capacity : ℕ) (list : List Told) → AreStarted count count limit servers → AreFirstSeats SESSIONS list world_sessions
+    → IsTied servers world_sessions [] [] [] (first_machine count limit capacity (asks_of list))
+begins_tied servers world_sessions count limit capacity list started seated = record {
   many = started.many;
   servers_are = λ place d inside.
       let fresh = started.fresh place d inside in record { stopped = sym fresh.runs; core = record { is = fresh.core }; kept = fresh.kept };
@@ -253,20 +253,20 @@ leaves first events state booking replies totals history so_far left counted =
 
 -- from the beginning
 pub history_is : (begun : Begun) (state new : State) (booking new_booking : Booking) (events : List Event) (replies : List Reply) (totals : Totals) (history : RunHistory)
-    → IsFirstState begun state → booking ≡ record { places = places_for events; entries = [] }
+    → IsFirstState begun state → booking ≡ record { capacity = capacity_for events; entries = [] }
     → ((first : Machine) → IsGoodMachine first → IsOf state first → IsBookOf booking first → SoFar first events replies new new_booking)
     → IsLeft new.servers.items new.served.items replies totals history
     → totals ≡ totals_of 0 (number_of is_read new_booking.entries) (number_of is_write new_booking.entries) (number_of is_refusal new_booking.entries) → IsRunHistory begun events history
 history_is begun state new booking new_booking events replies totals history begins book plays left counted =
     let servers = state.servers.items in
     let world_sessions = state.sessions.items in
-    let first = first_machine begun.count begun.limit (places_for events) (asks_of begun.sessions) in
-    let tied = begins_tied servers world_sessions begun.count begun.limit (places_for events) begun.sessions begins.started begins.seated in
+    let first = first_machine begun.count begun.limit (capacity_for events) (asks_of begun.sessions) in
+    let tied = begins_tied servers world_sessions begun.count begun.limit (capacity_for events) begun.sessions begins.started begins.seated in
     let is_of : IsTied servers world_sessions state.offers.items state.items.items state.served.items first =
     subst (λ x. IsTied servers world_sessions x state.items.items state.served.items first) (sym begins.offers)
     (subst (λ x. IsTied servers world_sessions [] x state.served.items first) (sym begins.items)
     (subst (λ x. IsTied servers world_sessions [] [] x first) (sym begins.served) tied)) in
-    let so_far = plays first (first_good begun.count begun.limit (places_for events) (asks_of begun.sessions)) is_of
-    (record { places = ap (λ (b : Booking). b.places) book; entries = ap (λ (b : Booking). b.entries) book }) in
+    let so_far = plays first (first_good begun.count begun.limit (capacity_for events) (asks_of begun.sessions)) is_of
+    (record { capacity = ap (λ (b : Booking). b.capacity) book; entries = ap (λ (b : Booking). b.entries) book }) in
     let told = leaves first events new new_booking replies totals history so_far left counted in
     record { last = told.last; run = told.run; served = told.served; one_each = told.one_each; dumps = told.dumps; totals = told.totals }

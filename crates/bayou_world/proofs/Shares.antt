@@ -43,23 +43,23 @@ put_back shares at old new are within found same = record {
 }
 
 -- an entry is entered
-pub files : (old new : State) (who : ℕ) (entry : Entry) (booking : Booking) (inside claimed filed : Booked) → TakesOldest old who (Some entry) new → record { places = inside.places; entries = inside.entries } ≡ booking
-    → inside.totals.slips ≡ 0 → IsExact inside → ¬ (length inside.entries + inside.totals.slips ≡ inside.places) → claimed ≡ with_claim inside → filed ≡ with_entry claimed entry
+pub files : (old new : State) (who : ℕ) (entry : Entry) (booking : Booking) (inside claimed filed : Booked) → TakesOldest old who (Some entry) new → record { capacity = inside.capacity; entries = inside.entries } ≡ booking
+    → inside.totals.slips ≡ 0 → IsExact inside → ¬ (length inside.entries + inside.totals.slips ≡ inside.capacity) → claimed ≡ with_claim inside → filed ≡ with_entry claimed entry
     → (machine : Machine) → IsGoodMachine machine → IsOf old machine → IsBookOf booking machine
-    → (next : Machine) × FileStep machine who replies.Filed next × IsOf new next × IsBookOf (record { places = filed.places; entries = filed.entries }) next
+    → (next : Machine) × FileStep machine who replies.Filed next × IsOf new next × IsBookOf (record { capacity = filed.capacity; entries = filed.entries }) next
 files old new who entry booking inside claimed filed takes view none exact not_full claims is machine good tied book =
     let there = takes machine good tied in
     let session = there.0 in
     let later = there.1 in
-    let places : inside.places ≡ machine.places = ap (λ (b : Booking). b.places) view ∙ book.places in
+    let capacity : inside.capacity ≡ machine.capacity = ap (λ (b : Booking). b.capacity) view ∙ book.capacity in
     let entries : inside.entries ≡ machine.filed = ap (λ (b : Booking). b.entries) view ∙ book.entries in
-    let less : length inside.entries < inside.places = less_than (length inside.entries) inside.places (omega (arith, exact.room, none)) (λ same. not_full (omega (arith, same, none))) in
-    let room : length machine.filed < machine.places = omega (arith, less, places, ap length entries) in (
+    let less : length inside.entries < inside.capacity = less_than (length inside.entries) inside.capacity (omega (arith, exact.room, none)) (λ same. not_full (omega (arith, same, none))) in
+    let room : length machine.filed < machine.capacity = omega (arith, less, capacity, ap length entries) in (
       record (with_session machine who (record session { waiting = later })) { filed = machine.filed ++ entry ∷ [] },
       FileStep.filed session entry later (record { there = there.2; waits = there.3; room = room }) refl refl,
       of_filed (with_session machine who (record session { waiting = later })) there.5,
       record {
-        places = ap (λ (b : Booked). b.places) is ∙ ap (λ (b : Booked). b.places) claims ∙ places;
+        capacity = ap (λ (b : Booked). b.capacity) is ∙ ap (λ (b : Booked). b.capacity) claims ∙ capacity;
         entries = ap (λ (b : Booked). b.entries) is ∙ ap (λ (b : Booked). b.entries ++ entry ∷ []) claims ∙ ap (λ list. list ++ entry ∷ []) entries;
       },
     )
@@ -82,32 +82,32 @@ files old new who entry booking inside claimed filed takes view none exact not_f
     }
 
 -- nothing waits, and the book is as it was
-pub none_files : (old new : State) (who : ℕ) (booking : Booking) (inside claimed voided : Booked) → TakesOldest old who None new → record { places = inside.places; entries = inside.entries } ≡ booking
+pub none_files : (old new : State) (who : ℕ) (booking : Booking) (inside claimed voided : Booked) → TakesOldest old who None new → record { capacity = inside.capacity; entries = inside.entries } ≡ booking
     → claimed ≡ with_claim inside → voided ≡ with_void claimed
     → (machine : Machine) → IsGoodMachine machine → IsOf old machine → IsBookOf booking machine
-    → (next : Machine) × FileStep machine who replies.Skipped next × IsOf new next × IsBookOf (record { places = voided.places; entries = voided.entries }) next
+    → (next : Machine) × FileStep machine who replies.Skipped next × IsOf new next × IsBookOf (record { capacity = voided.capacity; entries = voided.entries }) next
 none_files old new who booking inside claimed voided takes view claims is machine good tied book =
     let there = takes machine good tied in (
       machine,
       FileStep.skipped (λ session entry later may. there.0 session entry later may.there may.waits) refl refl,
       there.1,
       record {
-        places = ap (λ (b : Booked). b.places) is ∙ ap (λ (b : Booked). b.places) claims ∙ ap (λ (b : Booking). b.places) view ∙ book.places;
+        capacity = ap (λ (b : Booked). b.capacity) is ∙ ap (λ (b : Booked). b.capacity) claims ∙ ap (λ (b : Booking). b.capacity) view ∙ book.capacity;
         entries = ap (λ (b : Booked). b.entries) is ∙ ap (λ (b : Booked). b.entries) claims ∙ ap (λ (b : Booking). b.entries) view ∙ book.entries;
       },
     )
 
 -- the book is full, and as it was
-pub full_files : (state : State) (who : ℕ) (booking : Booking) (inside claimed : Booked) → record { places = inside.places; entries = inside.entries } ≡ booking
-    → length inside.entries + inside.totals.slips ≡ inside.places → inside.totals.slips ≡ 0 → claimed ≡ inside → (machine : Machine) → IsOf state machine → IsBookOf booking machine
-    → (next : Machine) × FileStep machine who replies.Skipped next × IsOf state next × IsBookOf (record { places = claimed.places; entries = claimed.entries }) next
+pub full_files : (state : State) (who : ℕ) (booking : Booking) (inside claimed : Booked) → record { capacity = inside.capacity; entries = inside.entries } ≡ booking
+    → length inside.entries + inside.totals.slips ≡ inside.capacity → inside.totals.slips ≡ 0 → claimed ≡ inside → (machine : Machine) → IsOf state machine → IsBookOf booking machine
+    → (next : Machine) × FileStep machine who replies.Skipped next × IsOf state next × IsBookOf (record { capacity = claimed.capacity; entries = claimed.entries }) next
 full_files state who booking inside claimed view full none same machine tied book =
-    let places : inside.places ≡ machine.places = ap (λ (b : Booking). b.places) view ∙ book.places in
+    let capacity : inside.capacity ≡ machine.capacity = ap (λ (b : Booking). b.capacity) view ∙ book.capacity in
     let entries : inside.entries ≡ machine.filed = ap (λ (b : Booking). b.entries) view ∙ book.entries in (
       machine,
-      FileStep.skipped (λ session entry later may. omega (arith, full, none, may.room, places, ap length entries)) refl refl,
+      FileStep.skipped (λ session entry later may. omega (arith, full, none, may.room, capacity, ap length entries)) refl refl,
       tied,
-      record { places = ap (λ (b : Booked). b.places) same ∙ places; entries = ap (λ (b : Booked). b.entries) same ∙ entries },
+      record { capacity = ap (λ (b : Booked). b.capacity) same ∙ capacity; entries = ap (λ (b : Booked). b.entries) same ∙ entries },
     )
 
 -- what waits is the session's own

@@ -39,8 +39,8 @@ no_flight (Some asks) session answered is flies =
     let one : new_session asks ≡ session = cc in
     let none : None ≡ Some answered = ap (λ (s : SessionSets). s.flight) one ∙ flies in absurd (cc)
 
-pub first_good : (count limit places : ℕ) (asks : ℕ → Option Asks) → IsGoodMachine (first_machine count limit places asks)
-first_good count limit places asks =
+pub first_good : (count limit capacity : ℕ) (asks : ℕ → Option Asks) → IsGoodMachine (first_machine count limit capacity asks)
+first_good count limit capacity asks =
     let servers = λ (place : ℕ). new_server in
     record {
       servers = λ place. record {
@@ -58,9 +58,9 @@ first_good count limit places asks =
       flights = λ who session answered is flies. absurd (no_flight (asks who) session answered is flies);
     }
 
-pub run_is_good : (count limit places : ℕ) (asks : ℕ → Option Asks) (events : List Event) (replies : List Reply) (last : Machine)
-    → Run (first_machine count limit places asks) events replies last → IsGoodMachine last
-run_is_good count limit places asks events replies last run = run_good (first_machine count limit places asks) events replies last (first_good count limit places asks) run
+pub run_is_good : (count limit capacity : ℕ) (asks : ℕ → Option Asks) (events : List Event) (replies : List Reply) (last : Machine)
+    → Run (first_machine count limit capacity asks) events replies last → IsGoodMachine last
+run_is_good count limit capacity asks events replies last run = run_good (first_machine count limit capacity asks) events replies last (first_good count limit capacity asks) run
 
 -- ---- what sessions ask for
 
@@ -168,7 +168,7 @@ run_asks old (event ∷ events) (reply ∷ replies) new (mid, step, rest) =
     λ who asks found. run_asks mid events replies new rest who asks (step_asks old event reply mid step who asks found)
 
 -- a session that asked for something as the run began asks for it in the end
-pub still_asks : (count limit places : ℕ) (asks : ℕ → Option Asks) (events : List Event) (replies : List Reply) (last : Machine)
-    → Run (first_machine count limit places asks) events replies last → (who : ℕ) (wants : Asks) → asks who ≡ Some wants → AsksFor last.sessions who wants
-still_asks count limit places asks events replies last run who wants is =
-    run_asks (first_machine count limit places asks) events replies last run who wants (new_session wants, ap (option_map new_session) is, refl)
+pub still_asks : (count limit capacity : ℕ) (asks : ℕ → Option Asks) (events : List Event) (replies : List Reply) (last : Machine)
+    → Run (first_machine count limit capacity asks) events replies last → (who : ℕ) (wants : Asks) → asks who ≡ Some wants → AsksFor last.sessions who wants
+still_asks count limit capacity asks events replies last run who wants is =
+    run_asks (first_machine count limit capacity asks) events replies last run who wants (new_session wants, ap (option_map new_session) is, refl)

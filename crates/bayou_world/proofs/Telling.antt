@@ -437,8 +437,8 @@ first_flight (Some asks) session answered is flies =
     let one : new_session asks ≡ session = cc in
     let none : None ≡ Some answered = ap (λ (s : SessionSets). s.flight) one ∙ flies in absurd (cc)
 
-first_told : (count limit places : ℕ) (asks : ℕ → Option Asks) → IsToldMachine count asks (first_machine count limit places asks)
-first_told count limit places asks = record {
+first_told : (count limit capacity : ℕ) (asks : ℕ → Option Asks) → IsToldMachine count asks (first_machine count limit capacity asks)
+first_told count limit capacity asks = record {
   count_is = refl;
   servers = λ place. record {
     had = λ database front. (0, omega arith, front_of_none database front.0 front.1);
@@ -456,7 +456,7 @@ first_told count limit places asks = record {
     front_of_none [] rest same = refl
     front_of_none (first ∷ database) rest same = absurd (omega (arith, ap length same))
 
-pub run_is_told : (count limit places : ℕ) (asks : ℕ → Option Asks) (events : List Event) (replies : List Reply) (last : Machine)
-    → Run (first_machine count limit places asks) events replies last → IsToldMachine count asks last
-run_is_told count limit places asks events replies last run =
-    run_told count asks (first_machine count limit places asks) events replies last (first_good count limit places asks) (first_told count limit places asks) run
+pub run_is_told : (count limit capacity : ℕ) (asks : ℕ → Option Asks) (events : List Event) (replies : List Reply) (last : Machine)
+    → Run (first_machine count limit capacity asks) events replies last → IsToldMachine count asks last
+run_is_told count limit capacity asks events replies last run =
+    run_told count asks (first_machine count limit capacity asks) events replies last (first_good count limit capacity asks) (first_told count limit capacity asks) run

@@ -9,7 +9,7 @@ use Rattle.bayou_base.specs.declared.entry.What.TheVariants as whats
 use Rattle.bayou_base.specs.declared.limits.TheConstants.{MAX_PLACES, SERVERS, SESSIONS}
 use Rattle.bayou_base.specs.Vector.{Dominates}
 use Rattle.bayou_lang.specs.declared.write.Write.{Write}
-use Rattle.bayou_lang.specs.Places.{value_at}
+use Rattle.bayou_lang.specs.Database.{value_at}
 use Rattle.bayou_lang.specs.Writes.{count_of}
 use Rattle.bayou_log.specs.Replay.{replay}
 use Rattle.bayou_world.specs.Invariant.{IsVectorOf}

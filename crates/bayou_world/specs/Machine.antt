@@ -52,12 +52,12 @@ pub record Offered : Type 0 where
   pub server : ℕ
   pub database : List Write
 
--- The machine: how many servers there are, how many Writes each may hold, and how many places the book has; each server and each
+-- The machine: how many servers there are, how many Writes each may hold, and how many entries the book may have; each server and each
 -- session; the offers, and the items in flight, by their numbers; what was served, in order of delivery; and the entries of the book.
 pub record Machine : Type 0 where
   pub count : ℕ
   pub limit : ℕ
-  pub places : ℕ
+  pub capacity : ℕ
   pub servers : ℕ → ServerSets
   pub sessions : ℕ → Option SessionSets
   pub offers : List Offered

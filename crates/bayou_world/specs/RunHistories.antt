@@ -8,7 +8,7 @@ use Rattle.bayou_session.specs.Needs.{Told}
 use Rattle.bayou_world.specs.declared.event.Event.{Event}
 use Rattle.bayou_world.specs.declared.run_history.RunHistory.{RunHistory}
 use Rattle.bayou_world.specs.Machine.{Answered, Machine, writes}
-use Rattle.bayou_world.specs.Runs.{Run, asks_of, first_machine, places_for}
+use Rattle.bayou_world.specs.Runs.{Run, asks_of, first_machine, capacity_for}
 
 -- Servers and sessions to which nothing has happened yet: how many servers there are, how many Writes each may hold, and the sessions,
 -- of which the first of a name counts.
@@ -21,7 +21,7 @@ pub record Begun : Type 0 where
 -- the totals of what was entered in the book.
 pub record IsRunHistory (begun : Begun) (events : List Event) (history : RunHistory) : Type 0 where
   pub last : Machine
-  pub run : Run (first_machine begun.count begun.limit (places_for events) (asks_of begun.sessions)) events history.replies.items last
+  pub run : Run (first_machine begun.count begun.limit (capacity_for events) (asks_of begun.sessions)) events history.replies.items last
   pub served : history.served.items ≡ map (λ (answered : Answered). answered.entry) last.served
   pub one_each : length history.dumps.items ≡ begun.count
   pub dumps : (place : ℕ) (d : Vec Write) → place < begun.count → (slice_index_or history.dumps.items place d).items ≡ writes (last.servers place).held

@@ -29,11 +29,11 @@ asks_of [] who = None
 asks_of (session ∷ sessions) who = if session.id.index == who then Some session.asks else asks_of sessions who
 
 -- as a run begins, everything is empty, and each server is up
-abbrev pub first_machine : (count limit places : ℕ) → (ℕ → Option Asks) → Machine
-first_machine count limit places asks = record {
+abbrev pub first_machine : (count limit capacity : ℕ) → (ℕ → Option Asks) → Machine
+first_machine count limit capacity asks = record {
   count = count;
   limit = limit;
-  places = places;
+  capacity = capacity;
   servers = λ _. new_server;
   sessions = λ who. option_map new_session (asks who);
   offers = [];
@@ -63,9 +63,9 @@ is_file (events.Fuse server call front) = false
 is_file (events.Reopen server) = false
 is_file (events.Restart server) = false
 
--- how many places the book of a run has: one for each such event, as far as a book may have them, and one at least
-abbrev pub places_for : List Event → ℕ
-places_for events = max (min (length (filter is_file events)) MAX_ENTRIES) 1
+-- how many entries the book of a run may have: one for each such event, as far as a book may have them, and one at least
+abbrev pub capacity_for : List Event → ℕ
+capacity_for events = max (min (length (filter is_file events)) MAX_ENTRIES) 1
 
 -- ---- the history of a run
 

@@ -12,7 +12,7 @@ use Rattle.bayou_base.specs.declared.wid.Wid.{Wid}
 use Rattle.bayou_base.specs.Order.{is_before}
 use Rattle.bayou_lang.specs.declared.program.Program.{Program}
 use Rattle.bayou_lang.specs.declared.write.Write.{Write}
-use Rattle.bayou_lang.specs.Places.{value_at}
+use Rattle.bayou_lang.specs.Database.{value_at}
 use Rattle.bayou_lang.specs.Writes.{IsNextWrite, count_of}
 use Rattle.bayou_log.specs.Replay.{replay}
 use Rattle.bayou_server.specs.declared.answer.Took.TheVariants.{New, Had}
@@ -299,11 +299,11 @@ pub data RestartStep (old : Machine) (place : ℕ) (reply : Reply) (new : Machin
 
 -- ---- the book
 
--- the session's oldest delivered operation that isn't in the book yet, where the book has a place for it
+-- the session's oldest delivered operation that isn't in the book yet, where the book has room for it
 pub record MayFile (old : Machine) (who : ℕ) (session : SessionSets) (entry : Entry) (later : List Entry) : Type 0 where
   pub there : old.sessions who ≡ Some session
   pub waits : session.waiting ≡ entry ∷ later
-  pub room : length old.filed < old.places
+  pub room : length old.filed < old.capacity
 
 pub data FileStep (old : Machine) (who : ℕ) (reply : Reply) (new : Machine) : Type 0 where
   skipped : ((session : SessionSets) (entry : Entry) (later : List Entry) → ¬ MayFile old who session entry later) → reply ≡ replies.Skipped → new ≡ old → FileStep old who reply new

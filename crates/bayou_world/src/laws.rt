@@ -33,16 +33,16 @@ use bayou_session::laws::{read_need_is_what_is_asked, write_need_is_what_is_aske
 
 /// Over every run each served operation of a session has every guarantee that the session asked for (Terry et al. 1994).
 pub fn every_run_keeps_what_was_asked_for()
-    ensures { (count limit places : ℕ) (asks : ℕ → Option Asks) (events : List Event) (replies : List Reply) (last : Machine) → Run (first_machine count limit places asks) events replies last
+    ensures { (count limit capacity : ℕ) (asks : ℕ → Option Asks) (events : List Event) (replies : List Reply) (last : Machine) → Run (first_machine count limit capacity asks) events replies last
         → (session : ℕ) (wants : Asks) → asks session ≡ Some wants → Keeps (history_of_machine last) wants session }
 {}
 
 /// Over every run what was served and what each server holds stand, as the judge sees them, for the very history that the machine has;
 /// and of them the judge has one answer, that each session had what it asked for: no dump is bad, and no entry is forged.
 pub fn every_run_is_judged_clean()
-    ensures history { (count limit places : ℕ) (asks : ℕ → Option Asks) (events : List Event) (replies : List Reply) (last : Machine) → Run (first_machine count limit places asks) events replies last
+    ensures history { (count limit capacity : ℕ) (asks : ℕ → Option Asks) (events : List Event) (replies : List Reply) (last : Machine) → Run (first_machine count limit capacity asks) events replies last
         → (dumps : List (List Write)) → AreDumpsOf last dumps → AreOneHistory (history_of (entries_of last) dumps) (history_of_machine last) }
-    ensures clean { (count limit places : ℕ) (asks : ℕ → Option Asks) (events : List Event) (replies : List Reply) (last : Machine) → Run (first_machine count limit places asks) events replies last
+    ensures clean { (count limit capacity : ℕ) (asks : ℕ → Option Asks) (events : List Event) (replies : List Reply) (last : Machine) → Run (first_machine count limit capacity asks) events replies last
         → (dumps : List (List Write)) → AreDumpsOf last dumps → IsJudgedClean count (entries_of last) dumps }
 {
     a_vector_is_of_one_database();
@@ -52,7 +52,7 @@ pub fn every_run_is_judged_clean()
 /// Over every run a name is of one Write, what each server holds is sound and prefix-closed, of another server's Writes it holds the
 /// first ones, and a Write says of its past just what is in it.
 pub fn every_run_is_consistent()
-    ensures { (count limit places : ℕ) (asks : ℕ → Option Asks) (events : List Event) (replies : List Reply) (last : Machine) → Run (first_machine count limit places asks) events replies last
+    ensures { (count limit capacity : ℕ) (asks : ℕ → Option Asks) (events : List Event) (replies : List Reply) (last : Machine) → Run (first_machine count limit capacity asks) events replies last
         → IsConsistent last }
 {
     count_is_the_number_of_writes();
@@ -61,9 +61,9 @@ pub fn every_run_is_consistent()
 /// Over every run a server holds a set exactly where its vector dominates the set's; it holds the past of an item exactly where that leaves
 /// no gap by the counts; and an offer has a Write exactly where its vector covers it.
 pub fn sets_and_vectors_agree()
-    ensures sets { (count limit places : ℕ) (asks : ℕ → Option Asks) (events : List Event) (replies : List Reply) (last : Machine) → Run (first_machine count limit places asks) events replies last
+    ensures sets { (count limit capacity : ℕ) (asks : ℕ → Option Asks) (events : List Event) (replies : List Reply) (last : Machine) → Run (first_machine count limit capacity asks) events replies last
         → TestsAgree last }
-    ensures items { (count limit places : ℕ) (asks : ℕ → Option Asks) (events : List Event) (replies : List Reply) (last : Machine) → Run (first_machine count limit places asks) events replies last
+    ensures items { (count limit capacity : ℕ) (asks : ℕ → Option Asks) (events : List Event) (replies : List Reply) (last : Machine) → Run (first_machine count limit capacity asks) events replies last
         → ItemTestsAgree last }
 {}
 
@@ -72,13 +72,13 @@ pub fn sets_and_vectors_agree()
 /// is the session's need.
 pub fn a_sessions_vectors_stand_for_its_sets()
     ensures begins { (id : SessionId) (asks : Asks) → StandsFor (first_told id asks) (new_session asks) }
-    ensures hears { (count limit places : ℕ) (asks : ℕ → Option Asks) (events : List Event) (replies : List Reply) (last : Machine) → Run (first_machine count limit places asks) events replies last
+    ensures hears { (count limit capacity : ℕ) (asks : ℕ → Option Asks) (events : List Event) (replies : List Reply) (last : Machine) → Run (first_machine count limit capacity asks) events replies last
         → (who : ℕ) (session : SessionSets) (answered : Answered) → last.sessions who ≡ Some session → session.flight ≡ Some answered
         → (old new : Told) → StandsFor old session → IsToldOf answered.entry.what old new → StandsFor new (heard answered session) }
-    ensures along { (count limit places : ℕ) (asks : ℕ → Option Asks) (who : ℕ) (id : SessionId) (wants : Asks) (events : List Event) (replies : List Reply) (last : Machine) (told : Told)
-        → asks who ≡ Some wants → RunTelling who (first_machine count limit places asks) (first_told id wants) events replies last told
+    ensures along { (count limit capacity : ℕ) (asks : ℕ → Option Asks) (who : ℕ) (id : SessionId) (wants : Asks) (events : List Event) (replies : List Reply) (last : Machine) (told : Told)
+        → asks who ≡ Some wants → RunTelling who (first_machine count limit capacity asks) (first_told id wants) events replies last told
         → (session : SessionSets) → last.sessions who ≡ Some session → StandsFor told session }
-    ensures needs { (count limit places : ℕ) (asks : ℕ → Option Asks) (events : List Event) (replies : List Reply) (last : Machine) → Run (first_machine count limit places asks) events replies last
+    ensures needs { (count limit capacity : ℕ) (asks : ℕ → Option Asks) (events : List Event) (replies : List Reply) (last : Machine) → Run (first_machine count limit capacity asks) events replies last
         → (session : SessionSets) (told : Told) → StandsFor told session → NeedsAgree last session told }
 {
     read_need_is_what_is_asked();
@@ -88,7 +88,7 @@ pub fn a_sessions_vectors_stand_for_its_sets()
 /// Over every run no item is refused because another Write of its name is held, because its server made it and lost it, or because
 /// its stamp is wrong.
 pub fn no_item_is_impossible()
-    ensures { (count limit places : ℕ) (asks : ℕ → Option Asks) (events : List Event) (replies : List Reply) (last : Machine) → Run (first_machine count limit places asks) events replies last
+    ensures { (count limit capacity : ℕ) (asks : ℕ → Option Asks) (events : List Event) (replies : List Reply) (last : Machine) → Run (first_machine count limit capacity asks) events replies last
         → All (λ reply. ¬ IsImpossible reply) replies }
 {}
 
@@ -97,10 +97,10 @@ pub fn no_item_is_impossible()
 /// machine's Take, and leaves the same. Where whatever an opening of its journal finds is what was held, or that and the Write in doubt,
 /// they let no reopening say that a Write is lost, or that a record is bad.
 pub fn the_rules_of_servers_refuse_nothing_impossible<D: Device>()
-    ensures takes { (count limit places : ℕ) (asks : ℕ → Option Asks) (events : List Event) (replies : List Reply) (last : Machine) → Run (first_machine count limit places asks) events replies last
+    ensures takes { (count limit capacity : ℕ) (asks : ℕ → Option Asks) (events : List Event) (replies : List Reply) (last : Machine) → Run (first_machine count limit capacity asks) events replies last
         → (place item : ℕ) (made : Made) → slice_get last.items item ≡ Some made
         → (answer : Result Taken TakeFault) (new : Core) → Takes (core_at last place) made.write answer new → ¬ IsImpossible (Took answer) }
-    ensures rows { (count limit places : ℕ) (asks : ℕ → Option Asks) (events : List Event) (replies : List Reply) (last : Machine) → Run (first_machine count limit places asks) events replies last
+    ensures rows { (count limit capacity : ℕ) (asks : ℕ → Option Asks) (events : List Event) (replies : List Reply) (last : Machine) → Run (first_machine count limit capacity asks) events replies last
         → (place item : ℕ) (made : Made) → IsGiven last place item made → (answer : Result Taken TakeFault) (new : Core) → Takes (core_at last place) made.write answer new
         → (next : Machine) × TakeStep last place item (Took answer) next × (new ≡ core_at next place) }
     ensures reopens { (old new : ServerState D) (answer : Result Reopened ReopenFault) → OpensHonestly D.Device old
@@ -120,7 +120,7 @@ pub fn what_is_held_stays_held()
 /// The items of one Collect, taken in their order by the server that made the offer, leave no gap: none is refused for one once those
 /// before it are held, whatever else happens between.
 pub fn items_in_order_leave_no_gap()
-    ensures { (count limit places : ℕ) (asks : ℕ → Option Asks) (events : List Event) (replies : List Reply) (old now : Machine) → Run (first_machine count limit places asks) events replies old
+    ensures { (count limit capacity : ℕ) (asks : ℕ → Option Asks) (events : List Event) (replies : List Reply) (old now : Machine) → Run (first_machine count limit capacity asks) events replies old
         → (server offer number at : ℕ) → IsTakenUpTo old now server offer number at
         → (reply : Reply) (last : Machine) → TakeStep now server (length old.items + at) reply last → reply ≢ Took (Err Gap) }
 {}

@@ -13,7 +13,7 @@ ghost use Rattle.bayou_judge.specs.History.{lists_of};
 ghost use Rattle.bayou_world.specs.Judged.{IsJudgedClean};
 ghost use Rattle.bayou_world.specs.Machine.{Machine};
 ghost use Rattle.bayou_world.specs.RunHistories.{IsRunHistory};
-ghost use Rattle.bayou_world.specs.Runs.{asks_of, is_file as is_file_said, places_for as places_of};
+ghost use Rattle.bayou_world.specs.Runs.{asks_of, is_file as is_file_said, capacity_for as capacity_of};
 ghost use Rattle.bayou_world.specs.Steps.{Step};
 
 use crate::event::Event;
@@ -95,9 +95,9 @@ fn is_file(event: &Event) -> bool
     }
 }
 
-/// How many places the book of these events has.
-fn places_for(events: &[Event]) -> usize
-    ensures { result ≡ places_of events.now }
+/// How many entries the book of these events may have.
+fn capacity_for(events: &[Event]) -> usize
+    ensures { result ≡ capacity_of events.now }
 {
     let mut files: usize = 0;
     for event in events {
@@ -239,7 +239,7 @@ fn play_in_book<K: Ledgers>(
     ensures booked { IfOk result (λ played. IsBooked state.old events.now played.0.items played.1 state.new) }
     ensures charged { IfOk result (λ played. AreCharged (length state.old.servers.items) [] [] state.old.servers.items → AreCharged (length state.old.servers.items) events.now played.0.items state.new.servers.items) }
 {
-    let mut book = WorldBook::<K>::new(alloc, blanks, places_for(events))?;
+    let mut book = WorldBook::<K>::new(alloc, blanks, capacity_for(events))?;
     let replies = play(alloc, state, &mut book, events)?;
     Ok((replies, book.totals()))
 }

@@ -26,18 +26,18 @@ impl<K: Ledgers> Model for WorldBook<K> {
 
     ghost Value = { Booking };
 
-    ghost view = { λ f. record { places = f.book.places; entries = f.book.entries } };
+    ghost view = { λ f. record { capacity = f.book.capacity; entries = f.book.entries } };
 
     ghost invariant = { λ f. (f.book.totals.slips ≡ 0) × AreOfSessions f.shares.items };
 }
 
 impl<K: Ledgers> WorldBook<K> {
-    /// A book with so many places, in which nothing was entered.
-    pub fn new(alloc: Global, blanks: Blanks, places: usize) -> Result<Self, AllocError>
+    /// A book of this capacity, in which nothing was entered.
+    pub fn new(alloc: Global, blanks: Blanks, capacity: usize) -> Result<Self, AllocError>
         requires blanks { AreBlanksOf blanks (named K.Slips.name K.Slips.parts) (named K.Reads.name K.Reads.parts) (named K.Writes.name K.Writes.parts) (named K.Refusals.name K.Refusals.parts) SESSIONS_NUMBER }
-        ensures { IfOk result (λ book. book ≡ record { places = places; entries = [] }) }
+        ensures { IfOk result (λ book. book ≡ record { capacity = capacity; entries = [] }) }
     {
-        let (book, shares) = Book::new(alloc, blanks, SESSIONS as u8, places)?;
+        let (book, shares) = Book::new(alloc, blanks, SESSIONS as u8, capacity)?;
         Ok(WorldBook { book, shares })
     }
 

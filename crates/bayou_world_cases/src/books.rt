@@ -74,7 +74,7 @@ fn entry<K: Ledgers>(rt: &impl Abort, share: &Share<K>, number: u32) -> Entry
     }
 }
 
-/// Files what the session did at its place of this number. Whether there is a place for it.
+/// Files what the session did at its place of this number. Whether there is room for it.
 fn files<K: Ledgers, R: Wait + Abort>(
     rt: &R,
     book: &AuditBook<K>,
@@ -152,7 +152,7 @@ fn settled<K: Ledgers>(rt: &impl Abort, book: AuditBook<K>, shares: Vec<Share<K>
     }
 }
 
-/// What a book of eight places comes to at which two threads filed, three reads and two, and a slip was voided.
+/// What a book with room for eight entries comes to at which two threads filed, three reads and two, and a slip was voided.
 fn file_at_once<S, T, U, V, R>(rt: &R, alloc: Global, blanks: Blanks) -> BookSettled
 where
     S: Ledger + Send + Sync,
@@ -281,7 +281,7 @@ fn a_share_or_a_slip_is_missed(rt: HostRuntime) {
     );
 }
 
-/// How many entries find a place.
+/// How many entries find room.
 fn fill<K: Ledgers>(rt: &impl Abort, book: &mut Book<K>, share: &mut Share<K>) -> usize {
     for number in 0..9_u32 {
         let Ok(slip) = book.claim(share) else {
@@ -293,7 +293,7 @@ fn fill<K: Ledgers>(rt: &impl Abort, book: &mut Book<K>, share: &mut Share<K>) -
     9
 }
 
-/// Whether a slip that is out keeps its place, and gives it back.
+/// Whether a slip that is out keeps its room, and gives it back.
 fn holds_its_place<K: Ledgers>(book: &mut Book<K>, share: &mut Share<K>) -> bool {
     let Ok(first) = book.claim(share) else {
         return false;
@@ -309,24 +309,24 @@ fn holds_its_place<K: Ledgers>(book: &mut Book<K>, share: &mut Share<K>) -> bool
     is_full
 }
 
-/// How many entries find a place in the book, which has so many, and whether a slip keeps the last one.
+/// How many entries find room in the book of this capacity, and whether a slip keeps the last of it.
 fn fills<K: Ledgers>(
     rt: &impl Abort,
     book: &mut Book<K>,
     share: &mut Share<K>,
-    places: usize,
+    capacity: usize,
 ) -> (usize, bool) {
-    let is_kept = places != 1 || holds_its_place(book, share);
+    let is_kept = capacity != 1 || holds_its_place(book, share);
     let filed = fill(rt, book, share);
     (filed, is_kept && book.totals().slips == 0)
 }
 
-/// The same of a new book of so many places.
-fn fill_places<S, T, U, V>(
+/// The same of a new book of this capacity.
+fn fill_book<S, T, U, V>(
     rt: &impl Abort,
     alloc: Global,
     blanks: Blanks,
-    places: usize,
+    capacity: usize,
 ) -> (usize, bool)
 where
     S: Ledger + Send + Sync,
@@ -335,17 +335,18 @@ where
     V: Ledger + Send + Sync,
     requires blanks { AreBlanksOf blanks (named S.name S.parts) (named T.name T.parts) (named U.name U.parts) (named V.name V.parts) 1 }
 {
-    let Ok((mut book, mut shares)) = Book::<Four<S, T, U, V>>::new(alloc, blanks, 1, places) else {
+    let Ok((mut book, mut shares)) = Book::<Four<S, T, U, V>>::new(alloc, blanks, 1, capacity)
+    else {
         rt.abort();
     };
-    fills(rt, &mut book, &mut shares[0], places)
+    fills(rt, &mut book, &mut shares[0], capacity)
 }
 
 #[test]
-fn a_book_is_full_at_its_places(rt: HostRuntime) {
-    for places in 0..5 {
-        let found = fill_places::<Brand, Brand, Brand, Brand>(&rt, rt.alloc(), blanks(1), places);
-        must_be_so(&rt, found == (places, true), places);
+fn a_book_is_full_at_its_capacity(rt: HostRuntime) {
+    for capacity in 0..5 {
+        let found = fill_book::<Brand, Brand, Brand, Brand>(&rt, rt.alloc(), blanks(1), capacity);
+        must_be_so(&rt, found == (capacity, true), capacity);
     }
 }
 
@@ -385,7 +386,7 @@ fn keeps<K: Ledgers, R: Wait + Abort>(
     Ok(are_filed && are_counted && are_first(rt, &entries, share))
 }
 
-/// Files the first seven of the session. Whether there is a place for each.
+/// Files the first seven of the session. Whether there is room for each.
 fn files_seven<K: Ledgers, R: Wait + Abort>(
     rt: &R,
     book: &AuditBook<K>,

@@ -324,8 +324,10 @@ pub fn saying(reply: &Reply) -> Said {
         Reply::Fused => Fused,
         Reply::Reopened(Ok(reopened)) => Up(named(&reopened.adopted)),
         Reply::Reopened(Err(ReopenFault::NotDown)) => NotDown,
+        Reply::Reopened(Err(ReopenFault::OutOfMemory)) => Wanting,
         Reply::Reopened(Err(ReopenFault::Journal(JournalFault::Device))) => NotReopened,
         Reply::Restarted(Ok(holds)) => Holds(*holds),
+        Reply::Restarted(Err(StartFault::OutOfMemory)) => Wanting,
         Reply::Restarted(Err(StartFault::Journal(JournalFault::Device))) => NotRestarted,
         Reply::Skipped => Skipped,
         Reply::Took(Err(TakeFault::Conflict | TakeFault::OwnLost | TakeFault::BadStamp)) => {
@@ -335,7 +337,7 @@ pub fn saying(reply: &Reply) -> Said {
     }
 }
 
-fn line_of(entry: &Entry) -> Line {
+pub fn line_of(entry: &Entry) -> Line {
     let told = match &entry.what {
         What::Read(_, vector) => Saw(counts_of(vector)),
         What::Write(wid, _, deps) => Wrote((wid.origin.index, wid.seq), counts_of(deps)),

@@ -2,10 +2,11 @@
 use Rattle.std.specs.Prelude.{◌≡◌, ℕ, ◌<◌, ◌≤◌, List, All, length}
 use Rattle.std.specs.List.{filter_map, slice_get}
 use Rattle.bayou_base.specs.declared.limits.TheConstants.{SERVERS, MAX_WRITES}
+use Rattle.bayou_lang.specs.declared.change.Change.{Change}
 use Rattle.bayou_lang.specs.declared.write.Write.{Write}
 use Rattle.bayou_lang.specs.Writes.{count_of, greatest_clock, in_stamp_order, AreFitting}
-use Rattle.bayou_log.specs.Db.{Slots, places, room, HasRoomFor}
-use Rattle.bayou_lang.specs.Places.{empty}
+use Rattle.bayou_log.specs.Db.{Slots, database_of, room, HasRoomFor}
+use Rattle.bayou_lang.specs.Database.{empty}
 use Rattle.bayou_log.specs.Inner.Undone.{changes_of, AreUndos, Stack}
 use Rattle.bayou_log.specs.Replay.{replay}
 
@@ -20,18 +21,24 @@ pub record AreKept (count limit : ℕ) (writes : List Write) : Type 0 where
   pub fitting : AreFitting count writes
   pub within : length writes ≤ limit
 
--- the places of the Writes in stamp order, the database, the vector and the clock are those of the Writes
-pub record AgreesWith (writes : List Write) (order : List ℕ) (slots : Slots) (vector : List ℕ) (clock : ℕ) : Type 0 where
-  pub in_order : picked writes order ≡ in_stamp_order writes
-  pub inside : All (λ at. at < length writes) order
-  pub replayed : places slots ≡ replay writes
+-- there is room for all that the Writes may write, and the vector and the clock are those of the Writes
+pub record AgreesWith (writes : List Write) (slots : Slots) (vector : List ℕ) (clock : ℕ) : Type 0 where
   pub room : All (λ write. HasRoomFor (room slots) write.program) writes
   pub counted : vector ≡ count_of writes
   pub latest : clock ≡ greatest_clock writes
 
--- the stack has what takes the Writes back, and promises room for as many changes as they make at the most
-pub record AreTakenBack (writes : List Write) (undone : Stack) : Type 0 where
-  pub undos : AreUndos undone.undos (in_stamp_order writes) empty
+-- These Writes, and no others, are applied: the order has their places in stamp order, the database is that of them, and the stack
+-- has what takes them back.
+pub record AreApplied (writes : List Write) (order : List ℕ) (slots : Slots) (taken_back_by : List (List Change)) : Type 0 where
+  pub as_many : length order ≡ length writes
+  pub inside : All (λ at. at < length writes) order
+  pub in_order : picked writes order ≡ in_stamp_order writes
+  pub replayed : database_of slots ≡ replay writes
+  pub undos : AreUndos taken_back_by (in_stamp_order writes) empty
+
+-- however many of the Writes are applied, there is room for the places of all, and for what takes them back
+pub record HasRoomForAll (writes : List Write) (capacity : ℕ) (undone : Stack) : Type 0 where
+  pub order : length writes ≤ capacity
   pub promised : undone.promised ≡ changes_of writes
   pub room : undone.promised ≤ undone.room
   pub places : length writes ≤ undone.places

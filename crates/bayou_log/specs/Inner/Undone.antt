@@ -4,7 +4,7 @@ use Rattle.bayou_lang.specs.declared.change.Change.{Change}
 use Rattle.bayou_lang.specs.declared.write.Write.{Write}
 use Rattle.bayou_lang.specs.Changes.{after_changes, most_changes}
 use Rattle.bayou_lang.specs.Meaning.{mean}
-use Rattle.bayou_lang.specs.Places.{Places}
+use Rattle.bayou_lang.specs.Database.{Database}
 use Rattle.bayou_log.specs.Db.{IsUndo}
 
 -- what takes back each Write that is applied, the first applied first; for how many changes room is promised; and for how
@@ -36,19 +36,19 @@ changes_of [] = 0
 changes_of (write ∷ writes) = most_changes write.program + changes_of writes
 
 -- the database after all is taken back, the last first
-abbrev pub after_undoing : List (List Change) → Places → Places
-after_undoing [] places = places
-after_undoing (undo ∷ undos) places = after_changes undo (after_undoing undos places)
+abbrev pub after_undoing : List (List Change) → Database → Database
+after_undoing [] database = database
+after_undoing (undo ∷ undos) database = after_changes undo (after_undoing undos database)
 
 -- they take back these Writes, of which the first was applied to this database
-abbrev pub AreUndos : List (List Change) → List Write → Places → Type 0
+abbrev pub AreUndos : List (List Change) → List Write → Database → Type 0
 AreUndos [] [] before = Unit {0}
 AreUndos (undo ∷ undos) (write ∷ writes) before = IsUndo write.program before undo × AreUndos undos writes (mean write.program before).1
 AreUndos [] (write ∷ writes) before = ⊥
 AreUndos (undo ∷ undos) [] before = ⊥
 
 -- what takes back these Writes too, of which the first was applied to this database
-pub record AddsUndone (writes : List Write) (before : Places) (old new : Stack) : Type 0 where
+pub record AddsUndone (writes : List Write) (before : Database) (old new : Stack) : Type 0 where
   pub more : List (List Change)
   pub undo : AreUndos more writes before
   pub only : new ≡ record old { undos = old.undos ++ more }

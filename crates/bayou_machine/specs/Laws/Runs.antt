@@ -8,9 +8,9 @@ use Rattle.bayou_session.specs.Needs.{Told}
 use Rattle.bayou_text.specs.Said.{Said, servers, session, write, read, log, fuse, lose, reopen, restart, pull, resend, totals, judge, survey, book, phase, entry, held}
 use Rattle.bayou_answers.specs.declared.answer.Answer.{Answer}
 use Rattle.bayou_machine.specs.Filed.{Files, Filings, what_told}
-use Rattle.bayou_script.specs.Places.{operation_of, operations}
+use Rattle.bayou_script.specs.Capacity.{operation_of, operations}
 use Rattle.bayou_machine.specs.Standing.{Standing, session_of}
-use Rattle.bayou_machine.specs.Run.{Leaves, ScriptRun, ScriptState, Step, Tries, Turn}
+use Rattle.bayou_machine.specs.Run.{Leaves, ScriptRun, ScriptState, ScriptStep, Tries, Turn}
 
 -- a run goes on by one step
 pub Run-more : (old mid new : ScriptState) (done : List Said) (answers : List Answer) (said : Said) (answer : Answer) → ScriptRun old done answers mid
@@ -22,30 +22,30 @@ Run-more old mid new [] (given ∷ answers) said answer run step = absurd run
 Run-more old mid new (first ∷ done) [] said answer run step = absurd run
 
 -- no step changes how many servers there are
-pub Step-count : (old new : Standing) (said : Said) (answer : Answer) → Step old said answer new → new.count ≡ old.count
-Step-count old new (servers count limit) answer step = absurd step
-Step-count old new (session who asks) answer step = ap (λ standing. standing.count) step.only
-Step-count old new (write who place program) answer step = ap (λ standing. standing.count) step.only
-Step-count old new (read who place key) answer step = ap (λ standing. standing.count) step.only
-Step-count old new (log place) answer step = ap (λ standing. standing.count) step.0
-Step-count old new (fuse place calls kept) answer step = let change = step.1 in ap (λ standing. standing.count) change.only
-Step-count old new (lose place count) answer step = let change = step.1 in ap (λ standing. standing.count) change.only
-Step-count old new (reopen place) answer (recovery, is, change) = ap (λ standing. standing.count) change.only
-Step-count old new (restart place) answer (recovery, is, change) = ap (λ standing. standing.count) change.only
-Step-count old new (pull to source cut) answer step = ap (λ standing. standing.count) step.only
-Step-count old new (resend to source) answer step = ap (λ standing. standing.count) step.only
-Step-count old new totals answer step = absurd step
-Step-count old new judge answer step = absurd step
-Step-count old new survey answer step = absurd step
-Step-count old new book answer step = absurd step
-Step-count old new phase answer step = ap (λ standing. standing.count) step.0
-Step-count old new (entry what counts) answer step = absurd step
-Step-count old new (held place written counts) answer step = absurd step
+pub ScriptStep-count : (old new : Standing) (said : Said) (answer : Answer) → ScriptStep old said answer new → new.count ≡ old.count
+ScriptStep-count old new (servers count limit) answer step = absurd step
+ScriptStep-count old new (session who asks) answer step = ap (λ standing. standing.count) step.only
+ScriptStep-count old new (write who place program) answer step = ap (λ standing. standing.count) step.only
+ScriptStep-count old new (read who place key) answer step = ap (λ standing. standing.count) step.only
+ScriptStep-count old new (log place) answer step = ap (λ standing. standing.count) step.0
+ScriptStep-count old new (fuse place calls kept) answer step = let change = step.1 in ap (λ standing. standing.count) change.only
+ScriptStep-count old new (lose place count) answer step = let change = step.1 in ap (λ standing. standing.count) change.only
+ScriptStep-count old new (reopen place) answer (recovery, is, change) = ap (λ standing. standing.count) change.only
+ScriptStep-count old new (restart place) answer (recovery, is, change) = ap (λ standing. standing.count) change.only
+ScriptStep-count old new (pull to source cut) answer step = ap (λ standing. standing.count) step.only
+ScriptStep-count old new (resend to source) answer step = ap (λ standing. standing.count) step.only
+ScriptStep-count old new totals answer step = absurd step
+ScriptStep-count old new judge answer step = absurd step
+ScriptStep-count old new survey answer step = absurd step
+ScriptStep-count old new book answer step = absurd step
+ScriptStep-count old new phase answer step = ap (λ standing. standing.count) step.0
+ScriptStep-count old new (entry what counts) answer step = absurd step
+ScriptStep-count old new (held place written counts) answer step = absurd step
 
--- no turn changes how many servers there are, nor how many places the book has, and an operation files one entry at most
+-- no turn changes how many servers there are, nor how many entries the book may have, and an operation files one entry at most
 pub record Moves (old new : ScriptState) (said : Said) : Type 0 where
   pub count : new.standing.count ≡ old.standing.count
-  pub places : new.book.places ≡ old.book.places
+  pub capacity : new.book.capacity ≡ old.book.capacity
   pub filed : length new.book.entries ≤ length old.book.entries + operations (said ∷ [])
 
 filed_one : (who place : ℕ) (told : Told) (what : Option What) (filed : List Entry) → Files who place told what filed → length filed ≤ 1
@@ -54,8 +54,8 @@ filed_one who place told (Some what) filed (one, is, of) = subst (λ (list : Lis
 
 tried : (old new : ScriptState) (who place : ℕ) (said : Said) (answer : Answer) → operations (said ∷ []) ≡ 1 → Tries old who place said answer new → Moves old new said
 tried old new who place said answer one tries = record {
-  count = Step-count old.standing new.standing said answer tries.step;
-  places = ap (λ (book : Filings). book.places) tries.only;
+  count = ScriptStep-count old.standing new.standing said answer tries.step;
+  capacity = ap (λ (book : Filings). book.capacity) tries.only;
   filed = omega (
     arith,
     one,
@@ -67,15 +67,15 @@ tried old new who place said answer one tries = record {
 
 left : (old new : ScriptState) (said : Said) (answer : Answer) → Leaves old said answer new → Moves old new said
 left old new said answer leaves = record {
-  count = Step-count old.standing new.standing said answer leaves.step;
-  places = ap (λ (book : Filings). book.places) leaves.same;
+  count = ScriptStep-count old.standing new.standing said answer leaves.step;
+  capacity = ap (λ (book : Filings). book.capacity) leaves.same;
   filed = omega (arith, ap (λ (book : Filings). length book.entries) leaves.same);
 }
 
 stays : (old new : ScriptState) (said : Said) → operations (said ∷ []) ≡ 0 → new ≡ old → Moves old new said
 stays old new said none same = record {
   count = ap (λ (state : ScriptState). state.standing.count) same;
-  places = ap (λ (state : ScriptState). state.book.places) same;
+  capacity = ap (λ (state : ScriptState). state.book.capacity) same;
   filed = omega (arith, none, ap (λ (state : ScriptState). length state.book.entries) same);
 }
 
@@ -111,6 +111,6 @@ tried_one : (said : Said) (op : Option (ℕ × ℕ)) → op ≢ None → length 
 tried_one said None some = absurd (some refl)
 tried_one said (Some op) some = refl
 
--- there is a place for the next operation
-pub has_place : (said : Said) (others : List Said) (filed places : ℕ) → filed + operations (said ∷ others) ≤ places → operation_of said ≢ None → filed < places
-has_place said others filed places room some = omega (arith, room, operations-first said others, tried_one said (operation_of said) some)
+-- there is room for the next operation
+pub has_room : (said : Said) (others : List Said) (filed capacity : ℕ) → filed + operations (said ∷ others) ≤ capacity → operation_of said ≢ None → filed < capacity
+has_room said others filed capacity room some = omega (arith, room, operations-first said others, tried_one said (operation_of said) some)

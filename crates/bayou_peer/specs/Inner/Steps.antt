@@ -1,11 +1,21 @@
 -- What the steps of a pull come to. No public clause cites it.
-use Rattle.std.specs.Prelude.{◌≡◌, ℕ, Bool, true, false, List, Option, Some, Result, Ok, Err}
-use Rattle.bayou_frames.specs.declared.fault.Fault.TheVariants as faults
+use Rattle.std.specs.Prelude.{◌≡◌, ◌≢◌, ℕ, Bool, true, false, List, ◌∷◌, ◌++◌, Option, Some, Result, Ok, Err}
+use Rattle.bayou_lang.specs.declared.write.Write.{Write}
+use Rattle.bayou_frames.specs.declared.fault.ChannelFault.TheVariants as faults
+use Rattle.bayou_frames.specs.Spelled.{items_of}
 use Rattle.bayou_peer.specs.declared.fault.PullFault.{PullFault}
 use Rattle.bayou_peer.specs.declared.fault.PullFault.TheVariants.{Stream, Refused}
 use Rattle.bayou_peer.specs.declared.pulling.Pulled.{Pulled}
 use Rattle.bayou_peer.specs.Pulls.{PullEnds, Received, Ways}
+use Rattle.bayou_wire.specs.declared.frame.Frame.{Frame}
+use Rattle.bayou_wire.specs.declared.frame.Frame.TheVariants.{Item}
 use Rattle.bayou_wire.specs.Stream.{IsPartial}
+
+-- the Writes of the Items that stand in front of the frames: what follows them is no Item
+pub record AreItemsInFront (frames : List Frame) (writes : List Write) : Type 0 where
+  pub rest : List Frame
+  pub split : frames ≡ items_of writes ++ rest
+  pub other : (write : Write) (behind : List Frame) → rest ≢ Item write ∷ behind
 
 -- what may end a pull at what came
 abbrev pub IsTakeFault : PullFault → Type 0

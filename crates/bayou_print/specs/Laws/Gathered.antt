@@ -1,23 +1,23 @@
 -- Lines that wait, one text behind another.
 use Rattle.std.proofs.Common.{◌≡◌, ℕ, List, [], ◌++◌, ◌∙◌, refl, ap, sym, subst, append_assoc}
 use Rattle.std.proofs.lemmas.List.{append-nil}
-use Rattle.bayou_streams.specs.Account.{Account, Takes, TakesFront}
+use Rattle.bayou_streams.specs.Account.{Account, TakesBytes, TakesFront}
 use Rattle.bayou_print.specs.Waiting.{Gathers, Stage}
-use Rattle.bayou_streams.specs.Laws.Taken.{Takes-nil, Takes-trans}
+use Rattle.bayou_streams.specs.Laws.Taken.{TakesBytes-nil, TakesBytes-trans}
 
 pub Gathers-nil : (a : Stage) → Gathers a a [] []
-Gathers-nil a = record { taken = []; split = refl; took = Takes-nil a.output }
+Gathers-nil a = record { taken = []; split = refl; took = TakesBytes-nil a.output }
 
 -- nothing happened, and the text is missing
 pub Gathers-none : (a : Stage) (text : List ℕ) → Gathers a a text text
-Gathers-none a text = record { taken = []; split = refl; took = Takes-nil a.output }
+Gathers-none a text = record { taken = []; split = refl; took = TakesBytes-nil a.output }
 
 pub Gathers-trans : (a b c : Stage) (first second missing : List ℕ) → Gathers a b first [] → Gathers b c second missing → Gathers a c (first ++ second) missing
 Gathers-trans a b c first second missing one two = record {
   taken = one.taken ++ two.taken;
   split = sym (append_assoc a.waiting first second) ∙ ap (λ l. l ++ second) (one.split ∙ ap (λ l. one.taken ++ l) (append-nil b.waiting))
       ∙ append_assoc one.taken b.waiting second ∙ ap (λ l. one.taken ++ l) two.split ∙ sym (append_assoc one.taken two.taken (c.waiting ++ missing));
-  took = Takes-trans _ _ _ _ _ one.took two.took;
+  took = TakesBytes-trans _ _ _ _ _ one.took two.took;
 }
 
 -- what stands behind the text is missing too
@@ -35,11 +35,11 @@ put a mid b line missing room same is = record {
   taken = room.taken;
   split = ap (λ l. l ++ line) (sym (append-nil a.waiting) ∙ room.split ∙ ap (λ l. room.taken ++ l) (append-nil mid.waiting)) ∙ append_assoc room.taken mid.waiting line
       ∙ ap (λ l. room.taken ++ l) is;
-  took = subst (λ now. Takes a.output now room.taken) (sym same) room.took;
+  took = subst (λ now. TakesBytes a.output now room.taken) (sym same) room.took;
 }
 
 -- what waited was written
-pub written : (a b : Stage) → Takes a.output b.output a.waiting → b.waiting ≡ [] → Gathers a b [] []
+pub written : (a b : Stage) → TakesBytes a.output b.output a.waiting → b.waiting ≡ [] → Gathers a b [] []
 written a b took none = record {
   taken = a.waiting;
   split = ap (λ l. a.waiting ++ l) (sym (ap (λ l. l ++ []) none));
@@ -54,21 +54,21 @@ written_part a b (front, rest, split, took) none = (
 )
 
 -- where nothing waited before, a front of the text was taken
-pub Takes-front : (a b : Stage) (text missing : List ℕ) → a.waiting ≡ [] → Gathers a b text missing → TakesFront a.output b.output text
-Takes-front a b text missing none some = (some.taken, b.waiting ++ missing, sym (ap (λ l. l ++ text) none) ∙ some.split, some.took)
+pub TakesBytes-front : (a b : Stage) (text missing : List ℕ) → a.waiting ≡ [] → Gathers a b text missing → TakesFront a.output b.output text
+TakesBytes-front a b text missing none some = (some.taken, b.waiting ++ missing, sym (ap (λ l. l ++ text) none) ∙ some.split, some.took)
 
 -- and then what waits was written, or a front of it
-pub Takes-rest : (a b : Stage) (c : Account) (text missing : List ℕ) → a.waiting ≡ [] → Gathers a b text missing → TakesFront b.output c b.waiting
+pub TakesBytes-rest : (a b : Stage) (c : Account) (text missing : List ℕ) → a.waiting ≡ [] → Gathers a b text missing → TakesFront b.output c b.waiting
     → TakesFront a.output c text
-Takes-rest a b c text missing none some (front, rest, split, took) = (
+TakesBytes-rest a b c text missing none some (front, rest, split, took) = (
   some.taken ++ front,
   rest ++ missing,
   sym (ap (λ l. l ++ text) none) ∙ some.split ∙ ap (λ l. some.taken ++ (l ++ missing)) split ∙ ap (λ l. some.taken ++ l) (append_assoc front rest missing)
       ∙ sym (append_assoc some.taken front (rest ++ missing)),
-  Takes-trans _ _ _ _ _ some.took took,
+  TakesBytes-trans _ _ _ _ _ some.took took,
 )
 
-pub Takes-all : (a b : Stage) (c : Account) (text : List ℕ) → a.waiting ≡ [] → Gathers a b text [] → Takes b.output c b.waiting → Takes a.output c text
-Takes-all a b c text none some took =
+pub TakesBytes-all : (a b : Stage) (c : Account) (text : List ℕ) → a.waiting ≡ [] → Gathers a b text [] → TakesBytes b.output c b.waiting → TakesBytes a.output c text
+TakesBytes-all a b c text none some took =
     let split : text ≡ some.taken ++ b.waiting = sym (ap (λ l. l ++ text) none) ∙ some.split ∙ ap (λ l. some.taken ++ l) (append-nil b.waiting) in
-    subst (Takes a.output c) (sym split) (Takes-trans _ _ _ _ _ some.took took)
+    subst (TakesBytes a.output c) (sym split) (TakesBytes-trans _ _ _ _ _ some.took took)

@@ -3,18 +3,18 @@ use Rattle.std.specs.Prelude.{◌≡◌, ℕ, List}
 use Rattle.bayou_text.specs.declared.line.LineFault.{LineFault}
 use Rattle.bayou_text.specs.declared.line.LineFault.TheVariants as line
 use Rattle.bayou_text.specs.Said.{Said}
-use Rattle.bayou_script.specs.declared.fault.Refusal.{Refusal}
-use Rattle.bayou_script.specs.declared.fault.Refusal.TheVariants.{Line, OutOfMemory}
+use Rattle.bayou_script.specs.declared.fault.InputRefusal.{InputRefusal}
+use Rattle.bayou_script.specs.declared.fault.InputRefusal.TheVariants.{Line, OutOfMemory}
 use Rattle.bayou_script.specs.declared.fault.ScriptFault.TheVariants.{NotJson, BadShape, BadKey, BadProgram}
 use Rattle.bayou_script.specs.Order.{HasFault, Order}
 
 -- why a line isn't taken, where memory didn't run out
-abbrev pub FaultAt : Order → ℕ → List Said → List ℕ → Refusal → Type 0
+abbrev pub FaultAt : Order → ℕ → List Said → List ℕ → InputRefusal → Type 0
 FaultAt order number front bytes (Line told fault) = (told ≡ number) × HasFault order number front bytes fault
 FaultAt order number front bytes OutOfMemory = Unit {0}
 
 -- the refusal of a text whose line of this number wasn't read
-abbrev pub refusal_of : ℕ → LineFault → Refusal
+abbrev pub refusal_of : ℕ → LineFault → InputRefusal
 refusal_of number line.OutOfMemory = OutOfMemory
 refusal_of number line.NotJson = Line number NotJson
 refusal_of number (line.BadShape what) = Line number BadShape

@@ -6,11 +6,14 @@ use Rattle.bayou_journal.specs.declared.format.TheConstants.{VERSION}
 use Rattle.bayou_journal.specs.Journal.{JournalState}
 use Rattle.bayou_lang.specs.declared.write.Write.{Write}
 use Rattle.bayou_log.specs.Log.{Log, IsReserved}
-use Rattle.bayou_server.specs.Server.{Core, IsSoundServer}
+use Rattle.bayou_server.specs.Server.{Core, IsSoundServer, ServerState}
 use Rattle.bayou_server.specs.Stored.{bodies_of}
 
 abbrev pub core_of : Log → (id : ℕ) → Option Write → Core
 core_of log id doubt = record { id = id; count = log.count; limit = log.limit; held = log.receipts; doubt = doubt }
+
+abbrev pub server_of : {D : Type 0} → JournalState D → Log → (id : ℕ) → Option Write → ServerState D
+server_of journal log id doubt = record { core = core_of log id doubt; device = journal.device }
 
 -- While it is up, the journal's next entry stands behind those of the Writes held. While it is down nothing is known of the
 -- journal, and the log has room for the Write in doubt, be it the server's own or another's.
@@ -18,7 +21,8 @@ abbrev pub Stands : {D : Type 0} → JournalState D → Log → Option Write →
 Stands journal log None = (journal.is_down ≡ false) × (journal.last ≡ chain_end VERSION journal.server (bodies_of log.receipts))
 Stands journal log (Some write) = IsReserved log.room write
 
--- the journal is the server's, its log is what it may hold, and they stand as the Write in doubt says
+-- The journal is the server's, its log is what it may hold, and they stand as the Write in doubt says. So it is also between two of
+-- several Writes that are taken, where some may wait to be applied.
 pub record BelongTogether {D : Type 0} (journal : JournalState D) (log : Log) (id : ℕ) (doubt : Option Write) : Type 0 where
   pub owner : journal.server ≡ id
   pub limit : log.limit ≤ MAX_WRITES

@@ -19,15 +19,16 @@ pub record IsAdmitted (id : ℕ) (log : Log) (body : List ℕ) (write : Write) :
 pub record IsAdded (id : ℕ) (log : Log) (body : List ℕ) (new : Log) : Type 0 where
   pub write : Write
   pub admitted : IsAdmitted id log body write
-  pub is : new ≡ record log { receipts = log.receipts ++ write ∷ []; room = new.room }
+  pub is : new ≡ record log { receipts = log.receipts ++ write ∷ []; room = new.room; waiting = new.waiting }
 
--- the log holds exactly the Writes that the bodies spell
+-- the log holds exactly the Writes that the bodies spell, and none waits to be applied
 pub record Replays (id count limit : ℕ) (bodies : List (List ℕ)) (log : Log) : Type 0 where
   pub whole : bodies ≡ bodies_of log.receipts
   pub spelled : All IsWrite log.receipts
   pub holds : MayHold id count limit log.receipts
   pub same_count : log.count ≡ count
   pub same_limit : log.limit ≡ limit
+  pub caught_up : log.waiting ≡ 0
 
 -- what the bodies are: the Writes held and the one in doubt, or those held alone
 abbrev pub AreHeldAnd : List Write → Write → List (List ℕ) → Bool → Type 0

@@ -30,7 +30,7 @@ StoresEntry d old InDoubt new = HasFailed d old new
 
 -- what comes of a Write in the log once its entry was to be added: it is held behind the others, or is in doubt
 abbrev pub Settles : Log → Option Write → Write → Result (Unit {0}) AppendFault → Stored → (new : Log) → (left : Option Write) → Type 0
-Settles log doubt write (Ok done) Held new left = (new ≡ record log { receipts = log.receipts ++ write ∷ []; room = new.room }) × (left ≡ doubt)
+Settles log doubt write (Ok done) Held new left = (new ≡ record log { receipts = log.receipts ++ write ∷ []; room = new.room; waiting = new.waiting }) × (left ≡ doubt)
 Settles log doubt write (Err reason) InDoubt new left = (new ≡ log) × (left ≡ Some write)
 Settles log doubt write (Ok done) InDoubt new left = ⊥
 Settles log doubt write (Err reason) Held new left = ⊥

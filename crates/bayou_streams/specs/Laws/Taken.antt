@@ -6,7 +6,7 @@ use Rattle.std.proofs.lemmas.List.Sums.{sum_by-append, sum_by-cons}
 use Rattle.std.specs.Io.{IsEmptyOrEndsWith}
 use Rattle.std.specs.Io.KnownBytes.{Appends, Keeps, WriteAppends}
 use Rattle.bayou_base.specs.declared.limits.TheConstants.{MAX_TURNS}
-use Rattle.bayou_streams.specs.Account.{Account, Pays, Takes}
+use Rattle.bayou_streams.specs.Account.{Account, Pays, TakesBytes}
 use Rattle.bayou_streams.specs.Lines.{counted, line_feeds, taken_of, turns_behind}
 
 counted_is : (count more : ℕ) → 0 < more → counted count more ≡ min (count + more) (2 ^ 64 - 1)
@@ -26,11 +26,11 @@ counted_more count (suc first) (suc second) =
 pub line_feeds-append : (first second : List ℕ) → line_feeds (first ++ second) ≡ line_feeds first + line_feeds second
 line_feeds-append first second = sum_by-append _ first second
 
-pub Takes-nil : (a : Account) → Takes a a []
-Takes-nil a = record { bytes = Appends-nil a.contents; lines = refl; turns = omega arith; counts = omega arith }
+pub TakesBytes-nil : (a : Account) → TakesBytes a a []
+TakesBytes-nil a = record { bytes = Appends-nil a.contents; lines = refl; turns = omega arith; counts = omega arith }
 
-pub Takes-trans : (a b c : Account) (first second : List ℕ) → Takes a b first → Takes b c second → Takes a c (first ++ second)
-Takes-trans a b c first second one two =
+pub TakesBytes-trans : (a b c : Account) (first second : List ℕ) → TakesBytes a b first → TakesBytes b c second → TakesBytes a c (first ++ second)
+TakesBytes-trans a b c first second one two =
     let feeds : line_feeds (first ++ second) ≡ line_feeds first + line_feeds second = line_feeds-append first second in
     record {
       bytes = Appends-trans a.contents b.contents c.contents first second one.bytes two.bytes;
@@ -60,10 +60,10 @@ counts_one before spent left zero some is within = omega arith
 counts_one before spent left (suc feeds) some is within = omega arith
 
 -- one turn takes what the writer took
-pub Takes-turn : {E : Type 0} (a b : Account) (answer : Result ℕ E) (text : List ℕ) → WriteAppends a.contents b.contents answer text → 0 < a.turns_left → a.turns_left ≤ MAX_TURNS
+pub TakesBytes-turn : {E : Type 0} (a b : Account) (answer : Result ℕ E) (text : List ℕ) → WriteAppends a.contents b.contents answer text → 0 < a.turns_left → a.turns_left ≤ MAX_TURNS
     → b.spent ≡ counted a.spent 1 → b.lines ≡ counted a.lines (line_feeds (taken_of answer text))
-    → b.turns_left ≡ turns_behind (line_feeds (taken_of answer text)) (a.turns_left - 1) → Takes a b (taken_of answer text)
-Takes-turn a b answer text written some within spent lines left = record {
+    → b.turns_left ≡ turns_behind (line_feeds (taken_of answer text)) (a.turns_left - 1) → TakesBytes a b (taken_of answer text)
+TakesBytes-turn a b answer text written some within spent lines left = record {
   bytes = Appends-taken a.contents b.contents answer text written;
   lines = lines;
   turns = subst (λ now. b.spent + now ≤ a.spent + a.turns_left + MAX_TURNS * line_feeds (taken_of answer text)) (sym left)
@@ -73,10 +73,10 @@ Takes-turn a b answer text written some within spent lines left = record {
 }
 
 -- what a run has to tell of the turns that it spent
-pub Pays-whole : (a b : Account) (text : List ℕ) → Takes a b text → a.turns_left ≤ b.turns_left → Pays a b 0
+pub Pays-whole : (a b : Account) (text : List ℕ) → TakesBytes a b text → a.turns_left ≤ b.turns_left → Pays a b 0
 Pays-whole a b text took ready = record { text = text; written = took.bytes; lines = took.lines; turns = omega (arith, took.turns) }
 
-pub Pays-part : (a b : Account) (text : List ℕ) → a.turns_left ≤ MAX_TURNS → Takes a b text → Pays a b 1
+pub Pays-part : (a b : Account) (text : List ℕ) → a.turns_left ≤ MAX_TURNS → TakesBytes a b text → Pays a b 1
 Pays-part a b text within took = record { text = text; written = took.bytes; lines = took.lines; turns = omega (arith, took.turns) }
 
 pub Pays-none : (a : Account) (cut : ℕ) → Pays a a cut

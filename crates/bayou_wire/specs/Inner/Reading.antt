@@ -25,7 +25,7 @@ use Rattle.bayou_wire.specs.declared.frame.Refusal.{Refusal}
 use Rattle.bayou_wire.specs.declared.frame.Refusal.TheVariants as refusals
 use Rattle.bayou_wire.specs.declared.frame.Frame.{Frame}
 use Rattle.bayou_wire.specs.declared.frame.Frame.TheVariants as frames
-use Rattle.bayou_wire.specs.declared.fault.Fault.{Fault}
+use Rattle.bayou_wire.specs.declared.fault.DecodeFault.{DecodeFault}
 use Rattle.bayou_wire.specs.declared.front.Front.{Front}
 use Rattle.bayou_wire.specs.declared.front.Front.TheVariants as fronts
 use Rattle.bayou_wire.specs.declared.stream.FeedFault.{FeedFault}
@@ -240,17 +240,17 @@ IsFront bytes (fronts.Whole frame rest) = IsFrame frame × (bytes ≡ frame_byte
 IsFront bytes (fronts.Faulty fault) = IsFaulty bytes fault
 
 -- what a kind and a payload, all of it, are
-abbrev pub PackedAnswer : ℕ → List ℕ → Result Frame Fault → Type 0
+abbrev pub PackedAnswer : ℕ → List ℕ → Result Frame DecodeFault → Type 0
 PackedAnswer kind payload (Ok frame) = IsFrame frame × (kind_of frame ≡ kind) × (payload ≡ payload_bytes frame)
 PackedAnswer kind payload (Err fault) = IsPackedFault kind payload fault
 
 -- what whole frames from the front on leave: less than one, or one with this fault
-abbrev pub IsRestOf : List ℕ → Option Fault → Type 0
+abbrev pub IsRestOf : List ℕ → Option DecodeFault → Type 0
 IsRestOf rest None = IsPartial rest
 IsRestOf rest (Some fault) = IsFaulty rest fault
 
 -- the frames that bytes begin with, how many bytes they leave, and the fault that stands there
-pub record IsTaken (bytes : List ℕ) (frames : List Frame) (left : ℕ) (fault : Option Fault) : Type 0 where
+pub record IsTaken (bytes : List ℕ) (frames : List Frame) (left : ℕ) (fault : Option DecodeFault) : Type 0 where
   pub each : AllByRecursion IsFrame frames
   pub rest : List ℕ
   pub whole : bytes ≡ stream_of frames rest
@@ -258,7 +258,7 @@ pub record IsTaken (bytes : List ℕ) (frames : List Frame) (left : ℕ) (fault 
   pub is : IsRestOf rest fault
 
 -- the fault behind the frames, where there are none
-abbrev pub IsFirst : List Frame → Option Fault → Option Fault → Type 0
+abbrev pub IsFirst : List Frame → Option DecodeFault → Option DecodeFault → Type 0
 IsFirst frames behind (Some fault) = (frames ≡ []) × (behind ≡ Some fault)
 IsFirst frames behind None = frames ≡ [] → behind ≡ None
 
@@ -273,5 +273,5 @@ Keeps bytes (Err feeds.Failed) now = ⊥
 abbrev pub FedOpen : List ℕ → List ℕ → Result (List Frame) FeedFault → List ℕ → Type 0
 FedOpen held piece (Ok frames) now = TakesIn (held ++ piece) frames now
 FedOpen held piece (Err (feeds.Fault fault)) now = IsFaulty (held ++ piece) fault
-FedOpen held piece (Err feeds.OutOfMemory) now = (now ≡ held) × ((fault : Fault) → ¬ (IsFaulty held fault))
+FedOpen held piece (Err feeds.OutOfMemory) now = (now ≡ held) × ((fault : DecodeFault) → ¬ (IsFaulty held fault))
 FedOpen held piece (Err feeds.Failed) now = ⊥

@@ -9,9 +9,9 @@ use Rattle.bayou_world.specs.Inner.Good.{IsGoodMachine}
 use Rattle.bayou_world.specs.Inner.Tie.{IsOf}
 use Rattle.bayou_world.specs.Machine.{Machine, SessionSets, with_session}
 
--- a book: how many places it has, and what was entered, in that order
+-- a book: how many entries it may have, and what was entered, in that order
 pub record Booking : Type 0 where
-  pub places : ℕ
+  pub capacity : ℕ
   pub entries : List Entry
 
 -- one share for each session that there may be, in their order
@@ -21,7 +21,7 @@ pub record AreOfSessions (shares : List Shared) : Type 0 where
 
 -- the book is the machine's
 pub record IsBookOf (booking : Booking) (machine : Machine) : Type 0 where
-  pub places : booking.places ≡ machine.places
+  pub capacity : booking.capacity ≡ machine.capacity
   pub entries : booking.entries ≡ machine.filed
 
 -- the session's oldest entry that waits is taken off, if one does

@@ -4,7 +4,7 @@ use Rattle.bayou_device.specs.Memory.{Memory}
 use Rattle.bayou_device.specs.MemoryDevice.{memory_device}
 use Rattle.bayou_lang.specs.declared.write.Write.{Write}
 use Rattle.bayou_server.specs.declared.fault.StartFault.{StartFault}
-use Rattle.bayou_server.specs.Honest.{AreHonest, IsHonestDevice, IsHonestRefusal, IsHonestServer}
+use Rattle.bayou_server.specs.Honest.{AreHonest, IsHonestServerDevice, IsHonestRefusal, IsHonestServer}
 use Rattle.bayou_server.specs.Server.{Core, IsSoundServer, ServerState}
 use Rattle.bayou_world.specs.declared.world_server.WorldServer.{WorldServer}
 use Rattle.bayou_world.specs.declared.world_server.WorldServer.TheVariants.{Running, Stopped}
@@ -33,7 +33,7 @@ StaysHonest old new = IsHonestServer memory_device old → IsHonestServer memory
 -- what is left of a server: what it held is sound, and the device is honest for that
 pub record IsLeftOf (core : Core) (device : Memory) : Type 0 where
   pub sound : IsSoundServer core
-  pub honest : IsHonestDevice memory_device core.id core.held core.doubt device
+  pub honest : IsHonestServerDevice memory_device core.id core.held core.doubt device
 
 -- a server that runs is over an honest device, a whole one while it is up
 abbrev pub IsKept : WorldServer → Type 0

@@ -4,7 +4,7 @@ use Rattle.std.proofs.lemmas.Result.{err_from_is_err_and}
 use Rattle.std.specs.Io.KnownBytes.{Appends, IsAtEnd}
 use Rattle.bayou_client.proofs.Ending.{unheard, unsent}
 use Rattle.bayou_client.proofs.link.exchange.Goals as goal
-use Rattle.bayou_frames.specs.Laws.Frames.{spelling_of}
+use Rattle.bayou_wire.specs.Laws.Frames.{spelling_of}
 use Rattle.bayou_streams.specs.Written.{AppendsFront}
 use Rattle.bayou_wire.specs.Stream.{spelling}
 

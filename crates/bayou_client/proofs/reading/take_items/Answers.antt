@@ -1,5 +1,5 @@
 use Rattle.std.proofs.Common.{arith, ◌+◌, ◌++◌, drop, refl}
-use Rattle.bayou_frames.specs.Laws.Frames.{frame_at, next_frame}
+use Rattle.bayou_wire.specs.Laws.Frames.{frame_at, next_frame}
 use Rattle.bayou_client.proofs.Growing.{ends_before, ended, kept, rest_is}
 use Rattle.bayou_client.proofs.reading.take_items.Goals as goal
 use Rattle.bayou_wire.specs.Stream.{spellings}

@@ -5,5 +5,5 @@ use Rattle.bayou_lang.proofs.eval.all_hold.Given as goal
 -- the conditions passed so far hold
 abbrev pub invariant-loop-condition : goal.invariant-loop-condition
 invariant-loop-condition g l =
-    let places = g.L.Look.places l.look in
-    all_hold (drop l.condition-index l.conditions) places ≡ all_hold l.conditions places
+    let database = g.L.Look.database l.look in
+    all_hold (drop l.condition-index l.conditions) database ≡ all_hold l.conditions database

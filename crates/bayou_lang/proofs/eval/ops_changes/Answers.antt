@@ -3,24 +3,24 @@ use Rattle.std.specs.Option.{option_map}
 use Rattle.std.proofs.lemmas.List.{at_drop_more, get_or-map, length-map}
 use Rattle.bayou_lang.specs.declared.program.Op.{Op}
 use Rattle.bayou_lang.specs.declared.change.Change.{Change}
-use Rattle.bayou_lang.specs.Places.{Places, changed}
+use Rattle.bayou_lang.specs.Database.{Database, changed}
 use Rattle.bayou_lang.specs.Changes.{after_changes, op_key}
 use Rattle.bayou_lang.specs.Meaning.{after_op, after_ops}
 use Rattle.bayou_lang.proofs.ChangeLists.{ChangeOnly-none, ChangeOnly-set, after_changes-set}
 use Rattle.bayou_lang.proofs.eval.ops_changes.Goals as goal
 
 -- the op at the index goes first
-after_ops-drop : (ops : List Op) (index : ℕ) (op : Op) (places : Places) → index < length ops → op ≡ get_or ops index op → after_ops (drop index ops) places ≡ option_and_then (after_ops (drop (index + 1) ops)) (after_op op places)
-after_ops-drop ops index op places within is =
-    at_drop_more (λ left. after_ops left places) ops index op within
-    ∙ ap (λ (first : Op). option_and_then (after_ops (drop (index + 1) ops)) (after_op first places)) (sym is)
+after_ops-drop : (ops : List Op) (index : ℕ) (op : Op) (database : Database) → index < length ops → op ≡ get_or ops index op → after_ops (drop index ops) database ≡ option_and_then (after_ops (drop (index + 1) ops)) (after_op op database)
+after_ops-drop ops index op database within is =
+    at_drop_more (λ left. after_ops left database) ops index op within
+    ∙ ap (λ (first : Op). option_and_then (after_ops (drop (index + 1) ops)) (after_op first database)) (sym is)
 
 pub loop-op-init : goal.loop-op-init
 loop-op-init g c = rw c.new-changes.ensures record { value = refl; room = omega arith; only = ChangeOnly-none _ }
 
 pub returns-in_err-change-clause-value : goal.returns-in_err-change-clause-value
 returns-in_err-change-clause-value g c =
-    let below = g.L.Look.places c.args.look.now in
+    let below = g.L.Look.database c.args.look.now in
     let now = after_changes c.loop-op.changes.items below in
     let failed : after_op c.op-item.result now ≡ None = c.in_err-change.ensures.value in
     sym c.loop-op.invariant.value
@@ -30,7 +30,7 @@ returns-in_err-change-clause-value g c =
 
 pub loop-op-preserved : goal.loop-op-preserved
 loop-op-preserved g c =
-    let below = g.L.Look.places c.args.look.now in
+    let below = g.L.Look.database c.args.look.now in
     let now = after_changes c.loop-op.changes.items below in
     let change = c.in_ok-change.change in
     let set : after_changes c.set_change.new.changes.items below ≡ changed change.key change.value now

@@ -7,7 +7,7 @@ use Rattle.bayou_lang.proofs.eval.ops_changes.Given as goal
 -- what is left of the ops makes of the changes so far what all of them make of the database
 abbrev pub invariant-loop-op : goal.invariant-loop-op
 invariant-loop-op g l =
-    let below = g.L.Look.places l.look in
+    let below = g.L.Look.database l.look in
     record {
       value : after_ops (drop l.op-index l.ops) (after_changes l.changes.items below) ≡ after_ops l.ops below;
       room : array_vec_len l.changes ≤ l.op-index;

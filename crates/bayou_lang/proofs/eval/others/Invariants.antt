@@ -1,7 +1,7 @@
 use Rattle.std.proofs.Common.{◌≡◌, ◌≤◌, not, take}
 use Rattle.arrayvec.specs.ArrayVec.{array_vec_len}
 use Rattle.std.specs.List.{filter}
-use Rattle.bayou_lang.specs.Places.{same_key}
+use Rattle.bayou_lang.specs.Database.{same_key}
 use Rattle.bayou_lang.proofs.eval.others.Given as goal
 
 -- those of the other keys so far

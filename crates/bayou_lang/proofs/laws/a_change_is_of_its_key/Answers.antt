@@ -1,4 +1,4 @@
-use Rattle.bayou_lang.specs.Laws.Places.{value_at-changed}
+use Rattle.bayou_lang.specs.Laws.Database.{value_at-changed}
 use Rattle.bayou_lang.proofs.laws.a_change_is_of_its_key.Goals as goal
 
 pub returns : goal.returns

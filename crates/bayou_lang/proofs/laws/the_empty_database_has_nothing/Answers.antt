@@ -1,4 +1,4 @@
-use Rattle.bayou_lang.specs.Laws.Places.{value_at-empty}
+use Rattle.bayou_lang.specs.Laws.Database.{value_at-empty}
 use Rattle.bayou_lang.proofs.laws.the_empty_database_has_nothing.Goals as goal
 
 pub returns : goal.returns

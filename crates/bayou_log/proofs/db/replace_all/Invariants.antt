@@ -1,16 +1,16 @@
 use Rattle.std.proofs.Common.{◌≡◌, ℕ, ◌+◌, List, All, Contains, IsTrue}
 use Rattle.arrayvec.specs.ArrayVec.{array_vec_len}
 use Rattle.bayou_lang.specs.Changes.{after_changes}
-use Rattle.bayou_log.specs.Db.{places, room, has_room}
+use Rattle.bayou_log.specs.Db.{database_of, room, has_room}
 use Rattle.bayou_log.proofs.db.replace_all.Given as goal
 
 abbrev pub invariant-loop-change : goal.invariant-loop-change
 invariant-loop-change l = record {
-  undone : after_changes l.before.items (places l.slots.entries) ≡ places l.initial.slots.entries;
+  undone : after_changes l.before.items (database_of l.slots.entries) ≡ database_of l.initial.slots.entries;
   among : (keys : List (List ℕ)) → All (λ change. Contains keys change.key) l.initial.changes.items
       → All (λ change. Contains keys change.key) l.changes.items × All (λ change. Contains keys change.key) l.before.items;
   number : array_vec_len l.before + array_vec_len l.changes ≡ array_vec_len l.initial.changes;
-  target : after_changes l.changes.items (places l.slots.entries) ≡ after_changes l.initial.changes.items (places l.initial.slots.entries);
+  target : after_changes l.changes.items (database_of l.slots.entries) ≡ after_changes l.initial.changes.items (database_of l.initial.slots.entries);
   same_room : room l.slots.entries ≡ room l.initial.slots.entries;
   reached : All (λ change. IsTrue (has_room (room l.slots.entries) change.key)) l.changes.items;
 }

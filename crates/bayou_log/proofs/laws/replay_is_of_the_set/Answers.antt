@@ -1,5 +1,5 @@
 use Rattle.std.proofs.Common.{ap}
-use Rattle.bayou_lang.specs.Places.{empty}
+use Rattle.bayou_lang.specs.Database.{empty}
 use Rattle.bayou_log.specs.Replay.{after_writes}
 use Rattle.bayou_lang.specs.Laws.SetOfWrites.{in_stamp_order-same}
 use Rattle.bayou_log.proofs.laws.replay_is_of_the_set.Goals as goal

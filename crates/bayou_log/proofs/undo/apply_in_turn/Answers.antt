@@ -4,7 +4,7 @@ use Rattle.bayou_lang.specs.declared.change.Change.{Change}
 use Rattle.bayou_lang.specs.declared.write.Write.{Write}
 use Rattle.bayou_lang.specs.Changes.{most_changes}
 use Rattle.bayou_lang.specs.Meaning.{mean}
-use Rattle.bayou_log.specs.Db.{places, room, HasRoomFor, IsUndo}
+use Rattle.bayou_log.specs.Db.{database_of, room, HasRoomFor, IsUndo}
 use Rattle.bayou_log.specs.Inner.Fields.{picked}
 use Rattle.bayou_log.specs.Inner.Undone.{changes_in, changes_of, AddsUndone, Stack}
 use Rattle.bayou_log.specs.Replay.{after_writes}
@@ -65,7 +65,7 @@ loop-at-preserved c =
     let order = c.args.order.now in
     let i = c.loop-at.at-index in
     let write = c.index-writes-at.result in
-    let first = places c.args.db.now in
+    let first = database_of c.args.db.now in
     let done = picked writes (take i order) in
     let undo = c.apply-undo.result.1 in
     let within = c.requires.inside i 0 c.loop-at-test.true in
@@ -76,8 +76,8 @@ loop-at-preserved c =
     (subst (λ before. IsUndo c.program.result.now before undo) c.loop-at.invariant.now c.apply-undo.ensures.undo) in
     let adds = c.loop-at.invariant.adds in
     record {
-      now = c.apply-undo.ensures.places
-          ∙ ap (λ program. (mean program (places c.loop-at.db)).1) c.program.ensures
+      now = c.apply-undo.ensures.database
+          ∙ ap (λ program. (mean program (database_of c.loop-at.db)).1) c.program.ensures
           ∙ ap (λ before. (mean write.program before).1) c.loop-at.invariant.now
           ∙ sym (after_writes-append done (write ∷ []) first)
           ∙ sym (ap (λ list. after_writes list first) more);

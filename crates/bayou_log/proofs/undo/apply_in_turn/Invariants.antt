@@ -1,5 +1,5 @@
 use Rattle.std.proofs.Common.{◌≡◌, ◌≤◌, ◌+◌, drop, length, take}
-use Rattle.bayou_log.specs.Db.{places, room}
+use Rattle.bayou_log.specs.Db.{database_of, room}
 use Rattle.bayou_log.specs.Inner.Fields.{picked}
 use Rattle.bayou_log.specs.Inner.Undone.{changes_in, changes_of, AddsUndone}
 use Rattle.bayou_log.specs.Replay.{after_writes}
@@ -7,9 +7,9 @@ use Rattle.bayou_log.proofs.undo.apply_in_turn.Given as goal
 
 abbrev pub invariant-loop-at : goal.invariant-loop-at
 invariant-loop-at l = record {
-  now : places l.db ≡ after_writes (picked l.writes (take l.at-index l.order)) (places l.initial.db);
+  now : database_of l.db ≡ after_writes (picked l.writes (take l.at-index l.order)) (database_of l.initial.db);
   same_keys : room l.db ≡ room l.initial.db;
-  adds : AddsUndone (picked l.writes (take l.at-index l.order)) (places l.initial.db) l.initial.undone l.undone;
+  adds : AddsUndone (picked l.writes (take l.at-index l.order)) (database_of l.initial.db) l.initial.undone l.undone;
   changes : changes_in l.undone.undos + changes_of (picked l.writes (drop l.at-index l.order)) ≤ l.undone.room;
   entries : length l.undone.undos + length (drop l.at-index l.order) ≤ l.undone.places;
 }

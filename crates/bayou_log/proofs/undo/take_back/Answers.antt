@@ -2,7 +2,7 @@ use Rattle.std.proofs.Common.{◌≤◌, ◌∷◌, [], List, Some, All, IsTrue,
 use Rattle.std.proofs.lemmas.List.{drop-append-le, take-append-le}
 use Rattle.std.proofs.lemmas.List.Elements.{All-pop}
 use Rattle.bayou_lang.specs.declared.change.Change.{Change}
-use Rattle.bayou_log.specs.Db.{places, room, has_room}
+use Rattle.bayou_log.specs.Db.{database_of, room, has_room}
 use Rattle.bayou_log.specs.Inner.Undone.{after_undoing}
 use Rattle.bayou_log.proofs.Undone.{after_undoing-push}
 use Rattle.bayou_log.proofs.undo.take_back.Goals as goal
@@ -18,12 +18,12 @@ loop-undone-preserved c =
     let old = c.loop-undone.undone.undos in
     let new = c.pop.new.self.undos in
     let undo = c.in-Some.undo in
-    let was = places c.loop-undone.db in
+    let was = database_of c.loop-undone.db in
     let Reached : List Change → Type 0 = λ undo. All (λ change. IsTrue (has_room (room c.loop-undone.db) change.key)) undo in
     let reached = (All-pop Reached old new (Some undo) c.in-Some.ensures.undos c.loop-undone.invariant.reached).0 in
     let within : left ≤ length new = omega (arith, c.loop-undone-test.true, c.len.ensures, ap {A = List (List Change)} length c.in-Some.ensures.undos, length-append new (undo ∷ [])) in
     record {
-      target = ap (after_undoing (drop left new)) c.undo.ensures.places
+      target = ap (after_undoing (drop left new)) c.undo.ensures.database
           ∙ sym (after_undoing-push (drop left new) undo was)
           ∙ sym (ap (λ undos. after_undoing undos was) (ap (drop left) c.in-Some.ensures.undos ∙ drop-append-le left new (undo ∷ []) within))
           ∙ c.loop-undone.invariant.target;

@@ -1,4 +1,4 @@
-use Rattle.bayou_frames.specs.Laws.Frames.{spelling_of}
+use Rattle.bayou_wire.specs.Laws.Frames.{spelling_of}
 use Rattle.bayou_net.proofs.replying.encoded.Goals as goal
 
 pub returns : goal.returns

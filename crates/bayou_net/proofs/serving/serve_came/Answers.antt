@@ -2,7 +2,7 @@ use Rattle.std.proofs.Common.{arith, ap, ◌++◌, ◌∙◌}
 use Rattle.std.proofs.lemmas.List.{drop_all}
 use Rattle.std.proofs.lemmas.Result.{err_from_is_err_and}
 use Rattle.bayou_net.proofs.Done.{ends_at_one, served_one, served_rest}
-use Rattle.bayou_frames.specs.Laws.Frames.{frame_at, next_frame}
+use Rattle.bayou_wire.specs.Laws.Frames.{frame_at, next_frame}
 use Rattle.bayou_wire.specs.Stream.{spellings}
 use Rattle.bayou_net.proofs.serving.serve_came.Goals as goal
 

@@ -3,7 +3,7 @@ use Rattle.std.proofs.KnownBytes.{Consumes-nil}
 use Rattle.std.specs.Io.KnownBytes.{Appends, IsAtEnd}
 use Rattle.std.proofs.lemmas.Result.{err_from_is_err_and}
 use Rattle.bayou_streams.specs.Written.{AppendsFront}
-use Rattle.bayou_frames.specs.Laws.Frames.{spelling_of}
+use Rattle.bayou_wire.specs.Laws.Frames.{spelling_of}
 use Rattle.bayou_peer.proofs.Received.{ends_sending, received_start}
 use Rattle.bayou_peer.proofs.pulling.pull_from_on.Goals as goal
 

@@ -1,4 +1,4 @@
-use Rattle.std.proofs.Common.{◌≡◌, ◌<◌, ◌≤◌, ◌++◌, ◌∙◌, arith, refl, Err, ap, length, length-append, [], ℕ, List}
+use Rattle.std.proofs.Common.{◌≡◌, ◌++◌, arith, refl, Err, ap, length, length-append, []}
 use Rattle.std.proofs.lemmas.Result.{err_from_is_err_and}
 use Rattle.bayou_peer.proofs.Received.{ends_anywhere, few_received, standing_start, stands}
 use Rattle.bayou_peer.proofs.Short.{goes_on, none_left, some_left}

@@ -1,9 +1,11 @@
-use Rattle.std.proofs.Common.{◌≤◌, ◌∷◌, [], ℕ, length, sym, ◌∙◌, subst, arith, length-append}
+use Rattle.std.proofs.Common.{◌≤◌, ◌∷◌, [], ℕ, length, ap, sym, ◌∙◌, subst, arith, length-append}
 use Rattle.std.proofs.lemmas.List.{take_all}
 use Rattle.std.proofs.lemmas.List.Elements.{All-push}
 use Rattle.std.proofs.lemmas.Result.{err_from_is_err_and}
 use Rattle.bayou_lang.specs.Ranges.{IsWrite}
+use Rattle.bayou_log.specs.Log.{Log}
 use Rattle.bayou_server.specs.Server.{MayFollow}
+use Rattle.bayou_server.specs.Stored.{bodies_of}
 use Rattle.bayou_server.proofs.Entries.{MayHold-push, bodies-push, refuses_at_or}
 use Rattle.bayou_server.proofs.start.log_of.Goals as goal
 
@@ -20,11 +22,12 @@ returns c =
     let so_far = c.loop-at.invariant in
     let bodies = c.args.opened.now.bodies in
     let all : length bodies ≤ c.loop-at.at = omega (arith, c.loop-at-test.false, c.len-at-end.ensures) in record {
-      whole = sym (take_all c.loop-at.at bodies all) ∙ so_far.whole;
-      spelled = so_far.spelled;
-      holds = so_far.holds;
-      same_count = so_far.same_count;
-      same_limit = so_far.same_limit;
+      whole = sym (take_all c.loop-at.at bodies all) ∙ so_far.whole ∙ ap (λ (log : Log). bodies_of log.receipts) (sym c.catch_up.ensures);
+      spelled = rw c.catch_up.ensures so_far.spelled;
+      holds = rw c.catch_up.ensures so_far.holds;
+      same_count = ap (λ (log : Log). log.count) c.catch_up.ensures ∙ so_far.same_count;
+      same_limit = ap (λ (log : Log). log.limit) c.catch_up.ensures ∙ so_far.same_limit;
+      caught_up = ap (λ (log : Log). log.waiting) c.catch_up.ensures;
     }
 
 pub loop-at-preserved : goal.loop-at-preserved

@@ -3,7 +3,7 @@ use Rattle.std.proofs.lemmas.Result.{err_from_is_err_and}
 use Rattle.bayou_text.specs.declared.command.Command.{Command}
 use Rattle.bayou_script.specs.Plan.{plan_of}
 use Rattle.std.proofs.Math.Nat.{le-max_left}
-use Rattle.bayou_script.specs.Places.{operations}
+use Rattle.bayou_script.specs.Capacity.{operations}
 use Rattle.bayou_print.specs.declared.ended.Ended.TheVariants.{Clean}
 use Rattle.bayou_print.specs.Waiting.{stage}
 use Rattle.bayou_print.specs.Laws.Gathered.{Gathers-nil}
@@ -19,7 +19,7 @@ loop-command-init g c = let so_far : SoFar (plan_of c.args.script) Clean c.args.
   whole = refl;
   run = refl;
   count = let begun = c.requires in begun.standing.count_is;
-  room = let begun = c.requires in omega (arith, begun.places, ap length begun.none_filed, le-max_left (operations (plan_of c.args.script).commands) 1);
+  room = let begun = c.requires in omega (arith, begun.capacity, ap length begun.none_filed, le-max_left (operations (plan_of c.args.script).commands) 1);
   served = c.args.script.served;
   written = Gathers-nil _;
   verdicts = refl;

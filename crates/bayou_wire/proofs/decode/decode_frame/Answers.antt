@@ -1,4 +1,4 @@
-use Rattle.bayou_wire.proofs.Fronts.{one_frame_answer, frame_answer-whole, frame_answer-more, frame_answer-faulty}
+use Rattle.bayou_wire.specs.Laws.Inner.Fronts.{one_frame_answer, frame_answer-whole, frame_answer-more, frame_answer-faulty}
 use Rattle.bayou_wire.proofs.decode.decode_frame.Goals as goal
 
 pub returns-in-Faulty-clause-only : goal.returns-in-Faulty-clause-only

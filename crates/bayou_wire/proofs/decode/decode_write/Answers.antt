@@ -1,5 +1,5 @@
 use Rattle.std.proofs.Common.{arith}
-use Rattle.bayou_wire.proofs.Fronts.{write_answer-none, write_answer-whole, write_answer-more, one_write_answer}
+use Rattle.bayou_wire.specs.Laws.Inner.Fronts.{write_answer-none, write_answer-whole, write_answer-more, one_write_answer}
 use Rattle.bayou_wire.proofs.decode.decode_write.Goals as goal
 
 pub returns-in-None-clause-answer : goal.returns-in-None-clause-answer

@@ -1,5 +1,5 @@
 use Rattle.std.proofs.Common.{◌∙◌, arith}
-use Rattle.bayou_wire.proofs.Fronts.{has_length}
+use Rattle.bayou_wire.specs.Laws.Inner.Fronts.{has_length}
 use Rattle.bayou_wire.proofs.decode.frame_len.Goals as goal
 
 pub returns : goal.returns

@@ -1,5 +1,5 @@
 use Rattle.std.proofs.lemmas.Result.{IfOk-weaker}
-use Rattle.bayou_wire.proofs.Sizes.{framed_size}
+use Rattle.bayou_wire.specs.Laws.Inner.Sizes.{framed_size}
 use Rattle.bayou_wire.proofs.encode.encode_frame.Goals as goal
 
 pub returns-clause-size : goal.returns-clause-size

@@ -1,6 +1,6 @@
 use Rattle.std.proofs.lemmas.Result.{IfOk-weaker}
 use Rattle.bayou_wire.specs.declared.frame.Frame.TheVariants.{Item}
-use Rattle.bayou_wire.proofs.Sizes.{framed_size}
+use Rattle.bayou_wire.specs.Laws.Inner.Sizes.{framed_size}
 use Rattle.bayou_wire.proofs.encode.encode_item.Goals as goal
 
 pub returns-clause-size : goal.returns-clause-size

@@ -1,6 +1,6 @@
 use Rattle.std.proofs.Common.{◌++◌, ◌∙◌, ap}
 use Rattle.bayou_wire.specs.Spelling.{write_bytes}
-use Rattle.bayou_wire.proofs.Sizes.{written_size}
+use Rattle.bayou_wire.specs.Laws.Inner.Sizes.{written_size}
 use Rattle.bayou_wire.proofs.encode.encode_write.Goals as goal
 
 pub returns-clause-size : goal.returns-clause-size

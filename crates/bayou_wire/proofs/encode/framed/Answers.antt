@@ -1,6 +1,6 @@
 use Rattle.std.proofs.Common.{◌≡◌, ◌++◌, ◌∙◌, ap, length, arith}
 use Rattle.bayou_wire.specs.Spelling.{payload_bytes}
-use Rattle.bayou_wire.proofs.Sizes.{payload_is_short}
+use Rattle.bayou_wire.specs.Laws.Inner.Sizes.{payload_is_short}
 use Rattle.bayou_wire.proofs.encode.framed.Goals as goal
 
 pub packed_bytes-requires : goal.packed_bytes-requires

@@ -1,7 +1,7 @@
 use Rattle.std.proofs.Common.{◌≡◌, ◌++◌, ◌∙◌, ap, length, arith}
 use Rattle.bayou_wire.specs.declared.frame.Frame.TheVariants.{Item}
 use Rattle.bayou_wire.specs.Spelling.{write_bytes}
-use Rattle.bayou_wire.proofs.Sizes.{payload_is_short}
+use Rattle.bayou_wire.specs.Laws.Inner.Sizes.{payload_is_short}
 use Rattle.bayou_wire.proofs.encode.framed_item.Goals as goal
 
 pub packed_bytes-requires : goal.packed_bytes-requires

@@ -1,6 +1,6 @@
 use Rattle.std.proofs.Common.{◌∙◌, arith}
 use Rattle.std.proofs.lemmas.Grind.{common_steps}
-use Rattle.bayou_wire.proofs.Fronts.{has_length, packs_at, faulty-packed}
+use Rattle.bayou_wire.specs.Laws.Inner.Fronts.{has_length, packs_at, faulty-packed}
 use Rattle.bayou_wire.proofs.front.front_of.Goals as goal
 
 pub returns-then-len-gt-MAX_FRAME_BYTES : goal.returns-then-len-gt-MAX_FRAME_BYTES

@@ -1,6 +1,6 @@
 use Rattle.std.proofs.Common.{arith, sym}
-use Rattle.bayou_wire.proofs.Payloads.{is_kind-true, is_kind-false}
-use Rattle.bayou_wire.proofs.Fronts.{packed-none, packed-whole, packed-more}
+use Rattle.bayou_wire.specs.Laws.Inner.Payloads.{is_kind-true, is_kind-false}
+use Rattle.bayou_wire.specs.Laws.Inner.Fronts.{packed-none, packed-whole, packed-more}
 use Rattle.bayou_wire.proofs.front.packed_of.Goals as goal
 
 pub returns-then-not-is_kind : goal.returns-then-not-is_kind

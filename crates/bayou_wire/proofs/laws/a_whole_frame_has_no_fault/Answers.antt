@@ -1,6 +1,6 @@
 use Rattle.std.proofs.Common.{◌++◌, refl}
 use Rattle.bayou_wire.specs.Spelling.{frame_bytes}
-use Rattle.bayou_wire.proofs.Fronts.{whole_not_faulty, whole_not_partial}
+use Rattle.bayou_wire.specs.Laws.Inner.Fronts.{whole_not_faulty, whole_not_partial}
 use Rattle.bayou_wire.proofs.laws.a_whole_frame_has_no_fault.Goals as goal
 
 pub returns : goal.returns

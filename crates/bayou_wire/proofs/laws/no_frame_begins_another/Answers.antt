@@ -1,4 +1,4 @@
-use Rattle.bayou_wire.proofs.Fronts.{frame_begins_one}
+use Rattle.bayou_wire.specs.Laws.Inner.Fronts.{frame_begins_one}
 use Rattle.bayou_wire.proofs.laws.no_frame_begins_another.Goals as goal
 
 pub returns : goal.returns

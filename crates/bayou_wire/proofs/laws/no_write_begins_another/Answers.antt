@@ -1,4 +1,4 @@
-use Rattle.bayou_wire.proofs.Formats.{begins_one, write_format}
+use Rattle.bayou_wire.specs.Laws.Inner.Formats.{begins_one, write_format}
 use Rattle.bayou_wire.proofs.laws.no_write_begins_another.Goals as goal
 
 pub returns : goal.returns

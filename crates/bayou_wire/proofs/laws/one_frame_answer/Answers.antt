@@ -1,4 +1,4 @@
-use Rattle.bayou_wire.proofs.Fronts.{one_frame_answer as one_answer}
+use Rattle.bayou_wire.specs.Laws.Inner.Fronts.{one_frame_answer as one_answer}
 use Rattle.bayou_wire.proofs.laws.one_frame_answer.Goals as goal
 
 pub returns : goal.returns

@@ -1,4 +1,4 @@
-use Rattle.bayou_wire.proofs.Fronts.{partial_not_faulty}
+use Rattle.bayou_wire.specs.Laws.Inner.Fronts.{partial_not_faulty}
 use Rattle.bayou_wire.proofs.laws.partial_bytes_have_no_fault.Goals as goal
 
 pub returns : goal.returns

@@ -3,7 +3,7 @@ use Rattle.std.specs.Prelude.{OnOk}
 use Rattle.std.specs.List.{flat_map}
 use Rattle.bayou_base.specs.Vector.{AreCounts}
 use Rattle.bayou_wire.specs.Spelling.{u32_bytes, vector_bytes}
-use Rattle.bayou_wire.proofs.Vectors.{vector_bytes-is}
+use Rattle.bayou_wire.specs.Laws.Inner.Vectors.{vector_bytes-is}
 use Rattle.bayou_wire.proofs.put.put_vector.Goals as goal
 
 pub returns : goal.returns

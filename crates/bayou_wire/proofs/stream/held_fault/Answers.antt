@@ -1,4 +1,4 @@
-use Rattle.bayou_wire.proofs.Fronts.{partial_not_faulty, whole_not_faulty}
+use Rattle.bayou_wire.specs.Laws.Inner.Fronts.{partial_not_faulty, whole_not_faulty}
 use Rattle.bayou_wire.proofs.stream.held_fault.Goals as goal
 
 pub returns-in-Partial : goal.returns-in-Partial

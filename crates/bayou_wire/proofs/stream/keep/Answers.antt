@@ -1,5 +1,5 @@
 use Rattle.std.proofs.Common.{List, ℕ, Option, ◌∙◌, ◌-◌, ap, arith, drop, length, length-take, subst, sym, take}
-use Rattle.bayou_wire.specs.declared.fault.Fault.{Fault}
+use Rattle.bayou_wire.specs.declared.fault.DecodeFault.{DecodeFault}
 use Rattle.bayou_wire.specs.Stream.{TakesIn}
 use Rattle.bayou_wire.specs.Inner.Reading.{IsTaken}
 use Rattle.bayou_wire.proofs.Feeding.{keeps-frames, keeps-fault}
@@ -9,7 +9,7 @@ pub returns-in-Some-clause-kept : goal.returns-in-Some-clause-kept
 returns-in-Some-clause-kept c =
     let taken = c.args.taken in
     let held = c.args.held.now.items in
-    keeps-fault held taken.frames.items taken.left c.in-Some.fault (subst (λ (fault : Option Fault). IsTaken held taken.frames.items taken.left fault) c.in-Some.ensures.1 c.requires) c.in-Some.ensures.0
+    keeps-fault held taken.frames.items taken.left c.in-Some.fault (subst (λ (fault : Option DecodeFault). IsTaken held taken.frames.items taken.left fault) c.in-Some.ensures.1 c.requires) c.in-Some.ensures.0
 
 pub returns-in-None-clause-kept : goal.returns-in-None-clause-kept
 returns-in-None-clause-kept c =

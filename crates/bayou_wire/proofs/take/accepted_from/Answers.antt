@@ -1,5 +1,5 @@
 use Rattle.std.proofs.Common.{◌≡◌, false, true, refl, sym}
-use Rattle.bayou_wire.proofs.Readers.{accepted_of-given, accepted_of-none}
+use Rattle.bayou_wire.specs.Laws.Inner.Readers.{accepted_of-given, accepted_of-none}
 use Rattle.bayou_wire.proofs.take.accepted_from.Goals as goal
 
 pub returns : goal.returns

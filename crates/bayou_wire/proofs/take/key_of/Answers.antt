@@ -1,4 +1,4 @@
-use Rattle.bayou_wire.proofs.Readers.{key_at-not_utf8}
+use Rattle.bayou_wire.specs.Laws.Inner.Readers.{key_at-not_utf8}
 use Rattle.bayou_wire.proofs.take.key_of.Goals as goal
 
 pub returns-in_default-from_utf8 : goal.returns-in_default-from_utf8

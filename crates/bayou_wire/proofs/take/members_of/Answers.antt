@@ -1,5 +1,5 @@
 use Rattle.std.proofs.Common.{arith}
-use Rattle.bayou_wire.proofs.Readers.{goes_on, ends, is_done}
+use Rattle.bayou_wire.specs.Laws.Inner.Readers.{goes_on, ends, is_done}
 use Rattle.bayou_wire.proofs.take.members_of.Goals as goal
 
 pub returns-in_default : goal.returns-in_default

@@ -1,7 +1,7 @@
 use Rattle.std.proofs.Common.{◌≡◌, ◌-◌}
 use Rattle.arrayvec.specs.ArrayVec.{array_vec_len}
 use Rattle.bayou_wire.specs.Inner.Reading.{times}
-use Rattle.bayou_wire.proofs.Readers.{with_front}
+use Rattle.bayou_wire.specs.Laws.Inner.Readers.{with_front}
 use Rattle.bayou_wire.proofs.take.members_of.Given as goal
 
 -- the members so far, and those still read

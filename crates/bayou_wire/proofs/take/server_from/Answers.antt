@@ -1,4 +1,4 @@
-use Rattle.bayou_wire.proofs.Readers.{server_of-given}
+use Rattle.bayou_wire.specs.Laws.Inner.Readers.{server_of-given}
 use Rattle.bayou_wire.proofs.take.server_from.Goals as goal
 
 pub returns : goal.returns

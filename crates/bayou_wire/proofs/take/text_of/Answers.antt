@@ -1,5 +1,5 @@
 use Rattle.std.proofs.Common.{refl}
-use Rattle.bayou_wire.proofs.Readers.{text_at-not_utf8, text_is}
+use Rattle.bayou_wire.specs.Laws.Inner.Readers.{text_at-not_utf8, text_is}
 use Rattle.bayou_wire.proofs.take.text_of.Goals as goal
 
 pub returns-in_default-from_utf8 : goal.returns-in_default-from_utf8

@@ -1,6 +1,6 @@
 use Rattle.std.proofs.Common.{◌∙◌, ap}
 use Rattle.bayou_wire.specs.Inner.Reading.{vector_of}
-use Rattle.bayou_wire.proofs.Readers.{vector_of-given}
+use Rattle.bayou_wire.specs.Laws.Inner.Readers.{vector_of-given}
 use Rattle.bayou_wire.proofs.take.vector_from.Goals as goal
 
 pub returns : goal.returns

@@ -1,5 +1,5 @@
 use Rattle.std.proofs.Common.{◌∙◌, ap, length}
-use Rattle.bayou_wire.proofs.Readers.{length-times}
+use Rattle.bayou_wire.specs.Laws.Inner.Readers.{length-times}
 use Rattle.bayou_wire.proofs.take.vector_of.Goals as goal
 
 pub vector_from-requires : goal.vector_from-requires

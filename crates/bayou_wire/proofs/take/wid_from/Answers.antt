@@ -1,4 +1,4 @@
-use Rattle.bayou_wire.proofs.Readers.{wid_of-given}
+use Rattle.bayou_wire.specs.Laws.Inner.Readers.{wid_of-given}
 use Rattle.bayou_wire.proofs.take.wid_from.Goals as goal
 
 pub returns : goal.returns

@@ -1,4 +1,4 @@
-use Rattle.bayou_wire.proofs.Readers.{write_at-made}
+use Rattle.bayou_wire.specs.Laws.Inner.Readers.{write_at-made}
 use Rattle.bayou_wire.proofs.take.write_of.Goals as goal
 
 pub returns : goal.returns

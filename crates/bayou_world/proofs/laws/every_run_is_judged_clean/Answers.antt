@@ -14,14 +14,14 @@ use Rattle.bayou_world.proofs.laws.every_run_is_judged_clean.Goals as goal
 
 pub returns : goal.returns
 returns c = record {
-  history = λ count limit places asks events replies last run dumps are.
-      one_history last count asks (run_is_good count limit places asks events replies last run) (run_is_told count limit places asks events replies last run) dumps are c.a_vector_is_of_one_database.ensures;
-  clean = λ count limit places asks events replies last run dumps are answer.
-      let good = run_is_good count limit places asks events replies last run in
+  history = λ count limit capacity asks events replies last run dumps are.
+      one_history last count asks (run_is_good count limit capacity asks events replies last run) (run_is_told count limit capacity asks events replies last run) dumps are c.a_vector_is_of_one_database.ensures;
+  clean = λ count limit capacity asks events replies last run dumps are answer.
+      let good = run_is_good count limit capacity asks events replies last run in
       let kept : (session : ℕ) (wants : Asks) → asks session ≡ Some wants → Keeps (history_of_machine last) wants session = λ session wants is.
-      let found = still_asks count limit places asks events replies last run session wants is in
+      let found = still_asks count limit capacity asks events replies last run session wants is in
       subst (λ asked. Keeps (history_of_machine last) asked session) found.2 (keeps last good session found.0 found.1) in
-      let is_clean = clean last count asks good (run_is_told count limit places asks events replies last run) dumps are c.a_vector_is_of_one_database.ensures kept in (
+      let is_clean = clean last count asks good (run_is_told count limit capacity asks events replies last run) dumps are c.a_vector_is_of_one_database.ensures kept in (
         λ judged. c.a_verdict_is_one.ensures count (entries_of last) dumps answer (Ok Clean) judged is_clean,
         λ same. subst (Judges count (entries_of last) dumps) (sym same) is_clean,
       );

@@ -3,4 +3,4 @@ use Rattle.bayou_world.proofs.Possible.{run_possible}
 use Rattle.bayou_world.proofs.laws.no_item_is_impossible.Goals as goal
 
 pub returns : goal.returns
-returns c count limit places asks events replies last run = run_possible (first_machine count limit places asks) events replies last run
+returns c count limit capacity asks events replies last run = run_possible (first_machine count limit capacity asks) events replies last run

@@ -4,9 +4,9 @@ use Rattle.bayou_world.proofs.laws.the_rules_of_servers_refuse_nothing_impossibl
 
 pub returns : goal.returns
 returns g c = record {
-  takes = λ count limit places asks events replies last run place item made got answer new takes_it.
-      no_item_is_refused last (run_is_good count limit places asks events replies last run) place item made got answer new takes_it;
-  rows = λ count limit places asks events replies last run place item made given answer new takes_it.
-      rows_of_rules last (run_is_good count limit places asks events replies last run) place item made given answer new takes_it;
+  takes = λ count limit capacity asks events replies last run place item made got answer new takes_it.
+      no_item_is_refused last (run_is_good count limit capacity asks events replies last run) place item made got answer new takes_it;
+  rows = λ count limit capacity asks events replies last run place item made given answer new takes_it.
+      rows_of_rules last (run_is_good count limit capacity asks events replies last run) place item made given answer new takes_it;
   reopens = λ old new answer honest is reopens. nothing_other_is_found _ _ old new answer honest reopens;
 }

@@ -5,7 +5,7 @@ pub returns-clause-booked : goal.returns-clause-booked
 returns-clause-booked g c = record {
   empty = c.in_ok-book.book;
   full = c.play.new.book;
-  begins = c.in_ok-book.ensures ∙ ap (λ n. record { places = n; entries = [] }) c.places_for.ensures;
+  begins = c.in_ok-book.ensures ∙ ap (λ n. record { capacity = n; entries = [] }) c.capacity_for.ensures;
   so_far = c.in_ok-replies.ensures.so_far;
   counted = c.totals.ensures;
 }

@@ -5,7 +5,7 @@ use Rattle.bayou_audit.proofs.book.Book.file.Goals as goal
 -- src/book.rt:151:9
 pub count-requires-clause-fits : goal.count-requires-clause-fits
 count-requires-clause-fits g c κs within =
-    (has_room c.args.self.now c.self.inside.shares c.self.inside.places c.self.inside.entries.items c.self.inside.totals
+    (has_room c.args.self.now c.self.inside.shares c.self.inside.capacity c.self.inside.entries.items c.self.inside.totals
     c.void.ensures.exact.0 c.void.ensures.was_out (search rules) (c.self.view_is ∙ c.void.ensures.voided.0)).0
 
 -- src/book.rt:142:5

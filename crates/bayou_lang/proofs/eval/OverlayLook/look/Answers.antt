@@ -1,14 +1,14 @@
 use Rattle.std.proofs.Common.{◌<◌, ◌≤◌, List, length, get_or, ap, sym, ◌∙◌, subst, arith}
 use Rattle.std.proofs.lemmas.List.{drop_all}
 use Rattle.bayou_lang.specs.declared.change.Change.{Change}
-use Rattle.bayou_lang.specs.Places.{value_at}
+use Rattle.bayou_lang.specs.Database.{value_at}
 use Rattle.bayou_lang.proofs.ChangeLists.{value_after, value_after-at, value_at-after_changes}
 use Rattle.bayou_lang.proofs.eval.OverlayLook.look.Goals as goal
 
 pub returns-then-eq : goal.returns-then-eq
 returns-then-eq g c =
     let changes = c.args.self.now.changes.now.items in
-    let below = g.L.Look.places c.args.self.now.under.now in
+    let below = g.L.Look.database c.args.self.now.under.now in
     let key = c.args.key.now in
     let change = c.change-item.result in
     let index = c.loop-change.change-index in
@@ -21,7 +21,7 @@ returns-then-eq g c =
 pub returns : goal.returns
 returns g c =
     let changes = c.args.self.now.changes.now.items in
-    let below = g.L.Look.places c.args.self.now.under.now in
+    let below = g.L.Look.database c.args.self.now.under.now in
     let key = c.args.key.now in
     let index = c.loop-change.change-index in
     let none = subst (λ list. length list ≤ index) c.as_slice-change-items.ensures.value (omega (arith, c.loop-change-test.false)) in

@@ -10,7 +10,7 @@ pub index-requires : goal.index-requires
 index-requires c =
     let inside = c.self.inside in
     let within = subst (λ (log : Log). c.args.seq ≤ slice_index (count_of log.receipts) c.args.server) (sym c.self.view_is) c.requires.held.1 in
-    let held = place_held inside.count inside.own.rows inside.writes.items c.args.server c.args.seq c.self.invariant.0.fitting c.self.invariant.3 c.requires.held.0 within in
+    let held = place_held inside.count inside.own.rows inside.writes.items c.args.server c.args.seq c.self.invariant.0.fitting c.self.invariant.4 c.requires.held.0 within in
     omega (arith, held.0, inside.writes.ok.0, c.place.ensures)
 
 pub returns-clause-held : goal.returns-clause-held
@@ -19,7 +19,7 @@ returns-clause-held c =
     let writes = inside.writes.items in
     let here = c.index.result.now in
     let within = subst (λ (log : Log). c.args.seq ≤ slice_index (count_of log.receipts) c.args.server) (sym c.self.view_is) c.requires.held.1 in
-    let held = place_held inside.count inside.own.rows writes c.args.server c.args.seq c.self.invariant.0.fitting c.self.invariant.3 c.requires.held.0 within in
+    let held = place_held inside.count inside.own.rows writes c.args.server c.args.seq c.self.invariant.0.fitting c.self.invariant.4 c.requires.held.0 within in
     subst (λ (log : Log). Contains log.receipts here) c.self.view_is
     (c.place.result, subst (λ p. p < length writes) (sym c.place.ensures) held.0, sym c.index.ensures)
 
@@ -29,6 +29,6 @@ returns-clause-named c =
     let writes = inside.writes.items in
     let here = c.index.result.now in
     let within = subst (λ (log : Log). c.args.seq ≤ slice_index (count_of log.receipts) c.args.server) (sym c.self.view_is) c.requires.held.1 in
-    let held = place_held inside.count inside.own.rows writes c.args.server c.args.seq c.self.invariant.0.fitting c.self.invariant.3 c.requires.held.0 within in
+    let held = place_held inside.count inside.own.rows writes c.args.server c.args.seq c.self.invariant.0.fitting c.self.invariant.4 c.requires.held.0 within in
     let at : place_in inside.own.rows c.args.server c.args.seq ≡ c.place.result = sym c.place.ensures in
     subst (λ (w : Write). (w.wid.origin.index ≡ c.args.server) × (w.wid.seq ≡ c.args.seq)) (ap (λ p. slice_index_or writes p here) at ∙ sym c.index.ensures) (held.1 here)

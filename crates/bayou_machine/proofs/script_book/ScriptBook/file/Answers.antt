@@ -29,6 +29,6 @@ returns g c =
     (sym c.what_of.ensures ∙ c.in-Some.is) in (
       filed,
       same_book c.args.self.now c.self.inside.book c.claim.new.self c.file.new.self filed c.self.view_is c.in-Ok.ensures.claimed.1
-          (ap (λ (book : Booked). book.places) c.file.ensures.filed.0) is,
+          (ap (λ (book : Booked). book.capacity) c.file.ensures.filed.0) is,
       files,
     )

@@ -4,13 +4,14 @@ use Rattle.std.proofs.lemmas.Result.{err_from_is_err_and}
 use Rattle.bayou_journal.specs.Opening.{HasRefused}
 use Rattle.bayou_journal.specs.declared.format.TheConstants.{VERSION}
 use Rattle.bayou_lang.specs.declared.write.Write.{Write}
+use Rattle.bayou_log.specs.Log.{Log}
 use Rattle.bayou_server.specs.Inner.Fields.{core_of}
 use Rattle.bayou_server.specs.Inner.Replaying.{AreHeldAnd, AreOthers}
 use Rattle.bayou_server.specs.Faults.{reopen_fault}
 use Rattle.bayou_server.specs.Reopens.{Reopens}
 use Rattle.bayou_server.specs.Server.{ServerState}
 use Rattle.bayou_server.specs.Stored.{ReopensJournal, bodies_of}
-use Rattle.bayou_server.proofs.Recovering.{after_adopting, doubted_is_reserved, doubted_may, journal_refuses, opens_with, others_refused, same_doubt, stays_other, stays_refused}
+use Rattle.bayou_server.proofs.Recovering.{after_adopting, doubted_is_reserved, doubted_may, held_and_applied, journal_refuses, opens_with, others_refused, same_doubt, stays_other, stays_refused}
 use Rattle.bayou_server.proofs.Steps.{own_of_recovery}
 use Rattle.bayou_server.proofs.server.Server.reopen.Goals as goal
 
@@ -29,7 +30,7 @@ returns-in_err-opened-clause-opens g c =
     rw (p.1, p.2)
     (subst (λ (s : ServerState g.row.D.Denot). ReopensJournal g.D.Device s (Err (reopen_fault c.in_err-opened.field-0.0)) (record { core = core_of inside.log inside.id.index inside.doubt; device = c.reopen.new.self.device })) c.self.view_is
     (journal_refuses g.D.Device (record { core = core_of inside.log inside.id.index inside.doubt; device = inside.journal.device }) (record { core = core_of inside.log inside.id.index inside.doubt; device = c.reopen.new.self.device }) c.in_err-opened.field-0.0
-    (subst (λ (s : ℕ). HasRefused g.D.Device VERSION s inside.journal.device c.reopen.new.self.device c.in_err-opened.field-0.0) c.self.invariant.owner c.in_err-opened.ensures.refused)))
+    (subst (λ (s : ℕ). HasRefused g.D.Device VERSION s inside.journal.device c.reopen.new.self.device c.in_err-opened.field-0.0) c.self.invariant.0.owner c.in_err-opened.ensures.refused)))
 
 pub returns-in_err-opened-clause-safe : goal.returns-in_err-opened-clause-safe
 returns-in_err-opened-clause-safe g c = rw (← c.self.view_is) c.reopen.ensures.safe
@@ -50,7 +51,7 @@ returns-in_err-adopts-clause-opens g c =
     rw (p.1, p.2)
     (subst (λ (s : ServerState g.row.D.Denot). ReopensJournal g.D.Device s (Err c.in_err-adopts.field-0.0) (record { core = core_of inside.log inside.id.index inside.doubt; device = c.reopen.new.self.device })) c.self.view_is
     (others_refused g.D.Device (record { core = core_of inside.log inside.id.index inside.doubt; device = inside.journal.device }) (record { core = core_of inside.log inside.id.index inside.doubt; device = c.reopen.new.self.device }) c.in-Some.doubt c.in_ok-opened.opened.bodies c.in_err-adopts.field-0.0 c.in-Some.is
-    (opens_with g.D.Device inside.journal.server inside.id.index inside.journal.device c.reopen.new.self.device c.in_ok-opened.opened c.reopen.new.self.last c.self.invariant.owner c.in_ok-opened.ensures.opened)
+    (opens_with g.D.Device inside.journal.server inside.id.index inside.journal.device c.reopen.new.self.device c.in_ok-opened.opened c.reopen.new.self.last c.self.invariant.0.owner c.in_ok-opened.ensures.opened)
     (subst (λ (writes : List Write). AreOthers writes c.in-Some.doubt c.in_ok-opened.opened.bodies c.in_err-adopts.field-0.0) c.receipts.ensures.value c.in_err-adopts.ensures)))
 
 pub returns-in_err-adopts-clause-safe : goal.returns-in_err-adopts-clause-safe
@@ -68,7 +69,7 @@ returns-then-not-adopts-clause-opens g c =
     rw (← c.self.view_is) (
       c.in_ok-opened.opened.bodies,
       held,
-      opens_with g.D.Device inside.journal.server inside.id.index inside.journal.device c.reopen.new.self.device c.in_ok-opened.opened c.reopen.new.self.last c.self.invariant.owner c.in_ok-opened.ensures.opened,
+      opens_with g.D.Device inside.journal.server inside.id.index inside.journal.device c.reopen.new.self.device c.in_ok-opened.opened c.reopen.new.self.last c.self.invariant.0.owner c.in_ok-opened.ensures.opened,
     )
 
 pub returns-then-not-adopts-clause-safe : goal.returns-then-not-adopts-clause-safe
@@ -77,17 +78,17 @@ returns-then-not-adopts-clause-safe g c = rw (← c.self.view_is) c.reopen.ensur
 pub insert-requires-clause-fits : goal.insert-requires-clause-fits
 insert-requires-clause-fits g c =
     let inside = c.self.inside in
-    (doubted_may inside.journal inside.log inside.id.index inside.doubt c.in-Some-take.write c.self.invariant (sym c.take.ensures.value ∙ c.in-Some-take.is)).fits
+    (doubted_may inside.journal inside.log inside.id.index inside.doubt c.in-Some-take.write c.self.invariant.0 (sym c.take.ensures.value ∙ c.in-Some-take.is)).fits
 
 pub insert-requires-clause-reserved : goal.insert-requires-clause-reserved
 insert-requires-clause-reserved g c =
     let inside = c.self.inside in
-    doubted_is_reserved inside.journal inside.log inside.id.index inside.doubt c.in-Some-take.write c.self.invariant (sym c.take.ensures.value ∙ c.in-Some-take.is)
+    doubted_is_reserved inside.journal inside.log inside.id.index inside.doubt c.in-Some-take.write c.self.invariant.0 (sym c.take.ensures.value ∙ c.in-Some-take.is)
 
 pub insert-requires-clause-below_limit : goal.insert-requires-clause-below_limit
 insert-requires-clause-below_limit g c =
     let inside = c.self.inside in
-    (doubted_may inside.journal inside.log inside.id.index inside.doubt c.in-Some-take.write c.self.invariant (sym c.take.ensures.value ∙ c.in-Some-take.is)).room
+    (doubted_may inside.journal inside.log inside.id.index inside.doubt c.in-Some-take.write c.self.invariant.0 (sym c.take.ensures.value ∙ c.in-Some-take.is)).room
 
 pub invariant_of-self-2 : goal.invariant_of-self-2
 invariant_of-self-2 g c =
@@ -97,9 +98,11 @@ invariant_of-self-2 g c =
     let held : c.in_ok-opened.opened.bodies ≡ bodies_of (inside.log.receipts ++ write ∷ []) =
     subst (λ (b : Bool). AreHeldAnd c.receipts.result.now c.in-Some.doubt c.in_ok-opened.opened.bodies b) c.if-not-adopts.false c.in_ok-adopts.ensures
     ∙ ap (λ (writes : List Write). bodies_of (writes ++ c.in-Some.doubt ∷ [])) c.receipts.ensures.value
-    ∙ ap (λ (w : Write). bodies_of (inside.log.receipts ++ w ∷ [])) one in
-    after_adopting inside.journal c.reopen.new.self inside.log c.insert.new.self inside.id.index inside.doubt c.take.new.self write c.in_ok-opened.opened.bodies
-    c.self.invariant (sym c.take.ensures.value ∙ c.in-Some-take.is) c.take.ensures.after c.in_ok-opened.ensures.up c.in_ok-opened.ensures.opened.ends held c.insert.ensures
+    ∙ ap (λ (w : Write). bodies_of (inside.log.receipts ++ w ∷ [])) one in (
+      after_adopting inside.journal c.reopen.new.self inside.log c.insert.new.self inside.id.index inside.doubt c.take.new.self write c.in_ok-opened.opened.bodies
+          c.self.invariant.0 (sym c.take.ensures.value ∙ c.in-Some-take.is) c.take.ensures.after c.in_ok-opened.ensures.up c.in_ok-opened.ensures.opened.ends held (held_and_applied inside.log c.insert.new.self (inside.log.receipts ++ write ∷ []) c.insert.ensures),
+      ap (λ (log : Log). log.waiting) c.insert.ensures,
+    )
 
 pub returns-clause-reopens : goal.returns-clause-reopens
 returns-clause-reopens g c =
@@ -111,7 +114,7 @@ pub returns-clause-own : goal.returns-clause-own
 returns-clause-own g c = own_of_recovery c.args.self.now.core (Some c.wid-wid.result) _ (returns-clause-reopens g c)
 
 pub returns-clause-sound : goal.returns-clause-sound
-returns-clause-sound g c = (rw (← c.self.view_is) c.self.invariant.sound, (invariant_of-self-2 g c).sound)
+returns-clause-sound g c = (rw (← c.self.view_is) c.self.invariant.0.sound, (invariant_of-self-2 g c).0.sound)
 
 pub returns-clause-opens : goal.returns-clause-opens
 returns-clause-opens g c =
@@ -125,7 +128,7 @@ returns-clause-opens g c =
     rw (← c.self.view_is, c.insert.ensures) (
       c.in_ok-opened.opened.bodies,
       held,
-      opens_with g.D.Device inside.journal.server inside.id.index inside.journal.device c.reopen.new.self.device c.in_ok-opened.opened c.reopen.new.self.last c.self.invariant.owner c.in_ok-opened.ensures.opened,
+      opens_with g.D.Device inside.journal.server inside.id.index inside.journal.device c.reopen.new.self.device c.in_ok-opened.opened c.reopen.new.self.last c.self.invariant.0.owner c.in_ok-opened.ensures.opened,
     )
 
 pub returns-clause-safe : goal.returns-clause-safe

@@ -1,57 +1,83 @@
-use Rattle.std.proofs.Common.{ap, subst, Ok}
+use Rattle.std.proofs.Common.{◌≡◌, OnOk, Ok, Err, sym, ap, subst}
+use Rattle.bayou_base.specs.declared.answer.Accepted.{Accepted}
+use Rattle.bayou_log.specs.Log.{Log}
+use Rattle.bayou_server.specs.declared.fault.WriteFault.{WriteFault}
+use Rattle.bayou_server.specs.declared.fault.WriteFault.TheVariants as faults
 use Rattle.bayou_server.specs.declared.storing.Stored.{Stored}
 use Rattle.bayou_server.specs.declared.storing.Stored.TheVariants.{Held, InDoubt}
-use Rattle.bayou_server.specs.Inner.Fields.{core_of}
+use Rattle.bayou_server.specs.Inner.Fields.{core_of, server_of}
 use Rattle.bayou_server.specs.Inner.Storing.{Keeps, StoresEntry}
-use Rattle.bayou_server.specs.Server.{Core}
+use Rattle.bayou_server.specs.Server.{Core, ServerState}
+use Rattle.bayou_server.specs.Stored.{IsStored}
+use Rattle.bayou_server.specs.Writes.{Writes}
 use Rattle.bayou_server.proofs.Adding.{stored_after}
 use Rattle.bayou_server.proofs.Steps.{next_may_be_stored, own_of_write}
 use Rattle.bayou_server.proofs.server.Server.write.Goals as goal
+use Rattle.bayou_server.proofs.server.Server.write.Goals.{in-Held, in-InDoubt}
 
-pub store-requires : goal.store-requires
-store-requires g c =
+pub store-stored-requires-clause-may : goal.store-stored-requires-clause-may
+store-stored-requires-clause-may g c =
     let inside = c.self.inside in
+    next_may_be_stored (core_of inside.log inside.id.index inside.doubt) c.args.program c.next_write-write.result c.self.invariant.0.sound c.in_default.ensures.0.0 c.in_default.ensures.1 c.next_write-write.ensures
+
+pub returns-clause-writes : goal.returns-clause-writes
+returns-clause-writes g c =
+    let inside = c.self.inside in
+    let made = c.next_write-write.result in
+    let old = core_of inside.log inside.id.index inside.doubt in
+    let new = core_of c.store-stored.new.log inside.id.index c.store-stored.new.doubt in
+    let same : core_of c.catch_up.new.self inside.id.index c.store-stored.new.doubt ≡ new =
+    ap (λ (log : Log). core_of log inside.id.index c.store-stored.new.doubt) c.catch_up.ensures in
     rw (← c.self.view_is)
-    (next_may_be_stored (core_of inside.log inside.id.index inside.doubt) c.args.program c.next_write-write.result c.self.invariant.sound c.in_default.ensures.0.0 c.in_default.ensures.1 c.next_write-write.ensures)
+    (subst (λ (core : Core). Writes old c.args.need.now c.args.program c.match-branch-2.result core) (sym same)
+    (elim c.match-branch-2.branch [
+      | in-Held w ↦
+          let kept : Keeps old made Held new = subst (λ (s : Stored). Keeps old made s new) w.in-Held.is c.in_ok-stored.ensures.keeps in
+          let writes : Writes old c.args.need.now c.args.program (Ok c.accepted-accepted.result) new = record {
+            made = made;
+            makes = record {
+              ready = record { up = c.in_default.ensures.0.0; covered = c.in_default.ensures.0.1 };
+              room = c.in_default.ensures.1;
+              next = c.next_write-write.ensures;
+              spelled = kept.0;
+            };
+            wid = c.accepted-accepted.ensures.wid;
+            stamp = c.accepted-accepted.ensures.stamp;
+            deps = c.accepted-accepted.ensures.deps;
+            is = kept.1;
+          } in
+          rw w.result-is writes
+      | in-InDoubt w ↦
+          let kept : Keeps old made InDoubt new = subst (λ (s : Stored). Keeps old made s new) w.in-InDoubt.is c.in_ok-stored.ensures.keeps in
+          let writes : Writes old c.args.need.now c.args.program (Err faults.Journal) new = record {
+            made = made;
+            makes = record {
+              ready = record { up = c.in_default.ensures.0.0; covered = c.in_default.ensures.0.1 };
+              room = c.in_default.ensures.1;
+              next = c.next_write-write.ensures;
+              spelled = kept.0;
+            };
+            is = kept.1;
+          } in
+          rw w.result-is writes
+    ]))
 
-pub returns-in-Held-clause-writes : goal.returns-in-Held-clause-writes
-returns-in-Held-clause-writes g c =
-    let kept : Keeps c.args.self.now.core c.next_write-write.result Held c.store.new.self.core =
-    subst (λ (s : Stored). Keeps c.args.self.now.core c.next_write-write.result s c.store.new.self.core) c.in-Held.is c.in_ok-store.ensures.keeps in
-    record {
-      made = c.next_write-write.result;
-      makes = rw (← c.self.view_is) (record {
-        ready = record { up = c.in_default.ensures.0.0; covered = c.in_default.ensures.0.1 };
-        room = c.in_default.ensures.1;
-        next = c.next_write-write.ensures;
-        spelled = kept.0;
-      });
-      wid = c.accepted-accepted.ensures.wid;
-      stamp = c.accepted-accepted.ensures.stamp;
-      deps = c.accepted-accepted.ensures.deps;
-      is = kept.1;
-    }
+pub returns-clause-own : goal.returns-clause-own
+returns-clause-own g c = own_of_write c.args.self.now.core c.args.need.now c.args.program c.match-branch-2.result _ (returns-clause-writes g c)
 
-pub returns-in-Held-clause-own : goal.returns-in-Held-clause-own
-returns-in-Held-clause-own g c =
-    own_of_write c.args.self.now.core c.args.need.now c.args.program (Ok c.accepted-accepted.result) c.store.new.self.core (returns-in-Held-clause-writes g c)
-
-pub returns-in-Held-clause-stored : goal.returns-in-Held-clause-stored
-returns-in-Held-clause-stored g c = λ modelled.
-    stored_after g.D.Device c.args.self.now c.store.new.self modelled (ap (λ (core : Core). core.id) (returns-in-Held-clause-writes g c).is)
-    (subst (λ (s : Stored). StoresEntry g.D.Device c.args.self.now s c.store.new.self) c.in-Held.is c.in_ok-store.ensures.stores)
-
-pub returns-in-InDoubt-clause-writes : goal.returns-in-InDoubt-clause-writes
-returns-in-InDoubt-clause-writes g c =
-    let kept : Keeps c.args.self.now.core c.next_write-write.result InDoubt c.store.new.self.core =
-    subst (λ (s : Stored). Keeps c.args.self.now.core c.next_write-write.result s c.store.new.self.core) c.in-InDoubt.is c.in_ok-store.ensures.keeps in
-    record {
-      made = c.next_write-write.result;
-      makes = rw (← c.self.view_is) (record {
-        ready = record { up = c.in_default.ensures.0.0; covered = c.in_default.ensures.0.1 };
-        room = c.in_default.ensures.1;
-        next = c.next_write-write.ensures;
-        spelled = kept.0;
-      });
-      is = kept.1;
-    }
+pub returns-clause-stored : goal.returns-clause-stored
+returns-clause-stored g c = λ modelled.
+    let inside = c.self.inside in
+    let old = server_of inside.journal inside.log inside.id.index inside.doubt in
+    let new = server_of c.store-stored.new.journal c.store-stored.new.log inside.id.index c.store-stored.new.doubt in
+    let same : core_of c.catch_up.new.self inside.id.index c.store-stored.new.doubt ≡ new.core =
+    ap (λ (log : Log). core_of log inside.id.index c.store-stored.new.doubt) c.catch_up.ensures in
+    rw (← c.self.view_is)
+    (subst (λ (core : Core). OnOk c.match-branch-2.result (IsStored g.D.Device old → IsStored g.D.Device (record { core = core; device = new.device }))) (sym same)
+    (elim c.match-branch-2.branch [
+      | in-Held w ↦
+          let kept : Keeps old.core c.next_write-write.result Held new.core = subst (λ (s : Stored). Keeps old.core c.next_write-write.result s new.core) w.in-Held.is c.in_ok-stored.ensures.keeps in
+          let stores : StoresEntry g.D.Device old Held new = subst (λ (s : Stored). StoresEntry g.D.Device old s new) w.in-Held.is c.in_ok-stored.ensures.stores in
+          rw w.result-is (stored_after g.D.Device old new modelled (ap (λ (core : Core). core.id) kept.1) stores)
+      | in-InDoubt w ↦ rw w.result-is tt
+    ]))

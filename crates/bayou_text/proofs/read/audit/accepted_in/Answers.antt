@@ -1,6 +1,6 @@
 use Rattle.std.proofs.Common.{sym, ◌∙◌}
 use Rattle.bayou_text.specs.Audit.{accepted_in}
-use Rattle.bayou_text.proofs.Named.{accepted_is}
+use Rattle.bayou_text.specs.Laws.Inner.Named.{accepted_is}
 use Rattle.bayou_text.proofs.read.audit.accepted_in.Goals as goal
 
 pub returns : goal.returns

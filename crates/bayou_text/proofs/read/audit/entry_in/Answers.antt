@@ -1,6 +1,6 @@
 use Rattle.std.proofs.Common.{arith, rules}
 use Rattle.bayou_text.specs.Audit.{entry_in}
-use Rattle.bayou_text.proofs.Lists.{item_then, none_then}
+use Rattle.bayou_text.specs.Laws.Inner.Lists.{item_then, none_then}
 use Rattle.bayou_text.proofs.read.audit.entry_in.Goals as goal
 
 pub returns-in_ok-tried_in-in-len5 : goal.returns-in_ok-tried_in-in-len5

@@ -2,8 +2,8 @@ use Rattle.std.proofs.Common.{ap, refl, arith}
 use Rattle.bayou_base.specs.declared.stamp.Stamp.{Stamp}
 use Rattle.bayou_base.specs.declared.wid.Wid.{Wid}
 use Rattle.bayou_text.specs.Audit.{members_in}
-use Rattle.bayou_text.proofs.Lists.{item_then, none_then}
-use Rattle.bayou_text.proofs.Named.{write_is}
+use Rattle.bayou_text.specs.Laws.Inner.Lists.{item_then, none_then}
+use Rattle.bayou_text.specs.Laws.Inner.Named.{write_is}
 use Rattle.bayou_text.proofs.read.audit.members_in.Goals as goal
 
 pub returns : goal.returns

@@ -1,6 +1,6 @@
 use Rattle.std.proofs.Common.{sym, ◌∙◌}
 use Rattle.bayou_text.specs.Audit.{served_in}
-use Rattle.bayou_text.proofs.Named.{told_is}
+use Rattle.bayou_text.specs.Laws.Inner.Named.{told_is}
 use Rattle.bayou_text.proofs.read.audit.served_in.Goals as goal
 
 pub returns : goal.returns

@@ -1,6 +1,6 @@
 use Rattle.std.proofs.Common.{sym}
 use Rattle.bayou_text.specs.Audit.{tried_in}
-use Rattle.bayou_text.proofs.Named.{tried_is}
+use Rattle.bayou_text.specs.Laws.Inner.Named.{tried_is}
 use Rattle.bayou_text.proofs.read.audit.tried_in.Goals as goal
 
 pub returns : goal.returns

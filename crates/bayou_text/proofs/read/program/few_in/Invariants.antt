@@ -1,6 +1,6 @@
 use Rattle.std.proofs.Common.{◌≡◌, length, vec_capacity, vec_len}
 use Rattle.serde_json.specs.View.{view}
-use Rattle.bayou_text.proofs.Lists.{IsReadTo}
+use Rattle.bayou_text.specs.Laws.Inner.Lists.{IsReadTo}
 use Rattle.bayou_text.proofs.read.program.few_in.Given as goal
 
 -- those so far are read, one stands for each, and there is room for all

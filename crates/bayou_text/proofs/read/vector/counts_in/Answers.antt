@@ -4,7 +4,7 @@ use Rattle.std.proofs.lemmas.List.Elements.{All-set}
 use Rattle.serde_json.specs.View.{view}
 use Rattle.serde_json.specs.declared.value.Value.{Value}
 use Rattle.bayou_base.specs.declared.limits.TheConstants.{MAX_WRITES, SERVERS}
-use Rattle.bayou_text.proofs.Counts.{tally_more, zeros_less}
+use Rattle.bayou_text.specs.Laws.Inner.Counts.{tally_more, zeros_less}
 use Rattle.bayou_text.specs.Numbers.{tally_in}
 use Rattle.bayou_text.proofs.read.vector.counts_in.Goals as goal
 

@@ -2,7 +2,7 @@ use Rattle.std.proofs.Common.{◌≡◌, ◌-◌, ◌≤◌, All, length, take, 
 use Rattle.serde_json.specs.View.{view}
 use Rattle.bayou_base.specs.declared.limits.TheConstants.{MAX_WRITES, SERVERS}
 use Rattle.bayou_text.specs.Numbers.{tally_in}
-use Rattle.bayou_text.proofs.Lists.{IsReadTo}
+use Rattle.bayou_text.specs.Laws.Inner.Lists.{IsReadTo}
 use Rattle.bayou_text.proofs.read.vector.counts_in.Given as goal
 
 -- the counts so far are read, and the others are still 0

@@ -1,0 +1,106 @@
+-- A server behind its lock is given several Writes, one after another.
+use Rattle.std.specs.Prelude.{is_some}
+use Rattle.std.proofs.Common.{false, ◌≡◌, List, [], ◌∷◌, ◌++◌, Option, None, Some, Result, Ok, Err, refl, sym, ap, ◌∙◌, subst, arith, append_assoc, append-nil}
+use Rattle.bayou_device.specs.declared.device.Device.{Ghosts}
+use Rattle.bayou_lang.specs.declared.write.Write.{Write}
+use Rattle.bayou_node.specs.Answers.{MayBeKept, TakesAtNode}
+use Rattle.bayou_node.specs.Books.{Begun, Booked, IsExact, IsServerOf, StillHolds}
+use Rattle.bayou_node.proofs.Keeps.{taking_keeps}
+use Rattle.bayou_server.specs.Server.{Core, ServerState, own_count}
+use Rattle.bayou_server.specs.Takes.{Takes}
+use Rattle.bayou_server.specs.TakesAll.{TakesAll, TakesAt, TakesEach, TakingEnds}
+use Rattle.bayou_server.specs.declared.answer.Took.{Took}
+use Rattle.bayou_server.specs.declared.answer.Took.TheVariants.{New, Had}
+use Rattle.bayou_server.specs.declared.answer.TookAll.{TookAll}
+use Rattle.bayou_server.specs.declared.fault.TakeFault.{TakeFault}
+use Rattle.bayou_server.specs.declared.fault.TakeFault.TheVariants.{Conflict, Down, OwnLost, Gap, BadStamp, LogFull, OutOfMemory, Journal}
+
+still_holds : (a b c : Core) → StillHolds a b → StillHolds b c → StillHolds a c
+still_holds a b c (more, is) (others, then) = (more ++ others, then ∙ ap (λ l. l ++ others) is ∙ append_assoc a.held more others)
+
+pub is_nothing : {X : Type 0} (found : Option X) → is_some found ≡ false → found ≡ None
+is_nothing None none = refl
+is_nothing (Some x) none = absurd cc
+
+-- what the books have is what may be behind the lock
+pub kept_of : {D : Type 0} (begun : Begun) (booked : Booked D) → IsExact begun booked → MayBeKept begun booked.server.core
+kept_of begun booked exact = record { is = exact.is; sound = exact.sound; own = omega (arith, exact.own) }
+
+module _ {D : Type 0} (d : Ghosts D) (begun : Begun) where
+  unchanged : (old new : Core) → new ≡ old → IsServerOf begun old → IsServerOf begun new
+  unchanged old new same is = subst (IsServerOf begun) (sym same) is
+
+  -- it is the same server
+  same_server : (old : Core) (given : Write) (answer : Result Took TakeFault) (new : Core) → Takes old given answer new → IsServerOf begun old → IsServerOf begun new
+  same_server old given (Ok New) new takes is = subst (IsServerOf begun) (sym takes.2) (record { whose = is.whose; among = is.among; limit = is.limit })
+  same_server old given (Ok Had) new takes is = unchanged old new takes.1 is
+  same_server old given (Err Conflict) new takes is = unchanged old new takes.1 is
+  same_server old given (Err Down) new takes is = unchanged old new takes.2 is
+  same_server old given (Err OwnLost) new takes is = unchanged old new takes.3 is
+  same_server old given (Err Gap) new takes is = unchanged old new takes.2 is
+  same_server old given (Err BadStamp) new takes is = unchanged old new takes.3 is
+  same_server old given (Err LogFull) new takes is = unchanged old new takes.2 is
+  same_server old given (Err OutOfMemory) new takes is = unchanged old new takes.1 is
+  same_server old given (Err Journal) new takes is = subst (IsServerOf begun) (sym takes.2) (record { whose = is.whose; among = is.among; limit = is.limit })
+
+  kept : (old : ServerState D) (given : Write) (answer : Result Took TakeFault) (new : ServerState D) → TakesAt d old given answer new → MayBeKept begun old.core → MayBeKept begun new.core
+  kept old given answer new takes before = record {
+    is = same_server old.core given answer new.core takes.takes before.is;
+    sound = takes.sound.1;
+    own = omega (arith, before.own, takes.own);
+  }
+
+  -- what each step leaves may be behind the lock
+  each_kept : (old mid : ServerState D) (front : List Write) (tooks : List Took) → TakesEach (TakesAt d) old front tooks mid → MayBeKept begun old.core
+      → TakesEach {S = Unit {0}} (TakesAtNode begun) tt front tooks tt × MayBeKept begun mid.core
+  each_kept old mid [] [] same before = (refl, subst (λ (s : ServerState D). MayBeKept begun s.core) (sym same) before)
+  each_kept old mid [] (took ∷ tooks) none before = absurd none
+  each_kept old mid (write ∷ front) [] none before = absurd none
+  each_kept old mid (write ∷ front) (took ∷ tooks) each before =
+      let next = kept old write (Ok took) each.0 each.1 before in
+      let rest = each_kept each.0 mid front tooks each.2 next in
+      ((tt, ((old.core, each.0.core, before, next, each.1.takes), refl), rest.0), rest.1)
+
+  end_kept : (mid new : ServerState D) (given front left : List Write) (fault : Option TakeFault) → TakingEnds (TakesAt d) mid given front left fault new → MayBeKept begun mid.core
+      → TakingEnds {S = Unit {0}} (TakesAtNode begun) tt given front left fault tt × MayBeKept begun new.core
+  end_kept mid new given front left None ends before = ((ends.0, refl), subst (λ (s : ServerState D). MayBeKept begun s.core) (sym ends.1) before)
+  end_kept mid new given front left (Some fault) ends before =
+      let next = kept mid ends.0 (Err fault) new ends.2 before in
+      ((ends.0, ends.1, ((mid.core, new.core, before, next, ends.2.takes), refl)), next)
+
+  pub all_kept : (old new : ServerState D) (given left : List Write) (told : TookAll) → TakesAll (TakesAt d) old given left told new → MayBeKept begun old.core
+      → TakesAll {S = Unit {0}} (TakesAtNode begun) tt given left told tt × MayBeKept begun new.core
+  all_kept old new given left told all before =
+      let each = each_kept old all.mid all.front all.tooks all.each before in
+      let ends = end_kept all.mid new given all.front left told.fault all.ends each.1 in
+      (record { front = all.front; tooks = all.tooks; mid = tt; each = each.0; taken = all.taken; had = all.had; ends = ends.0 }, ends.1)
+
+  each_holds : (old mid : ServerState D) (front : List Write) (tooks : List Took) → TakesEach (TakesAt d) old front tooks mid
+      → StillHolds old.core mid.core × (own_count mid.core ≡ own_count old.core)
+  each_holds old mid [] [] same = (([], ap (λ (s : ServerState D). s.core.held) same ∙ sym (append-nil old.core.held)), ap (λ (s : ServerState D). own_count s.core) same)
+  each_holds old mid [] (took ∷ tooks) none = absurd none
+  each_holds old mid (write ∷ front) [] none = absurd none
+  each_holds old mid (write ∷ front) (took ∷ tooks) each =
+      let rest = each_holds each.0 mid front tooks each.2 in
+      (still_holds old.core each.0.core mid.core (taking_keeps old.core write (Ok took) each.0.core each.1.takes) rest.0, rest.1 ∙ each.1.own)
+
+  end_holds : (mid new : ServerState D) (given front left : List Write) (fault : Option TakeFault) → TakingEnds (TakesAt d) mid given front left fault new
+      → StillHolds mid.core new.core × (own_count new.core ≡ own_count mid.core)
+  end_holds mid new given front left None ends =
+      (([], ap (λ (s : ServerState D). s.core.held) ends.1 ∙ sym (append-nil mid.core.held)), ap (λ (s : ServerState D). own_count s.core) ends.1)
+  end_holds mid new given front left (Some fault) ends = (taking_keeps mid.core ends.0 (Err fault) new.core ends.2.takes, ends.2.own)
+
+  -- none is taken away, and none of its own is added
+  pub all_holds : (old new : ServerState D) (given left : List Write) (told : TookAll) → TakesAll (TakesAt d) old given left told new
+      → StillHolds old.core new.core × (own_count new.core ≡ own_count old.core)
+  all_holds old new given left told all =
+      let each = each_holds old all.mid all.front all.tooks all.each in
+      let ends = end_holds all.mid new given all.front left told.fault all.ends in
+      (still_holds old.core all.mid.core new.core each.0 ends.0, ends.1 ∙ each.1)
+
+  -- the books stay exact
+  pub exact_after : (booked : Booked D) (new : ServerState D) (given left : List Write) (told : TookAll) → TakesAll (TakesAt d) booked.server given left told new → IsExact begun booked
+      → IsExact begun (record booked { server = new })
+  exact_after booked new given left told all exact =
+      let after = (all_kept booked.server new given left told all (kept_of begun booked exact)).1 in
+      record { is = after.is; since = exact.since; sound = after.sound; own = (all_holds booked.server new given left told all).1 ∙ exact.own }

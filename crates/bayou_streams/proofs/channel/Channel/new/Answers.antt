@@ -1,5 +1,0 @@
-use Rattle.std.proofs.Common.{rules}
-use Rattle.bayou_streams.proofs.channel.Channel.new.Goals as goal
-
-pub returns-clause-left : goal.returns-clause-left
-returns-clause-left g c = search rules

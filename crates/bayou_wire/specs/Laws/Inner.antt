@@ -1,0 +1,6 @@
+pub mod Readers
+pub mod Vectors
+pub mod Formats
+pub mod Payloads
+pub mod Sizes
+pub mod Fronts
