@@ -40,8 +40,7 @@ fn makes(rt: &impl Abort, alloc: Global, server: &mut Served, program: &Program)
 fn write_apart(rt: &impl Abort, alloc: Global, index: u8, server: &mut Served) {
     for number in 0..APART {
         let program = program(rt, index, number);
-        let is_made =
-            makes(rt, alloc, server, &program) || makes(rt, alloc, server, &program);
+        let is_made = makes(rt, alloc, server, &program) || makes(rt, alloc, server, &program);
         must_be_so(rt, is_made, number as usize);
     }
 }
