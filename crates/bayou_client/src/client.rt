@@ -11,7 +11,7 @@ use crate::fault::{ClientFault, LinkFault};
 use crate::link::Link;
 use bayou_audit::{AuditBook, Ledgers, Share, Slip};
 use bayou_base::{Accepted, Entry, Key, Seen, ServerId, What};
-use bayou_lang::Program;
+use bayou_lang::RestingProgram;
 use bayou_session::Session;
 use std::alloc::Global;
 use std::io::{Read, Write};
@@ -158,7 +158,7 @@ impl<K: Ledgers> Client<K> {
         book: &AuditBook<K>,
         link: &mut Link<R, W>,
         server: ServerId,
-        program: Program,
+        program: RestingProgram,
     ) -> Result<Accepted, ClientFault>
         requires { self.old.session.begun < MAX_PLACES }
         ensures operates { (read : List ℕ) × Consumes (R.remaining link.old.channel.reader) (R.remaining link.new.channel.reader) read

@@ -12,7 +12,7 @@ use crate::judging::{accepted_of, dumped_of, reopened_of, seen_of};
 use crate::reading::{Reply, read_reply};
 use bayou_base::{Accepted, Key, Seen, ServerId, Vector, Wid};
 use bayou_frames::send;
-use bayou_lang::{Program, RestingWrite};
+use bayou_lang::{RestingProgram, RestingWrite};
 use bayou_streams::CountedChannel;
 use bayou_wire::{Frame, encode_frame};
 use std::alloc::Global;
@@ -107,7 +107,7 @@ impl<R: Read, W: Write> Link<R, W> {
         alloc: Global,
         need: &Vector,
         server: ServerId,
-        program: Program,
+        program: RestingProgram,
     ) -> Result<Accepted, LinkFault>
         ensures ends { (read : List ℕ) × Consumes (R.remaining self.old.channel.reader) (R.remaining self.new.channel.reader) read
             × LinkEnds (asks_write need.now server) (spelling (WriteFrame need.now program)) (W.contents self.old.channel.writer) (W.contents self.new.channel.writer) read self.old.is_closed self.new.is_closed

@@ -13,7 +13,7 @@ ghost use Rattle.bayou_wire.specs.Stream.{IsPartial, spelling, spellings};
 
 use bayou_base::limits::READ_BYTES;
 use bayou_frames::{ChannelFault, feed_piece, read_piece};
-use bayou_lang::{RestingWrite, Write as Held};
+use bayou_lang::RestingWrite;
 use bayou_streams::CountedChannel;
 use bayou_wire::{Frame, Frames};
 use std::alloc::Global;
@@ -27,11 +27,15 @@ pub(crate) struct Reply {
 }
 
 // Keeps the Write of an Item.
-fn keep(alloc: Global, write: &Held, writes: &mut Vec<RestingWrite>) -> Result<(), ChannelFault>
+fn keep(
+    alloc: Global,
+    write: &RestingWrite,
+    writes: &mut Vec<RestingWrite>,
+) -> Result<(), ChannelFault>
     ensures kept { OnOk result (writes.new.items ≡ writes.old.items ++ write.now ∷ []) }
     ensures refused { IfErr result (λ fault. fault ≡ OutOfMemory) }
 {
-    let Ok(resting) = write.rest(alloc) else {
+    let Ok(resting) = write.copy(alloc) else {
         return Err(ChannelFault::OutOfMemory);
     };
     if writes.push(resting).is_err() {
@@ -41,7 +45,7 @@ fn keep(alloc: Global, write: &Held, writes: &mut Vec<RestingWrite>) -> Result<(
 }
 
 // The Write of an Item, where Items are asked for. Any other frame ends a reply.
-fn item_of(frame: &Frame, many: bool) -> Option<&Held>
+fn item_of(frame: &Frame, many: bool) -> Option<&RestingWrite>
     ensures item { IfSome result (λ write. (many ≡ true) × (frame.now ≡ Item write.now)) }
     ensures last { result ≡ None → IsFrame frame.now → IsLast many frame.now }
 {

@@ -127,10 +127,7 @@ impl<K: Ledgers> OpenSession<K> {
             return Answer::Lost { session: who };
         }
         let link = &mut self.links[at];
-        match self
-            .client
-            .write(rt, alloc, book, link, server, program.unfold())
-        {
+        match self.client.write(rt, alloc, book, link, server, program) {
             Ok(accepted) => Answer::Wrote {
                 session: who,
                 accepted,

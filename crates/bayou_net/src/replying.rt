@@ -12,7 +12,7 @@ ghost use Rattle.bayou_wire.specs.Stream.{spelling};
 
 use crate::served::Served;
 use bayou_base::{Accepted, Key, Seen, Vector};
-use bayou_lang::{Program, RestingWrite};
+use bayou_lang::{RestingProgram, RestingWrite};
 use bayou_peer::gather;
 use bayou_server::{Behind, JournalFault, ReopenFault, Reopened, WriteFault};
 use bayou_wire::{Frame, Refusal, encode_frame};
@@ -160,12 +160,12 @@ fn write_at<S: Served>(
     alloc: Global,
     served: &mut S,
     need: &Vector,
-    program: &Program,
+    program: &RestingProgram,
 ) -> Result<Accepted, WriteFault>
     ensures { S.writes served.old need.now program.now result served.new }
 {
-    match program.rest(alloc) {
-        Ok(resting) => served.write(alloc, need, resting),
+    match program.copy(alloc) {
+        Ok(copy) => served.write(alloc, need, copy),
         Err(_) => Err(served.refusal_for_memory(need)),
     }
 }
@@ -174,7 +174,7 @@ fn of_write<S: Served>(
     alloc: Global,
     served: &mut S,
     need: &Vector,
-    program: &Program,
+    program: &RestingProgram,
 ) -> Result<Vec<u8>, AllocError>
     ensures { (reply : List ℕ) × Serves (record { list = S.list; reads = S.reads; writes = S.writes; reopens = S.reopens }) served.old (frames.Write need.now program.now) reply served.new
         × IfOk result (λ text. text.items ≡ reply) }

@@ -43,7 +43,7 @@ fn items_in_front(alloc: Global, frames: &[Frame]) -> Result<Vec<RestingWrite>, 
         let Frame::Item(write) = frame else {
             return Ok(writes);
         };
-        writes.push(write.rest(alloc)?)?;
+        writes.push(write.copy(alloc)?)?;
     }
     Ok(writes)
 }

@@ -10,7 +10,7 @@ use bayou_base::ServerId;
 use bayou_journal::Opened;
 use bayou_lang::RestingWrite;
 use bayou_log::WriteLog;
-use bayou_wire::decode_write;
+use bayou_wire::{RestingFault, decode_resting_write};
 use std::alloc::Global;
 
 // Whether the Write may be added to those of the log of the server `id`.
@@ -36,10 +36,11 @@ fn next_of(
         (λ fault. (fault ≡ OutOfMemory) ⊎ RefusesBody id.index log.now.count log.now.limit log.now.receipts body.now fault) }
 {
     let at = log.receipts().len() as u32;
-    let Ok(write) = decode_write(body) else {
-        return Err(StartFault::BadRecord(at));
+    let write = match decode_resting_write(alloc, body) {
+        Ok(write) => write,
+        Err(RestingFault::Fault(_)) => return Err(StartFault::BadRecord(at)),
+        Err(RestingFault::OutOfMemory) => return Err(StartFault::OutOfMemory),
     };
-    let write = write.rest(alloc)?;
     if !may_follow(log, id, &write) {
         return Err(StartFault::Gap(at));
     }

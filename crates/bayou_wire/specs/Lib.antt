@@ -1,3 +1,4 @@
+pub mod Forms
 pub mod Inner
 pub mod Laws
 pub mod Spelling

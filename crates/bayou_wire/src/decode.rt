@@ -4,15 +4,18 @@ ghost use Rattle.bayou_lang.specs.declared.write.Write.{Write as Written};
 ghost use Rattle.bayou_wire.specs.declared.fault.DecodeFault.{DecodeFault};
 ghost use Rattle.bayou_wire.specs.declared.frame.Frame.{Frame};
 ghost use Rattle.bayou_wire.specs.declared.layout.TheConstants.{LENGTH_BYTES};
+ghost use Rattle.bayou_wire.specs.Forms.{UnlessWanting, plainly};
 ghost use Rattle.bayou_wire.specs.Spelling.{WriteAnswer};
 ghost use Rattle.bayou_wire.specs.Stream.{FrameAnswer, HasLength};
 
-use crate::fault::DecodeFault;
-use crate::frame::Frame;
-use crate::front::{Front, front_of};
+use crate::fault::{DecodeFault, RestingFault};
+use crate::frame::PlainFrame;
+use crate::front::{PlainFront, plain_front_of};
 use crate::layout::LENGTH_BYTES;
+use crate::resting::resting_write_of;
 use crate::take::write_of;
-use bayou_lang::Write;
+use bayou_lang::{RestingWrite, Write};
+use std::alloc::Global;
 
 /// The Write that the bytes spell, all of them. Nothing is kept, whatever the answer is.
 pub fn decode_write(bytes: &[u8]) -> Result<Write, DecodeFault>
@@ -28,6 +31,17 @@ pub fn decode_write(bytes: &[u8]) -> Result<Write, DecodeFault>
     }
 }
 
+/// As [`decode_write`], at rest: it takes memory at the size of what the Write says. Want of it may stand in the place of any other answer.
+pub fn decode_resting_write(alloc: Global, bytes: &[u8]) -> Result<RestingWrite, RestingFault>
+    ensures { UnlessWanting (WriteAnswer bytes.now) result }
+{
+    match resting_write_of(alloc, bytes)? {
+        None => Err(RestingFault::Fault(DecodeFault::BadBody)),
+        Some((write, [])) => Ok(write),
+        Some((_, [_, ..])) => Err(RestingFault::Fault(DecodeFault::Trailing)),
+    }
+}
+
 /// How many bytes the frame in front has, by its length; `None` where the length isn't there. It doesn't look at the frame.
 pub fn frame_len(bytes: &[u8]) -> Option<usize>
     ensures { MatchOption result (length bytes.now < LENGTH_BYTES) (λ size. (len : ℕ) × HasLength bytes.now len × (size ≡ LENGTH_BYTES + len)) }
@@ -39,16 +53,16 @@ pub fn frame_len(bytes: &[u8]) -> Option<usize>
 }
 
 /// The frame that the bytes spell, all of them. Nothing is kept, whatever the answer is.
-pub fn decode_frame(bytes: &[u8]) -> Result<Frame, DecodeFault>
+pub fn decode_frame(bytes: &[u8]) -> Result<PlainFrame, DecodeFault>
     // What is answered is so.
-    ensures answer { FrameAnswer bytes.now result }
+    ensures answer { FrameAnswer bytes.now (plainly result) }
     // Nothing else is.
-    ensures only { (other : Result Frame DecodeFault) → FrameAnswer bytes.now other → result ≡ other }
+    ensures only { (other : Result Frame DecodeFault) → FrameAnswer bytes.now other → plainly result ≡ other }
 {
-    match front_of(bytes) {
-        Front::Partial => Err(DecodeFault::BadBody),
-        Front::Faulty(fault) => Err(fault),
-        Front::Whole(frame, []) => Ok(frame),
-        Front::Whole(_, [_, ..]) => Err(DecodeFault::Trailing),
+    match plain_front_of(bytes) {
+        PlainFront::Partial => Err(DecodeFault::BadBody),
+        PlainFront::Faulty(fault) => Err(fault),
+        PlainFront::Whole(frame, []) => Ok(frame),
+        PlainFront::Whole(_, [_, ..]) => Err(DecodeFault::Trailing),
     }
 }

@@ -1,5 +1,5 @@
 use bayou_base::{Accepted, Key, Seen, Vector, Wid};
-use bayou_lang::{Program, Write};
+use bayou_lang::{Program, RestingProgram, RestingWrite, Write};
 
 /// Why a server refuses a request.
 #[derive(Clone, Copy, Debug, PartialEq, Eq)]
@@ -22,15 +22,13 @@ pub enum Refusal {
     OutOfMemory,
 }
 
-/// What servers and clients say to each other: the requests, and then their replies.
-///
-/// A frame has about eight thousand bytes, whatever it says: keep it behind a reference, and move it once.
+/// What servers and clients say to each other: the requests, and then their replies. What it says of programs and Writes is at rest.
 #[derive(Debug, Drop, PartialEq, Eq)]
 pub enum Frame {
     /// Read this key, at a server that has what is needed.
     Read(Vector, Key),
     /// Accept a Write of this program, at a server that has what is needed.
-    Write(Vector, Program),
+    Write(Vector, RestingProgram),
     /// Open the journal again.
     Reopen,
     /// Send every held Write.
@@ -46,7 +44,36 @@ pub enum Frame {
     /// The journal was opened again, and this Write was adopted, if any.
     Reopened(Option<Wid>),
     /// One of the Writes asked for.
-    Item(Write),
+    Item(RestingWrite),
     /// The end of the Writes asked for, with their number.
+    End(u32),
+}
+
+/// A [`Frame`] that takes no memory: what [`crate::decode_frame`] gives.
+///
+/// It has about eight thousand bytes, whatever it says: keep it behind a reference, and move it once.
+#[derive(Debug, Drop, PartialEq, Eq)]
+pub enum PlainFrame {
+    /// As [`Frame::Read`].
+    Read(Vector, Key),
+    /// As [`Frame::Write`].
+    Write(Vector, Program),
+    /// As [`Frame::Reopen`].
+    Reopen,
+    /// As [`Frame::Dump`].
+    Dump,
+    /// As [`Frame::Offer`].
+    Offer(Vector),
+    /// As [`Frame::Seen`].
+    Seen(Seen),
+    /// As [`Frame::Accepted`].
+    Accepted(Accepted),
+    /// As [`Frame::Refused`].
+    Refused(Refusal),
+    /// As [`Frame::Reopened`].
+    Reopened(Option<Wid>),
+    /// As [`Frame::Item`].
+    Item(Write),
+    /// As [`Frame::End`].
     End(u32),
 }

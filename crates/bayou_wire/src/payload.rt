@@ -1,11 +1,14 @@
 //! Readers of payloads: what a frame says, by its kind.
-ghost use Rattle.std.specs.Prelude.{◌≡◌};
+ghost use Rattle.std.specs.Prelude.{◌≡◌, IfOk};
+ghost use Rattle.bayou_wire.specs.Forms.{frame_of};
 ghost use Rattle.bayou_wire.specs.Inner.Reading.{Gives, is_kind as is_kind_test, optional_value_at, optional_wid_at, payload_at, refusal_at, reply_at, seen_at};
 
-use crate::frame::{Frame, Refusal};
+use crate::frame::{Frame, PlainFrame, Refusal};
 use crate::layout::*;
+use crate::resting::{resting_program_of, resting_write_of};
 use crate::take::{accepted_of, key_of, program_of, u32_of, value_of, vector_of, wid_of, write_of};
 use bayou_base::{Seen, Value, Wid};
+use std::alloc::{AllocError, Global};
 
 #[tactic(auto, unfolding(crate::specs::Inner::Reading::is_kind))]
 pub(crate) fn is_kind(kind: u8) -> bool
@@ -100,54 +103,139 @@ fn seen_of(bytes: &[u8]) -> Option<(Seen, &[u8])>
 }
 
 #[tactic(auto, unfolding(crate::specs::Inner::Reading::reply_at))]
-fn reply_of(kind: u8, bytes: &[u8]) -> Option<(Frame, &[u8])>
-    ensures { Gives (λ x. (x.0, x.1.now)) result (reply_at kind bytes.now) }
+fn reply_of(alloc: Global, kind: u8, bytes: &[u8]) -> Result<Option<(Frame, &[u8])>, AllocError>
+    ensures { IfOk result (λ given. Gives (λ x. (x.0, x.1.now)) given (reply_at kind bytes.now)) }
+{
+    match kind {
+        KIND_SEEN => {
+            let Some((seen, rest)) = seen_of(bytes) else {
+                return Ok(None);
+            };
+            Ok(Some((Frame::Seen(seen), rest)))
+        }
+        KIND_ACCEPTED => {
+            let Some((accepted, rest)) = accepted_of(bytes) else {
+                return Ok(None);
+            };
+            Ok(Some((Frame::Accepted(accepted), rest)))
+        }
+        KIND_REFUSED => {
+            let Some((refusal, rest)) = refusal_of(bytes) else {
+                return Ok(None);
+            };
+            Ok(Some((Frame::Refused(refusal), rest)))
+        }
+        KIND_REOPENED => {
+            let Some((adopted, rest)) = optional_wid_of(bytes) else {
+                return Ok(None);
+            };
+            Ok(Some((Frame::Reopened(adopted), rest)))
+        }
+        KIND_ITEM => {
+            let Some((write, rest)) = resting_write_of(alloc, bytes)? else {
+                return Ok(None);
+            };
+            Ok(Some((Frame::Item(write), rest)))
+        }
+        KIND_END => {
+            let Some((number, rest)) = u32_of(bytes) else {
+                return Ok(None);
+            };
+            Ok(Some((Frame::End(number), rest)))
+        }
+        _ => Ok(None),
+    }
+}
+
+/// What a payload of this kind says, and the bytes behind it.
+#[tactic(auto, unfolding(crate::specs::Inner::Reading::payload_at))]
+pub(crate) fn payload_of(
+    alloc: Global,
+    kind: u8,
+    bytes: &[u8],
+) -> Result<Option<(Frame, &[u8])>, AllocError>
+    ensures { IfOk result (λ given. Gives (λ x. (x.0, x.1.now)) given (payload_at kind bytes.now)) }
+{
+    match kind {
+        KIND_READ => {
+            let Some((need, rest)) = vector_of(bytes) else {
+                return Ok(None);
+            };
+            let Some((key, rest)) = key_of(rest) else {
+                return Ok(None);
+            };
+            Ok(Some((Frame::Read(need, key), rest)))
+        }
+        KIND_WRITE => {
+            let Some((need, rest)) = vector_of(bytes) else {
+                return Ok(None);
+            };
+            let Some((program, rest)) = resting_program_of(alloc, rest)? else {
+                return Ok(None);
+            };
+            Ok(Some((Frame::Write(need, program), rest)))
+        }
+        KIND_REOPEN => Ok(Some((Frame::Reopen, bytes))),
+        KIND_DUMP => Ok(Some((Frame::Dump, bytes))),
+        KIND_OFFER => {
+            let Some((vector, rest)) = vector_of(bytes) else {
+                return Ok(None);
+            };
+            Ok(Some((Frame::Offer(vector), rest)))
+        }
+        _ => reply_of(alloc, kind, bytes),
+    }
+}
+
+#[tactic(auto, unfolding(crate::specs::Inner::Reading::reply_at))]
+fn plain_reply_of(kind: u8, bytes: &[u8]) -> Option<(PlainFrame, &[u8])>
+    ensures { Gives (λ x. (frame_of x.0, x.1.now)) result (reply_at kind bytes.now) }
 {
     match kind {
         KIND_SEEN => {
             let Some((seen, rest)) = seen_of(bytes) else {
                 return None;
             };
-            Some((Frame::Seen(seen), rest))
+            Some((PlainFrame::Seen(seen), rest))
         }
         KIND_ACCEPTED => {
             let Some((accepted, rest)) = accepted_of(bytes) else {
                 return None;
             };
-            Some((Frame::Accepted(accepted), rest))
+            Some((PlainFrame::Accepted(accepted), rest))
         }
         KIND_REFUSED => {
             let Some((refusal, rest)) = refusal_of(bytes) else {
                 return None;
             };
-            Some((Frame::Refused(refusal), rest))
+            Some((PlainFrame::Refused(refusal), rest))
         }
         KIND_REOPENED => {
             let Some((adopted, rest)) = optional_wid_of(bytes) else {
                 return None;
             };
-            Some((Frame::Reopened(adopted), rest))
+            Some((PlainFrame::Reopened(adopted), rest))
         }
         KIND_ITEM => {
             let Some((write, rest)) = write_of(bytes) else {
                 return None;
             };
-            Some((Frame::Item(write), rest))
+            Some((PlainFrame::Item(write), rest))
         }
         KIND_END => {
             let Some((number, rest)) = u32_of(bytes) else {
                 return None;
             };
-            Some((Frame::End(number), rest))
+            Some((PlainFrame::End(number), rest))
         }
         _ => None,
     }
 }
 
-/// What a payload of this kind says, and the bytes behind it.
+/// What a payload of this kind says, and the bytes behind it. It takes no memory.
 #[tactic(auto, unfolding(crate::specs::Inner::Reading::payload_at))]
-pub(crate) fn payload_of(kind: u8, bytes: &[u8]) -> Option<(Frame, &[u8])>
-    ensures { Gives (λ x. (x.0, x.1.now)) result (payload_at kind bytes.now) }
+pub(crate) fn plain_payload_of(kind: u8, bytes: &[u8]) -> Option<(PlainFrame, &[u8])>
+    ensures { Gives (λ x. (frame_of x.0, x.1.now)) result (payload_at kind bytes.now) }
 {
     match kind {
         KIND_READ => {
@@ -157,7 +245,7 @@ pub(crate) fn payload_of(kind: u8, bytes: &[u8]) -> Option<(Frame, &[u8])>
             let Some((key, rest)) = key_of(rest) else {
                 return None;
             };
-            Some((Frame::Read(need, key), rest))
+            Some((PlainFrame::Read(need, key), rest))
         }
         KIND_WRITE => {
             let Some((need, rest)) = vector_of(bytes) else {
@@ -166,16 +254,16 @@ pub(crate) fn payload_of(kind: u8, bytes: &[u8]) -> Option<(Frame, &[u8])>
             let Some((program, rest)) = program_of(rest) else {
                 return None;
             };
-            Some((Frame::Write(need, program), rest))
+            Some((PlainFrame::Write(need, program), rest))
         }
-        KIND_REOPEN => Some((Frame::Reopen, bytes)),
-        KIND_DUMP => Some((Frame::Dump, bytes)),
+        KIND_REOPEN => Some((PlainFrame::Reopen, bytes)),
+        KIND_DUMP => Some((PlainFrame::Dump, bytes)),
         KIND_OFFER => {
             let Some((vector, rest)) = vector_of(bytes) else {
                 return None;
             };
-            Some((Frame::Offer(vector), rest))
+            Some((PlainFrame::Offer(vector), rest))
         }
-        _ => reply_of(kind, bytes),
+        _ => plain_reply_of(kind, bytes),
     }
 }

@@ -295,7 +295,7 @@ pub(crate) fn put_payload(out: &mut Vec<u8>, frame: &Frame) -> Result<(), AllocE
         }
         Frame::Write(need, program) => {
             put_vector(out, need)?;
-            put_program(out, program)
+            put_resting_program(out, program)
         }
         Frame::Reopen | Frame::Dump => Ok(()),
         Frame::Offer(vector) => put_vector(out, vector),
@@ -308,7 +308,7 @@ pub(crate) fn put_payload(out: &mut Vec<u8>, frame: &Frame) -> Result<(), AllocE
         }
         Frame::Refused(refusal) => put_refusal(out, refusal),
         Frame::Reopened(adopted) => put_optional_wid(out, *adopted),
-        Frame::Item(write) => put_write(out, write),
+        Frame::Item(write) => put_resting_write(out, write),
         Frame::End(number) => put_u32(out, *number),
     }
 }

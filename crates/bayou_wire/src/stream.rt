@@ -6,7 +6,7 @@ ghost use Rattle.bayou_wire.specs.Stream.{Fed, IsFaultAt, listed};
 
 use crate::fault::DecodeFault;
 use crate::frame::Frame;
-use crate::front::{Front, Taken, front_of, take_frames};
+use crate::front::{PlainFront, Taken, plain_front_of, take_frames};
 use crate::layout::LENGTH_BYTES;
 use bayou_base::MAX_FRAME_BYTES;
 use bytes::BytesMut;
@@ -48,10 +48,10 @@ impl Model for Frames {
 fn held_fault(held: &[u8]) -> Option<DecodeFault>
     ensures { IsFaultAt held.now result }
 {
-    match front_of(held) {
-        Front::Partial => None,
-        Front::Whole(_, _) => None,
-        Front::Faulty(fault) => Some(fault),
+    match plain_front_of(held) {
+        PlainFront::Partial => None,
+        PlainFront::Whole(_, _) => None,
+        PlainFront::Faulty(fault) => Some(fault),
     }
 }
 
@@ -119,8 +119,8 @@ impl Frames {
     ///
     /// A fault is told by the call whose piece completes it, where that call has no frame to give, else by the next call,
     /// which takes nothing of its piece (an empty one will do). After it every call answers [`FeedFault::Failed`]. Where
-    /// memory is lacking nothing changes, and the piece counts as not fed. Each frame given takes about eight thousand bytes,
-    /// so feed pieces of a moderate size.
+    /// memory is lacking nothing changes, and the piece counts as not fed. A frame given takes memory at the size of what it
+    /// says.
     pub fn feed(&mut self, piece: &[u8]) -> Result<Vec<Frame>, FeedFault>
         ensures fed { Fed self.old piece.now (listed result) self.new }
         ensures held_back { IfSome self.new (λ held. length held ≤ LENGTH_BYTES + MAX_FRAME_BYTES) }

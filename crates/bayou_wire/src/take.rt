@@ -11,7 +11,7 @@ use bayou_base::{Accepted, Key, SERVERS, ServerId, Stamp, Text, Value, Vector, W
 use bayou_lang::{Alt, Cond, Op, Program, Term, Write};
 
 /// What stands in lists.
-trait Member: Default + Drop {
+pub(crate) trait Member: Default + Drop {
     ghost at: { List ℕ → Option (Self × List ℕ) };
 
     /// The member at the front.

@@ -28,9 +28,12 @@ use Rattle.bayou_wire.specs.declared.frame.Frame.TheVariants as frames
 use Rattle.bayou_wire.specs.declared.fault.DecodeFault.{DecodeFault}
 use Rattle.bayou_wire.specs.declared.front.Front.{Front}
 use Rattle.bayou_wire.specs.declared.front.Front.TheVariants as fronts
+use Rattle.bayou_wire.specs.declared.front.PlainFront.{PlainFront}
+use Rattle.bayou_wire.specs.declared.front.PlainFront.TheVariants as plain_fronts
 use Rattle.bayou_wire.specs.declared.stream.FeedFault.{FeedFault}
 use Rattle.bayou_wire.specs.declared.stream.FeedFault.TheVariants as feeds
 use Rattle.bayou_wire.specs.declared.layout.TheConstants as layout
+use Rattle.bayou_wire.specs.Forms.{frame_of}
 use Rattle.bayou_wire.specs.Spelling.{IsFrame, frame_bytes, kind_of, payload_bytes}
 use Rattle.bayou_wire.specs.Stream.{IsFaulty, IsPackedFault, IsPartial, TakesIn, stream_of}
 
@@ -238,6 +241,12 @@ abbrev pub IsFront : List ℕ → Front → Type 0
 IsFront bytes fronts.Partial = IsPartial bytes
 IsFront bytes (fronts.Whole frame rest) = IsFrame frame × (bytes ≡ frame_bytes frame ++ rest.now)
 IsFront bytes (fronts.Faulty fault) = IsFaulty bytes fault
+
+-- the same, in the form that takes no memory
+abbrev pub IsPlainFront : List ℕ → PlainFront → Type 0
+IsPlainFront bytes plain_fronts.Partial = IsPartial bytes
+IsPlainFront bytes (plain_fronts.Whole frame rest) = IsFrame (frame_of frame) × (bytes ≡ frame_bytes (frame_of frame) ++ rest.now)
+IsPlainFront bytes (plain_fronts.Faulty fault) = IsFaulty bytes fault
 
 -- what a kind and a payload, all of it, are
 abbrev pub PackedAnswer : ℕ → List ℕ → Result Frame DecodeFault → Type 0
