@@ -1,3 +1,4 @@
 pub mod Views
 pub mod Faults
 pub mod LineLaws
+pub mod AtOnce

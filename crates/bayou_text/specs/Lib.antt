@@ -1,5 +1,6 @@
 pub mod Asks
 pub mod Audit
+pub mod AtOnce
 pub mod Laws
 pub mod Lines
 pub mod Names

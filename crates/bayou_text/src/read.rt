@@ -13,6 +13,7 @@ use crate::read::audit::{entry_in, held_in};
 use crate::read::exchange::exchange_in;
 use crate::read::number::{count_in, limit_in, server_in, session_in};
 use crate::read::program::program_in;
+use crate::read::spelled::spelled_entry;
 use crate::read::value::{key_in, worded};
 use bayou_base::{MAX_LINE_BYTES, ServerId};
 use serde_json::Value;
@@ -23,9 +24,11 @@ mod asked;
 mod asks;
 mod audit;
 mod exchange;
+mod glance;
 mod number;
 mod part;
 mod program;
+mod spelled;
 mod trial;
 mod value;
 mod vector;
@@ -43,6 +46,9 @@ pub fn read_line(alloc: Global, bytes: &[u8]) -> Result<Line, LineFault>
 {
     if bytes.len() > MAX_LINE_BYTES {
         return Err(LineFault::BadShape(Shape::Line));
+    }
+    if let Some(line) = spelled_entry(alloc, bytes) {
+        return Ok(line);
     }
     match str::from_utf8(bytes) {
         Ok(text) => read_text(alloc, text),

@@ -1,4 +1,5 @@
-use Rattle.std.proofs.Common.{List, ℕ, inr, subst, arith, refl}
+use Rattle.std.proofs.Common.{List, ℕ, Ok, inr, subst, arith, refl}
+use Rattle.bayou_text.specs.Laws.Inner.LineTable.{line_from_spells as text_from_spells}
 use Rattle.bayou_text.specs.Lines.{text_line, IsLegible, too_long, no_text}
 use Rattle.bayou_text.specs.Reading.{Gives}
 use Rattle.bayou_text.specs.Said.{said}
@@ -29,4 +30,17 @@ returns-in-Ok c =
       only = gives_what_is_spelled bytes c.read_text.result given;
       exact = exact_from_gives bytes c.read_text.result text given;
       fault = refusal_from_gives bytes c.read_text.result text given;
+    }
+
+pub returns-in-Some : goal.returns-in-Some
+returns-in-Some c =
+    let bytes = c.args.bytes.now in
+    let line = c.in-Some.line in
+    let spells = c.in-Some.ensures in
+    let given : Gives said (Ok line) (text_line bytes) = text_from_spells bytes (said line) spells in
+    record {
+      found = spells;
+      only = gives_what_is_spelled bytes (Ok line) given;
+      exact = exact_from_gives bytes (Ok line) (spells.in_length, spells.utf8) given;
+      fault = tt;
     }

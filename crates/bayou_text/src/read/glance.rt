@@ -1,0 +1,131 @@
+//! What a line may tell, at a glance: a guess, which is to be looked into before it is believed.
+use bayou_base::{Asks, Entry, Key, SERVERS, ServerId, SessionId, Stamp, Vector, What, Wid};
+use std::str;
+
+/// What of a line wasn't looked at yet.
+#[derive(Drop)]
+struct Glance<'a> {
+    rest: &'a [u8],
+}
+
+impl<'a> Glance<'a> {
+    /// Whether this text came next; then it is passed.
+    fn pass(&mut self, text: &[u8]) -> bool {
+        match self.rest.strip_prefix(text) {
+            Some(rest) => {
+                self.rest = rest;
+                true
+            }
+            None => false,
+        }
+    }
+
+    /// Passes one byte, whatever it is.
+    fn skip(&mut self) {
+        if let [_, rest @ ..] = self.rest {
+            self.rest = rest;
+        }
+    }
+
+    /// The digits that come next as a number, of 32 bits.
+    fn number(&mut self) -> u32 {
+        let mut number: u32 = 0;
+        let rest = self.rest;
+        for at in 0..rest.len() {
+            let byte = rest[at];
+            if !byte.is_ascii_digit() {
+                self.rest = &rest[at..];
+                return number;
+            }
+            number = number.wrapping_mul(10).wrapping_add(u32::from(byte & 15));
+        }
+        number
+    }
+
+    /// The number behind one byte.
+    fn next_number(&mut self) -> u32 {
+        self.skip();
+        self.number()
+    }
+
+    /// Whether the word comes next, which is passed then with one byte behind it.
+    fn word(&mut self, word: &[u8]) -> bool {
+        let is_next = self.pass(word);
+        if is_next {
+            self.skip();
+        }
+        is_next
+    }
+
+    /// The array of what is asked for.
+    fn asks(&mut self) -> Asks {
+        Asks {
+            ryw: self.word(b"\"ryw\""),
+            mr: self.word(b"\"mr\""),
+            wfr: self.word(b"\"wfr\""),
+            mw: self.word(b"\"mw\""),
+        }
+    }
+
+    fn key(&mut self) -> Option<Key> {
+        let rest = self.rest;
+        let end = rest.iter().position(|byte| *byte == b'"')?;
+        self.rest = &rest[end..];
+        self.skip();
+        Key::new(str::from_utf8(&rest[..end]).ok()?).ok()
+    }
+
+    /// The array of counts that comes next, and how many they are.
+    fn vector(&mut self) -> Option<(Vector, u8)> {
+        let mut counts = [0; SERVERS];
+        let mut told = 0;
+        for server in 0..SERVERS {
+            if self.rest.len() > 2 {
+                counts[server] = self.next_number();
+                told = server as u8 + 1;
+            }
+        }
+        Some((Vector::from_counts(counts)?, told))
+    }
+}
+
+/// The entry that the line may tell, and how many counts its vector has.
+pub(crate) fn guess(bytes: &[u8]) -> Option<(Entry, Option<u8>)> {
+    let mut glance = Glance { rest: bytes };
+    if !glance.pass(b"[\"entry\",") {
+        return None;
+    }
+    let session = SessionId::new(u8::try_from(glance.number()).ok()?)?;
+    let place = glance.next_number();
+    if place == 0 {
+        return None;
+    }
+    glance.skip();
+    glance.skip();
+    let asks = glance.asks();
+    let server = ServerId::new(u8::try_from(glance.next_number()).ok()?)?;
+    let (what, counts) = if glance.pass(b",\"read\",\"") {
+        let key = glance.key()?;
+        glance.skip();
+        let (vector, counts) = glance.vector()?;
+        (What::Read(key, vector), Some(counts))
+    } else if glance.pass(b",\"write\"") {
+        let wid = Wid::new(server, glance.next_number())?;
+        let stamp = Stamp::new(glance.next_number(), server)?;
+        glance.skip();
+        let (vector, counts) = glance.vector()?;
+        (What::Write(wid, stamp, vector), Some(counts))
+    } else {
+        (What::Refused, None)
+    };
+    Some((
+        Entry {
+            session,
+            place,
+            asks,
+            server,
+            what,
+        },
+        counts,
+    ))
+}
