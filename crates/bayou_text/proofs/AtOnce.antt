@@ -63,9 +63,9 @@ closed (Err e) start old new ds ended same opened = tt
 -- ---- how it is read
 
 -- its tokens are read as it, and it nests at most so deep
-record IsRead (most : ℕ) (d : Data) : Type 0 where
-  again : of_json (outline d) ≡ Some d
-  no_deeper : depth (outline d) ≤ most
+pub record IsRead (most : ℕ) (d : Data) : Type 0 where
+  pub again : of_json (outline d) ≡ Some d
+  pub no_deeper : depth (outline d) ≤ most
 
 module _ (most : ℕ) where
   items_read : (ds : List Data) → AllByRecursion (IsRead most) ds
@@ -75,13 +75,13 @@ module _ (most : ℕ) where
       let others = items_read ds each.1 in
       (rw each.0.again (rw others.0 refl), omega (arith, each.0.no_deeper, others.1))
 
-  array_read : (ds : List Data) → AllByRecursion (IsRead most) ds → IsRead (suc most) (array (items_of ds))
+  pub array_read : (ds : List Data) → AllByRecursion (IsRead most) ds → IsRead (suc most) (array (items_of ds))
   array_read ds each = let all = items_read ds each in record { again = rw all.0 refl; no_deeper = omega (arith, all.1) }
 
-  text_read : (s : List ℕ) → IsRead most (string s)
+  pub text_read : (s : List ℕ) → IsRead most (string s)
   text_read s = record { again = refl; no_deeper = omega arith }
 
-  count_read : (n : ℕ) → n < 2 ^ 64 → IsRead most (count_json n)
+  pub count_read : (n : ℕ) → n < 2 ^ 64 → IsRead most (count_json n)
   count_read n small = record { again = rw (number_of-decimal n small) refl; no_deeper = omega arith }
 
   counts_read : (counts : List ℕ) → AllByRecursion (λ count. count ≤ MAX_WRITES) counts → AllByRecursion (IsRead most) (map count_json counts)
@@ -112,7 +112,7 @@ taken (count ∷ counts) zero each = tt
 taken (count ∷ counts) (suc n) each =
     (each 0 0 (omega arith), taken counts n (λ k d below. each (suc k) d (omega (arith, below))))
 
-vector_read : (n : ℕ) (vector : List ℕ) → AreCounts vector → IsRead 1 (vector_json n vector)
+pub vector_read : (n : ℕ) (vector : List ℕ) → AreCounts vector → IsRead 1 (vector_json n vector)
 vector_read n vector are = array_read 0 _ (counts_read 0 (take n vector) (taken vector n are.in_range))
 
 head_read : (told : Entry) (word : List ℕ) → told.place < 2 ^ 32 → AllByRecursion (IsRead 1) (head_json told word)
@@ -144,9 +144,9 @@ told_read told (what.Write wid stamp deps) n place kept =
 abbrev whole : Option (json.Json × List Token) → Option Data
 whole o = option_and_then of_json (option_and_then (λ p. json.if_last p.0 p.1) o)
 
-read_again : (bytes : List ℕ) (d : Data) → IsRead 2 d → tokens bytes ≡ tokens_of d → read bytes ≡ Some d
-read_again bytes d is same =
-    ap whole (ap (json.value max_depth) (same ∙ sym (append-nil (tokens_of d))) ∙ value-json_tokens (outline d) max_depth [] (omega (arith, is.no_deeper))) ∙ is.again
+pub read_again : (bytes : List ℕ) (most : ℕ) (d : Data) → most ≤ max_depth → IsRead most d → tokens bytes ≡ tokens_of d → read bytes ≡ Some d
+read_again bytes most d shallow is same =
+    ap whole (ap (json.value max_depth) (same ∙ sym (append-nil (tokens_of d))) ∙ value-json_tokens (outline d) max_depth [] (omega (arith, shallow, is.no_deeper))) ∙ is.again
 
 -- ---- what it says
 
@@ -154,7 +154,7 @@ zeros : (counts : List ℕ) → AllByRecursion (λ count. count ≡ 0) counts �
 zeros [] none = refl
 zeros (count ∷ counts) none = rw (none.0, ← zeros counts none.1) refl
 
-vector_is : (n : ℕ) (vector : List ℕ) → AreCounts vector → IsCutTo n vector → VectorIs (vector_json n vector) vector n
+pub vector_is : (n : ℕ) (vector : List ℕ) → AreCounts vector → IsCutTo n vector → VectorIs (vector_json n vector) vector n
 vector_is n vector are cut =
     let others : length (drop n vector) ≡ SERVERS - n = length-drop n vector ∙ ap (λ m. m - n) are.one_each in
     let none : drop n vector ≡ replicate (SERVERS - n) 0 = zeros (drop n vector) cut.1 ∙ ap (λ m. replicate m 0) others in
@@ -233,6 +233,6 @@ entry_spelled told counts bytes short text kept all same = record {
   in_length = short;
   utf8 = text;
   json = told_json told told.what (unwrap_or counts 0);
-  json_is = read_again bytes (told_json told told.what (unwrap_or counts 0)) (told_read told told.what (unwrap_or counts 0) kept.0 kept.1) same;
+  json_is = read_again bytes 2 (told_json told told.what (unwrap_or counts 0)) (omega arith) (told_read told told.what (unwrap_or counts 0) kept.0 kept.1) same;
   line_is = told_is told told.what counts kept.0 kept.1 all;
 }

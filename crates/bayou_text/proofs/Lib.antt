@@ -2,3 +2,4 @@ pub mod Views
 pub mod Faults
 pub mod LineLaws
 pub mod AtOnce
+pub mod HeldAtOnce

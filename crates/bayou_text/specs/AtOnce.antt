@@ -1,15 +1,19 @@
 -- The one spelling of an entry, as the JSON tokens that it is made of, and what the types of an entry keep.
-use Rattle.std.specs.Prelude.{◌≡◌, ◌<◌, ◌^◌, List, ◌++◌, Result, OnOk, flat_map, ⊤}
-use Rattle.json.specs.Token.{Token}
+use Rattle.std.specs.Prelude.{◌≡◌, ◌<◌, ◌^◌, ℕ, Bool, true, false, List, [], ◌∷◌, ◌++◌, Result, OnOk, codes, flat_map, ⊤}
+use Rattle.json.specs.Token.{Token, begin_array, end_array, key as key_token}
 use Rattle.json.specs.Tree.{json_tokens}
 use Rattle.json.specs.Written.{Written}
-use Rattle.serde_json.specs.Data.{Data}
+use Rattle.serde_json.specs.Data.{Data, array, object, member, no_items, no_members}
 use Rattle.serde_json.specs.Written.{outline}
 use Rattle.bayou_base.specs.Vector.{AreCounts}
 use Rattle.bayou_base.specs.declared.entry.Entry.{Entry}
 use Rattle.bayou_base.specs.declared.entry.What.{What}
 use Rattle.bayou_base.specs.declared.entry.What.TheVariants as what
 use Rattle.bayou_lang.specs.Ranges.{IsKey}
+use Rattle.bayou_lang.specs.declared.program.Op.{Op}
+use Rattle.bayou_lang.specs.declared.write.Write.{Write}
+use Rattle.bayou_text.specs.Spelling.{count_json, form, list_json, op_json, vector_json}
+use Rattle.serde_json.specs.View.{items_of}
 
 abbrev pub tokens_of : Data → List Token
 tokens_of d = json_tokens (outline d)
@@ -31,3 +35,29 @@ IsWhat (what.Write wid stamp deps) = AreCounts deps
 -- an entry, by its type
 abbrev pub IsEntry : Entry → Type 0
 IsEntry told = (told.place < 2 ^ 32) × IsWhat told.what
+
+-- ---- a Write whose program is an update alone
+
+-- {"update":[op, ..]}, or the same behind the empty "check" and "merge"
+abbrev pub update_json : Bool → List Op → Data
+update_json false ops = object (member (codes "update") (list_json op_json ops) no_members)
+update_json true ops =
+    object (member (codes "check") (array no_items)
+    (member (codes "merge") (array no_items)
+    (member (codes "update") (list_json op_json ops) no_members)))
+
+-- what stands before the update
+abbrev pub empty_tokens : Bool → List Token
+empty_tokens false = []
+empty_tokens true =
+    key_token (codes "check") ∷ begin_array ∷ end_array ∷ key_token (codes "merge") ∷ begin_array ∷ end_array ∷ []
+
+-- [origin, seq, clock, deps, program]
+abbrev pub updating_json : Bool → Write → ℕ → Data
+updating_json is_whole item n =
+    array (items_of (count_json item.wid.origin.index ∷ count_json item.wid.seq ∷ count_json item.stamp.clock ∷ vector_json n item.deps
+    ∷ update_json is_whole item.program.update.items ∷ []))
+
+-- ["held", server, [origin, seq, clock, deps, program]]
+abbrev pub update_held_json : Bool → ℕ → Write → ℕ → Data
+update_held_json is_whole place item n = form (codes "held") (count_json place ∷ updating_json is_whole item n ∷ [])

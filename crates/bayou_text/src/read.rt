@@ -1,4 +1,5 @@
-ghost use Rattle.std.specs.Prelude.{◌≡◌, map, IfOk, IfErr};
+ghost use Rattle.std.specs.Prelude.{◌≡◌, ◌≤◌, length, map, IfOk, IfErr, IfSome};
+ghost use Rattle.bayou_base.specs.declared.limits.TheConstants.{MAX_LINE_BYTES};
 ghost use Rattle.serde_json.specs.View.{view};
 ghost use Rattle.bayou_text.specs.Reading.{Answers, Gives};
 ghost use Rattle.bayou_text.specs.Said.{Said, said};
@@ -14,6 +15,7 @@ use crate::read::exchange::exchange_in;
 use crate::read::number::{count_in, limit_in, server_in, session_in};
 use crate::read::program::program_in;
 use crate::read::spelled::spelled_entry;
+use crate::read::spelled_held::spelled_held;
 use crate::read::value::{key_in, worded};
 use bayou_base::{MAX_LINE_BYTES, ServerId};
 use serde_json::Value;
@@ -29,6 +31,8 @@ mod number;
 mod part;
 mod program;
 mod spelled;
+mod spelled_held;
+mod spelled_program;
 mod trial;
 mod value;
 mod vector;
@@ -47,12 +51,23 @@ pub fn read_line(alloc: Global, bytes: &[u8]) -> Result<Line, LineFault>
     if bytes.len() > MAX_LINE_BYTES {
         return Err(LineFault::BadShape(Shape::Line));
     }
-    if let Some(line) = spelled_entry(alloc, bytes) {
+    if let Some(line) = spelled_line(alloc, bytes) {
         return Ok(line);
     }
     match str::from_utf8(bytes) {
         Ok(text) => read_text(alloc, text),
         Err(_) => Err(LineFault::NotJson),
+    }
+}
+
+/// What the line says, where it stands in a spelling that most lines of an audit file have. It is read without a tree of JSON.
+fn spelled_line(alloc: Global, bytes: &[u8]) -> Option<Line>
+    requires { length bytes.now ≤ MAX_LINE_BYTES }
+    ensures { IfSome result (λ line. Spells bytes.now (said line)) }
+{
+    match spelled_entry(alloc, bytes) {
+        Some(line) => Some(line),
+        None => spelled_held(alloc, bytes),
     }
 }
 

@@ -1,5 +1,9 @@
 //! What a line may tell, at a glance: a guess, which is to be looked into before it is believed.
-use bayou_base::{Asks, Entry, Key, SERVERS, ServerId, SessionId, Stamp, Vector, What, Wid};
+use bayou_base::{
+    Asks, Entry, Key, MAX_OPS, SERVERS, ServerId, SessionId, Stamp, Value, Vector, What, Wid,
+};
+use bayou_lang::{Op, RestingProgram, RestingWrite, Term};
+use std::alloc::Global;
 use std::str;
 
 /// What of a line wasn't looked at yet.
@@ -67,12 +71,47 @@ impl<'a> Glance<'a> {
         }
     }
 
-    fn key(&mut self) -> Option<Key> {
+    /// The text up to the next quotation mark, which is passed too.
+    fn text(&mut self) -> Option<&'a str> {
         let rest = self.rest;
         let end = rest.iter().position(|byte| *byte == b'"')?;
         self.rest = &rest[end..];
         self.skip();
-        Key::new(str::from_utf8(&rest[..end]).ok()?).ok()
+        str::from_utf8(&rest[..end]).ok()
+    }
+
+    fn key(&mut self) -> Option<Key> {
+        Key::new(self.text()?).ok()
+    }
+
+    /// The number or the text that comes next.
+    fn value(&mut self) -> Option<Value> {
+        if self.pass(b"\"") {
+            return Value::text(self.text()?);
+        }
+        let sign = if self.pass(b"-") { -1 } else { 1 };
+        Some(Value::Num(sign * i64::from(self.number())))
+    }
+
+    /// The ops that come next, each of which sets a key to a value, up to the end of the list.
+    fn puts(&mut self, alloc: Global) -> Option<Vec<Op>> {
+        let Ok(mut ops) = Vec::with_capacity(alloc, 1) else {
+            return None;
+        };
+        for _ in 0..MAX_OPS {
+            if !self.pass(b"[\"put\",\"") {
+                break;
+            }
+            let key = self.key()?;
+            self.skip();
+            let value = self.value()?;
+            let Ok(()) = ops.push(Op::Put(key, Term::Lit(value))) else {
+                return None;
+            };
+            self.skip();
+            self.pass(b",");
+        }
+        Some(ops)
     }
 
     /// The array of counts that comes next, and how many they are.
@@ -128,4 +167,44 @@ pub(crate) fn guess(bytes: &[u8]) -> Option<(Entry, Option<u8>)> {
         },
         counts,
     ))
+}
+
+/// A Write that is held, as a line may tell it.
+#[derive(Drop)]
+pub(crate) struct GuessedHeld {
+    pub(crate) server: ServerId,
+    pub(crate) write: RestingWrite,
+    /// How many counts its vector has.
+    pub(crate) counts: u8,
+    /// Whether the empty members of its program stand in the line.
+    pub(crate) is_whole: bool,
+}
+
+/// The Write that the line may tell to be held, where its program is an update alone.
+pub(crate) fn guess_held(alloc: Global, bytes: &[u8]) -> Option<GuessedHeld> {
+    let mut glance = Glance { rest: bytes };
+    if !glance.pass(b"[\"held\",") {
+        return None;
+    }
+    let server = ServerId::new(u8::try_from(glance.number()).ok()?)?;
+    glance.skip();
+    let origin = ServerId::new(u8::try_from(glance.next_number()).ok()?)?;
+    let wid = Wid::new(origin, glance.next_number())?;
+    let stamp = Stamp::new(glance.next_number(), origin)?;
+    glance.skip();
+    let (vector, counts) = glance.vector()?;
+    glance.pass(b"],{");
+    let is_whole = glance.pass(b"\"check\":[],\"merge\":[],");
+    glance.pass(b"\"update\":[");
+    let ops = glance.puts(alloc)?;
+    if ops.len() > MAX_OPS {
+        return None;
+    }
+    let program = RestingProgram::new(Vec::new(alloc), ops, Vec::new(alloc));
+    Some(GuessedHeld {
+        server,
+        write: RestingWrite::new(wid, stamp, vector, program),
+        counts,
+        is_whole,
+    })
 }

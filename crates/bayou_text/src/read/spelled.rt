@@ -57,7 +57,11 @@ fn write_counts(writer: &mut Writer, counts: &[u32]) -> Result<(), AllocError>
 }
 
 /// Writes the first counts of the vector, or all of them.
-fn write_vector(writer: &mut Writer, vector: &Vector, number: u8) -> Result<(), AllocError>
+pub(crate) fn write_vector(
+    writer: &mut Writer,
+    vector: &Vector,
+    number: u8,
+) -> Result<(), AllocError>
     ensures spelling { Adds result writer.old writer.new (tokens_of (spelling.vector_json number vector.now)) }
     ensures kept { OnOk result (AreCounts vector.now) }
 {
@@ -118,7 +122,7 @@ fn spelling_of(alloc: Global, size: usize, entry: &Entry, counts: u8) -> Result<
 }
 
 /// Whether so many counts of the vector tell all of it.
-fn is_cut(vector: &Vector, number: u8) -> bool
+pub(crate) fn is_cut(vector: &Vector, number: u8) -> bool
     ensures { IsTrue result → IsCutTo number vector.now }
 {
     let told = usize::from(number);
@@ -126,7 +130,7 @@ fn is_cut(vector: &Vector, number: u8) -> bool
 }
 
 /// Whether both are of this server.
-fn is_own(server: ServerId, wid: Wid, stamp: Stamp) -> bool
+pub(crate) fn is_own(server: ServerId, wid: Wid, stamp: Stamp) -> bool
     ensures { IsTrue result → (wid.origin ≡ server) × (stamp.origin ≡ server) }
 {
     wid.origin.index == server.index && stamp.origin.index == server.index
