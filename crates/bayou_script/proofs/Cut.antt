@@ -1,6 +1,6 @@
 -- Lines that are cut off a text as it comes.
-use Rattle.std.proofs.Common.{◌≡◌, ◌+◌, ◌<◌, ◌≤◌, ◌==◌, ◌∙◌, ℕ, false, List, [], ◌∷◌, ◌++◌, length, ap, refl, sym, subst, arith, append_assoc, append-nil, length-append, get_or, take, drop, take-append-drop}
-use Rattle.std.proofs.lemmas.Bool.{ne_eqb}
+use Rattle.std.proofs.Common.{◌≡◌, ◌+◌, ◌<◌, ◌==◌, ◌∙◌, ℕ, zero, suc, Bool, true, false, List, [], ◌∷◌, ◌++◌, length, ap, refl, sym, subst, arith, append_assoc, append-nil, length-append, get_or, take, drop, take-append-drop}
+use Rattle.std.proofs.lemmas.Bool.{eqb-true}
 use Rattle.std.proofs.lemmas.List.{take_more}
 use Rattle.std.proofs.lemmas.List.Splits.{slice_split-cons_no}
 use Rattle.std.specs.List.{onto_first}
@@ -12,7 +12,7 @@ use Rattle.bayou_text.specs.Said.{Said}
 use Rattle.bayou_script.specs.declared.fault.InputRefusal.{InputRefusal}
 use Rattle.bayou_script.specs.declared.fault.InputRefusal.TheVariants.{Line, OutOfMemory}
 use Rattle.bayou_script.specs.declared.fault.ScriptFault.TheVariants.{BadShape}
-use Rattle.bayou_script.specs.Inner.Taking.{FaultAt}
+use Rattle.bayou_script.specs.Inner.Taking.{FaultAt, HasNoLineFeed}
 use Rattle.bayou_script.specs.Order.{HasFault, InOrderBy, Order, RefusedBy, at_line, in_itself, lines_of}
 use Rattle.bayou_script.specs.Reading.{IsRefusedSoFar, begun_by}
 
@@ -52,7 +52,7 @@ pub Cuts-end : (bytes : List ℕ) (ended : List (List ℕ)) (line : List ℕ) �
 Cuts-end bytes ended line cut = λ more. ends_there bytes ended line more cut ∙ sym (append_assoc ended (line ∷ []) (lines_of more))
 
 -- another byte goes on with it
-pub Cuts-more : (bytes : List ℕ) (ended : List (List ℕ)) (line : List ℕ) (byte : ℕ) → (byte == 10) ≡ false → Cuts bytes ended line
+Cuts-more : (bytes : List ℕ) (ended : List (List ℕ)) (line : List ℕ) (byte : ℕ) → (byte == 10) ≡ false → Cuts bytes ended line
     → Cuts (bytes ++ byte ∷ []) ended (line ++ byte ∷ [])
 Cuts-more bytes ended line byte other cut = λ more.
     ap lines_of (append_assoc bytes (byte ∷ []) more) ∙ cut (byte ∷ more)
@@ -82,33 +82,59 @@ pub refused_last : (order : Order) (bytes : List ℕ) (ended : List (List ℕ)) 
 refused_last order bytes ended line front refusal cut in_order fault =
     refused_line order (lines_of bytes) ended line [] front refusal (Cuts-all bytes ended line cut) in_order fault
 
--- a line that is too long is at fault, however it goes on
-pub refused_long : (order : Order) (bytes : List ℕ) (ended : List (List ℕ)) (line : List ℕ) (byte number : ℕ) (front : List Said) → (byte == 10) ≡ false
-    → Cuts bytes ended line → InOrderBy order ended front → number ≡ length ended + 1 → MAX_LINE_BYTES ≤ length line
-    → IsRefusedSoFar order (bytes ++ byte ∷ []) (Line number BadShape)
-refused_long order bytes ended line byte number front other cut in_order is long = λ more.
-    let begun : List ℕ = line ++ byte ∷ [] in
-    let (end, others, so) = begun_long begun (lines_of more) (omega (arith, length-append line (byte ∷ []))) in
-    let past : MAX_LINE_BYTES < length (begun ++ end) = omega (arith, length-append begun end, length-append line (byte ∷ [])) in
-    at_line ended (begun ++ end) others front (Cuts-more bytes ended line byte other cut more ∙ ap (λ (l : List (List ℕ)). ended ++ l) so) in_order is
-    (in_itself (faults.BadShape shape.Line) (λ none. let zero_long = ap length none in absurd (omega arith)) (too_long past refl) refl)
-
 -- what is refused so far stays refused
 pub IsRefusedSoFar-more : (order : Order) (bytes rest : List ℕ) (refusal : InputRefusal) → IsRefusedSoFar order bytes refusal → IsRefusedSoFar order (bytes ++ rest) refusal
 IsRefusedSoFar-more order bytes rest refusal refused = λ more.
     subst (λ text. RefusedBy order (lines_of text) refusal) (sym (append_assoc bytes rest more)) (refused (rest ++ more))
 
-pub is_other : (byte : ℕ) → ¬ (byte ≡ 10) → (byte == 10) ≡ false
-is_other byte other = ne_eqb byte 10 other
+not_true : (b : Bool) → ¬ (b ≡ true) → b ≡ false
+not_true true other = absurd (other refl)
+not_true false other = refl
 
--- one byte more of a piece
-pub one_more : (bytes piece : List ℕ) (i : ℕ) → i < length piece → (bytes ++ take i piece) ++ get_or piece i 0 ∷ [] ≡ bytes ++ take (i + 1) piece
-one_more bytes piece i within = append_assoc bytes (take i piece) (get_or piece i 0 ∷ []) ∙ ap (λ l. bytes ++ l) (sym (take_more piece i 0 within))
+-- ---- several bytes at once
 
--- what is refused within a piece is refused behind it
-pub refused_within : (order : Order) (bytes piece : List ℕ) (i : ℕ) (refusal : InputRefusal) → i < length piece
-    → IsRefusedSoFar order ((bytes ++ take i piece) ++ get_or piece i 0 ∷ []) refusal → IsRefusedSoFar order (bytes ++ piece) refusal
-refused_within order bytes piece i refusal within refused =
-    let some : IsRefusedSoFar order (bytes ++ take (i + 1) piece) refusal = subst (λ l. IsRefusedSoFar order l refusal) (one_more bytes piece i within) refused in
-    subst (λ l. IsRefusedSoFar order l refusal) (append_assoc bytes (take (i + 1) piece) (drop (i + 1) piece) ∙ ap (λ l. bytes ++ l) (take-append-drop (i + 1) piece))
-    (IsRefusedSoFar-more order (bytes ++ take (i + 1) piece) (drop (i + 1) piece) refusal some)
+-- bytes that are no line feeds go on with it
+pub Cuts-part : (part bytes : List ℕ) (ended : List (List ℕ)) (line : List ℕ) → HasNoLineFeed part → Cuts bytes ended line
+    → Cuts (bytes ++ part) ended (line ++ part)
+Cuts-part [] bytes ended line none cut =
+    subst (λ l. Cuts l ended (line ++ [])) (sym (append-nil bytes)) (subst (Cuts bytes ended) (sym (append-nil line)) cut)
+Cuts-part (byte ∷ part) bytes ended line none cut =
+    subst (λ l. Cuts l ended (line ++ byte ∷ part)) (append_assoc bytes (byte ∷ []) part)
+    (subst (Cuts ((bytes ++ byte ∷ []) ++ part) ended) (append_assoc line (byte ∷ []) part)
+    (Cuts-part part (bytes ++ byte ∷ []) ended (line ++ byte ∷ []) none.1 (Cuts-more bytes ended line byte none.0 cut)))
+
+-- a line that is too long with them is at fault, however it goes on
+pub refused_long : (order : Order) (bytes : List ℕ) (ended : List (List ℕ)) (line part : List ℕ) (number : ℕ) (front : List Said) → HasNoLineFeed part
+    → Cuts bytes ended line → InOrderBy order ended front → number ≡ length ended + 1 → MAX_LINE_BYTES < length line + length part
+    → IsRefusedSoFar order (bytes ++ part) (Line number BadShape)
+refused_long order bytes ended line part number front none cut in_order is long = λ more.
+    let begun : List ℕ = line ++ part in
+    let (end, others, so) = begun_long begun (lines_of more) (omega (arith, long, length-append line part)) in
+    let past : MAX_LINE_BYTES < length (begun ++ end) = omega (arith, long, length-append begun end, length-append line part) in
+    at_line ended (begun ++ end) others front (Cuts-part part bytes ended line none cut more ∙ ap (λ (l : List (List ℕ)). ended ++ l) so) in_order is
+    (in_itself (faults.BadShape shape.Line) (λ none. let zero_long = ap length none in absurd (omega arith)) (too_long past refl) refl)
+
+-- up to the first line feed there is none
+pub none_before : (bytes : List ℕ) (k : ℕ) → ((j : ℕ) → j < k → ¬ ((get_or bytes j 0 == 10) ≡ true)) → HasNoLineFeed (take k bytes)
+none_before [] zero others = tt
+none_before [] (suc k) others = tt
+none_before (byte ∷ bytes) zero others = tt
+none_before (byte ∷ bytes) (suc k) others = (not_true (byte == 10) (others 0 (omega arith)), none_before bytes k (λ j below. others (suc j) (omega (arith, below))))
+
+-- a piece is what stands before a line feed, the line feed, and what stands behind it
+pub cut_there : (bytes : List ℕ) (k : ℕ) → k < length bytes → (get_or bytes k 0 == 10) ≡ true → (take k bytes ++ 10 ∷ []) ++ drop (k + 1) bytes ≡ bytes
+cut_there bytes k within is =
+    let byte : get_or bytes k 0 ≡ 10 = eqb-true (get_or bytes k 0) 10 is in
+    ap (λ b. (take k bytes ++ b ∷ []) ++ drop (k + 1) bytes) (sym byte) ∙ ap (λ l. l ++ drop (k + 1) bytes) (sym (take_more bytes k 0 within)) ∙ take-append-drop (k + 1) bytes
+
+-- where there is none, there is none at all
+pub none_at_all : (bytes : List ℕ) → ((j : ℕ) → j < length bytes → ¬ ((get_or bytes j 0 == 10) ≡ true)) → HasNoLineFeed bytes
+none_at_all [] others = tt
+none_at_all (byte ∷ bytes) others = (not_true (byte == 10) (others 0 (omega arith)), none_at_all bytes (λ j below. others (suc j) (omega (arith, below))))
+
+-- a piece, cut behind its first line
+pub regrouped : (bytes front line behind rest piece : List ℕ) → piece ≡ front ++ rest → rest ≡ (line ++ 10 ∷ []) ++ behind
+    → (((bytes ++ front) ++ line) ++ 10 ∷ []) ++ behind ≡ bytes ++ piece
+regrouped bytes front line behind rest piece split is =
+    ap (λ l. l ++ behind) (append_assoc (bytes ++ front) line (10 ∷ [])) ∙ append_assoc (bytes ++ front) (line ++ 10 ∷ []) behind
+    ∙ ap (λ l. (bytes ++ front) ++ l) (sym is) ∙ append_assoc bytes front rest ∙ ap (λ l. bytes ++ l) (sym split)

@@ -1,6 +1,6 @@
 //! Texts that come in pieces, each of which is cut into lines.
-ghost use Rattle.std.specs.Prelude.{◌≡◌, ◌+◌, [], ◌∷◌, ◌++◌, ℕ, IfOk, List, MatchResult, length};
-ghost use Rattle.bayou_script.specs.Inner.Taking.{FaultAt};
+ghost use Rattle.std.specs.Prelude.{◌≡◌, ◌+◌, [], ◌∷◌, ◌++◌, ℕ, IfOk, List, MatchOption, MatchResult, length};
+ghost use Rattle.bayou_script.specs.Inner.Taking.{FaultAt, HasNoLineFeed};
 ghost use Rattle.bayou_script.specs.Order.{HasAdded, InOrderBy, Order, RefusedBy};
 ghost use Rattle.bayou_script.specs.declared.fault.InputRefusal.TheVariants.{OutOfMemory};
 ghost use Rattle.bayou_text.specs.Said.{Said, said};
@@ -9,6 +9,7 @@ ghost use Rattle.bayou_text.specs.Table.{Spells};
 use crate::fault::{InputRefusal, ScriptFault};
 use bayou_base::MAX_LINE_BYTES;
 use bayou_text::{Line, read_line};
+use memchr::memchr;
 use std::alloc::Global;
 
 /// What the lines of a text have said, while they are checked. Each kind of text has its own.
@@ -71,6 +72,17 @@ fn add_line<F: Front>(
     }
 }
 
+/// The first line that ends in the piece, and what stands behind its line feed, if there is one.
+fn first_line(piece: &[u8]) -> Option<(&[u8], &[u8])>
+    ensures { MatchOption result (HasNoLineFeed piece.now)
+        (λ parts. HasNoLineFeed parts.0.now × (piece.now ≡ (parts.0.now ++ 10 ∷ []) ++ parts.1.now)) }
+{
+    match memchr(b'\n', piece) {
+        Some(end) => Some((&piece[..end], &piece[end + 1..])),
+        None => None,
+    }
+}
+
 /// A text of which a front was read. It keeps what the whole lines say, and the bytes of the line that hasn't ended.
 #[derive(Drop)]
 pub struct TextReader<F> {
@@ -81,6 +93,7 @@ pub struct TextReader<F> {
 }
 
 impl<F: Front> TextReader<F> {
+    ghost use Rattle.bayou_script.specs.Inner.Taking.{HasNoLineFeed};
     ghost use Rattle.bayou_script.specs.Reading.{HasReadBy, IsRefusedSoFar};
     ghost use Rattle.bayou_script.specs.Order.{lines_of};
 
@@ -109,31 +122,30 @@ impl<F: Front> TextReader<F> {
         Ok(())
     }
 
-    /// Takes a byte of the line that hasn't ended. A line that is too long needn't end to be refused.
-    fn go_on(&mut self, byte: u8) -> Result<(), InputRefusal>
-        requires { ¬ (byte ≡ 10) }
+    /// Takes more bytes of the line that hasn't ended, none of which is a line feed. A line that is too long needn't end to be refused.
+    fn go_on(&mut self, part: &[u8]) -> Result<(), InputRefusal>
+        requires { HasNoLineFeed part.now }
         ensures { (bytes : List ℕ) → HasReadBy F.order F.keeps self.old bytes
-            → MatchResult result (λ _. HasReadBy F.order F.keeps self.new (bytes ++ byte ∷ [])) (IsRefusedSoFar F.order (bytes ++ byte ∷ [])) }
+            → MatchResult result (λ _. HasReadBy F.order F.keeps self.new (bytes ++ part.now)) (IsRefusedSoFar F.order (bytes ++ part.now)) }
     {
-        if self.line.len() >= MAX_LINE_BYTES {
+        if part.len() > MAX_LINE_BYTES.saturating_sub(self.line.len()) {
             return Err(InputRefusal::Line {
                 number: self.number,
                 fault: ScriptFault::BadShape,
             });
         }
-        self.line.push(byte)?;
+        self.line.extend_from_slice(part)?;
         Ok(())
     }
 
-    /// Takes the next byte.
-    fn take(&mut self, alloc: Global, byte: u8) -> Result<(), InputRefusal>
+    /// Takes the last bytes of a line, none of which is a line feed, and the line feed behind them.
+    fn take_line(&mut self, alloc: Global, part: &[u8]) -> Result<(), InputRefusal>
+        requires { HasNoLineFeed part.now }
         ensures { (bytes : List ℕ) → HasReadBy F.order F.keeps self.old bytes
-            → MatchResult result (λ _. HasReadBy F.order F.keeps self.new (bytes ++ byte ∷ [])) (IsRefusedSoFar F.order (bytes ++ byte ∷ [])) }
+            → MatchResult result (λ _. HasReadBy F.order F.keeps self.new (bytes ++ part.now ++ 10 ∷ [])) (IsRefusedSoFar F.order (bytes ++ part.now ++ 10 ∷ [])) }
     {
-        if byte == b'\n' {
-            return self.end_line(alloc);
-        }
-        self.go_on(byte)
+        self.go_on(part)?;
+        self.end_line(alloc)
     }
 
     /// Reads on. The least line with a fault is told as soon as its fault is sure, whatever stands behind it; then the reader
@@ -142,10 +154,12 @@ impl<F: Front> TextReader<F> {
         ensures { (bytes : List ℕ) → HasReadBy F.order F.keeps self.old bytes
             → MatchResult result (λ _. HasReadBy F.order F.keeps self.new (bytes ++ piece.now)) (IsRefusedSoFar F.order (bytes ++ piece.now)) }
     {
-        for byte in piece {
-            self.take(alloc, *byte)?;
+        let mut rest = piece;
+        while let Some((line, behind)) = first_line(rest) {
+            self.take_line(alloc, line)?;
+            rest = behind;
         }
-        Ok(())
+        self.go_on(rest)
     }
 
     /// What all the lines have said. What stands behind the last line feed is the last of them.

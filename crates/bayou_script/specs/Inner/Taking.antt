@@ -1,5 +1,6 @@
 -- What a draft makes of a line.
-use Rattle.std.specs.Prelude.{◌≡◌, ℕ, List}
+use Rattle.std.specs.Prelude.{◌≡◌, ◌==◌, ℕ, false, List}
+use Rattle.std.specs.List.{AllByRecursion}
 use Rattle.bayou_text.specs.declared.line.LineFault.{LineFault}
 use Rattle.bayou_text.specs.declared.line.LineFault.TheVariants as line
 use Rattle.bayou_text.specs.Said.{Said}
@@ -20,3 +21,7 @@ refusal_of number line.NotJson = Line number NotJson
 refusal_of number (line.BadShape what) = Line number BadShape
 refusal_of number (line.Key why) = Line number BadKey
 refusal_of number (line.Program why) = Line number BadProgram
+
+-- no byte is a line feed
+abbrev pub HasNoLineFeed : List ℕ → Type 0
+HasNoLineFeed bytes = AllByRecursion (λ byte. (byte == 10) ≡ false) bytes
