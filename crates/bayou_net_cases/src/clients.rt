@@ -2,7 +2,7 @@
 ghost use Rattle.std.specs.Prelude.{◌≡◌};
 ghost use Rattle.bayou_audit.specs.Blanks.{AreBlanksOf, named};
 
-use crate::fixtures::{blanks, key, must_be_so, must_hold, put, server_id};
+use crate::fixtures::{blanks, key, must_be_so, must_hold, resting_put, server_id};
 use crate::streams::{Counting, Slow, counting_writer, slow_reader, slow_writer};
 use crate::words::{bytes, parts};
 use bayou_audit::{AuditBook, Blanks, Four, Ledgers, Share, Totals};
@@ -125,7 +125,8 @@ fn write_word<K: Ledgers, R: Wait + Abort>(
     if client.left() == 0 {
         return "no place";
     }
-    match client.write(rt, alloc, book, link, server_id(rt), put(rt, 1)) {
+    let program = resting_put(rt, alloc, 1);
+    match client.write(rt, alloc, book, link, server_id(rt), program) {
         Ok(_) => "served",
         Err(fault) => word_of(fault),
     }

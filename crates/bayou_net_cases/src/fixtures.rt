@@ -5,7 +5,7 @@ ghost use Rattle.bayou_node.specs.Books.{IsBlankOf, begun_of};
 use bayou_audit::Blanks;
 use bayou_base::{Key, MAX_WRITES, ServerId, Value};
 use bayou_device::{MemoryDevice, OpenGate};
-use bayou_lang::{Op, Program, Term};
+use bayou_lang::{Op, Program, RestingProgram, Term};
 use bayou_node::{Desk, Desks, Node};
 use bayou_server::Server;
 use std::alloc::Global;
@@ -40,6 +40,15 @@ pub fn key(rt: &impl Abort) -> Key {
 pub fn put(rt: &impl Abort, number: i64) -> Program {
     let op = Op::Put(key(rt), Term::Lit(Value::Num(number)));
     Program::new(&[], &[op], &[]).expect(rt, "no program")
+}
+
+/// The same at rest, again where that was refused: in a test of want of memory one allocation is refused, and never a second.
+pub fn resting_put(rt: &impl Abort, alloc: Global, number: i64) -> RestingProgram {
+    let program = put(rt, number);
+    match program.rest(alloc) {
+        Ok(program) => program,
+        Err(_) => program.rest(alloc).expect(rt, "no program"),
+    }
 }
 
 /// The first of two servers, which holds nothing and may hold so many Writes, in a box of its own: a function that owns a box is proved in a

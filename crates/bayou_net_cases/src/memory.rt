@@ -3,7 +3,7 @@ ghost use Rattle.std.specs.Prelude.{◌≡◌};
 ghost use Rattle.bayou_audit.specs.Blanks.{AreBlanksOf, named};
 
 use crate::clients::reader;
-use crate::fixtures::{blanks, key, put, server_id};
+use crate::fixtures::{blanks, key, resting_put, server_id};
 use crate::words::bytes_of;
 use bayou_audit::{AuditBook, Blanks, Four, Ledgers, Share, Totals};
 use bayou_client::{Client, ClientFault, Link, LinkFault};
@@ -75,8 +75,9 @@ fn fault_of<K: Ledgers, R: Wait + Abort>(
             .read(rt, alloc, book, link, server_id(rt), &key(rt))
             .err()
     } else {
+        let program = resting_put(rt, alloc, 1);
         client
-            .write(rt, alloc, book, link, server_id(rt), put(rt, 1))
+            .write(rt, alloc, book, link, server_id(rt), program)
             .err()
     }
 }

@@ -1,5 +1,5 @@
 //! What one session does at a listener.
-use crate::fixtures::{key, put, server_id};
+use crate::fixtures::{key, resting_put, server_id};
 use crate::gates::{AWAITED, open, wait_while};
 use bayou_audit::{AuditBook, Ledgers, Share};
 use bayou_base::{Asks, Seen, Wid};
@@ -34,7 +34,7 @@ fn writes<K: Ledgers, R: Wait + Abort>(
         book,
         link,
         server_id(rt),
-        put(rt, i64::from(number)),
+        resting_put(rt, alloc, i64::from(number)),
     ) {
         Ok(accepted) => Some(accepted.wid),
         Err(_) => None,

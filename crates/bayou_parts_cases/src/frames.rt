@@ -1,10 +1,10 @@
 //! Frames and Writes, byte for byte. Behind `=>` stands the value as it prints itself, or the fault, which a `!` begins.
 use crate::fixtures::{must_be_so, must_hold};
 use crate::notation::{AS_PRINTED, bytes_of, expanded, parts, repeated};
-use bayou_lang::Write;
+use bayou_lang::{RestingWrite, Write};
 use bayou_wire::{
-    DecodeFault, Frame, decode_frame, decode_write, encode_frame, encode_item,
-    encode_resting_write, encode_write, frame_len,
+    DecodeFault, Frame, Frames, RestingFault, decode_frame, decode_resting_write, decode_write,
+    encode_frame, encode_item, encode_resting_write, encode_write, frame_len,
 };
 use std::alloc::Global;
 use std::process::Abort;
@@ -14,16 +14,22 @@ fn told_fault(rt: &impl Abort, alloc: Global, fault: DecodeFault) -> String {
     format!(in alloc; "!{fault:?}").expect(rt, "no memory")
 }
 
-/// The frame as it prints itself, and its bytes.
-fn told_frame(rt: &impl Abort, alloc: Global, frame: &Frame) -> (String, Vec<u8>) {
-    let told = format!(in alloc; "{frame:?}").expect(rt, "no memory");
-    (told, encode_frame(alloc, frame).expect(rt, "no memory"))
+/// The bytes of the one frame that a stream of these bytes gives, at rest; none where it gives another number.
+fn bytes_of_the_frame(rt: &impl Abort, alloc: Global, bytes: &[u8]) -> Vec<u8> {
+    let mut frames = Frames::new(alloc);
+    match frames.feed(bytes).expect(rt, "no frames").as_slice() {
+        [frame] => encode_frame(alloc, frame).expect(rt, "no memory"),
+        _ => Vec::new(alloc),
+    }
 }
 
-/// The frame that the bytes are read as, and its bytes again; or their fault, and none.
+/// The frame that the bytes are read as, as it prints itself, and its bytes again; or their fault, and none.
 fn frame_of(rt: &impl Abort, alloc: Global, bytes: &[u8]) -> (String, Vec<u8>) {
     match decode_frame(bytes) {
-        Ok(frame) => told_frame(rt, alloc, &frame),
+        Ok(frame) => {
+            let told = format!(in alloc; "{frame:?}").expect(rt, "no memory");
+            (told, bytes_of_the_frame(rt, alloc, bytes))
+        }
         Err(fault) => (told_fault(rt, alloc, fault), Vec::new(alloc)),
     }
 }
@@ -43,24 +49,27 @@ fn write_of(rt: &impl Abort, alloc: Global, bytes: &[u8]) -> (String, Vec<u8>) {
 }
 
 /// The bytes of the Write at rest, and those of its Item.
-fn bytes_at_rest(rt: &impl Abort, alloc: Global, write: &Write) -> (Vec<u8>, Vec<u8>) {
-    let resting = write.rest(alloc).expect(rt, "no memory");
-    let bytes = encode_resting_write(alloc, &resting).expect(rt, "no memory");
-    (bytes, encode_item(alloc, &resting).expect(rt, "no memory"))
+fn bytes_at_rest(rt: &impl Abort, alloc: Global, resting: &RestingWrite) -> (Vec<u8>, Vec<u8>) {
+    let bytes = encode_resting_write(alloc, resting).expect(rt, "no memory");
+    (bytes, encode_item(alloc, resting).expect(rt, "no memory"))
 }
 
 /// Whether the Write has these bytes at rest too, also behind the front of its Item.
-fn is_same(rt: &impl Abort, alloc: Global, write: Write, bytes: &[u8]) -> bool {
-    let (again, item) = bytes_at_rest(rt, alloc, &write);
-    let framed = encode_frame(alloc, &Frame::Item(write)).expect(rt, "no memory");
+fn is_same(rt: &impl Abort, alloc: Global, resting: RestingWrite, bytes: &[u8]) -> bool {
+    let (again, item) = bytes_at_rest(rt, alloc, &resting);
+    let framed = encode_frame(alloc, &Frame::Item(resting)).expect(rt, "no memory");
     again.as_slice() == bytes && item.as_slice() == framed.as_slice()
 }
 
-/// Whether the bytes are a Write that has them at rest too.
+/// Whether the bytes are read at rest as they are read plainly: as the same Write, which has them at rest too, or as having the same fault.
 fn rests(rt: &impl Abort, alloc: Global, bytes: &[u8]) -> bool {
-    match decode_write(bytes) {
-        Ok(write) => is_same(rt, alloc, write, bytes),
-        Err(_) => false,
+    match (decode_write(bytes), decode_resting_write(alloc, bytes)) {
+        (Ok(write), Ok(resting)) => {
+            write.rest(alloc).expect(rt, "no memory") == resting
+                && is_same(rt, alloc, resting, bytes)
+        }
+        (Err(fault), Err(told)) => told == RestingFault::Fault(fault),
+        _ => false,
     }
 }
 
@@ -230,9 +239,9 @@ fn is_write(rt: &impl Abort, alloc: Global, bytes: &[u8], printed: &str) -> bool
     let (found, again) = write_of(rt, alloc, bytes);
     let is_spelled = match printed.starts_with('!') {
         true => again.is_empty(),
-        false => again.as_slice() == bytes && rests(rt, alloc, bytes),
+        false => again.as_slice() == bytes,
     };
-    is_spelled && is_printed(rt, alloc, &found, printed)
+    is_spelled && rests(rt, alloc, bytes) && is_printed(rt, alloc, &found, printed)
 }
 
 #[test]
@@ -311,7 +320,8 @@ fn is_spelling(rt: &impl Abort, alloc: Global, bytes: &[u8]) -> bool {
         Ok(write) => encode_write(alloc, &write)
             .expect(rt, "no memory")
             .as_slice()
-            == bytes,
+            == bytes
+            && rests(rt, alloc, bytes),
         Err(_) => false,
     }
 }

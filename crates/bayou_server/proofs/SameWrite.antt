@@ -1,5 +1,5 @@
 -- What `==` tells of a held Write of the given one's name.
-use Rattle.std.proofs.Common.{◌≡◌, List, Bool, true, false, Contains, refl, sym, ◌∙◌, subst}
+use Rattle.std.proofs.Common.{◌≡◌, List, Bool, true, false, Contains, sym, ◌∙◌, subst}
 use Rattle.bayou_lang.specs.declared.write.Write.{Write}
 use Rattle.bayou_lang.specs.Equality.{same_write}
 use Rattle.bayou_lang.specs.Laws.Equality.{same_write-decides}

@@ -1,8 +1,10 @@
 ghost use Rattle.std.specs.Prelude.{◌≡◌, ◌<◌, ◌≤◌, ◌⊎◌, ◌↔◌, IsTrue, MatchResult};
 ghost use Rattle.bayou_base.specs.declared.limits.TheConstants.{SERVERS, MAX_WRITES};
-ghost use Rattle.bayou_server.specs.declared.fault.StartFault.TheVariants.{OutOfMemory};
+ghost use Rattle.bayou_server.specs.declared.fault.StartFault.TheVariants.{BadRecord, OutOfMemory};
 ghost use Rattle.bayou_server.specs.Server.{MayFollow};
 ghost use Rattle.bayou_server.specs.Inner.Replaying.{IsAdded, IsAdmitted, Replays};
+ghost use Rattle.bayou_lang.specs.declared.write.Write.{Write as Written};
+ghost use Rattle.bayou_wire.specs.Spelling.{SpellsWrite};
 ghost use Rattle.bayou_server.specs.Starts.{RefusesBody, RefusesEntry};
 
 use crate::fault::StartFault;
@@ -23,6 +25,19 @@ fn may_follow(log: &WriteLog, id: ServerId, write: &RestingWrite) -> bool
     write.wid().origin != id || *write.deps() == log.vector()
 }
 
+// The Write that the body of the entry at this place spells.
+fn spelled_by(alloc: Global, body: &[u8], at: u32) -> Result<RestingWrite, StartFault>
+    ensures { MatchResult result
+        (SpellsWrite body.now)
+        (λ fault. (fault ≡ OutOfMemory) ⊎ ((fault ≡ BadRecord at) × ((write : Written) → ¬ (SpellsWrite body.now write)))) }
+{
+    match decode_resting_write(alloc, body) {
+        Ok(write) => Ok(write),
+        Err(RestingFault::Fault(_)) => Err(StartFault::BadRecord(at)),
+        Err(RestingFault::OutOfMemory) => Err(StartFault::OutOfMemory),
+    }
+}
+
 // The Write that the body of the next entry spells, if the log of the server `id` takes it.
 fn next_of(
     alloc: Global,
@@ -36,11 +51,7 @@ fn next_of(
         (λ fault. (fault ≡ OutOfMemory) ⊎ RefusesBody id.index log.now.count log.now.limit log.now.receipts body.now fault) }
 {
     let at = log.receipts().len() as u32;
-    let write = match decode_resting_write(alloc, body) {
-        Ok(write) => write,
-        Err(RestingFault::Fault(_)) => return Err(StartFault::BadRecord(at)),
-        Err(RestingFault::OutOfMemory) => return Err(StartFault::OutOfMemory),
-    };
+    let write = spelled_by(alloc, body, at)?;
     if !may_follow(log, id, &write) {
         return Err(StartFault::Gap(at));
     }

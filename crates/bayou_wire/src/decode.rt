@@ -33,7 +33,10 @@ pub fn decode_write(bytes: &[u8]) -> Result<Write, DecodeFault>
 
 /// As [`decode_write`], at rest: it takes memory at the size of what the Write says. Want of it may stand in the place of any other answer.
 pub fn decode_resting_write(alloc: Global, bytes: &[u8]) -> Result<RestingWrite, RestingFault>
-    ensures { UnlessWanting (WriteAnswer bytes.now) result }
+    // What is answered is so.
+    ensures answer { UnlessWanting (WriteAnswer bytes.now) result }
+    // Nothing else is.
+    ensures only { (other : Result Written DecodeFault) → WriteAnswer bytes.now other → UnlessWanting (λ answer. answer ≡ other) result }
 {
     match resting_write_of(alloc, bytes)? {
         None => Err(RestingFault::Fault(DecodeFault::BadBody)),

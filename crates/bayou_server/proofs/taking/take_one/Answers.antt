@@ -1,13 +1,13 @@
-use Rattle.std.proofs.Common.{Ok, Err, ap, subst}
+use Rattle.std.proofs.Common.{Ok, ap, subst}
 use Rattle.bayou_server.specs.declared.answer.Took.TheVariants.{New}
 use Rattle.bayou_server.specs.declared.storing.Stored.{Stored}
-use Rattle.bayou_server.specs.declared.storing.Stored.TheVariants.{Held, InDoubt}
-use Rattle.bayou_server.specs.Inner.Fields.{core_of, server_of}
+use Rattle.bayou_server.specs.declared.storing.Stored.TheVariants.{Held}
+use Rattle.bayou_server.specs.Inner.Fields.{server_of}
 use Rattle.bayou_server.specs.Inner.Storing.{Keeps, StoresEntry}
 use Rattle.bayou_server.specs.Server.{Core}
 use Rattle.bayou_server.specs.Takes.{Takes}
 use Rattle.bayou_server.proofs.Adding.{stored_after}
-use Rattle.bayou_server.proofs.Steps.{own_of_taking, stays_stored}
+use Rattle.bayou_server.proofs.Steps.{own_of_taking}
 use Rattle.bayou_server.proofs.taking.take_one.Goals as goal
 
 pub returns-in-Held-clause-takes : goal.returns-in-Held-clause-takes

@@ -1,12 +1,9 @@
-use Rattle.std.proofs.Common.{◌≡◌, ◌∷◌, [], ◌++◌, Ok, Err, Some, None, refl, sym, ◌∙◌, ap, subst, arith, append_assoc}
-use Rattle.std.proofs.lemmas.List.{append-nil}
+use Rattle.std.proofs.Common.{◌≡◌, ◌∷◌, [], ◌++◌, Ok, refl, sym, ◌∙◌, ap, subst, arith, append_assoc}
 use Rattle.std.specs.Vec.Iter.{into_iter_items}
-use Rattle.bayou_lang.specs.declared.write.Write.{Write}
 use Rattle.bayou_server.specs.Inner.Fields.{server_of}
 use Rattle.bayou_server.specs.Laws.TakesAll.{hads_push, news_push, takes_push}
 use Rattle.bayou_server.specs.TakesAll.{TakesAt, TakingEnds, hads, news}
 use Rattle.bayou_server.specs.declared.answer.Took.{Took}
-use Rattle.bayou_server.specs.declared.fault.TakeFault.{TakeFault}
 use Rattle.bayou_server.proofs.taking.take_several.Goals as goal
 
 pub returns-in_default-clause-takes : goal.returns-in_default-clause-takes

@@ -1,13 +1,11 @@
 use Rattle.std.proofs.Common.{◌≡◌, OnOk, Ok, Err, sym, ap, subst}
-use Rattle.bayou_base.specs.declared.answer.Accepted.{Accepted}
 use Rattle.bayou_log.specs.Log.{Log}
-use Rattle.bayou_server.specs.declared.fault.WriteFault.{WriteFault}
 use Rattle.bayou_server.specs.declared.fault.WriteFault.TheVariants as faults
 use Rattle.bayou_server.specs.declared.storing.Stored.{Stored}
 use Rattle.bayou_server.specs.declared.storing.Stored.TheVariants.{Held, InDoubt}
 use Rattle.bayou_server.specs.Inner.Fields.{core_of, server_of}
 use Rattle.bayou_server.specs.Inner.Storing.{Keeps, StoresEntry}
-use Rattle.bayou_server.specs.Server.{Core, ServerState}
+use Rattle.bayou_server.specs.Server.{Core}
 use Rattle.bayou_server.specs.Stored.{IsStored}
 use Rattle.bayou_server.specs.Writes.{Writes}
 use Rattle.bayou_server.proofs.Adding.{stored_after}
