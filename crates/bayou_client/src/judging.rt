@@ -1,23 +1,28 @@
 //! Whether a whole reply answers the request.
-ghost use Rattle.std.specs.Prelude.{◌≡◌, [], List};
+ghost use Rattle.std.specs.Prelude.{◌≡◌, [], Err, List};
+ghost use Rattle.bayou_wire.specs.declared.frame.Frame.TheVariants as frames;
 ghost use Rattle.bayou_client.specs.Exchange.{Judges, asks_dump, asks_read, asks_reopening, asks_write};
 
 use crate::fault::LinkFault;
 use crate::reading::Reply;
 use bayou_base::{Accepted, Seen, ServerId, Vector, Wid};
 use bayou_lang::RestingWrite;
-use bayou_wire::Frame;
+use bayou_wire::{Frame, Refusal};
 
 /// A read is served by a Seen that has what was needed.
 pub(crate) fn seen_of(reply: Reply, need: &Vector) -> Result<Seen, LinkFault>
     ensures { reply.writes.items ≡ [] → Judges (asks_read need.now) reply.writes.items reply.last result }
 {
     let Reply { writes: _, last } = reply;
-    match last {
-        Frame::Seen(seen) if seen.vector.dominates(need) => Ok(seen),
-        Frame::Refused(refusal) => Err(LinkFault::Refused(refusal)),
-        _ => Err(LinkFault::BadFrame),
+    let seen = match last {
+        Frame::Seen(seen) => seen,
+        Frame::Refused(refusal) => return Err(LinkFault::Refused(refusal)),
+        _ => return Err(LinkFault::BadFrame),
+    };
+    if !seen.vector.dominates(need) {
+        return Err(LinkFault::BadFrame);
     }
+    Ok(seen)
 }
 
 /// A program is accepted by the server asked, which had what was needed.
@@ -29,14 +34,15 @@ pub(crate) fn accepted_of(
     ensures { reply.writes.items ≡ [] → Judges (asks_write need.now server) reply.writes.items reply.last result }
 {
     let Reply { writes: _, last } = reply;
-    match last {
-        Frame::Accepted(accepted)
-            if accepted.deps.dominates(need) && accepted.wid.origin.index == server.index => {
-            Ok(accepted)
-        }
-        Frame::Refused(refusal) => Err(LinkFault::Refused(refusal)),
-        _ => Err(LinkFault::BadFrame),
+    let accepted = match last {
+        Frame::Accepted(accepted) => accepted,
+        Frame::Refused(refusal) => return Err(LinkFault::Refused(refusal)),
+        _ => return Err(LinkFault::BadFrame),
+    };
+    if !accepted.deps.dominates(need) || accepted.wid.origin.index != server.index {
+        return Err(LinkFault::BadFrame);
     }
+    Ok(accepted)
 }
 
 pub(crate) fn reopened_of(reply: Reply) -> Result<Option<Wid>, LinkFault>
@@ -50,14 +56,29 @@ pub(crate) fn reopened_of(reply: Reply) -> Result<Option<Wid>, LinkFault>
     }
 }
 
+// A refusal stands alone: behind Items it is no reply.
+fn refused(writes: &[RestingWrite], refusal: Refusal) -> LinkFault
+    ensures { Judges asks_dump writes.now (frames.Refused refusal) (Err result) }
+{
+    if writes.is_empty() {
+        LinkFault::Refused(refusal)
+    } else {
+        LinkFault::BadFrame
+    }
+}
+
 /// A dump is the Writes of its Items, with their number.
 pub(crate) fn dumped_of(reply: Reply) -> Result<Vec<RestingWrite>, LinkFault>
     ensures { Judges asks_dump reply.writes.items reply.last result }
 {
     let Reply { writes, last } = reply;
-    match last {
-        Frame::End(number) if number as usize == writes.len() => Ok(writes),
-        Frame::Refused(refusal) if writes.is_empty() => Err(LinkFault::Refused(refusal)),
-        _ => Err(LinkFault::BadFrame),
+    let number = match last {
+        Frame::End(number) => number,
+        Frame::Refused(refusal) => return Err(refused(&writes, refusal)),
+        _ => return Err(LinkFault::BadFrame),
+    };
+    if number as usize != writes.len() {
+        return Err(LinkFault::BadFrame);
     }
+    Ok(writes)
 }
