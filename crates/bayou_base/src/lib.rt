@@ -2,7 +2,7 @@
 //! values, what a session asks for and is answered, and the entry of an audit that tells of it. It has no collection that
 //! grows and takes no memory.
 //!
-//! Callers see a [`ServerId`], a [`Wid`] and a [`Stamp`] as their numbers, with the ranges kept by the types; a
+//! Callers see a [`ServerId`], a [`Wid`], a [`Stamp`] and a [`Tag`] as their numbers, with the ranges kept by the types; a
 //! [`Vector`] as the list of its [`SERVERS`] counts; a [`Key`] and a [`Text`] as the list of their bytes. Constructors
 //! refuse exactly what lies outside the limits, by the first fault. It doesn't promise that a name stands for a Write
 //! that some server holds.
@@ -16,6 +16,7 @@ pub mod limits;
 pub mod server;
 pub mod session;
 pub mod stamp;
+pub mod tag;
 pub mod value;
 pub mod vector;
 pub mod wid;
@@ -32,6 +33,7 @@ pub use limits::{
 pub use server::ServerId;
 pub use session::SessionId;
 pub use stamp::Stamp;
+pub use tag::Tag;
 pub use value::{Text, Value};
 pub use vector::Vector;
 pub use wid::Wid;

@@ -64,7 +64,7 @@ pub const MAX_PLACES: u32 = u32::MAX;
 pub const READ_BYTES: usize = 8_192;
 
 /// How many bytes of an answer in memory are taken at once: those of their Writes that come late are applied once.
-pub const PULL_BYTES: usize = 65_536;
+pub const PULL_BYTES: usize = 1_048_576;
 
 /// How many Writes a node takes at the most before its lock is free again: each is synced under the lock.
 pub const TAKES_AT_ONCE: u32 = 64;

@@ -3,7 +3,7 @@ use crate::fixtures::must_hold;
 use bayou_base::limits::*;
 
 /// The name of a limit, the limit, and its number.
-static LIMITS: [(&str, u64, u64); 22] = [
+static LIMITS: [(&str, u64, u64); 23] = [
     ("servers", SERVERS as u64, 8),
     ("servers over a network", NET_SERVERS as u64, 4),
     ("sessions", SESSIONS as u64, 32),
@@ -29,6 +29,7 @@ static LIMITS: [(&str, u64, u64); 22] = [
     ("turns", MAX_TURNS as u64, 1_000_000),
     ("places", MAX_PLACES as u64, 4_294_967_295),
     ("bytes that are read at once", READ_BYTES as u64, 8_192),
+    ("bytes that are taken at once", PULL_BYTES as u64, 1_048_576),
     ("bytes that are written at once", PIECE_BYTES as u64, 65_536),
 ];
 

@@ -5,11 +5,14 @@ use Rattle.std.proofs.Math.Nat.{ℕ_set}
 use Rattle.std.proofs.lemmas.Bool.Decides.{Decides-eqb, Decides-int_eq}
 use Rattle.std.proofs.lemmas.Slice.Eq.{slice_eq-Decides}
 use Rattle.std.specs.Cmp.Lexicographic.{bytes_decides}
-use Rattle.bayou_base.specs.declared.limits.TheConstants.{SERVERS, MAX_WRITES}
+use Rattle.bayou_base.specs.declared.limits.TheConstants.{SERVERS, SESSIONS, MAX_WRITES}
 use Rattle.bayou_base.specs.declared.server.ServerId.{ServerId}
+use Rattle.bayou_base.specs.declared.session.SessionId.{SessionId}
 use Rattle.bayou_base.specs.declared.stamp.Stamp.{Stamp}
+use Rattle.bayou_base.specs.declared.tag.Tag.{Tag}
 use Rattle.bayou_base.specs.declared.wid.Wid.{Wid}
 use Rattle.bayou_base.specs.contracts.stamp.StampPartialEq.TheImpl as stamp_eq
+use Rattle.bayou_base.specs.contracts.tag.TagPartialEq.TheImpl as tag_eq
 use Rattle.bayou_base.specs.contracts.wid.WidPartialEq.TheImpl as wid_eq
 use Rattle.bayou_base.specs.declared.value.Value.{Value}
 use Rattle.bayou_base.specs.declared.value.Value.TheVariants.{Num, Text}
@@ -109,6 +112,22 @@ stamp-ext a b same_clock same_origin =
     let P : ℕ → Type 0 = λ n. (h : (0 < n) × (n ≤ MAX_WRITES)) → made a.clock a.in_range a.origin ≡ made n h b.origin in
     subst P same_clock (λ h. ap (λ o. made a.clock a.in_range o) same_origin ∙ ap (λ p. made a.clock p b.origin) (×_prop le_prop le_prop a.in_range h)) b.in_range
 
+-- a session is its index, and a tag its session, its run and its number
+pub session-ext : (a b : SessionId) → a.index ≡ b.index → a ≡ b
+session-ext a b same =
+    let made : (n : ℕ) → n < SESSIONS → SessionId = λ n h. record { index = n; in_range = h } in
+    let P : ℕ → Type 0 = λ n. (h : n < SESSIONS) → made a.index a.in_range ≡ made n h in
+    subst P same (λ h. ap (made a.index) (le_prop a.in_range h)) b.in_range
+
+pub tag-ext : (a b : Tag) → a.session ≡ b.session → a.run ≡ b.run → a.number ≡ b.number → a ≡ b
+tag-ext a b same_session same_run same_number =
+    let made : (r n : ℕ) → (0 < r) × (0 < n) → SessionId → Tag = λ r n h s. record { session = s; run = r; number = n; in_range = h } in
+    let P : ℕ → Type 0 = λ r. (h : (0 < r) × (0 < b.number)) → a ≡ made r b.number h b.session in
+    let Q : ℕ → Type 0 = λ n. (h : (0 < a.run) × (0 < n)) → a ≡ made a.run n h b.session in
+    let numbered : Q b.number = subst Q same_number
+    (λ h. ap (λ s. made a.run a.number a.in_range s) same_session ∙ ap (λ p. made a.run a.number p b.session) (×_prop le_prop le_prop a.in_range h)) in
+    subst P same_run numbered b.in_range
+
 pub server_set : IsSet ServerId
 server_set = hlevel (ℕ_set, le_prop)
 
@@ -135,6 +154,14 @@ stamp-decides a b =
     both _ _ (Decides-eqb a.clock b.clock) (Decides-eqb a.origin.index b.origin.index)
     (λ clock origin. stamp-ext a b clock (server-ext a.origin b.origin origin))
     (λ one. (ap (λ (stamp : Stamp). stamp.clock) one, ap (λ (stamp : Stamp). stamp.origin.index) one))
+
+-- of two tags
+pub tag-decides : (a b : Tag) → Decides ((tag_eq.ghosts).eq a b) (a ≡ b)
+tag-decides a b =
+    both _ _ (Decides-eqb a.session.index b.session.index) (both _ _ (Decides-eqb a.run b.run) (Decides-eqb a.number b.number)
+    (λ run number. (run, number)) (λ rest. rest))
+    (λ session rest. tag-ext a b (session-ext a.session b.session session) rest.0 rest.1)
+    (λ one. (ap (λ (tag : Tag). tag.session.index) one, (ap (λ (tag : Tag). tag.run) one, ap (λ (tag : Tag). tag.number) one)))
 
 -- of two Writes
 pub same_write-decides : (a b : Write) → Decides (same_write a b) (a ≡ b)
