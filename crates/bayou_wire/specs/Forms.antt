@@ -12,7 +12,7 @@ use Rattle.bayou_wire.specs.declared.frame.PlainFrame.TheVariants as plain
 -- the frame that a plain frame is
 abbrev pub frame_of : PlainFrame → Frame
 frame_of (plain.Read need key) = frames.Read need key
-frame_of (plain.Write need program) = frames.Write need program
+frame_of (plain.Write tag need program) = frames.Write tag need program
 frame_of plain.Reopen = frames.Reopen
 frame_of plain.Dump = frames.Dump
 frame_of (plain.Offer vector) = frames.Offer vector

@@ -6,6 +6,7 @@ use Rattle.std.specs.Int.{w16, w32, w64, to_be_bytes, cast_unsigned}
 use Rattle.bayou_base.specs.Vector.{AreCounts}
 use Rattle.bayou_base.specs.declared.limits.TheConstants.{SERVERS}
 use Rattle.bayou_base.specs.declared.stamp.Stamp.{Stamp}
+use Rattle.bayou_base.specs.declared.tag.Tag.{Tag}
 use Rattle.bayou_base.specs.declared.value.Value.{Value}
 use Rattle.bayou_base.specs.declared.value.Value.TheVariants.{Num, Text}
 use Rattle.bayou_base.specs.declared.wid.Wid.{Wid}
@@ -82,6 +83,10 @@ vector_bytes counts = counts_bytes SERVERS counts
 abbrev pub wid_bytes : Wid → List ℕ
 wid_bytes wid = wid.origin.index ∷ u32_bytes wid.seq
 
+-- the name of an asking: its session, its run and its number
+abbrev pub tag_bytes : Tag → List ℕ
+tag_bytes tag = tag.session.index ∷ (u32_bytes tag.run ++ u32_bytes tag.number)
+
 -- what a server gives a Write that it accepts
 abbrev pub accepted_bytes : Wid → Stamp → List ℕ → List ℕ
 accepted_bytes wid stamp deps = wid_bytes wid ++ (u32_bytes stamp.clock ++ vector_bytes deps)
@@ -109,10 +114,11 @@ refusal_bytes refusals.NotDown = layout.CODE_NOT_DOWN ∷ []
 refusal_bytes (refusals.BadRecord at) = layout.CODE_BAD_RECORD ∷ u32_bytes at
 refusal_bytes refusals.Lost = layout.CODE_LOST ∷ []
 refusal_bytes refusals.OutOfMemory = layout.CODE_OUT_OF_MEMORY ∷ []
+refusal_bytes refusals.TagUsed = layout.CODE_TAG_USED ∷ []
 
 abbrev pub kind_of : Frame → ℕ
 kind_of (frames.Read need key) = layout.KIND_READ
-kind_of (frames.Write need program) = layout.KIND_WRITE
+kind_of (frames.Write tag need program) = layout.KIND_WRITE
 kind_of frames.Reopen = layout.KIND_REOPEN
 kind_of frames.Dump = layout.KIND_DUMP
 kind_of (frames.Offer vector) = layout.KIND_OFFER
@@ -125,7 +131,7 @@ kind_of (frames.End number) = layout.KIND_END
 
 abbrev pub payload_bytes : Frame → List ℕ
 payload_bytes (frames.Read need key) = vector_bytes need ++ short_bytes key
-payload_bytes (frames.Write need program) = vector_bytes need ++ program_bytes program
+payload_bytes (frames.Write tag need program) = tag_bytes tag ++ (vector_bytes need ++ program_bytes program)
 payload_bytes frames.Reopen = []
 payload_bytes frames.Dump = []
 payload_bytes (frames.Offer vector) = vector_bytes vector
@@ -152,10 +158,15 @@ IsRefusal refusals.NotDown = Unit {0}
 IsRefusal (refusals.BadRecord at) = at < 2 ^ 32
 IsRefusal refusals.Lost = Unit {0}
 IsRefusal refusals.OutOfMemory = Unit {0}
+IsRefusal refusals.TagUsed = Unit {0}
+
+-- each of its two numbers has four bytes
+abbrev pub IsTag : Tag → Type 0
+IsTag tag = (tag.run < 2 ^ 32) × (tag.number < 2 ^ 32)
 
 abbrev pub IsFrame : Frame → Type 0
 IsFrame (frames.Read need key) = AreCounts need × IsKey key
-IsFrame (frames.Write need program) = AreCounts need × IsProgram program
+IsFrame (frames.Write tag need program) = IsTag tag × AreCounts need × IsProgram program
 IsFrame frames.Reopen = Unit {0}
 IsFrame frames.Dump = Unit {0}
 IsFrame (frames.Offer vector) = AreCounts vector

@@ -36,7 +36,7 @@ fn kind_byte(frame: &Frame) -> u8
 {
     match frame {
         Frame::Read(_, _) => KIND_READ,
-        Frame::Write(_, _) => KIND_WRITE,
+        Frame::Write(_, _, _) => KIND_WRITE,
         Frame::Reopen => KIND_REOPEN,
         Frame::Dump => KIND_DUMP,
         Frame::Offer(_) => KIND_OFFER,

@@ -1,4 +1,4 @@
-use bayou_base::{Accepted, Key, Seen, Vector, Wid};
+use bayou_base::{Accepted, Key, Seen, Tag, Vector, Wid};
 use bayou_lang::{Program, RestingProgram, RestingWrite, Write};
 
 /// Why a server refuses a request.
@@ -20,6 +20,8 @@ pub enum Refusal {
     Lost,
     /// Its memory ran out.
     OutOfMemory,
+    /// It holds a Write of this tag, of which the request isn't the asking.
+    TagUsed,
 }
 
 /// What servers and clients say to each other: the requests, and then their replies. What it says of programs and Writes is at rest.
@@ -27,8 +29,8 @@ pub enum Refusal {
 pub enum Frame {
     /// Read this key, at a server that has what is needed.
     Read(Vector, Key),
-    /// Accept a Write of this program, at a server that has what is needed.
-    Write(Vector, RestingProgram),
+    /// Accept a Write of this program, at a server that has what is needed. The tag is the name of its asking.
+    Write(Tag, Vector, RestingProgram),
     /// Open the journal again.
     Reopen,
     /// Send every held Write.
@@ -57,7 +59,7 @@ pub enum PlainFrame {
     /// As [`Frame::Read`].
     Read(Vector, Key),
     /// As [`Frame::Write`].
-    Write(Vector, Program),
+    Write(Tag, Vector, Program),
     /// As [`Frame::Reopen`].
     Reopen,
     /// As [`Frame::Dump`].

@@ -1,8 +1,11 @@
-//! The facts of the layout, each named once: the tags of values, programs' parts and options, the kinds of frames and
+//! The facts of the layout, each named once: the first bytes of values, programs' parts and options, the kinds of frames and
 //! the codes of refusals. This is version 1 of the format. All integers are big-endian.
 
 /// How many bytes a frame's length takes.
 pub const LENGTH_BYTES: usize = 2;
+
+/// How many bytes the tag of a Write takes.
+pub const TAG_BYTES: usize = 9;
 
 /// A value that is a number.
 pub const VALUE_NUM: u8 = 1;
@@ -35,14 +38,14 @@ pub const PRESENT: u8 = 1;
 
 /// A request: read a key.
 pub const KIND_READ: u8 = 0x01;
-/// A request: accept a Write.
-pub const KIND_WRITE: u8 = 0x02;
 /// A request: open the journal again.
 pub const KIND_REOPEN: u8 = 0x03;
 /// A request: send every held Write.
 pub const KIND_DUMP: u8 = 0x04;
 /// A request: send the Writes that a vector doesn't cover.
 pub const KIND_OFFER: u8 = 0x05;
+/// A request: accept a Write. Its kind was 0x02 where a Write had no tag, and no other is given that kind.
+pub const KIND_WRITE: u8 = 0x06;
 /// A reply: a read was served.
 pub const KIND_SEEN: u8 = 0x11;
 /// A reply: a Write was accepted.
@@ -72,3 +75,5 @@ pub const CODE_BAD_RECORD: u8 = 6;
 pub const CODE_LOST: u8 = 7;
 /// The server's memory ran out.
 pub const CODE_OUT_OF_MEMORY: u8 = 8;
+/// The server holds another Write of the request's tag.
+pub const CODE_TAG_USED: u8 = 9;

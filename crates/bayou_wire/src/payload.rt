@@ -6,7 +6,9 @@ ghost use Rattle.bayou_wire.specs.Inner.Reading.{Gives, is_kind as is_kind_test,
 use crate::frame::{Frame, PlainFrame, Refusal};
 use crate::layout::*;
 use crate::resting::{resting_program_of, resting_write_of};
-use crate::take::{accepted_of, key_of, program_of, u32_of, value_of, vector_of, wid_of, write_of};
+use crate::take::{
+    accepted_of, key_of, program_of, tag_of, u32_of, value_of, vector_of, wid_of, write_of,
+};
 use bayou_base::{Seen, Value, Wid};
 use std::alloc::{AllocError, Global};
 
@@ -85,6 +87,7 @@ fn refusal_of(bytes: &[u8]) -> Option<(Refusal, &[u8])>
         }
         [CODE_LOST, rest @ ..] => Some((Refusal::Lost, rest)),
         [CODE_OUT_OF_MEMORY, rest @ ..] => Some((Refusal::OutOfMemory, rest)),
+        [CODE_TAG_USED, rest @ ..] => Some((Refusal::TagUsed, rest)),
         _ => None,
     }
 }
@@ -167,13 +170,16 @@ pub(crate) fn payload_of(
             Ok(Some((Frame::Read(need, key), rest)))
         }
         KIND_WRITE => {
-            let Some((need, rest)) = vector_of(bytes) else {
+            let Some((tag, rest)) = tag_of(bytes) else {
+                return Ok(None);
+            };
+            let Some((need, rest)) = vector_of(rest) else {
                 return Ok(None);
             };
             let Some((program, rest)) = resting_program_of(alloc, rest)? else {
                 return Ok(None);
             };
-            Ok(Some((Frame::Write(need, program), rest)))
+            Ok(Some((Frame::Write(tag, need, program), rest)))
         }
         KIND_REOPEN => Ok(Some((Frame::Reopen, bytes))),
         KIND_DUMP => Ok(Some((Frame::Dump, bytes))),
@@ -248,13 +254,16 @@ pub(crate) fn plain_payload_of(kind: u8, bytes: &[u8]) -> Option<(PlainFrame, &[
             Some((PlainFrame::Read(need, key), rest))
         }
         KIND_WRITE => {
-            let Some((need, rest)) = vector_of(bytes) else {
+            let Some((tag, rest)) = tag_of(bytes) else {
+                return None;
+            };
+            let Some((need, rest)) = vector_of(rest) else {
                 return None;
             };
             let Some((program, rest)) = program_of(rest) else {
                 return None;
             };
-            Some((PlainFrame::Write(need, program), rest))
+            Some((PlainFrame::Write(tag, need, program), rest))
         }
         KIND_REOPEN => Some((PlainFrame::Reopen, bytes)),
         KIND_DUMP => Some((PlainFrame::Dump, bytes)),

@@ -2,13 +2,13 @@
 ghost use Rattle.std.specs.Prelude.{◌≡◌, ◌<◌, ◌^◌, ◌++◌, ◌∷◌, [], ℕ, List, length, OnOk};
 ghost use Rattle.std.specs.List.{flat_map, AllByRecursion};
 ghost use Rattle.bayou_lang.specs.Ranges.{IsAlt, IsCond, IsI64, IsKey, IsOp, IsProgram, IsTerm, IsText, IsValue, IsWrite};
-ghost use Rattle.bayou_wire.specs.Spelling.{accepted_bytes, alt_bytes, cond_bytes, i64_bytes, list_bytes, op_bytes, optional_value_bytes, optional_wid_bytes, payload_bytes, program_bytes, refusal_bytes, short_bytes, term_bytes, u32_bytes, value_bytes, vector_bytes, wid_bytes, write_bytes, IsFrame, IsRefusal};
+ghost use Rattle.bayou_wire.specs.Spelling.{accepted_bytes, alt_bytes, cond_bytes, i64_bytes, list_bytes, op_bytes, optional_value_bytes, optional_wid_bytes, payload_bytes, program_bytes, refusal_bytes, short_bytes, tag_bytes, term_bytes, u32_bytes, value_bytes, vector_bytes, wid_bytes, write_bytes, IsFrame, IsRefusal, IsTag};
 ghost use Rattle.bayou_base.specs.Vector.{AreCounts};
 ghost use Rattle.std.specs.Option.{IfSome};
 
 use crate::frame::{Frame, Refusal};
 use crate::layout::*;
-use bayou_base::{Key, Stamp, Text, Value, Vector, Wid};
+use bayou_base::{Key, Stamp, Tag, Text, Value, Vector, Wid};
 use bayou_lang::{Alt, Cond, Op, Program, RestingAlt, RestingProgram, RestingWrite, Term, Write};
 use std::alloc::AllocError;
 
@@ -208,6 +208,14 @@ fn put_wid(out: &mut Vec<u8>, wid: Wid) -> Result<(), AllocError>
     put_u32(out, wid.seq)
 }
 
+fn put_tag(out: &mut Vec<u8>, tag: Tag) -> Result<(), AllocError>
+    ensures { OnOk result (IsTag tag × (out.new.items ≡ out.old.items ++ tag_bytes tag)) }
+{
+    out.push(tag.session.index)?;
+    put_u32(out, tag.run)?;
+    put_u32(out, tag.number)
+}
+
 fn put_accepted(out: &mut Vec<u8>, wid: Wid, stamp: Stamp, deps: &Vector) -> Result<(), AllocError>
     ensures { OnOk result (AreCounts deps.now × (out.new.items ≡ out.old.items ++ accepted_bytes wid stamp deps.now)) }
 {
@@ -282,6 +290,7 @@ fn put_refusal(out: &mut Vec<u8>, refusal: &Refusal) -> Result<(), AllocError>
         }
         Refusal::Lost => put_code(out, CODE_LOST),
         Refusal::OutOfMemory => put_code(out, CODE_OUT_OF_MEMORY),
+        Refusal::TagUsed => put_code(out, CODE_TAG_USED),
     }
 }
 
@@ -293,7 +302,8 @@ pub(crate) fn put_payload(out: &mut Vec<u8>, frame: &Frame) -> Result<(), AllocE
             put_vector(out, need)?;
             put_key(out, key)
         }
-        Frame::Write(need, program) => {
+        Frame::Write(tag, need, program) => {
+            put_tag(out, *tag)?;
             put_vector(out, need)?;
             put_resting_program(out, program)
         }

@@ -3,11 +3,11 @@
 ghost use Rattle.std.specs.Prelude.{◌≡◌, ℕ, ◌≤◌, List, Option, length};
 ghost use Rattle.std.specs.Int.{w16, w32, w64};
 ghost use Rattle.bayou_base.specs.declared.limits.TheConstants.{SERVERS};
-ghost use Rattle.bayou_wire.specs.Inner.Reading.{Gives, accepted_at, alt_at, byte_at, cond_at, i64_at, key_at, list_at, number_at, op_at, program_at, accepted_of as accepted_of_parts, server_of as server_of_index, vector_of as vector_of_counts, wid_of as wid_of_parts, short_at, term_at, text_at, times, value_at, vector_at, wid_at, write_at};
+ghost use Rattle.bayou_wire.specs.Inner.Reading.{Gives, accepted_at, alt_at, byte_at, cond_at, i64_at, key_at, list_at, number_at, op_at, program_at, accepted_of as accepted_of_parts, server_of as server_of_index, session_of as session_of_index, tag_of as tag_of_parts, tag_at, vector_of as vector_of_counts, wid_of as wid_of_parts, short_at, term_at, text_at, times, value_at, vector_at, wid_at, write_at};
 
 use crate::layout::*;
 use arrayvec::ArrayVec;
-use bayou_base::{Accepted, Key, SERVERS, ServerId, Stamp, Text, Value, Vector, Wid};
+use bayou_base::{Accepted, Key, SERVERS, ServerId, SessionId, Stamp, Tag, Text, Value, Vector, Wid};
 use bayou_lang::{Alt, Cond, Op, Program, Term, Write};
 
 /// What stands in lists.
@@ -350,6 +350,40 @@ pub(crate) fn wid_of(bytes: &[u8]) -> Option<(Wid, &[u8])>
         return None;
     };
     Some((wid, rest))
+}
+
+fn session_from(index: u8) -> Option<SessionId>
+    ensures { result ≡ session_of_index index }
+{
+    SessionId::new(index)
+}
+
+fn tag_from(session: SessionId, run: u32, number: u32) -> Option<Tag>
+    ensures { result ≡ tag_of_parts session run number }
+{
+    Tag::new(session, run, number)
+}
+
+#[tactic(auto, unfolding(crate::specs::Inner::Reading::tag_at))]
+pub(crate) fn tag_of(bytes: &[u8]) -> Option<(Tag, &[u8])>
+    ensures { Gives (λ x. (x.0, x.1.now)) result (tag_at bytes.now) }
+{
+    let Some((index, rest)) = byte_of(bytes) else {
+        return None;
+    };
+    let Some(session) = session_from(index) else {
+        return None;
+    };
+    let Some((run, rest)) = u32_of(rest) else {
+        return None;
+    };
+    let Some((number, rest)) = u32_of(rest) else {
+        return None;
+    };
+    let Some(tag) = tag_from(session, run, number) else {
+        return None;
+    };
+    Some((tag, rest))
 }
 
 #[tactic(auto, unfolding(crate::specs::Inner::Reading::accepted_at))]

@@ -5,12 +5,14 @@ use Rattle.std.specs.Prelude.{refl, ◌≡◌, ℕ, zero, suc, ◌<◌, ◌≤�
 use Rattle.std.specs.Int.{Width, w32, w64, byte_len, from_be_bytes, cast_signed}
 use Rattle.std.specs.Str.{is_utf8}
 use Rattle.bayou_base.specs.Key.{key_fault}
-use Rattle.bayou_base.specs.declared.limits.TheConstants.{MAX_TEXT_BYTES, MAX_CONDITIONS, MAX_OPS, MAX_ALTERNATIVES, SERVERS, MAX_WRITES}
+use Rattle.bayou_base.specs.declared.limits.TheConstants.{MAX_TEXT_BYTES, MAX_CONDITIONS, MAX_OPS, MAX_ALTERNATIVES, SERVERS, SESSIONS, MAX_WRITES}
 use Rattle.bayou_base.specs.declared.value.Value.{Value}
 use Rattle.bayou_base.specs.declared.value.Value.TheVariants.{Num, Text}
 use Rattle.bayou_base.specs.declared.answer.Accepted.{Accepted}
 use Rattle.bayou_base.specs.declared.answer.Seen.{Seen}
 use Rattle.bayou_base.specs.declared.server.ServerId.{ServerId}
+use Rattle.bayou_base.specs.declared.session.SessionId.{SessionId}
+use Rattle.bayou_base.specs.declared.tag.Tag.{Tag}
 use Rattle.bayou_base.specs.declared.wid.Wid.{Wid}
 use Rattle.bayou_lang.specs.declared.program.Alt.{Alt}
 use Rattle.bayou_lang.specs.declared.program.Cond.{Cond}
@@ -163,6 +165,32 @@ wid_at bytes =
     byte_at bytes >>= λ index. server_of index.0 >>= λ origin. number_at w32 index.1 >>= λ seq.
     wid_of origin seq.0 >>= λ wid. Some (wid, seq.1)
 
+-- the session of this index, where there is one
+abbrev pub session_if : (n : ℕ) (below : Bool) → nat_lt n SESSIONS ≡ below → Option SessionId
+session_if n true within = Some (record { index = n; in_range = ltb-true n SESSIONS within })
+session_if n false without = None
+
+unfoldable pub session_of : ℕ → Option SessionId
+session_of n = session_if n (nat_lt n SESSIONS) refl
+
+-- that a run and a number are counted from 1, where they are
+abbrev pub counted_if : (run number : ℕ) (first second : Bool) → nat_lt 0 run ≡ first → nat_lt 0 number ≡ second → Option ((0 < run) × (0 < number))
+counted_if run number true true first second = Some (ltb-true 0 run first, ltb-true 0 number second)
+counted_if run number true false first second = None
+counted_if run number false true first second = None
+counted_if run number false false first second = None
+
+unfoldable pub counted : (run number : ℕ) → Option ((0 < run) × (0 < number))
+counted run number = counted_if run number (nat_lt 0 run) (nat_lt 0 number) refl refl
+
+unfoldable pub tag_of : SessionId → ℕ → ℕ → Option Tag
+tag_of session run number = counted run number >>= λ within. Some (record { session = session; run = run; number = number; in_range = within })
+
+unfoldable pub tag_at : List ℕ → Read Tag
+tag_at bytes =
+    byte_at bytes >>= λ index. session_of index.0 >>= λ session. number_at w32 index.1 >>= λ run. number_at w32 run.1 >>= λ number.
+    tag_of session run.0 number.0 >>= λ tag. Some (tag, number.1)
+
 -- what a server gives a Write that it accepts, of one origin
 unfoldable pub accepted_of : Wid → ℕ → List ℕ → Option Accepted
 accepted_of wid clock deps = placed clock >>= λ within. Some (record {
@@ -206,7 +234,8 @@ refusal_at (code ∷ bytes) =
     else (if code == layout.CODE_NOT_DOWN then Some (refusals.NotDown, bytes)
     else (if code == layout.CODE_BAD_RECORD then made refusals.BadRecord (number_at w32) bytes
     else (if code == layout.CODE_LOST then Some (refusals.Lost, bytes)
-    else (if code == layout.CODE_OUT_OF_MEMORY then Some (refusals.OutOfMemory, bytes) else None)))))))
+    else (if code == layout.CODE_OUT_OF_MEMORY then Some (refusals.OutOfMemory, bytes)
+    else (if code == layout.CODE_TAG_USED then Some (refusals.TagUsed, bytes) else None))))))))
 
 unfoldable pub seen_at : List ℕ → Read Seen
 seen_at bytes = made (λ p. record { value = p.0; vector = p.1 }) (both optional_value_at vector_at) bytes
@@ -223,7 +252,7 @@ reply_at kind bytes =
 unfoldable pub payload_at : ℕ → List ℕ → Read Frame
 payload_at kind bytes =
     if kind == layout.KIND_READ then made (λ p. frames.Read p.0 p.1) (both vector_at key_at) bytes
-    else (if kind == layout.KIND_WRITE then made (λ p. frames.Write p.0 p.1) (both vector_at program_at) bytes
+    else (if kind == layout.KIND_WRITE then made (λ p. frames.Write p.0 p.1.0 p.1.1) (both tag_at (both vector_at program_at)) bytes
     else (if kind == layout.KIND_REOPEN then Some (frames.Reopen, bytes)
     else (if kind == layout.KIND_DUMP then Some (frames.Dump, bytes)
     else (if kind == layout.KIND_OFFER then made frames.Offer vector_at bytes

@@ -17,6 +17,7 @@ use Rattle.bayou_base.specs.Vector.{AreCounts}
 use Rattle.bayou_base.specs.declared.answer.Accepted.{Accepted}
 use Rattle.bayou_base.specs.declared.key.KeyFault.{KeyFault}
 use Rattle.bayou_base.specs.declared.limits.TheConstants.{MAX_TEXT_BYTES, MAX_CONDITIONS, MAX_OPS, MAX_ALTERNATIVES, MAX_WRITES, SERVERS}
+use Rattle.bayou_base.specs.declared.tag.Tag.{Tag}
 use Rattle.bayou_base.specs.declared.value.Value.{Value}
 use Rattle.bayou_base.specs.declared.value.Value.TheVariants.{Num, Text}
 use Rattle.bayou_base.specs.declared.wid.Wid.{Wid}
@@ -32,9 +33,9 @@ use Rattle.bayou_lang.specs.declared.write.Write.{Write}
 use Rattle.bayou_wire.specs.declared.layout.TheConstants as layout
 use Rattle.bayou_lang.specs.Ranges.{IsKey, IsText, IsI64, IsValue, IsTerm, IsOp, IsCond, AreAtMost, IsAlt, IsProgram, IsWrite}
 use Rattle.bayou_wire.specs.Laws.Inner.Vectors.{vector_bytes-is}
-use Rattle.bayou_wire.specs.Spelling.{u32_bytes, i64_bytes, short_bytes, value_bytes, term_bytes, op_bytes, cond_bytes, list_bytes, alt_bytes, program_bytes, vector_bytes, wid_bytes, accepted_bytes, write_bytes}
-use Rattle.bayou_wire.specs.Inner.Reading.{Read, ◌>>=◌, both, made, times, byte_at, number_at, i64_at, short_at, key_at, text_at, value_at, term_at, op_at, cond_at, list_at, alt_at, program_at, vector_of, vector_at, server_of, wid_of, wid_at, accepted_of, accepted_at, write_at}
-use Rattle.bayou_wire.specs.Laws.Inner.Readers.{server_of-is, wid_of-is, accepted_of-is, server_of-from, wid_of-from, accepted_of-from}
+use Rattle.bayou_wire.specs.Spelling.{u32_bytes, i64_bytes, short_bytes, value_bytes, term_bytes, op_bytes, cond_bytes, list_bytes, alt_bytes, program_bytes, vector_bytes, wid_bytes, tag_bytes, accepted_bytes, write_bytes, IsTag}
+use Rattle.bayou_wire.specs.Inner.Reading.{Read, ◌>>=◌, both, made, times, byte_at, number_at, i64_at, short_at, key_at, text_at, value_at, term_at, op_at, cond_at, list_at, alt_at, program_at, vector_of, vector_at, server_of, wid_of, wid_at, session_of, tag_of, tag_at, accepted_of, accepted_at, write_at}
+use Rattle.bayou_wire.specs.Laws.Inner.Readers.{server_of-is, wid_of-is, accepted_of-is, server_of-from, wid_of-from, session_of-is, session_of-from, tag_of-is, tag_of-from, accepted_of-from}
 
 abbrev pub IsBytes : List ℕ → Type 0
 IsBytes bytes = (i : ℕ) → get_or bytes i 0 < 256
@@ -481,7 +482,7 @@ vector_format = record {
       ap (λ spelled. vector_at (spelled ++ rest)) (vector_bytes-is counts are) ∙ counts_format.again counts rest are;
 }
 
--- ---- Writes
+-- ---- names
 
 -- every name of a Write has a spelling
 abbrev pub IsWid : Wid → Type 0
@@ -508,6 +509,34 @@ wid_format = record { takes = takes; again = again }
     again wid rest is =
         let seq_fits : wid.seq < 2 ^ 32 = omega (arith, wid.in_range) in
         rw (server_of-is wid.origin, u32_format.again wid.seq rest seq_fits, wid_of-is wid) refl
+
+-- the name of an asking has a spelling where its numbers have four bytes
+pub tag_format : IsFormat IsTag tag_bytes tag_at
+unfolding tag_at
+tag_format = record { takes = takes; again = again }
+  where
+    takes : (bytes : List ℕ) (x : Tag × List ℕ) → IsBytes bytes → tag_at bytes ≡ Some x → IsTag x.0 × (bytes ≡ tag_bytes x.0 ++ x.1)
+    takes bytes x fits e =
+        option_and_then_some (λ index. session_of index.0 >>= λ session. number_at w32 index.1 >>= λ run. number_at w32 run.1 >>= λ number. tag_of session run.0 number.0 >>= λ tag. Some (tag, number.1)) (byte_at bytes) x e (λ index first rest.
+        option_and_then_some (λ session. number_at w32 index.1 >>= λ run. number_at w32 run.1 >>= λ number. tag_of session run.0 number.0 >>= λ tag. Some (tag, number.1)) (session_of index.0) x rest (λ session is_session rest'.
+        option_and_then_some (λ run. number_at w32 run.1 >>= λ number. tag_of session run.0 number.0 >>= λ tag. Some (tag, number.1)) (number_at w32 index.1) x rest' (λ run second rest''.
+        option_and_then_some (λ number. tag_of session run.0 number.0 >>= λ tag. Some (tag, number.1)) (number_at w32 run.1) x rest'' (λ number third others.
+        option_and_then_some (λ tag. Some (tag, number.1)) (tag_of session run.0 number.0) x others (λ tag is_tag same.
+        let t = byte_format.takes bytes index fits first in
+        let fits' = IsBytes-behind bytes (index.0 ∷ []) index.1 fits t.1 in
+        let u = u32_format.takes index.1 run fits' second in
+        let v = u32_format.takes run.1 number (IsBytes-behind index.1 (u32_bytes run.0) run.1 fits' u.1) third in
+        let of_session : session.index ≡ index.0 = session_of-from index.0 session is_session in
+        let named = tag_of-from session run.0 number.0 tag is_tag in
+        let is : IsTag tag = rw (named.1, named.2) (u.0, v.0) in
+        let whole : bytes ≡ tag_bytes tag ++ number.1 = rw (named.0, named.1, named.2, of_session) (t.1 ∙ ap (λ s. index.0 ∷ s) (u.1 ∙ ap (λ s. u32_bytes run.0 ++ s) v.1)) in
+        subst (λ (w : Tag × List ℕ). IsTag w.0 × (bytes ≡ tag_bytes w.0 ++ w.1)) (same_Some (tag, number.1) x same) (is, whole))))))
+
+    again : (tag : Tag) (rest : List ℕ) → IsTag tag → tag_at (tag_bytes tag ++ rest) ≡ Some (tag, rest)
+    again tag rest is =
+        rw (session_of-is tag.session, u32_format.again tag.run (u32_bytes tag.number ++ rest) is.0, u32_format.again tag.number rest is.1, tag_of-is tag) refl
+
+-- ---- Writes
 
 -- what a server gives has a spelling where its vector is one
 abbrev pub IsAccepted : Accepted → Type 0

@@ -6,6 +6,7 @@ use Rattle.std.proofs.lemmas.Option.{none-some, same_Some}
 use Rattle.bayou_base.specs.Vector.{AreCounts}
 use Rattle.bayou_base.specs.declared.answer.Accepted.{Accepted}
 use Rattle.bayou_base.specs.declared.answer.Seen.{Seen}
+use Rattle.bayou_base.specs.declared.tag.Tag.{Tag}
 use Rattle.bayou_base.specs.declared.value.Value.{Value}
 use Rattle.bayou_base.specs.declared.value.Value.TheVariants.{Num, Text}
 use Rattle.bayou_base.specs.declared.wid.Wid.{Wid}
@@ -17,10 +18,10 @@ use Rattle.bayou_wire.specs.declared.frame.Frame.{Frame}
 use Rattle.bayou_wire.specs.declared.frame.Frame.TheVariants as frames
 use Rattle.bayou_wire.specs.declared.layout.TheConstants as layout
 use Rattle.bayou_lang.specs.Ranges.{IsKey, IsValue, IsProgram}
-use Rattle.bayou_wire.specs.Spelling.{short_bytes, value_bytes, program_bytes, vector_bytes, optional_value_bytes, optional_wid_bytes, refusal_bytes, kind_of, payload_bytes, IsRefusal, IsFrame}
+use Rattle.bayou_wire.specs.Spelling.{short_bytes, value_bytes, program_bytes, vector_bytes, tag_bytes, optional_value_bytes, optional_wid_bytes, refusal_bytes, kind_of, payload_bytes, IsRefusal, IsTag, IsFrame}
 use Rattle.bayou_wire.specs.Stream.{IsKind}
-use Rattle.bayou_wire.specs.Inner.Reading.{Read, both, made, key_at, value_at, program_at, vector_at, wid_at, optional_value_at, optional_wid_at, refusal_at, seen_at, reply_at, payload_at, is_kind}
-use Rattle.bayou_wire.specs.Laws.Inner.Formats.{IsBytes, IsFormat, both_format, made_takes, made_again, case_takes, u32_format, key_format, value_format, program_format, vector_format, wid_format, accepted_format, write_format}
+use Rattle.bayou_wire.specs.Inner.Reading.{Read, both, made, key_at, value_at, program_at, vector_at, wid_at, tag_at, optional_value_at, optional_wid_at, refusal_at, seen_at, reply_at, payload_at, is_kind}
+use Rattle.bayou_wire.specs.Laws.Inner.Formats.{IsBytes, IsFormat, both_format, made_takes, made_again, case_takes, u32_format, key_format, value_format, program_format, vector_format, wid_format, tag_format, accepted_format, write_format}
 
 -- a test of a tag, and what is read on either side
 link : {T P : Type 0} (tag is : ℕ) (first others : Read T) (x : T × List ℕ) → cond (tag == is) first others ≡ Some x
@@ -107,8 +108,9 @@ refusal_format = record { takes = takes; again = again }
         link code layout.CODE_NOT_DOWN _ _ x e (λ same here. bare_takes is spells layout.CODE_NOT_DOWN refusals.NotDown tt refl code bytes x same here) (λ e.
         link code layout.CODE_BAD_RECORD _ _ x e (λ same here. case_takes is spells layout.CODE_BAD_RECORD refusals.BadRecord u32_format (λ y is. is) (λ y. refl) code bytes x fits same here) (λ e.
         link code layout.CODE_LOST _ _ x e (λ same here. bare_takes is spells layout.CODE_LOST refusals.Lost tt refl code bytes x same here) (λ e.
-        link code layout.CODE_OUT_OF_MEMORY _ _ x e (λ same here. bare_takes is spells layout.CODE_OUT_OF_MEMORY refusals.OutOfMemory tt refl code bytes x same here) (λ none.
-        absurd (none-some x none)))))))))
+        link code layout.CODE_OUT_OF_MEMORY _ _ x e (λ same here. bare_takes is spells layout.CODE_OUT_OF_MEMORY refusals.OutOfMemory tt refl code bytes x same here) (λ e.
+        link code layout.CODE_TAG_USED _ _ x e (λ same here. bare_takes is spells layout.CODE_TAG_USED refusals.TagUsed tt refl code bytes x same here) (λ none.
+        absurd (none-some x none))))))))))
 
     again : (refusal : Refusal) (rest : List ℕ) → IsRefusal refusal → refusal_at (refusal_bytes refusal ++ rest) ≡ Some (refusal, rest)
     again refusals.Down rest is = refl
@@ -119,6 +121,7 @@ refusal_format = record { takes = takes; again = again }
     again (refusals.BadRecord at) rest is = made_again refusals.BadRecord u32_format at rest is
     again refusals.Lost rest is = refl
     again refusals.OutOfMemory rest is = refl
+    again refusals.TagUsed rest is = refl
 
 abbrev IsSeen : Seen → Type 0
 IsSeen seen = IsOptionalValue seen.value × AreCounts seen.vector
@@ -161,8 +164,9 @@ bare_kind_takes is frame is_frame kind_is spells kind bytes x same e =
 need_key : IsFormat (λ (p : List ℕ × List ℕ). AreCounts p.0 × IsKey p.1) (λ p. vector_bytes p.0 ++ short_bytes p.1) (both vector_at key_at)
 need_key = both_format vector_format key_format
 
-need_program : IsFormat (λ (p : List ℕ × Program). AreCounts p.0 × IsProgram p.1) (λ p. vector_bytes p.0 ++ program_bytes p.1) (both vector_at program_at)
-need_program = both_format vector_format program_format
+tag_need_program : IsFormat (λ (p : Tag × (List ℕ × Program)). IsTag p.0 × (AreCounts p.1.0 × IsProgram p.1.1))
+    (λ p. tag_bytes p.0 ++ (vector_bytes p.1.0 ++ program_bytes p.1.1)) (both tag_at (both vector_at program_at))
+tag_need_program = both_format tag_format (both_format vector_format program_format)
 
 reply_takes : (kind : ℕ) (bytes : List ℕ) (x : Frame × List ℕ) → IsBytes bytes → reply_at kind bytes ≡ Some x → IsFrameOf kind x.0 × (bytes ≡ payload_bytes x.0 ++ x.1)
 unfolding reply_at
@@ -179,7 +183,7 @@ payload_takes : (kind : ℕ) (bytes : List ℕ) (x : Frame × List ℕ) → IsBy
 unfolding payload_at
 payload_takes kind bytes x fits e =
     link kind layout.KIND_READ _ _ x e (λ same here. kind_takes layout.KIND_READ (λ p. frames.Read p.0 p.1) need_key (λ y is. is) (λ y. refl) (λ y. refl) kind bytes x fits same here) (λ e.
-    link kind layout.KIND_WRITE _ _ x e (λ same here. kind_takes layout.KIND_WRITE (λ p. frames.Write p.0 p.1) need_program (λ y is. is) (λ y. refl) (λ y. refl) kind bytes x fits same here) (λ e.
+    link kind layout.KIND_WRITE _ _ x e (λ same here. kind_takes layout.KIND_WRITE (λ p. frames.Write p.0 p.1.0 p.1.1) tag_need_program (λ y is. (is.0, is.1.0, is.1.1)) (λ y. refl) (λ y. refl) kind bytes x fits same here) (λ e.
     link kind layout.KIND_REOPEN _ _ x e (λ same here. bare_kind_takes layout.KIND_REOPEN frames.Reopen tt refl refl kind bytes x same here) (λ e.
     link kind layout.KIND_DUMP _ _ x e (λ same here. bare_kind_takes layout.KIND_DUMP frames.Dump tt refl refl kind bytes x same here) (λ e.
     link kind layout.KIND_OFFER _ _ x e (λ same here. kind_takes layout.KIND_OFFER frames.Offer vector_format (λ y is. is) (λ y. refl) (λ y. refl) kind bytes x fits same here) (λ e.
@@ -188,7 +192,7 @@ payload_takes kind bytes x fits e =
 payload_again : (frame : Frame) (rest : List ℕ) → IsFrame frame → payload_at (kind_of frame) (payload_bytes frame ++ rest) ≡ Some (frame, rest)
 unfolding payload_at reply_at
 payload_again (frames.Read need key) rest is = made_again (λ p. frames.Read p.0 p.1) need_key (need, key) rest is
-payload_again (frames.Write need program) rest is = made_again (λ p. frames.Write p.0 p.1) need_program (need, program) rest is
+payload_again (frames.Write tag need program) rest is = made_again (λ p. frames.Write p.0 p.1.0 p.1.1) tag_need_program (tag, (need, program)) rest (is.0, (is.1, is.2))
 payload_again frames.Reopen rest is = refl
 payload_again frames.Dump rest is = refl
 payload_again (frames.Offer vector) rest is = made_again frames.Offer vector_format vector rest is
@@ -210,7 +214,7 @@ payload_format kind = record { takes = payload_takes kind; again = again }
 kind_is_kind : (frame : Frame) → is_kind (kind_of frame) ≡ true
 unfolding is_kind
 kind_is_kind (frames.Read need key) = refl
-kind_is_kind (frames.Write need program) = refl
+kind_is_kind (frames.Write tag need program) = refl
 kind_is_kind frames.Reopen = refl
 kind_is_kind frames.Dump = refl
 kind_is_kind (frames.Offer vector) = refl
@@ -226,6 +230,9 @@ is_kind-false kind none is = let e : true ≡ false = sym (kind_is_kind is.0) �
 
 some_wid : Wid
 some_wid = record { origin = record { index = 0; in_range = omega arith }; seq = 1; in_range = (omega arith, omega arith) }
+
+some_tag : Tag
+some_tag = record { session = record { index = 0; in_range = omega arith }; run = 1; number = 1; in_range = (omega arith, omega arith) }
 
 some_accepted : Accepted
 some_accepted = record { wid = some_wid; stamp = record { clock = 1; origin = some_wid.origin; in_range = (omega arith, omega arith) }; deps = []; one_origin = refl }
@@ -258,5 +265,5 @@ is_kind-true kind e =
     or_kind (frames.Offer []) kind _ e (λ e.
     or_kind frames.Dump kind _ e (λ e.
     or_kind frames.Reopen kind _ e (λ e.
-    or_kind (frames.Write [] some_program) kind _ e (λ e.
+    or_kind (frames.Write some_tag [] some_program) kind _ e (λ e.
     has_kind (frames.Read [] []) kind e))))))))))

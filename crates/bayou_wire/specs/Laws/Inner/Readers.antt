@@ -14,13 +14,16 @@ use Rattle.std.proofs.lemmas.Str.{IsUtf8-from_ascii, IsUtf8-from_is_utf8, is_utf
 use Rattle.bayou_base.specs.Key.{key_fault, is_key_byte}
 use Rattle.bayou_base.specs.Text.{IsShort}
 use Rattle.bayou_base.specs.declared.answer.Accepted.{Accepted}
-use Rattle.bayou_base.specs.declared.limits.TheConstants.{MAX_TEXT_BYTES, MAX_WRITES, SERVERS}
+use Rattle.bayou_base.specs.declared.limits.TheConstants.{MAX_TEXT_BYTES, MAX_WRITES, SERVERS, SESSIONS}
 use Rattle.bayou_base.specs.declared.server.ServerId.{ServerId}
+use Rattle.bayou_base.specs.declared.session.SessionId.{SessionId}
 use Rattle.bayou_base.specs.declared.stamp.Stamp.{Stamp}
+use Rattle.bayou_base.specs.declared.tag.Tag.{Tag}
 use Rattle.bayou_base.specs.declared.wid.Wid.{Wid}
 use Rattle.bayou_lang.specs.declared.program.Program.{Program}
 use Rattle.bayou_lang.specs.declared.write.Write.{Write}
-use Rattle.bayou_wire.specs.Inner.Reading.{Read, ◌>>=◌, short_at, key_at, text_at, times, server_if, server_of, placed_if, placed, wid_of, accepted_of, vector_of, accepted_at, program_at, write_at}
+use Rattle.bayou_lang.specs.Laws.Equality.{session-ext}
+use Rattle.bayou_wire.specs.Inner.Reading.{Read, ◌>>=◌, short_at, key_at, text_at, times, server_if, server_of, placed_if, placed, wid_of, session_if, session_of, counted_if, counted, tag_of, accepted_of, vector_of, accepted_at, program_at, write_at}
 
 -- ---- keys and texts
 
@@ -172,6 +175,66 @@ accepted_of-from wid clock deps a e =
     option_and_then_some (λ within. Some (make within)) (placed clock) a e (λ within here same.
     let is : a ≡ make within = sym (same_Some (make within) a same) in
     (ap (λ (b : Accepted). b.wid) is, ap (λ (b : Accepted). b.stamp.clock) is, ap (λ (b : Accepted). b.deps) is))
+
+-- ---- tags
+
+session_if-is : (n : ℕ) (below : Bool) (e : nat_lt n SESSIONS ≡ below) (s : SessionId) → s.index ≡ n → session_if n below e ≡ Some s
+session_if-is n true e s same = ap (λ x. Some x) (session-ext _ s (sym same))
+session_if-is n false e s same = let out : SESSIONS ≤ n = ltb-false n SESSIONS e in absurd (omega (arith, s.in_range))
+
+pub session_of-is : (s : SessionId) → session_of s.index ≡ Some s
+unfolding session_of
+session_of-is s = session_if-is s.index _ refl s refl
+
+session_if-none : (n : ℕ) (below : Bool) (e : nat_lt n SESSIONS ≡ below) → ¬ (n < SESSIONS) → session_if n below e ≡ None
+session_if-none n true e out = absurd (out (ltb-true n SESSIONS e))
+session_if-none n false e out = refl
+
+pub session_of-given : (n : ℕ) (given : Option SessionId) → IsSome given ↔ (n < SESSIONS) → IfSome given (λ s. s.index ≡ n) → given ≡ session_of n
+unfolding session_of
+session_of-given n (Some s) within same = sym (session_if-is n _ refl s same)
+session_of-given n None within same = sym (session_if-none n _ refl (λ h. absurd (let e : false ≡ true = within.1 h in cc)))
+
+session_if-from : (n : ℕ) (below : Bool) (e : nat_lt n SESSIONS ≡ below) (s : SessionId) → session_if n below e ≡ Some s → s.index ≡ n
+session_if-from n true e s same = ap (λ (t : SessionId). t.index) (sym (same_Some _ s same))
+session_if-from n false e s same = absurd (none-some s same)
+
+pub session_of-from : (n : ℕ) (s : SessionId) → session_of n ≡ Some s → s.index ≡ n
+unfolding session_of
+session_of-from n s same = session_if-from n _ refl s same
+
+counted_if-is : (run number : ℕ) (first second : Bool) (a : nat_lt 0 run ≡ first) (b : nat_lt 0 number ≡ second) (h : (0 < run) × (0 < number))
+    → counted_if run number first second a b ≡ Some h
+counted_if-is run number true true a b h = ap (λ x. Some x) (×_prop le_prop le_prop _ h)
+counted_if-is run number true false a b h = let out : number ≤ 0 = ltb-false _ _ b in absurd (omega (arith, h.1))
+counted_if-is run number false true a b h = let out : run ≤ 0 = ltb-false _ _ a in absurd (omega (arith, h.0))
+counted_if-is run number false false a b h = let out : run ≤ 0 = ltb-false _ _ a in absurd (omega (arith, h.0))
+
+counted-is : (run number : ℕ) (h : (0 < run) × (0 < number)) → counted run number ≡ Some h
+unfolding counted
+counted-is run number h = counted_if-is run number _ _ refl refl h
+
+counted-none : (run number : ℕ) → ¬ ((0 < run) × (0 < number)) → counted run number ≡ None
+counted-none run number out = elim (counted run number) as (λ o. o ≡ None) [ None ↦ refl | Some h ↦ absurd (out h) ]
+
+pub tag_of-is : (tag : Tag) → tag_of tag.session tag.run tag.number ≡ Some tag
+unfolding tag_of
+tag_of-is tag = rw (counted-is tag.run tag.number tag.in_range) refl
+
+pub tag_of-given : (session : SessionId) (run number : ℕ) (given : Option Tag) → IsSome given ↔ ((0 < run) × (0 < number))
+    → IfSome given (λ t. (t.session ≡ session) × (t.run ≡ run) × (t.number ≡ number)) → given ≡ tag_of session run number
+unfolding tag_of
+tag_of-given session run number (Some tag) within same = sym (rw (← same.0, ← same.1, ← same.2) (tag_of-is tag))
+tag_of-given session run number None within same = rw (counted-none run number (λ h. absurd (let e : false ≡ true = within.1 h in cc))) refl
+
+pub tag_of-from : (session : SessionId) (run number : ℕ) (tag : Tag) → tag_of session run number ≡ Some tag
+    → (tag.session ≡ session) × (tag.run ≡ run) × (tag.number ≡ number)
+unfolding tag_of
+tag_of-from session run number tag e =
+    option_and_then_some (λ within. Some (record { session = session; run = run; number = number; in_range = within })) (counted run number) tag e (λ within here same.
+    (ap (λ (t : Tag). t.session) (sym (same_Some _ tag same)), ap (λ (t : Tag). t.run) (sym (same_Some _ tag same)), ap (λ (t : Tag). t.number) (sym (same_Some _ tag same))))
+
+-- ---- Writes
 
 -- a Write is made of what its server gave it and of its program, whatever shows its one origin
 pub write_at-made : (bytes middle rest : List ℕ) (a : Accepted) (program : Program) (one : a.wid.origin ≡ a.stamp.origin) → accepted_at bytes ≡ Some (a, middle) → program_at middle ≡ Some (program, rest)

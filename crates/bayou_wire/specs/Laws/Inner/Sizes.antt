@@ -7,6 +7,7 @@ use Rattle.std.proofs.Math.Nat.{mul-le-mul_right}
 use Rattle.std.proofs.lemmas.List.{length-append}
 use Rattle.bayou_base.specs.declared.limits.TheConstants.{SERVERS, MAX_FRAME_BYTES, MAX_WRITE_BYTES, MAX_KEY_BYTES, MAX_OPS, MAX_CONDITIONS, MAX_ALTERNATIVES}
 use Rattle.bayou_base.specs.declared.stamp.Stamp.{Stamp}
+use Rattle.bayou_base.specs.declared.tag.Tag.{Tag}
 use Rattle.bayou_base.specs.declared.value.Value.{Value}
 use Rattle.bayou_base.specs.declared.value.Value.TheVariants.{Num, Text}
 use Rattle.bayou_base.specs.declared.wid.Wid.{Wid}
@@ -23,10 +24,10 @@ use Rattle.bayou_wire.specs.declared.frame.Frame.{Frame}
 use Rattle.bayou_wire.specs.declared.frame.Frame.TheVariants as frames
 use Rattle.bayou_wire.specs.declared.frame.Refusal.{Refusal}
 use Rattle.bayou_wire.specs.declared.frame.Refusal.TheVariants as refusals
-use Rattle.bayou_wire.specs.declared.layout.TheConstants.{LENGTH_BYTES}
+use Rattle.bayou_wire.specs.declared.layout.TheConstants.{LENGTH_BYTES, TAG_BYTES}
 use Rattle.bayou_lang.specs.Ranges.{IsKey, IsValue, IsTerm, IsOp, IsCond, AreAtMost, IsAlt, IsProgram, IsWrite}
 use Rattle.bayou_wire.specs.Laws.Inner.Vectors.{length-vector_bytes}
-use Rattle.bayou_wire.specs.Spelling.{i64_bytes, short_bytes, value_bytes, term_bytes, op_bytes, cond_bytes, list_bytes, alt_bytes, program_bytes, vector_bytes, accepted_bytes, write_bytes, optional_value_bytes, optional_wid_bytes, refusal_bytes, payload_bytes, IsRefusal, IsFrame, SpellsFrame}
+use Rattle.bayou_wire.specs.Spelling.{i64_bytes, short_bytes, value_bytes, term_bytes, op_bytes, cond_bytes, list_bytes, alt_bytes, program_bytes, vector_bytes, tag_bytes, accepted_bytes, write_bytes, optional_value_bytes, optional_wid_bytes, refusal_bytes, payload_bytes, IsRefusal, IsFrame, SpellsFrame}
 
 pub key_is_short : (key : List ℕ) → IsKey key → length key ≤ MAX_KEY_BYTES
 key_is_short key is = grind (arith, nat_tests)
@@ -84,6 +85,17 @@ program_size program is =
     let all = length-append (list_bytes cond_bytes program.check.items) (list_bytes op_bytes program.update.items ++ list_bytes alt_bytes program.merge.items) in
     omega (arith, conds, ops, alts, later, all)
 
+tag_size : (tag : Tag) → length (tag_bytes tag) ≡ TAG_BYTES
+tag_size tag = refl
+
+-- what a request to accept a Write has behind its kind
+request_size : (tag : Tag) (need : List ℕ) (program : Program) → IsProgram program
+    → length (tag_bytes tag ++ (vector_bytes need ++ program_bytes program)) ≤ TAG_BYTES + SERVERS * 4 + 5771
+request_size tag need program is =
+    let behind : length (vector_bytes need ++ program_bytes program) ≤ SERVERS * 4 + 5771 =
+    omega (arith, length-append (vector_bytes need) (program_bytes program), length-vector_bytes need, program_size program is) in
+    omega (arith, length-append (tag_bytes tag) (vector_bytes need ++ program_bytes program), tag_size tag, behind)
+
 accepted_size : (wid : Wid) (stamp : Stamp) (deps : List ℕ) → length (accepted_bytes wid stamp deps) ≡ SERVERS * 4 + 9
 accepted_size wid stamp deps = omega (arith, length-vector_bytes deps)
 
@@ -107,6 +119,7 @@ refusal_size refusals.NotDown is = omega arith
 refusal_size (refusals.BadRecord at) is = omega arith
 refusal_size refusals.Lost is = omega arith
 refusal_size refusals.OutOfMemory is = omega arith
+refusal_size refusals.TagUsed is = omega arith
 
 reopened_size : (wid : Option Wid) → length (optional_wid_bytes wid) ≤ 6
 reopened_size None = omega arith
@@ -114,7 +127,7 @@ reopened_size (Some wid) = omega arith
 
 pub payload_is_short : (frame : Frame) → IsFrame frame → length (payload_bytes frame) < MAX_FRAME_BYTES
 payload_is_short (frames.Read need key) is = omega (arith, length-vector_bytes need, key_is_short key is.1, length-append (vector_bytes need) (short_bytes key))
-payload_is_short (frames.Write need program) is = omega (arith, length-vector_bytes need, program_size program is.1, length-append (vector_bytes need) (program_bytes program))
+payload_is_short (frames.Write tag need program) is = omega (arith, request_size tag need program is.2)
 payload_is_short frames.Reopen is = omega arith
 payload_is_short frames.Dump is = omega arith
 payload_is_short (frames.Offer vector) is = omega (arith, length-vector_bytes vector)
