@@ -5,6 +5,7 @@ use Rattle.bayou_base.specs.declared.entry.Entry.{Entry}
 use Rattle.bayou_base.specs.declared.server.ServerId.{ServerId}
 use Rattle.bayou_base.specs.declared.session.SessionId.{SessionId}
 use Rattle.bayou_judge.specs.History.{lists_of}
+use Rattle.bayou_session.specs.declared.session.TheConstants.{FIRST_RUN}
 use Rattle.bayou_session.specs.Needs.{Told, new_session}
 use Rattle.bayou_text.specs.Said.{Said, servers, session, write, read, log, fuse, lose, reopen, restart, pull, resend, totals, judge, survey, book, phase, entry, held}
 use Rattle.bayou_script.specs.declared.audit.AuditFile.{AuditFile}
@@ -25,7 +26,7 @@ pub record Opens (old : Standing) (who : ℕ) (asks : Asks) (answer : Answer) (n
   pub name : SessionId
   pub is_named : name.index ≡ who
   pub answered : answer ≡ Done
-  pub only : new ≡ with_session old name (new_session name asks)
+  pub only : new ≡ with_session old name (new_session name FIRST_RUN asks)
 
 -- The session tries an operation at the server: what that does to the two of them, it does to how the script stands, and nothing else.
 pub record Operates (Does : SessionId → ScriptServer → Told → Answer → ScriptServer → Told → Type 0) (old : Standing) (who place : ℕ) (answer : Answer) (new : Standing) : Type 0 where

@@ -23,7 +23,7 @@ use Rattle.bayou_server.specs.Server.{ServerState, with_device}
 use Rattle.bayou_server.specs.Starts.{FailsToStart, Starts, StartsOn}
 use Rattle.bayou_server.specs.Stored.{OpensInCalls, ReopensJournal, StoresWrite}
 use Rattle.bayou_server.specs.Writes.{Writes}
-use Rattle.bayou_session.specs.Needs.{Told, after_read, after_write, one_place_more, read_need, write_need}
+use Rattle.bayou_session.specs.Needs.{Told, after_read, after_write, asks_first, one_place_more, read_need, write_need}
 use Rattle.bayou_answers.specs.declared.answer.Answer.{Answer}
 use Rattle.bayou_answers.specs.declared.answer.Answer.TheVariants.{Done, Wrote, Read, Refused, Lost, Logged, Recovered, Exchanged, Counted, Judged, Surveyed, Booked}
 use Rattle.bayou_answers.specs.declared.answer.Answer.TheVariants as answers
@@ -60,12 +60,12 @@ on_device (Stopped left) device = Stopped (record left { device = device })
 
 -- ---- operations of sessions
 
--- what a session is told of what its Write was answered, once it has begun its place: nothing of a refusal
+-- what a session is told of what its Write was answered, once it has asked at its place: nothing of a refusal
 abbrev pub told_of_write : Told → Result Accepted WriteFault → Told
-told_of_write told (Ok accepted) = after_write (one_place_more told) accepted
-told_of_write told (Err refusal) = one_place_more told
+told_of_write told (Ok accepted) = after_write (asks_first told) accepted
+told_of_write told (Err refusal) = asks_first told
 
--- and of what its read was answered
+-- and of what its read was answered, once it has begun its place
 abbrev pub told_of_read : Told → Result Seen Behind → Told
 told_of_read told (Ok seen) = after_read (one_place_more told) seen
 told_of_read told (Err behind) = one_place_more told
@@ -78,11 +78,11 @@ abbrev pub read_answer : SessionId → List ℕ → Result Seen Behind → Answe
 read_answer who key (Ok seen) = Read who key seen
 read_answer who key (Err behind) = Refused who (BehindNeed behind.vector)
 
--- No reply reaches a session that has no place left, nor one whose server is stopped.
-pub data GetsNoReply (who : SessionId) (replica : ScriptServer) (told : Told) (answer : Answer) (now : Told) : Type 0 where
-  no_place : told.begun ≡ MAX_PLACES → answer ≡ Lost who → now ≡ told → GetsNoReply who replica told answer now
-  stopped : (left : StoppedServer Memory) → replica ≡ Stopped left → told.begun < MAX_PLACES → answer ≡ Lost who → now ≡ one_place_more told
-      → GetsNoReply who replica told answer now
+-- No reply reaches a session that has no place left, nor one whose server is stopped: that one has begun the place.
+pub data GetsNoReply (who : SessionId) (begins : Told → Told) (replica : ScriptServer) (told : Told) (answer : Answer) (now : Told) : Type 0 where
+  no_place : told.begun ≡ MAX_PLACES → answer ≡ Lost who → now ≡ told → GetsNoReply who begins replica told answer now
+  stopped : (left : StoppedServer Memory) → replica ≡ Stopped left → told.begun < MAX_PLACES → answer ≡ Lost who → now ≡ begins told
+      → GetsNoReply who begins replica told answer now
 
 -- The server answers the session's Write, by what the session needs of it.
 pub record AnswersWrite (who : SessionId) (program : Program) (before : ScriptServer) (told : Told) (answer : Answer) (after : ScriptServer) (now : Told) : Type 0 where
@@ -100,7 +100,7 @@ pub record AnswersWrite (who : SessionId) (program : Program) (before : ScriptSe
 
 abbrev pub IsWritten : SessionId → Program → ScriptServer → Told → Answer → ScriptServer → Told → Type 0
 IsWritten who program before told answer after now =
-    (GetsNoReply who before told answer now × (after ≡ before)) ⊎ AnswersWrite who program before told answer after now
+    (GetsNoReply who asks_first before told answer now × (after ≡ before)) ⊎ AnswersWrite who program before told answer after now
 
 -- The server answers the session's read, by what the session needs of it.
 pub record AnswersRead (who : SessionId) (key : List ℕ) (replica : ScriptServer) (told : Told) (answer : Answer) (now : Told) : Type 0 where
@@ -113,7 +113,7 @@ pub record AnswersRead (who : SessionId) (key : List ℕ) (replica : ScriptServe
   pub told_of : now ≡ told_of_read told result
 
 abbrev pub IsRead : SessionId → List ℕ → ScriptServer → Told → Answer → Told → Type 0
-IsRead who key replica told answer now = GetsNoReply who replica told answer now ⊎ AnswersRead who key replica told answer now
+IsRead who key replica told answer now = GetsNoReply who one_place_more replica told answer now ⊎ AnswersRead who key replica told answer now
 
 -- ---- what is asked of servers alone
 

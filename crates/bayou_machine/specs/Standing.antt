@@ -4,6 +4,7 @@ use Rattle.std.specs.List.{slice_get, slice_index_or}
 use Rattle.bayou_base.specs.declared.asks.Asks.{Asks}
 use Rattle.bayou_base.specs.declared.limits.TheConstants.{SESSIONS}
 use Rattle.bayou_base.specs.declared.session.SessionId.{SessionId}
+use Rattle.bayou_session.specs.declared.session.TheConstants.{FIRST_RUN}
 use Rattle.bayou_session.specs.Needs.{Told, new_session}
 use Rattle.bayou_answers.specs.declared.fault.BeginFault.{BeginFault}
 use Rattle.bayou_answers.specs.declared.fault.BeginFault.TheVariants as faults
@@ -24,7 +25,7 @@ nothing_asked = record { ryw = false; mr = false; wfr = false; mw = false }
 
 -- the session of this name: one that wasn't opened would ask for nothing, and no script uses it
 abbrev pub session_of : Standing → SessionId → Told
-session_of standing who = unwrap_or (slice_index_or standing.sessions who.index None) (new_session who nothing_asked)
+session_of standing who = unwrap_or (slice_index_or standing.sessions who.index None) (new_session who FIRST_RUN nothing_asked)
 
 -- the same, with this session
 abbrev pub with_session : Standing → SessionId → Told → Standing

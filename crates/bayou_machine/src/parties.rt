@@ -13,7 +13,7 @@ use bayou_lang::{RestingProgram, RestingWrite};
 use bayou_peer::cut_after;
 use bayou_peer::meeting::an_answer_is_short;
 use bayou_script::Servers;
-use bayou_session::Session;
+use bayou_session::{FIRST_RUN, Session};
 use bayou_text::{Attempt, Exchange, Extent, Operation, PlannedFailure, Trial, TrialKind};
 use std::alloc::{AllocError, Global};
 use std::marker::Model;
@@ -67,7 +67,7 @@ impl Parties {
     {
         match self.sessions[usize::from(who.index)] {
             Some(session) => session,
-            None => Session::new(who, Asks::default()),
+            None => Session::new(who, FIRST_RUN, Asks::default()),
         }
     }
 
@@ -107,7 +107,7 @@ impl Parties {
     pub(crate) fn open(&mut self, who: SessionId, asks: Asks)
         ensures { ScriptStep self.old (session who.index asks) Done self.new }
     {
-        self.sessions[usize::from(who.index)] = Some(Session::new(who, asks));
+        self.sessions[usize::from(who.index)] = Some(Session::new(who, FIRST_RUN, asks));
     }
 
     /// What the server holds. It may want memory that it has no answer for.

@@ -55,7 +55,7 @@ impl ScriptServer {
         if session.left() == 0 {
             return Answer::Lost { session: who };
         }
-        session.begin();
+        session.ask();
         let ScriptServer::Running(server) = self else {
             return Answer::Lost { session: who };
         };

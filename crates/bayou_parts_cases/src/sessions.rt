@@ -1,10 +1,10 @@
 //! Sessions: what they need of a server, and whether a server serves them.
 use crate::fixtures::{key, must_be_so, put, server_id, session_id, vector, wid};
 use crate::servers::start;
-use bayou_base::{Accepted, Asks, Seen, Stamp, Vector, Wid};
+use bayou_base::{Accepted, Asks, Seen, Stamp, Tag, Vector, Wid};
 use bayou_device::{MemoryDevice, OpenGate};
 use bayou_server::{Server, WriteFault};
-use bayou_session::Session;
+use bayou_session::{FIRST_RUN, Session};
 use std::alloc::Global;
 use std::process::Abort;
 
@@ -25,18 +25,28 @@ fn may_be_served(asks: Asks, in_reads: bool, in_writes: bool) -> (bool, bool) {
     (may_read, may_write)
 }
 
-/// A session whose read saw this vector, and which made that Write.
-fn told(rt: &impl Abort, asks: Asks, vector: Vector, wid: Wid) -> Session {
-    let mut session = Session::new(session_id(rt, 5), asks);
-    session.saw(&Seen {
+/// What a read saw at a server of this vector.
+fn seen(vector: Vector) -> Seen {
+    Seen {
         value: None,
         vector,
-    });
-    session.wrote(&Accepted {
+    }
+}
+
+/// That a Write of this name was accepted.
+fn accepted(rt: &impl Abort, wid: Wid) -> Accepted {
+    Accepted {
         wid,
         stamp: Stamp::new(9, wid.origin).expect(rt, "no stamp"),
         deps: Vector::zero(),
-    });
+    }
+}
+
+/// A session whose read saw this vector, and which made that Write.
+fn told(rt: &impl Abort, asks: Asks, vector: Vector, wid: Wid) -> Session {
+    let mut session = Session::new(session_id(rt, 5), FIRST_RUN, asks);
+    session.saw(&seen(vector));
+    session.wrote(&accepted(rt, wid));
     session
 }
 
@@ -81,6 +91,81 @@ fn places(rt: HostRuntime) {
     let is_none_left = begins_all(&mut session, 1, 0) == 4_294_967_295 && session.left() == 0;
     let is_the_same = session.id().index == 5 && session.need_read() == Vector::zero();
     assert!(rt; are_all_left && is_one_left && is_none_left && is_the_same);
+}
+
+/// A call of a session.
+#[derive(Clone, Copy)]
+enum Call {
+    Begin,
+    Ask,
+    Again,
+    Saw,
+    Wrote,
+}
+
+/// Calls in their order, each with the number of the tag that it gives, if it gives one, and the place begun last behind it.
+static CALLS: [(Call, Option<u32>, u32); 20] = [
+    (Call::Again, None, 0),
+    (Call::Wrote, None, 0),
+    (Call::Ask, Some(1), 1),
+    (Call::Again, Some(1), 2),
+    (Call::Again, Some(1), 3),
+    (Call::Saw, None, 3),
+    (Call::Again, Some(1), 4),
+    (Call::Wrote, None, 4),
+    (Call::Again, None, 4),
+    (Call::Ask, Some(5), 5),
+    (Call::Ask, Some(6), 6),
+    (Call::Again, Some(6), 7),
+    (Call::Ask, Some(8), 8),
+    (Call::Begin, None, 9),
+    (Call::Again, None, 9),
+    (Call::Begin, None, 10),
+    (Call::Ask, Some(11), 11),
+    (Call::Again, Some(11), 12),
+    (Call::Begin, None, 13),
+    (Call::Again, None, 13),
+];
+
+/// Makes the call: the tag that it gives, if it gives one.
+fn done(rt: &impl Abort, session: &mut Session, what: Call) -> Option<Tag> {
+    match what {
+        Call::Begin => {
+            let place = session.begin();
+            assert!(rt; place == session.place());
+            None
+        }
+        Call::Ask => Some(session.ask()),
+        Call::Again => session.again(),
+        Call::Saw => {
+            session.saw(&seen(vector(rt, 2, 0)));
+            None
+        }
+        Call::Wrote => {
+            session.wrote(&accepted(rt, wid(rt, 1, 3)));
+            None
+        }
+    }
+}
+
+#[test]
+fn a_write_is_asked_again_with_its_tag(rt: HostRuntime) {
+    let mut session = Session::new(session_id(&rt, 5), 7, Asks::default());
+    let mut is_so = session.run() == 7;
+    for (at, (what, number, place)) in CALLS.iter().enumerate() {
+        let tag = number.and_then(|number| Tag::new(session_id(&rt, 5), 7, number));
+        is_so = is_so && done(&rt, &mut session, *what) == tag;
+        must_be_so(&rt, is_so && session.place() == *place, at);
+    }
+}
+
+#[test]
+fn tags(rt: HostRuntime) {
+    let session = session_id(&rt, 31);
+    let tag = Tag::new(session, u32::MAX, 1).expect(&rt, "no tag");
+    let is_itself = tag.session == session && tag.run == u32::MAX && tag.number == 1;
+    let are_none = Tag::new(session, 0, 1) == None && Tag::new(session, 1, 0) == None;
+    assert!(rt; is_itself && are_none);
 }
 
 /// Whether the server accepts a Write that needs this; `None` where it refuses it, but not as one that is behind.

@@ -3,4 +3,4 @@ use Rattle.bayou_machine.specs.ScriptServer.{stopped}
 use Rattle.bayou_machine.proofs.script_server.ScriptServer.write.Goals as goal
 
 pub returns-in_default : goal.returns-in_default
-returns-in_default c = inl (stopped c.in_default.field-0 c.in_default.is (omega (arith, c.left.ensures)) refl c.begin.ensures.begun, refl)
+returns-in_default c = inl (stopped c.in_default.field-0 c.in_default.is (omega (arith, c.left.ensures)) refl c.ask.ensures.begun, refl)
