@@ -41,7 +41,7 @@ abbrev pub HasNoPlace : ℕ → Frame → Type 0
 HasNoPlace number (Item write) = ⊥
 HasNoPlace number (End count) = count ≢ number
 HasNoPlace number (Read need key) = Unit {0}
-HasNoPlace number (WriteFrame need program) = Unit {0}
+HasNoPlace number (WriteFrame tag need program) = Unit {0}
 HasNoPlace number Reopen = Unit {0}
 HasNoPlace number Dump = Unit {0}
 HasNoPlace number (Offer vector) = Unit {0}
