@@ -1,5 +1,5 @@
 -- What becomes of a session, of its share and of the book as it reads or writes over a link (Terry et al. 1994; the book is this project's own).
-use Rattle.std.specs.Prelude.{◌≡◌, ℕ, Bool, List, [], Option, Result, Ok, Err}
+use Rattle.std.specs.Prelude.{◌≡◌, ℕ, ◌+◌, Bool, List, [], Option, Result, Ok, Err}
 use Rattle.bayou_audit.specs.Totals.{Shared, counted}
 use Rattle.bayou_base.specs.declared.answer.Accepted.{Accepted}
 use Rattle.bayou_base.specs.declared.answer.Seen.{Seen}
@@ -7,12 +7,14 @@ use Rattle.bayou_base.specs.declared.entry.Entry.{Entry}
 use Rattle.bayou_base.specs.declared.entry.What.{What}
 use Rattle.bayou_base.specs.declared.entry.What.TheVariants as whats
 use Rattle.bayou_base.specs.declared.server.ServerId.{ServerId}
+use Rattle.bayou_base.specs.declared.tag.Tag.{Tag}
 use Rattle.bayou_client.specs.declared.fault.ClientFault.{ClientFault}
 use Rattle.bayou_client.specs.declared.fault.ClientFault.TheVariants.{AuditFull, Link}
 use Rattle.bayou_client.specs.declared.fault.LinkFault.TheVariants.{Lost, BadFrame, Refused, OutOfMemory}
+use Rattle.bayou_client.specs.declared.fault.LinkFault.{LinkFault}
 use Rattle.bayou_client.specs.Exchange.{Asks, LinkEnds, asks_read, asks_write}
 use Rattle.bayou_lang.specs.declared.program.Program.{Program}
-use Rattle.bayou_session.specs.Needs.{Told, after_read, after_write, one_place_more, read_need, write_need}
+use Rattle.bayou_session.specs.Needs.{IsTagOf, Told, after_read, after_write, asks_first, one_place_more, read_need, write_need}
 use Rattle.bayou_wire.specs.declared.frame.Frame.TheVariants as frames
 use Rattle.bayou_wire.specs.Stream.{spelling}
 
@@ -33,10 +35,12 @@ pub record IsEntryOf (session : Told) (server : ServerId) (place : ℕ) (what : 
 abbrev pub with_entered : What → Shared → Shared
 with_entered what share = record share { totals = counted what share.totals }
 
--- An operation of a session: what it asks for, the request, what the session is told by an answer, and what is entered of it.
+-- An operation of a session: what it asks for, which bytes are its request, what becomes of the session as it begins its place, what the
+-- session is told by an answer, and what is entered of it.
 pub record Operation (A : Type 0) : Type 1 where
   pub asks : Asks A
-  pub request : List ℕ
+  pub is_request : List ℕ → Type 0
+  pub begins : Told → Told
   pub tells : Told → A → Told
   pub what : A → What
 
@@ -50,18 +54,26 @@ write_what accepted = whats.Write accepted.wid accepted.stamp accepted.deps
 abbrev pub reading : Told → (key : List ℕ) → Operation Seen
 reading session key = record {
   asks = asks_read (read_need session);
-  request = spelling (frames.Read (read_need session) key);
+  is_request = λ request. request ≡ spelling (frames.Read (read_need session) key);
+  begins = one_place_more;
   tells = after_read;
   what = read_what key;
 }
 
+-- the session's need is sent, under the tag of the place that it begins, by which the Write may be asked again
 abbrev pub writing : Told → ServerId → Program → Operation Accepted
 writing session server program = record {
   asks = asks_write (write_need session) server;
-  request = spelling (frames.Write (write_need session) program);
+  is_request = λ request. (tag : Tag) × IsTagOf session (session.begun + 1) tag × (request ≡ spelling (frames.Write tag (write_need session) program));
+  begins = asks_first;
   tells = after_write;
   what = write_what;
 }
+
+-- what becomes of its request
+abbrev pub Ends : {A : Type 0} → Operation A → (before after : Option (List ℕ)) → (read : List ℕ) → (was_closed is_closed : Bool) → (gone : Type 0) → Result A LinkFault → Type 0
+Ends operation before after read was_closed is_closed gone told =
+    (request : List ℕ) × operation.is_request request × LinkEnds operation.asks request before after read was_closed is_closed gone told
 
 -- How an operation ends: the session has begun a place, and is told just what a reply that answers the request says, which is entered. A
 -- refusal is entered, and nothing is told. Where no such reply came, the session's two vectors are as they were, and nothing is entered.
@@ -69,19 +81,19 @@ writing session server program = record {
 abbrev pub Operates : {A : Type 0} → Operation A → (old new : Sharing) → (before after : Option (List ℕ)) → (read : List ℕ) → (was_closed is_closed : Bool) → (gone : Type 0)
     → Result A ClientFault → Type 0
 Operates operation old new before after read was_closed is_closed gone (Ok answer) =
-    LinkEnds operation.asks operation.request before after read was_closed is_closed gone (Ok answer)
-    × (new.session ≡ operation.tells (one_place_more old.session) answer) × (new.share ≡ with_entered (operation.what answer) old.share)
+    Ends operation before after read was_closed is_closed gone (Ok answer)
+    × (new.session ≡ operation.tells (operation.begins old.session) answer) × (new.share ≡ with_entered (operation.what answer) old.share)
 Operates operation old new before after read was_closed is_closed gone (Err (Link (Refused refusal))) =
-    LinkEnds operation.asks operation.request before after read was_closed is_closed gone (Err (Refused refusal))
-    × (new.session ≡ one_place_more old.session) × (new.share ≡ with_entered whats.Refused old.share)
+    Ends operation before after read was_closed is_closed gone (Err (Refused refusal))
+    × (new.session ≡ operation.begins old.session) × (new.share ≡ with_entered whats.Refused old.share)
 Operates operation old new before after read was_closed is_closed gone (Err (Link Lost)) =
-    LinkEnds operation.asks operation.request before after read was_closed is_closed gone (Err Lost)
-    × (new.session ≡ one_place_more old.session) × (new.share ≡ old.share)
+    Ends operation before after read was_closed is_closed gone (Err Lost)
+    × (new.session ≡ operation.begins old.session) × (new.share ≡ old.share)
 Operates operation old new before after read was_closed is_closed gone (Err (Link BadFrame)) =
-    LinkEnds operation.asks operation.request before after read was_closed is_closed gone (Err BadFrame)
-    × (new.session ≡ one_place_more old.session) × (new.share ≡ old.share)
+    Ends operation before after read was_closed is_closed gone (Err BadFrame)
+    × (new.session ≡ operation.begins old.session) × (new.share ≡ old.share)
 Operates operation old new before after read was_closed is_closed gone (Err (Link OutOfMemory)) =
-    LinkEnds operation.asks operation.request before after read was_closed is_closed gone (Err OutOfMemory)
-    × (new.session ≡ one_place_more old.session) × (new.share ≡ old.share)
+    Ends operation before after read was_closed is_closed gone (Err OutOfMemory)
+    × (new.session ≡ operation.begins old.session) × (new.share ≡ old.share)
 Operates operation old new before after read was_closed is_closed gone (Err AuditFull) =
     (new ≡ old) × (is_closed ≡ was_closed) × (after ≡ before) × (read ≡ [])

@@ -150,7 +150,7 @@ impl<K: Ledgers> Client<K> {
     }
 
     /// Has the program accepted as a Write at this server, which the link goes to and which has what the session asks for. The Write is
-    /// entered in the book if it was accepted or refused.
+    /// entered in the book if it was accepted or refused. It is asked under a tag, by which the session may ask it again.
     pub fn write<R: Read, W: Write, T: Wait>(
         &mut self,
         rt: &T,
@@ -172,8 +172,9 @@ impl<K: Ledgers> Client<K> {
             return Err(ClientFault::AuditFull);
         };
         let need = self.session.need_write();
-        let place = self.session.begin();
-        let told = link.write(alloc, &need, server, program);
+        let tag = self.session.ask();
+        let place = self.session.place();
+        let told = link.write(alloc, tag, &need, server, program);
         self.spend(rt, book, slip, server, place, what_was_written(&told));
         let accepted = told?;
         self.session.wrote(&accepted);

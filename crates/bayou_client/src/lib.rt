@@ -3,7 +3,8 @@
 //! A [`Link`] is a connection to one server, over which one request has one reply. Once no whole reply came to a request it is closed,
 //! since what comes next might belong to that request; whoever goes on opens another. A [`Client`] is a session with its share of the book:
 //! callers see the two, and what becomes of them in words of the reply that was read. It begins a place and claims a slip
-//! for each operation, sends the session's need, and tells the session just what a reply to that request says.
+//! for each operation, sends the session's need, and tells the session just what a reply to that request says. A Write is sent under the
+//! tag of its place, by which the session may ask it again.
 //!
 //! A caller owes that the session has a place left, and that session and share name one session. Servers may send any bytes: what is no
 //! reply to the request is a bad frame. It isn't promised that a server did anything, nor, where a reply is lost, that it did nothing.

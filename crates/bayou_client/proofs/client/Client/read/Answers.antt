@@ -1,4 +1,4 @@
-use Rattle.std.proofs.Common.{◌∙◌, ℕ, List, subst}
+use Rattle.std.proofs.Common.{◌∙◌, ℕ, List, refl, subst}
 use Rattle.std.proofs.lemmas.Result.{err_from_is_err_and}
 use Rattle.std.specs.Io.KnownBytes.{IsAtEnd}
 use Rattle.bayou_client.proofs.Operated.{fails_operating}
@@ -20,5 +20,5 @@ returns-in_err-seen-clause-operates g c =
       read,
       consumed,
       rw (← c.self.view_is, fails.1, fails.2) (fails_operating (reading c.self.inside.session c.args.key.now) (record { session = c.self.inside.session; share = c.self.inside.share }) c.spend.new.self c.claim.new.share before after read c.args.link.now.is_closed c.read-told.new.self.is_closed gone c.read-told.result c.in_err-seen.field-0.0
-          c.in_err-seen.was ends (c.spend.ensures.session ∙ c.begin-place.ensures.begun) c.in-Ok.ensures.1 (rw (← c.what_was_read.ensures) c.spend.ensures.spends)),
+          c.in_err-seen.was (_, refl, ends) (c.spend.ensures.session ∙ c.begin-place.ensures.begun) c.in-Ok.ensures.1 (rw (← c.what_was_read.ensures) c.spend.ensures.spends)),
     )
