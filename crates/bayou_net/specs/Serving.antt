@@ -33,7 +33,7 @@ pub record Steps (S : Type 0) : Type 1 where
 -- the frame asks for something
 abbrev pub IsRequest : Frame → Type 0
 IsRequest (frames.Read need key) = Unit {0}
-IsRequest (frames.Write need program) = Unit {0}
+IsRequest (frames.Write tag need program) = Unit {0}
 IsRequest frames.Reopen = Unit {0}
 IsRequest frames.Dump = Unit {0}
 IsRequest (frames.Offer counts) = Unit {0}
@@ -49,11 +49,11 @@ abbrev pub IsWanting : {S : Type 0} → S → (reply : List ℕ) → S → Type 
 IsWanting old reply new = (reply ≡ spelling (frames.Refused refusals.OutOfMemory)) × (new ≡ old)
 
 -- A request is done, and this is its reply: the one frame of the answer; of a Dump an Item of each Write held, in order of receipt, and
--- an End of their number; and of an Offer the same of those that it lacks, in stamp order.
+-- an End of their number; and of an Offer the same of those that it lacks, in stamp order. The tag of a Write isn't looked at.
 abbrev pub Serves : {S : Type 0} → Steps S → S → Frame → (reply : List ℕ) → S → Type 0
 Serves steps old (frames.Read need key) reply new =
     (answer : Result Seen Behind) × steps.reads old need key answer × (reply ≡ spelling (read_reply answer)) × (new ≡ old)
-Serves steps old (frames.Write need program) reply new =
+Serves steps old (frames.Write tag need program) reply new =
     (answer : Result Accepted WriteFault) × steps.writes old need program answer new × (reply ≡ spelling (write_reply answer))
 Serves steps old frames.Reopen reply new =
     (answer : Result Reopened ReopenFault) × steps.reopens old answer new × (reply ≡ spelling (reopen_reply answer))

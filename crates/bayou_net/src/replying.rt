@@ -1,5 +1,6 @@
 //! What is done of one request, and the bytes of its reply.
-ghost use Rattle.std.specs.Prelude.{◌≡◌, ◌≢◌, ◌≤◌, ◌↔◌, ℕ, List, Err, IfOk, IfSome, IsTrue, None, Some, length};
+ghost use Rattle.std.specs.Prelude.{◌≡◌, ◌≢◌, ◌≤◌, ◌↔◌, ℕ, List, Result, Err, IfOk, IfSome, IsTrue, None, Some, length};
+ghost use Rattle.bayou_base.specs.declared.answer.Accepted.{Accepted as WriteAccepted};
 ghost use Rattle.bayou_base.specs.declared.limits.TheConstants.{MAX_WRITES};
 ghost use Rattle.bayou_net.specs.Replies.{read_reply, reopen_refusal, reopen_reply, write_refusal, write_reply};
 ghost use Rattle.bayou_net.specs.Serving.{IsRequest, Serves};
@@ -66,7 +67,7 @@ pub fn write_fault_of(refusal: Refusal) -> Option<WriteFault>
         Refusal::LogFull => Some(WriteFault::LogFull),
         Refusal::OutOfMemory => Some(WriteFault::OutOfMemory),
         Refusal::Journal => Some(WriteFault::Journal),
-        Refusal::NotDown | Refusal::Lost | Refusal::BadRecord(_) => None,
+        Refusal::NotDown | Refusal::Lost | Refusal::BadRecord(_) | Refusal::TagUsed => None,
     }
 }
 
@@ -104,7 +105,7 @@ pub fn reopen_fault_of(refusal: Refusal) -> Option<ReopenFault>
         Refusal::Lost => Some(ReopenFault::Lost),
         Refusal::BadRecord(at) => Some(ReopenFault::BadRecord(at)),
         Refusal::OutOfMemory => Some(ReopenFault::OutOfMemory),
-        Refusal::Down | Refusal::Behind(_) | Refusal::LogFull => None,
+        Refusal::Down | Refusal::Behind(_) | Refusal::LogFull | Refusal::TagUsed => None,
     }
 }
 
@@ -170,14 +171,15 @@ fn write_at<S: Served>(
     }
 }
 
+// The tag of the request isn't looked at yet: each is a Write of its own.
 fn of_write<S: Served>(
     alloc: Global,
     served: &mut S,
     need: &Vector,
     program: &RestingProgram,
 ) -> Result<Vec<u8>, AllocError>
-    ensures { (reply : List ℕ) × Serves (record { list = S.list; reads = S.reads; writes = S.writes; reopens = S.reopens }) served.old (frames.Write need.now program.now) reply served.new
-        × IfOk result (λ text. text.items ≡ reply) }
+    ensures { (answer : Result WriteAccepted WriteRefused) × S.writes served.old need.now program.now answer served.new
+        × IfOk result (λ text. text.items ≡ spelling (write_reply answer)) }
 {
     let frame = told_write(write_at(alloc, served, need, program));
     encoded(alloc, &frame)
@@ -217,7 +219,7 @@ pub(crate) fn reply_to<S: Served>(
 {
     match request {
         Frame::Read(need, key) => of_read(alloc, served, need, key),
-        Frame::Write(need, program) => of_write(alloc, served, need, program),
+        Frame::Write(_, need, program) => of_write(alloc, served, need, program),
         Frame::Reopen => of_reopen(alloc, served),
         Frame::Dump => of_dump(alloc, served),
         _ => unreachable!(),

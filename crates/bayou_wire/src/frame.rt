@@ -20,7 +20,7 @@ pub enum Refusal {
     Lost,
     /// Its memory ran out.
     OutOfMemory,
-    /// It holds a Write of this tag, of which the request isn't the asking.
+    /// It holds a Write of this tag, and that isn't the one asked for.
     TagUsed,
 }
 

@@ -75,5 +75,5 @@ pub const CODE_BAD_RECORD: u8 = 6;
 pub const CODE_LOST: u8 = 7;
 /// The server's memory ran out.
 pub const CODE_OUT_OF_MEMORY: u8 = 8;
-/// The server holds another Write of the request's tag.
+/// The server holds a Write of the request's tag, and that isn't the one asked for.
 pub const CODE_TAG_USED: u8 = 9;

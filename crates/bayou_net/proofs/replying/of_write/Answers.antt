@@ -1,12 +1,11 @@
-use Rattle.std.proofs.Common.{◌≡◌, IfOk, refl, subst}
-use Rattle.bayou_net.specs.Replies.{write_reply}
+use Rattle.std.proofs.Common.{◌≡◌, IfOk, subst}
 use Rattle.bayou_wire.specs.declared.frame.Frame.{Frame}
 use Rattle.bayou_wire.specs.Stream.{spelling}
 use Rattle.bayou_net.proofs.replying.of_write.Goals as goal
 
 pub returns : goal.returns
 returns g c = (
-  spelling (write_reply c.write_at.result),
-  (c.write_at.result, c.write_at.ensures, refl),
+  c.write_at.result,
+  c.write_at.ensures,
   subst (λ (frame : Frame). IfOk c.encoded.result (λ text. text.items ≡ spelling frame)) c.told_write-frame.ensures c.encoded.ensures,
 )
