@@ -16,7 +16,7 @@ def visit(connection, number, all_there, told):
         all_there.wait(SECONDS)
         first = frames.frames_of(connection.ask(frames.read_request(frames.ZERO, key)))[0][0][0]
         all_there.wait(SECONDS)
-        wrote = frames.frames_of(connection.ask(frames.write_request(frames.ZERO, program)))[0][0][0]
+        wrote = frames.frames_of(connection.ask(frames.write_request((number % frames.SESSIONS, 1, number + 1), frames.ZERO, program)))[0][0][0]
         need = list(wrote[3])
         need[wrote[1][0]] = wrote[1][1]
         all_there.wait(SECONDS)

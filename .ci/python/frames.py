@@ -1,18 +1,20 @@
 """Requests, replies and journals as bytes, written from docs/FORMATS.md and docs/PROTOCOL.md alone.
 
-A value is an int or a str. A program is (check, update, merge), merge a list of (when, ops). A vector is a tuple of eight counts, and a Write
-(origin, seq, clock, deps, program). What is read is refused with BadBytes where the pages call it a fault.
+A value is an int or a str. A program is (check, update, merge), merge a list of (when, ops). A vector is a tuple of eight counts, a tag (session,
+run, number), and a Write (origin, seq, clock, deps, program). What is read is refused with BadBytes where the pages call it a fault.
 """
 import hashlib
 import struct
 
 SERVERS = 8
+SESSIONS = 32
 MAX_COUNT = 65536
 MAX_FRAME = 8192
+MAX_NUMBER = 2**32 - 1
 ZERO = (0,) * SERVERS
-READ, WRITE, REOPEN, DUMP, OFFER = 0x01, 0x02, 0x03, 0x04, 0x05
+READ, REOPEN, DUMP, OFFER, WRITE = 0x01, 0x03, 0x04, 0x05, 0x06
 SEEN, ACCEPTED, REFUSED, REOPENED, ITEM, END = 0x11, 0x12, 0x13, 0x14, 0x15, 0x16
-DOWN, BEHIND, LOG_FULL, JOURNAL, NOT_DOWN, BAD_RECORD, LOST, OUT_OF_MEMORY = range(1, 9)
+DOWN, BEHIND, LOG_FULL, JOURNAL, NOT_DOWN, BAD_RECORD, LOST, OUT_OF_MEMORY, TAG_USED = range(1, 10)
 KEY_BYTES = frozenset(b"abcdefghijklmnopqrstuvwxyz0123456789._-/")
 
 
@@ -97,8 +99,12 @@ def read_request(need, key):
     return frame(READ, vector_bytes(need) + key_bytes(key))
 
 
-def write_request(need, program):
-    return frame(WRITE, vector_bytes(need) + program_bytes(program))
+def tag_bytes(tag):
+    return struct.pack(">BII", *tag)
+
+
+def write_request(tag, need, program):
+    return frame(WRITE, tag_bytes(tag) + vector_bytes(need) + program_bytes(program))
 
 
 def offer_request(vector):
@@ -197,34 +203,37 @@ class Bytes:
     def wid(self):
         return (self.within(">B", 0, SERVERS - 1), self.within(">I", 1, MAX_COUNT))
 
+    def tag(self):
+        return (self.within(">B", 0, SESSIONS - 1), self.within(">I", 1, MAX_NUMBER), self.within(">I", 1, MAX_NUMBER))
+
     def write(self):
         origin, seq = self.wid()
         return (origin, seq, self.within(">I", 1, MAX_COUNT), self.vector(), self.program())
 
     def refusal(self):
-        code = self.within(">B", DOWN, OUT_OF_MEMORY)
+        code = self.within(">B", DOWN, TAG_USED)
         if code == BEHIND:
             return (code, self.vector())
         if code == BAD_RECORD:
             return (code, self.number(">I"))
         return (code,)
 
-    def optional(self, one, tag):
-        """Nothing, which is a byte 0; or one of these, which begins with the tag where that is given."""
+    def optional(self, one, first):
+        """Nothing, which is a byte 0; or one of these, which stands behind the byte `first` where that is given."""
         if self.data[self.at:self.at + 1] == b"\x00":
             self.at += 1
             return None
-        if tag is not None and self.byte() != tag:
+        if first is not None and self.byte() != first:
             raise BadBytes("optional")
         return one()
 
 
 PAYLOADS = {
     READ: lambda left: (left.vector(), left.key()),
-    WRITE: lambda left: (left.vector(), left.program()),
     REOPEN: lambda left: (),
     DUMP: lambda left: (),
     OFFER: lambda left: (left.vector(),),
+    WRITE: lambda left: (left.tag(), left.vector(), left.program()),
     SEEN: lambda left: (left.optional(left.value, None), left.vector()),
     ACCEPTED: lambda left: (left.wid(), left.within(">I", 1, MAX_COUNT), left.vector()),
     REFUSED: lambda left: (left.refusal(),),

@@ -1,4 +1,5 @@
 """Tries the server at a socket from another language. Call: python3 sockets.py PROGRAM. Its last line is 'N passed, M failed'."""
+import itertools
 import os
 import resource
 import sys
@@ -12,9 +13,14 @@ import streams
 from checks import Checks
 from host import Host, begin, has, put
 
-P = frames.frames_of(rows.ROWS[5][0])[0][0][0][2]
-WRITE_P = frames.write_request(frames.ZERO, P)
+P = frames.frames_of(rows.ROWS[5][0])[0][0][0][3]
+NUMBERS = itertools.count(1)
 READ_ROOM = frames.read_request(frames.ZERO, "room")
+
+
+def write_p(number=None):
+    """A request to accept P: the first session's at that place in the first run, or at one that nobody used."""
+    return frames.write_request((0, 1, next(NUMBERS) if number is None else number), frames.ZERO, P)
 
 
 def bodies_of(writes):
@@ -46,7 +52,7 @@ def spelled(checks):
         for data in (request, reply):
             for said, own in frames.frames_of(data)[0]:
                 checks.that("the spelling of " + own.hex(), frames.frames_of(own), ([(said, own)], "whole"))
-    checks.that("a Write request", WRITE_P, rows.said("0034 02 0*32 P"))
+    checks.that("a Write request", write_p(1), rows.said("003d 06 00 00000001 00000001 0*32 P"))
     checks.that("a read request", READ_ROOM, rows.said("0026 01 0*32 04 726f6f6d"))
     checks.that("an Offer", frames.offer_request(frames.counts(1)), rows.said("0021 05 V"))
     checks.that("a Write", frames.write_bytes(own_writes(1)[0]), rows.BODIES[0])
@@ -106,7 +112,7 @@ def refuses_streams(checks, program, folder):
                 connection.send(bad)
                 checks.that("no request: " + bad.hex(), connection.rest(), b"")
             with host.connect() as connection:
-                connection.send(WRITE_P + bad + READ_ROOM)
+                connection.send(write_p() + bad + READ_ROOM)
                 checks.that("a Write, and then no request: " + bad.hex(), connection.rest().hex(), accepted(number + 1).hex())
         settles(checks, "no requests", host, len(rows.NO_REQUESTS), 0, len(rows.NO_REQUESTS))
 
@@ -159,28 +165,28 @@ def fails(checks, program, folder):
         none_adopted = frames.frame(frames.REOPENED, b"\x00")
         reopen = frames.frame(frames.REOPEN)
         one = frames.journal(0, writes[:1])
-        asks("a Write", WRITE_P, accepted(1))
+        asks("a Write", write_p(), accepted(1))
         limit(host, len(one) + 20)
-        asks("a Write that fails", WRITE_P, frames.refused(frames.JOURNAL))
+        asks("a Write that fails", write_p(), frames.refused(frames.JOURNAL))
         checks.that("what it leaves", has(path), frames.journal(0, writes[:2])[:len(one) + 20])
-        asks("a Write behind it", WRITE_P, frames.refused(frames.DOWN))
+        asks("a Write behind it", write_p(), frames.refused(frames.DOWN))
         asks("a read", READ_ROOM, seen(1, frames.counts(1)))
         asks("a dump", frames.frame(frames.DUMP), frames.frame(frames.ITEM, writes[0]) + frames.frame(frames.END, b"\x00\x00\x00\x01"))
         asks("a reopening", reopen, none_adopted)
         checks.that("what a reopening leaves", has(path), one)
         asks("a second one", reopen, frames.refused(frames.NOT_DOWN))
-        asks("another Write that fails", WRITE_P, frames.refused(frames.JOURNAL))
+        asks("another Write that fails", write_p(), frames.refused(frames.JOURNAL))
         put(path, frames.journal(0, writes[:1] + [writes[2]]))
         asks("a reopening with another entry", reopen, frames.refused(frames.BAD_RECORD, (1).to_bytes(4, "big")))
         put(path, frames.journal(0, []))
         asks("a reopening with less", reopen, frames.refused(frames.LOST))
         put(path, b"BAYOUJNM")
         asks("a reopening with no journal", reopen, frames.refused(frames.JOURNAL))
-        asks("a Write, once more", WRITE_P, frames.refused(frames.DOWN))
+        asks("a Write, once more", write_p(), frames.refused(frames.DOWN))
         put(path, frames.journal(0, writes[:2]))
         asks("a reopening with the Write in doubt", reopen, frames.frame(frames.REOPENED, b"\x01" + writes[1][:5]))
         limit(host, resource.RLIM_INFINITY)
-        asks("a Write, at last", WRITE_P, accepted(3))
+        asks("a Write, at last", write_p(), accepted(3))
         connection.close()
         settles(checks, "a journal that fails", host, 2, 1, 3)
     checks.that("a journal that failed", has(path), frames.journal(0, writes))
@@ -193,8 +199,8 @@ def fills(checks, program, folder):
     put(path, frames.journal(0, bodies_of(writes[:-1])))
     with Host(program, path, 1) as host:
         with host.connect() as connection:
-            checks.that("the last Write", connection.ask(WRITE_P), accepted(frames.MAX_COUNT))
-            checks.that("one more", connection.ask(WRITE_P), frames.refused(frames.LOG_FULL))
+            checks.that("the last Write", connection.ask(write_p()), accepted(frames.MAX_COUNT))
+            checks.that("one more", connection.ask(write_p()), frames.refused(frames.LOG_FULL))
             full = frames.counts(frames.MAX_COUNT)
             checks.that("a read", connection.ask(READ_ROOM), seen(1, full))
         settles(checks, "a full log", host, 1, 0, frames.MAX_COUNT)

@@ -45,10 +45,14 @@ def some_need(dice):
     return frames.counts(dice.choice([1, 2, 50, 500, 65536]), dice.choice([0, 0, 0, 1]))
 
 
+def some_tag(dice):
+    return (dice.randrange(frames.SESSIONS), dice.choice([1, 2, frames.MAX_NUMBER]), dice.randint(1, frames.MAX_NUMBER))
+
+
 def some_request(dice, may_write):
     kind = dice.random()
     if kind < 0.35 and may_write:
-        return frames.write_request(some_need(dice), some_program(dice))
+        return frames.write_request(some_tag(dice), some_need(dice), some_program(dice))
     if kind < 0.9:
         return frames.read_request(some_need(dice), dice.choice(KEYS))
     if kind < 0.95:
@@ -120,7 +124,7 @@ class Stream:
     def run(self, host):
         with host.connect() as connection:
             asked, how = frames.frames_of(self.sent)
-            is_bad = how == "bad" or any(said[0] > frames.OFFER for said, _ in asked)
+            is_bad = how == "bad" or any(said[0] >= frames.SEEN for said, _ in asked)
             try:
                 self.send(connection)
                 if self.is_gone:
@@ -158,7 +162,7 @@ def asked_of(data):
     """The requests with which the bytes begin, up to the first that is none."""
     asked = []
     for said, _ in frames.frames_of(data)[0]:
-        if said[0] > frames.OFFER:
+        if said[0] >= frames.SEEN:
             break
         asked.append(said)
     return asked
@@ -223,7 +227,7 @@ class Books:
         if kind == frames.READ:
             return self.is_read(asked[1], asked[2], reply[0])
         if kind == frames.WRITE:
-            return self.is_write(asked[1], asked[2], reply[0])
+            return self.is_write(asked[2], asked[3], reply[0])
         return reply[0] == (frames.REFUSED, (frames.NOT_DOWN,))
 
     def is_answered(self, stream):
