@@ -13,7 +13,7 @@ use bayou_client::{Client, ClientFault, LinkFault};
 use bayou_lang::RestingProgram;
 use bayou_net::{Sockets, write_fault_of};
 use bayou_server::WriteFault;
-use bayou_session::Session;
+use bayou_session::{FIRST_RUN, Session};
 use bayou_text::{Attempt, Operation};
 use bayou_wire::Refusal;
 use std::alloc::{AllocError, Global};
@@ -78,7 +78,7 @@ impl<K: Ledgers> OpenSession<K> {
         addresses: &[SocketAddr],
     ) -> Result<Self, FleetFault> {
         let who = share.session();
-        let client = Client::new(Session::new(who, asks), share);
+        let client = Client::new(Session::new(who, FIRST_RUN, asks), share);
         let links = links_to(rt, alloc, addresses)?;
         Ok(OpenSession { client, who, links })
     }
