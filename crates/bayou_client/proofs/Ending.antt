@@ -1,7 +1,6 @@
 -- How a request over a link ends.
-use Rattle.std.proofs.Common.{inl, inr, ◌≡◌, ◌≢◌, Bool, true, false, ℕ, List, [], Option, Result, Ok, Err, refl, sym, not}
+use Rattle.std.proofs.Common.{inl, inr, ◌≡◌, ◌≢◌, Bool, true, false, ℕ, List, [], Option, Result, Ok, Err, refl, not}
 use Rattle.std.specs.Io.KnownBytes.{Appends}
-use Rattle.std.proofs.lemmas.List.{append-nil}
 use Rattle.bayou_client.specs.declared.fault.LinkFault.{LinkFault}
 use Rattle.bayou_client.specs.declared.fault.LinkFault.TheVariants.{Lost, BadFrame, Refused, OutOfMemory}
 use Rattle.bayou_client.specs.declared.reading.Reply.{Reply}

@@ -4,21 +4,17 @@ use Rattle.bayou_base.specs.declared.answer.Accepted.{Accepted}
 use Rattle.bayou_device.specs.declared.device.Device.{Ghosts}
 use Rattle.bayou_journal.specs.Opening.{KeepsChains}
 use Rattle.bayou_lang.specs.declared.program.Program.{Program}
-use Rattle.bayou_lang.specs.declared.write.Write.{Write}
 use Rattle.bayou_net.specs.Serving.{Steps}
 use Rattle.bayou_node.specs.Answers.{BySome, InSome, IsAccepted, Pays, TakesAtNode}
 use Rattle.bayou_node.specs.Books.{Begun}
 use Rattle.bayou_peer.specs.Pulls.{Ways}
 use Rattle.bayou_server.specs.declared.answer.Reopened.{Reopened}
-use Rattle.bayou_server.specs.declared.answer.Took.{Took}
 use Rattle.bayou_server.specs.declared.fault.ReopenFault.{ReopenFault}
-use Rattle.bayou_server.specs.declared.fault.TakeFault.{TakeFault}
 use Rattle.bayou_server.specs.declared.fault.WriteFault.{WriteFault}
 use Rattle.bayou_server.specs.Reads.{Reads}
 use Rattle.bayou_server.specs.Reopens.{Reopens}
 use Rattle.bayou_server.specs.Server.{IsSoundServer, ServerState}
 use Rattle.bayou_server.specs.Stored.{IsStored, OpensInCalls, ReopensJournal, StoresWrite}
-use Rattle.bayou_server.specs.Takes.{Takes}
 use Rattle.bayou_server.specs.Writes.{Writes}
 
 -- a server, a program, what it answers, and the server then: what it holds and how its device stands

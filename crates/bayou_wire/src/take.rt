@@ -7,7 +7,9 @@ ghost use Rattle.bayou_wire.specs.Inner.Reading.{Gives, accepted_at, alt_at, byt
 
 use crate::layout::*;
 use arrayvec::ArrayVec;
-use bayou_base::{Accepted, Key, SERVERS, ServerId, SessionId, Stamp, Tag, Text, Value, Vector, Wid};
+use bayou_base::{
+    Accepted, Key, SERVERS, ServerId, SessionId, Stamp, Tag, Text, Value, Vector, Wid,
+};
 use bayou_lang::{Alt, Cond, Op, Program, Term, Write};
 
 /// What stands in lists.
