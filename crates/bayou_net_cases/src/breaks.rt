@@ -21,10 +21,10 @@ use std::sync::ledger::Blank;
 /// What is asked, one request behind the other: a Write, a read of it, a read that isn't served yet, one more Write, all Writes, those
 /// behind the first, a reopening, and what is no request.
 const REQUESTS: [&str; 8] = [
-    "0031 02 <none> <put-1>",
+    "003a 06 <tag-1> <none> <put-1>",
     "0023 01 <one> 0161",
     "0023 01 <two> 0161",
-    "0031 02 <one> <put-1>",
+    "003a 06 <tag-2> <one> <put-1>",
     "0001 04",
     "0021 05 <one>",
     "0001 03",
@@ -32,7 +32,7 @@ const REQUESTS: [&str; 8] = [
 ];
 
 /// How many bytes they are, and are replied to them.
-const SENT: u32 = 221;
+const SENT: u32 = 239;
 
 const REPLIED: u32 = 366;
 

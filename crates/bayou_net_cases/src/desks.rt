@@ -46,7 +46,7 @@ impl<C: Clock> RequestGate for HoldingGate<'_, C> {
 }
 
 /// A Write of 1 to `a`, at a server that needn't hold anything.
-const WRITE: &str = "0031 02 <none> <put-1>";
+const WRITE: &str = "003a 06 <tag-1> <none> <put-1>";
 
 /// The desk, once a connection has sent the Write, if one of the two that came was accepted.
 fn writes<L: Desks, G: RequestGate, R: Wait + Abort>(

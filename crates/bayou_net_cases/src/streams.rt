@@ -14,19 +14,26 @@ use std::process::Abort;
 const STREAMS: &str = " => Ok(0)
 0023 01 <none> 0161 => Ok(1) 0022 11 00 <none>
 0023 01 <one> 0161 => Ok(1) 0022 13 02 <none>
-0031 02 <none> <put-1> => Ok(1) 002a 12 00 00000001 00000001 <none>
-0031 02 <one> <put-1> => Ok(1) 0022 13 02 <none>
-0031 02 <none> <put-1> 0023 01 <one> 0161 => Ok(2) 002a 12 00 00000001 00000001 <none> 002a 11 01 0000000000000001 <one>
-0031 02 <none> <put-1> 0031 02 <one> <put-1> 0031 02 <none> <put-1> => Ok(3) 002a 12 00 00000001 00000001 <none> 002a 12 00 00000002 00000002 <one> 0002 13 03
+003a 06 <tag-1> <none> <put-1> => Ok(1) 002a 12 00 00000001 00000001 <none>
+003a 06 <tag-1> <one> <put-1> => Ok(1) 0022 13 02 <none>
+003a 06 <tag-1> <none> <put-1> 0023 01 <one> 0161 => Ok(2) 002a 12 00 00000001 00000001 <none> 002a 11 01 0000000000000001 <one>
+003a 06 <tag-1> <none> <put-1> 003a 06 <tag-2> <one> <put-1> 003a 06 <tag-3> <none> <put-1> => Ok(3) 002a 12 00 00000001 00000001 <none> 002a 12 00 00000002 00000002 <one> 0002 13 03
 0001 03 => Ok(1) 0002 13 05
 0001 04 => Ok(1) 0005 16 00000000
-0031 02 <none> <put-1> 0001 04 => Ok(2) 002a 12 00 00000001 00000001 <none> 003a 15 00 00000001 00000001 <none> <put-1> 0005 16 00000001
-0031 02 <none> <put-1> 0021 05 <none> 0021 05 <one> => Ok(3) 002a 12 00 00000001 00000001 <none> 003a 15 00 00000001 00000001 <none> <put-1> 0005 16 00000001 0005 16 00000000
+003a 06 <tag-1> <none> <put-1> 0001 04 => Ok(2) 002a 12 00 00000001 00000001 <none> 003a 15 00 00000001 00000001 <none> <put-1> 0005 16 00000001
+003a 06 <tag-1> <none> <put-1> 0021 05 <none> 0021 05 <one> => Ok(3) 002a 12 00 00000001 00000001 <none> 003a 15 00 00000001 00000001 <none> <put-1> 0005 16 00000001 0005 16 00000000
 00 => Err(Cut)
 0023 01 <none> 01 => Err(Cut)
 0001 03 00 => Err(Cut) 0002 13 05
 2001 => Err(BadFrame)
 0001 07 => Err(BadFrame)
+0031 02 <none> <put-1> => Err(BadFrame)
+003a 02 <tag-1> <none> <put-1> => Err(BadFrame)
+0031 06 <none> <put-1> => Err(BadFrame)
+003a 06 20 00000001 00000001 <none> <put-1> => Err(BadFrame)
+003a 06 00 00000000 00000001 <none> <put-1> => Err(BadFrame)
+003a 06 00 00000001 00000000 <none> <put-1> => Err(BadFrame)
+003a 06 1f ffffffff ffffffff <none> <put-1> => Ok(1) 002a 12 00 00000001 00000001 <none>
 0000 => Err(BadFrame)
 0024 01 <none> 0161 00 => Err(BadFrame)
 0005 16 00000000 => Err(BadFrame)
@@ -36,8 +43,8 @@ const STREAMS: &str = " => Ok(0)
 0002 13 05 => Err(BadFrame)
 003a 15 00 00000001 00000001 <none> <put-1> => Err(BadFrame)
 0001 03 0002 14 00 0001 03 => Err(BadFrame) 0002 13 05
-0034 02 <none> <put-room> 0026 01 <none> 04726f6f6d 0000 => Err(BadFrame) 002a 12 00 00000001 00000001 <none> 002a 11 01 0000000000000001 <one>
-0034 02 <none> <put-room> 0026 01 <none> 04726f6f6d 0005 16 00000001 => Err(BadFrame) 002a 12 00 00000001 00000001 <none> 002a 11 01 0000000000000001 <one>";
+003d 06 <tag-1> <none> <put-room> 0026 01 <none> 04726f6f6d 0000 => Err(BadFrame) 002a 12 00 00000001 00000001 <none> 002a 11 01 0000000000000001 <one>
+003d 06 <tag-1> <none> <put-room> 0026 01 <none> 04726f6f6d 0005 16 00000001 => Err(BadFrame) 002a 12 00 00000001 00000001 <none> 002a 11 01 0000000000000001 <one>";
 
 /// A reader that gives at most so many bytes at a call, and fails at the call of this number.
 #[derive(Clone, Copy)]
@@ -160,7 +167,7 @@ fn requests_are_answered_byte_for_byte(rt: HostRuntime) {
 }
 
 /// A Write of the key `room`, and a read of it, asked twice, in 40 bytes each.
-const ROOM: &str = "0034 02 <none> <put-room>";
+const ROOM: &str = "003d 06 <tag-1> <none> <put-room>";
 
 const ROOM_TWICE: &str = "0026 01 <none> 04726f6f6d 0026 01 <none> 04726f6f6d";
 
@@ -200,10 +207,10 @@ fn requests_may_be_cut_at_each_byte(rt: HostRuntime) {
     }
 }
 
-/// A Write and a read of it, in 90 bytes.
-const TWO: &str = "0031 02 <none> <put-1> 0023 01 <one> 0161";
+/// A Write and a read of it, in 97 bytes.
+const TWO: &str = "003a 06 <tag-1> <none> <put-1> 0023 01 <one> 0161";
 
-/// How serving ends, and how many bytes of replies are written, where the call of the reader of this number fails, thirty bytes each. The Write
+/// How serving ends, and how many bytes of replies are written, where the call of the reader of this number fails, 33 bytes each. The Write
 /// is whole at the second call, and the read at the third.
 fn ends_as(answer: Result<u32, ChannelFault>, written: usize, fails_at: u32) -> bool {
     let (expected, count) = match fails_at {
@@ -218,7 +225,7 @@ fn ends_as(answer: Result<u32, ChannelFault>, written: usize, fails_at: u32) -> 
 /// Whether serving two requests ends so.
 fn ends_reading(rt: &impl Abort, alloc: Global, fails_at: u32) -> bool {
     let sent = bytes(rt, alloc, TWO);
-    let mut channel = CountedChannel::new(slow_reader(&sent, 30, fails_at), Vec::new(alloc));
+    let mut channel = CountedChannel::new(slow_reader(&sent, 33, fails_at), Vec::new(alloc));
     let answer = served_over(alloc, begun(rt, alloc, 2).as_mut(), &mut channel);
     ends_as(answer, channel.into_parts().1.len(), fails_at)
 }

@@ -4,7 +4,7 @@ use crate::gates::{AWAITED, open, wait_while};
 use bayou_audit::{AuditBook, Ledgers, Share};
 use bayou_base::{Asks, Seen, Wid};
 use bayou_client::{Client, Link, LinkFault};
-use bayou_session::Session;
+use bayou_session::{FIRST_RUN, Session};
 use bayou_wire::Refusal;
 use std::alloc::Global;
 use std::net::TcpStream;
@@ -114,7 +114,7 @@ pub fn visits<K: Ledgers, R: Wait + Abort>(
         wfr: true,
         mw: true,
     };
-    let mut client = Client::new(Session::new(share.session(), asks), share);
+    let mut client = Client::new(Session::new(share.session(), FIRST_RUN, asks), share);
     let _ = stream.set_nodelay(true);
     let mut link = Link::new(stream, stream);
     is_served(rt, alloc, book, &mut client, &mut link)

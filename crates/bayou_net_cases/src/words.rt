@@ -2,8 +2,12 @@
 use std::alloc::Global;
 use std::process::Abort;
 
-/// Vectors that count nothing, the first server's first Write, and its first two; and the programs that put 1 at `a` and at `room`.
-static WORDS: [(&str, &str); 5] = [
+/// The tags of the first three places of the first session, in the first run; vectors that count nothing, the first server's first Write,
+/// and its first two; and the programs that put 1 at `a` and at `room`.
+static WORDS: [(&str, &str); 8] = [
+    ("<tag-1>", "000000000100000001"),
+    ("<tag-2>", "000000000100000002"),
+    ("<tag-3>", "000000000100000003"),
     (
         "<none>",
         "0000000000000000000000000000000000000000000000000000000000000000",

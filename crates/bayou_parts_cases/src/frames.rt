@@ -120,7 +120,7 @@ fn is_too_short_with_less(rt: &impl Abort, alloc: Global, bytes: &[u8]) -> bool 
 
 /// Frames of each kind. The program of the last has each form of condition, term and op.
 const FRAMES: &str = r#"0026 01 <none> 04726f6f6d => Read(<none>, "room")
-0034 02 <none> <put> => Write(<none>, <put>)
+003d 06 00 00000001 00000001 <none> <put> => Write(<tag>, <none>, <put>)
 0001 03 => Reopen
 0001 04 => Dump
 0021 05 <one> => Offer(<one>)
@@ -136,11 +136,12 @@ const FRAMES: &str = r#"0026 01 <none> 04726f6f6d => Read(<none>, "room")
 0006 13 06 00000102 => Refused(BadRecord(258))
 0002 13 07 => Refused(Lost)
 0002 13 08 => Refused(OutOfMemory)
+0002 13 09 => Refused(TagUsed)
 0002 14 00 => Reopened(None)
 0007 14 01 <0:1> => Reopened(Some(<0:1>))
 003d 15 <0:1> <stamp> <none> <put> => Item(Write { wid: <0:1>, stamp: <stamp>, deps: <none>, program: <put> })
 0005 16 00000001 => End(1)
-0064 02 <none> 03 010161010000000000000001 020162 030163fffffffffffffffe 04 01016401020178 010165020166 010167030168 0000000000000003 020169 01 01 02016a 01 02016b => Write(<none>, Program { check: [Equals("a", Num(1)), Absent("b"), AtLeast("c", -2)], update: [Put("d", Lit(Text("x"))), Put("e", Copy("f")), Put("g", Plus("h", 3)), Del("i")], merge: [Alt { when: [Absent("j")], ops: [Del("k")] }] })"#;
+006d 06 1f 00000002 fffffffe <none> 03 010161010000000000000001 020162 030163fffffffffffffffe 04 01016401020178 010165020166 010167030168 0000000000000003 020169 01 01 02016a 01 02016b => Write(Tag { session: SessionId { index: 31 }, run: 2, number: 4294967294 }, <none>, Program { check: [Equals("a", Num(1)), Absent("b"), AtLeast("c", -2)], update: [Put("d", Lit(Text("x"))), Put("e", Copy("f")), Put("g", Plus("h", 3)), Del("i")], merge: [Alt { when: [Absent("j")], ops: [Del("k")] }] })"#;
 
 /// Whether the bytes are read as a frame that prints itself so.
 fn is_read(rt: &impl Abort, alloc: Global, bytes: &[u8], printed: &str) -> bool {
@@ -191,10 +192,21 @@ ffff => !TooLong
 0001 => !BadBody
 00017f => !BadKind
 000100 => !BadKind
-000106 => !BadKind
+000102 => !BadKind
+0034 02 <none> <put> => !BadKind
+003d 02 00 00000001 00000001 <none> <put> => !BadKind
+000107 => !BadKind
 000110 => !BadKind
 000117 => !BadKind
 000101 => !BadBody
+000106 => !BadBody
+0034 06 <none> <put> => !BadBody
+003d 06 1f ffffffff ffffffff <none> <put> 00 => !Trailing
+003e 06 1f ffffffff ffffffff <none> <put> 00 => !Trailing
+003d 06 20 00000001 00000001 <none> <put> => !BadBody
+003d 06 ff 00000001 00000001 <none> <put> => !BadBody
+003d 06 00 00000000 00000001 <none> <put> => !BadBody
+003d 06 00 00000001 00000000 <none> <put> => !BadBody
 00020300 => !Trailing
 0003140000 => !Trailing
 00021402 => !BadBody
@@ -203,12 +215,32 @@ ffff => !TooLong
 000714010000000000 => !BadBody
 000714010000010001 => !BadBody
 00021300 => !BadBody
-00021309 => !BadBody
+0002130a => !BadBody
+0003130900 => !Trailing
 00051600000001ff => !Trailing";
 
 #[test]
 fn faults_in_a_frames_place(rt: HostRuntime) {
     all_are_so(&rt, rt.alloc(), &Table::Faults, FAULTS);
+}
+
+/// A request to accept a Write, behind its length: its kind, its tag, its need and its program.
+const REQUEST: &str = "06 00 00000001 00000001 <none> <put>";
+
+/// Whether so many of these bytes are no request, whether the length counts all of them or those that are there.
+fn is_cut(rt: &impl Abort, alloc: Global, content: &[u8], count: usize) -> bool {
+    let (front, _) = content.split_at(count.min(content.len()));
+    let whole = content.len() as u16;
+    is_miscounted(rt, alloc, whole, front, "!BadBody")
+        && is_miscounted(rt, alloc, count as u16, front, "!BadBody")
+}
+
+#[test]
+fn a_request_to_write_may_be_cut_at_each_byte(rt: HostRuntime) {
+    let content = bytes_of(&rt, rt.alloc(), REQUEST);
+    for count in 0..61_usize {
+        must_be_so(&rt, is_cut(&rt, rt.alloc(), &content, count), count);
+    }
 }
 
 /// Whether a frame of the greatest length with so many bytes behind its kind has that fault.

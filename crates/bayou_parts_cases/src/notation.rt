@@ -21,8 +21,12 @@ static AS_BYTES: [(&str, &str); 7] = [
     ("\n", ""),
 ];
 
-/// What they stand for in a value that prints itself.
-pub static AS_PRINTED: [(&str, &str); 5] = [
+/// What they stand for in a value that prints itself, and the tag of the first place of the first session in the first run.
+pub static AS_PRINTED: [(&str, &str); 6] = [
+    (
+        "<tag>",
+        "Tag { session: SessionId { index: 0 }, run: 1, number: 1 }",
+    ),
     ("<none>", "Vector { counts: [0, 0, 0, 0, 0, 0, 0, 0] }"),
     ("<one>", "Vector { counts: [1, 0, 0, 0, 0, 0, 0, 0] }"),
     ("<0:1>", "Wid { origin: ServerId { index: 0 }, seq: 1 }"),
