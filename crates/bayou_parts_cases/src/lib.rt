@@ -31,6 +31,8 @@ mod numbers;
 #[cfg(test)]
 mod programs;
 #[cfg(test)]
+mod records;
+#[cfg(test)]
 mod servers;
 #[cfg(test)]
 mod sessions;

@@ -5,8 +5,11 @@ ghost use Rattle.bayou_lang.specs.declared.write.Write.{Write};
 ghost use Rattle.bayou_wire.specs.declared.frame.Frame.{Frame};
 ghost use Rattle.bayou_wire.specs.declared.fault.DecodeFault.{DecodeFault};
 ghost use Rattle.bayou_wire.specs.declared.layout.TheConstants.{LENGTH_BYTES};
+ghost use Rattle.bayou_wire.specs.declared.record.Form.{Form};
+ghost use Rattle.bayou_wire.specs.declared.record.Record.{Record};
 ghost use Rattle.bayou_wire.specs.declared.stream.FeedFault.{FeedFault};
 ghost use Rattle.bayou_lang.specs.Ranges.{IsWrite};
+ghost use Rattle.bayou_wire.specs.Records.{SpellsRecord};
 ghost use Rattle.bayou_wire.specs.Spelling.{IsFrame, WriteAnswer, frame_bytes, write_bytes};
 ghost use Rattle.bayou_wire.specs.Stream.{Feeds, FrameAnswer, HasLength, IsFaulty, IsLeft, IsPartial, Splits, bytes_fed, frames_given};
 
@@ -18,6 +21,16 @@ pub fn no_write_begins_another()
 /// The bytes of a Write are the body of a journal's entry: they are one at the least, and no more than a body has.
 pub fn a_write_is_spelled_by_a_body()
     ensures { (write : Write) → IsWrite write → (0 < length (write_bytes write)) × (length (write_bytes write) ≤ MAX_BODY_BYTES) }
+{}
+
+/// In each form bytes are the spelling of one record at the most.
+pub fn bytes_are_of_one_record()
+    ensures { (form : Form) (bytes : List ℕ) (a b : Record) → SpellsRecord form bytes a → SpellsRecord form bytes b → a ≡ b }
+{}
+
+/// The bytes of a record are the body of a journal's entry: they are one at the least, and no more than a body has.
+pub fn a_record_is_spelled_by_a_body()
+    ensures { (form : Form) (bytes : List ℕ) (given : Record) → SpellsRecord form bytes given → (0 < length bytes) × (length bytes ≤ MAX_BODY_BYTES) }
 {}
 
 /// No frame's spelling begins another's, so each spelling is of one frame.

@@ -36,6 +36,11 @@ pub const ABSENT: u8 = 0;
 /// A Write's name follows.
 pub const PRESENT: u8 = 1;
 
+/// A record that has no tag: that of another server's Write, or of an own one that had none.
+pub const RECORD_OTHERS: u8 = 0;
+/// A record that has a tag, which follows.
+pub const RECORD_OWN: u8 = 1;
+
 /// A request: read a key.
 pub const KIND_READ: u8 = 0x01;
 /// A request: open the journal again.

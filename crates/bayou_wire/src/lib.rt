@@ -3,9 +3,13 @@
 //! Callers see a Write or a [`Frame`] as the plain value that it is, and its bytes as the one spelling that `specs/Spelling`
 //! gives each value; of what has no spelling nothing is encoded or decoded. [`encode_write`] and [`encode_frame`] give that
 //! spelling. [`decode_write`] and [`decode_frame`] answer a value exactly where the whole input is its spelling, and else the
-//! one fault that the input has; they take no memory, and what they give has its greatest size. [`decode_resting_write`] gives a Write at rest. [`Frames`] reads a stream in pieces: callers see it as the bytes that it holds back, or as
-//! nothing once a fault was told. `specs/Stream` says what stands in a frame's place, and what one call makes of what was
-//! held back and the piece; [`laws`] says what that comes to over all calls: the frames of the stream, however it was cut.
+//! one fault that the input has; they take no memory, and what they give has its greatest size. [`decode_resting_write`] gives a Write at rest.
+//! [`encode_record`] and [`decode_record`] are of a [`Record`], a Write with the tag of its asking, by `specs/Records`: bodies of a
+//! journal's entries of a coming version, which no other crate has yet.
+//!
+//! [`Frames`] reads a stream in pieces: callers see it as the bytes that it holds back, or as nothing once a fault was told.
+//! `specs/Stream` says what stands in a frame's place, and what one call makes of what was held back and the piece; [`laws`]
+//! says what that comes to over all calls: the frames of the stream, however it was cut.
 //!
 //! Callers owe nothing: strangers may send any bytes. Want of memory is an answer only where a growth was refused, and
 //! leaves a stream as it was before that call. No clause says how long a call takes or when memory is refused; a call of
@@ -22,6 +26,7 @@ pub mod laws;
 pub mod layout;
 mod payload;
 mod put;
+pub mod record;
 mod resting;
 pub mod stream;
 mod take;
@@ -30,4 +35,5 @@ pub use decode::{decode_frame, decode_resting_write, decode_write, frame_len};
 pub use encode::{encode_frame, encode_item, encode_resting_write, encode_write};
 pub use fault::{DecodeFault, RestingFault};
 pub use frame::{Frame, PlainFrame, Refusal};
+pub use record::{Form, Record, decode_record, encode_record};
 pub use stream::{FeedFault, Frames};

@@ -208,7 +208,7 @@ fn put_wid(out: &mut Vec<u8>, wid: Wid) -> Result<(), AllocError>
     put_u32(out, wid.seq)
 }
 
-fn put_tag(out: &mut Vec<u8>, tag: Tag) -> Result<(), AllocError>
+pub(crate) fn put_tag(out: &mut Vec<u8>, tag: Tag) -> Result<(), AllocError>
     ensures { OnOk result (IsTag tag × (out.new.items ≡ out.old.items ++ tag_bytes tag)) }
 {
     out.push(tag.session.index)?;

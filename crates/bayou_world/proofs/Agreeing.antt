@@ -71,8 +71,8 @@ needs_agree read_law write_law machine good session told is = record {
   write = λ place. may_write write_law machine.count (machine.servers place).held (fitting_at machine.count machine.limit machine.servers good.servers place) told session is;
 }
 
-pub begins_standing : (id : SessionId) (asks : Asks) → StandsFor (sessions.new_session id asks) (new_session asks)
-begins_standing id asks = record {
+pub begins_standing : (id : SessionId) (run : ℕ) (asks : Asks) → StandsFor (sessions.new_session id run asks) (new_session asks)
+begins_standing id run asks = record {
   asks = refl;
   long = (length-replicate {A = ℕ} SERVERS 0, length-replicate {A = ℕ} SERVERS 0);
   reads = IsVectorOf-none;

@@ -9,6 +9,7 @@ use Rattle.bayou_base.specs.declared.limits.TheConstants.{SERVERS, SESSIONS}
 use Rattle.bayou_lang.specs.declared.program.Program.{Program}
 use Rattle.bayou_lang.specs.declared.write.Write.{Write}
 use Rattle.bayou_server.specs.Server.{Core}
+use Rattle.bayou_session.specs.declared.session.TheConstants.{FIRST_RUN}
 use Rattle.bayou_session.specs.Needs.{Told}
 use Rattle.bayou_session.specs.Needs as sessions
 use Rattle.bayou_world.specs.declared.world_session.WorldSession.{WorldSession}
@@ -195,9 +196,10 @@ new_world_session who None None is = tt
 new_world_session who None (Some world_session) is = absurd is
 new_world_session who (Some asks) None is = absurd is
 new_world_session who (Some asks) (Some world_session) is =
-    let zero_counts = sessions.new_session world_session.session.id asks in record {
+    let zero_counts = sessions.new_session world_session.session.id FIRST_RUN asks in record {
       name = is.name;
       asks = ap (λ (t : Told). t.asks) is.session;
+      run = ap (λ (t : Told). t.run) is.session;
       begun = ap (λ (t : Told). t.begun) is.session;
       long = subst (λ (t : Told). (length t.reads ≡ SERVERS) × (length t.writes ≡ SERVERS)) (sym is.session) (length-replicate {A = ℕ} SERVERS 0, length-replicate {A = ℕ} SERVERS 0);
       reads = subst (λ (t : Told). IsVectorOf t.reads []) (sym is.session) IsVectorOf-none;

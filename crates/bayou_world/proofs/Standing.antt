@@ -209,10 +209,10 @@ run_standing who old told (event ∷ events) (reply ∷ replies) new last good (
     run_standing who mid next events replies new last (step_good old event reply mid good step) rest (step_standing old good event reply mid step who told next tells stands)
 
 -- from its beginning
-pub stands_along : (count limit capacity : ℕ) (asks : ℕ → Option Asks) (who : ℕ) (id : SessionId) (wants : Asks) (events : List Event) (replies : List Reply) (last : Machine) (told : Told) → asks who ≡ Some wants
-    → RunTelling who (first_machine count limit capacity asks) (sessions.new_session id wants) events replies last told → (session : SessionSets) → last.sessions who ≡ Some session → StandsFor told session
-stands_along count limit capacity asks who id wants events replies last told asked run =
-    run_standing who (first_machine count limit capacity asks) (sessions.new_session id wants) events replies last told (first_good count limit capacity asks) run
+pub stands_along : (count limit capacity : ℕ) (asks : ℕ → Option Asks) (who : ℕ) (id : SessionId) (run : ℕ) (wants : Asks) (events : List Event) (replies : List Reply) (last : Machine) (told : Told) → asks who ≡ Some wants
+    → RunTelling who (first_machine count limit capacity asks) (sessions.new_session id run wants) events replies last told → (session : SessionSets) → last.sessions who ≡ Some session → StandsFor told session
+stands_along count limit capacity asks who id run wants events replies last told asked tells =
+    run_standing who (first_machine count limit capacity asks) (sessions.new_session id run wants) events replies last told (first_good count limit capacity asks) tells
     (λ session there.
     let one : new_session wants ≡ session = some_session (new_session wants) session (sym (ap (option_map new_session) asked) ∙ there) in
-    subst (StandsFor (sessions.new_session id wants)) one (begins_standing id wants))
+    subst (StandsFor (sessions.new_session id run wants)) one (begins_standing id run wants))

@@ -47,6 +47,7 @@ hears_same machine good who place world_session new session answered accepted is
     record {
       name = ap (λ (t : Told). t.id.index) told_is ∙ is.name;
       asks = ap (λ (t : Told). t.asks) told_is ∙ is.asks;
+      run = ap (λ (t : Told). t.run) told_is ∙ is.run;
       begun = ap (λ (t : Told). t.begun) told_is ∙ is.begun;
       long = subst (λ (t : Told). (length t.reads ≡ SERVERS) × (length t.writes ≡ SERVERS)) (sym told_is) (length-joined world_session.session.reads vector same_long ∙ is.long.0, is.long.1);
       reads = subst (λ (t : Told). IsVectorOf t.reads (session.reads ++ names answered.database)) (sym told_is)
@@ -61,6 +62,7 @@ hears_same machine good who place world_session new session answered accepted is
     record {
       name = ap (λ (t : Told). t.id.index) told_is ∙ is.name;
       asks = ap (λ (t : Told). t.asks) told_is ∙ is.asks;
+      run = ap (λ (t : Told). t.run) told_is ∙ is.run;
       begun = ap (λ (t : Told). t.begun) told_is ∙ is.begun;
       long = subst (λ (t : Told). (length t.reads ≡ SERVERS) × (length t.writes ≡ SERVERS)) (sym told_is) (is.long.0, length-set world_session.session.writes _ _ ∙ is.long.1);
       reads = subst (λ (t : Told). IsVectorOf t.reads session.reads) (sym told_is) is.reads;
@@ -76,6 +78,7 @@ hears_same machine good who place world_session new session answered accepted is
     record {
       name = ap (λ (t : Told). t.id.index) told_is ∙ is.name;
       asks = ap (λ (t : Told). t.asks) told_is ∙ is.asks;
+      run = ap (λ (t : Told). t.run) told_is ∙ is.run;
       begun = ap (λ (t : Told). t.begun) told_is ∙ is.begun;
       long = subst (λ (t : Told). (length t.reads ≡ SERVERS) × (length t.writes ≡ SERVERS)) (sym told_is) is.long;
       reads = subst (λ (t : Told). IsVectorOf t.reads session.reads) (sym told_is) is.reads;
@@ -142,6 +145,7 @@ lose_tied servers world_sessions offers items told_so_far machine good tied who 
       with_seat servers world_sessions offers items told_so_far machine tied who new (landed session) inside (record {
         name = is.name;
         asks = is.asks;
+        run = is.run;
         begun = is.begun;
         long = is.long;
         reads = is.reads;
@@ -175,6 +179,7 @@ oldest_some servers world_sessions offers items told_so_far machine tied who wor
       with_seat servers world_sessions offers items told_so_far machine tied who new (record session { waiting = later }) inside (record {
         name = ap (λ (t : Told). t.id.index) same_session ∙ is.name;
         asks = ap (λ (t : Told). t.asks) same_session ∙ is.asks;
+        run = ap (λ (t : Told). t.run) same_session ∙ is.run;
         begun = ap (λ (t : Told). t.begun) same_session ∙ is.begun;
         long = subst (λ (t : Told). (length t.reads ≡ SERVERS) × (length t.writes ≡ SERVERS)) (sym same_session) is.long;
         reads = subst (λ (t : Told). IsVectorOf t.reads session.reads) (sym same_session) is.reads;
@@ -202,6 +207,7 @@ oldest_none servers world_sessions offers items told_so_far machine tied who wor
       same_seat servers world_sessions offers items told_so_far machine tied who new session inside seat_is.1 (record {
         name = ap (λ (t : Told). t.id.index) same_session ∙ is.name;
         asks = ap (λ (t : Told). t.asks) same_session ∙ is.asks;
+        run = ap (λ (t : Told). t.run) same_session ∙ is.run;
         begun = ap (λ (t : Told). t.begun) same_session ∙ is.begun;
         long = subst (λ (t : Told). (length t.reads ≡ SERVERS) × (length t.writes ≡ SERVERS)) (sym same_session) is.long;
         reads = subst (λ (t : Told). IsVectorOf t.reads session.reads) (sym same_session) is.reads;

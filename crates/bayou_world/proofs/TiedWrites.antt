@@ -15,7 +15,7 @@ use Rattle.bayou_server.specs.declared.fault.WriteFault.TheVariants as writing
 use Rattle.bayou_server.specs.Writes as accepts
 use Rattle.bayou_device.specs.Memory.{Memory}
 use Rattle.bayou_server.specs.Server.{Core, ServerState}
-use Rattle.bayou_session.specs.Needs.{HasCounts, write_need}
+use Rattle.bayou_session.specs.Needs.{HasCounts, asks_first, write_need}
 use Rattle.bayou_world.specs.declared.world_session.WorldSession.{WorldSession}
 use Rattle.bayou_world.specs.declared.world_server.WorldServer.{WorldServer}
 use Rattle.bayou_world.specs.declared.world_server.WorldServer.TheVariants.{Running}
@@ -115,7 +115,7 @@ doubted_there count limit place core server made at = record { is = ap (λ (c : 
 refused_entry : (servers : List WorldServer) (world_sessions : List (Option WorldSession)) (offers : List (List ℕ)) (items : List Write) (told : List Entry) → WriteLaw → (machine : Machine) → IsGoodMachine machine
     → IsTied servers world_sessions offers items told machine → (who place : ℕ) (program : Program) (world_session new : WorldSession) (old_server new_server : ServerState Memory) (fault : WriteFault) → who < SESSIONS → seat world_sessions who ≡ Some world_session
     → world_session.flight ≡ None → world_session.session.begun < MAX_PLACES → IsRunningServer machine place old_server → StaysHonest old_server new_server → HasCounts world_session.session
-    → fault ≢ writing.Journal → accepts.Writes old_server.core (write_need world_session.session) program (Err fault) new_server.core → Begins world_session place whats.Refused None new
+    → fault ≢ writing.Journal → accepts.Writes old_server.core (write_need world_session.session) program (Err fault) new_server.core → Begins world_session (asks_first world_session.session) place whats.Refused None new
     → (next : Machine) × WriteStep machine who place program (replies.Wrote (Err fault)) next × IsTied (set servers place (Running new_server)) (set world_sessions who (Some new)) offers items told next
 refused_entry servers world_sessions offers items told law machine good tied who place program world_session new old_server new_server fault inside at none left here stays counts no_fault refused begins =
     let seat_is = session_of_seat who (seat world_sessions who) (machine.sessions who) world_session (tied.sessions_are who inside) at in
@@ -126,18 +126,18 @@ refused_entry servers world_sessions offers items told law machine good tied who
     let both = refuses law machine good who place world_session session is counts program old_server.core new_server.core fault core no_fault refused in
     let same_server : IsServerOf machine.count machine.limit place new_server.core (machine.servers place) = subst (λ (c : Core). IsServerOf machine.count machine.limit place c (machine.servers place)) (sym both.1) core in (
       with_answer machine who session (refusal begins.entry),
-      WriteStep.refused session begins.entry fault may both.0 refl (entry_of who place world_session new session whats.Refused None is begins) refl,
+      WriteStep.refused session begins.entry fault may both.0 refl (entry_of who place world_session new session (Some (world_session.session.begun + 1)) whats.Refused None is begins) refl,
       with_seat (set servers place (Running new_server)) world_sessions offers items told machine (same_place servers world_sessions offers items told machine tied place (Running new_server) here.running.there
           (running_server machine.count machine.limit place new_server (machine.servers place) here.running.runs same_server (stays here.honest))) who new
           (record session { begun = session.begun + 1; flight = Some (refusal begins.entry) }) inside
-          (began who place world_session new session whats.Refused None (refusal begins.entry) is begins refl refl),
+          (began who place world_session new session (Some (world_session.session.begun + 1)) whats.Refused None (refusal begins.entry) is begins refl refl),
     )
 
 pub write_tied : WriteLaw → (servers : List WorldServer) (world_sessions : List (Option WorldSession)) (offers : List (List ℕ)) (items : List Write) (told : List Entry) (machine : Machine) → IsGoodMachine machine
     → IsTied servers world_sessions offers items told machine → (who place : ℕ) (program : Program) (world_session new : WorldSession) (old_server new_server : ServerState Memory) (answer : Result Accepted WriteFault) → who < SESSIONS → seat world_sessions who ≡ Some world_session
     → world_session.flight ≡ None → world_session.session.begun < MAX_PLACES → place < length servers → get_or servers place (Running old_server) ≡ Running old_server → StaysHonest old_server new_server → HasCounts world_session.session
     → accepts.Writes old_server.core (write_need world_session.session) program answer new_server.core
-    → Begins world_session old_server.core.id (accepted_as answer) (accepted_of answer) new
+    → Begins world_session (asks_first world_session.session) old_server.core.id (accepted_as answer) (accepted_of answer) new
     → (next : Machine) × WriteStep machine who place program (replies.Wrote answer) next × IsTied (set servers place (Running new_server)) (set world_sessions who (Some new)) offers items told next
 write_tied law servers world_sessions offers items told machine good tied who place program world_session new old_server new_server (Ok accepted) inside at none left known stands stays counts accepts_it begins =
     let seat_is = session_of_seat who (seat world_sessions who) (machine.sessions who) world_session (tied.sessions_are who inside) at in
@@ -146,7 +146,7 @@ write_tied law servers world_sessions offers items told machine good tied who pl
     let here = runs_at servers world_sessions offers items told machine tied place old_server known stands in
     let core = here.core in
     let what = whats.Write accepted.wid accepted.stamp accepted.deps in
-    let begins_at = subst (λ n. Begins world_session n what (Some accepted) new) (ap (λ (c : Core). c.id) core.is) begins in
+    let begins_at = subst (λ n. Begins world_session (asks_first world_session.session) n what (Some accepted) new) (ap (λ (c : Core). c.id) core.is) begins in
     let may = may_begin machine who place world_session session seat_is.1 is none left here.running in
     let made : Made = record { write = accepts_it.made; past = writes (machine.servers place).held } in
     let makes = makes_there law machine good who place world_session session is counts program old_server.core accepts_it.made core accepts_it.makes in
@@ -156,12 +156,12 @@ write_tied law servers world_sessions offers items told machine good tied who pl
     let machine_then = with_server machine place (with_write (machine.servers place) made) in (
       with_answer machine_then who session answered,
       WriteStep.accepted session begins_at.entry made accepted may makes (record { wid = accepts_it.wid; stamp = accepts_it.stamp; deps = accepts_it.deps ∙ makes.next.deps }) refl
-          (entry_of who place world_session new session what (Some accepted) is begins_at) refl,
+          (entry_of who place world_session new session (Some (world_session.session.begun + 1)) what (Some accepted) is begins_at) refl,
       with_seat (set servers place (Running new_server)) world_sessions offers items told machine_then
           (with_place servers world_sessions offers items told machine tied place (Running new_server) (with_write (machine.servers place) made) here.running.there
           (running_server machine.count machine.limit place new_server (with_write (machine.servers place) made) here.running.runs server_is (stays here.honest))) who new
           (record session { begun = session.begun + 1; flight = Some answered }) inside
-          (began who place world_session new session what (Some accepted) answered is begins_at refl (accepted, refl, refl)),
+          (began who place world_session new session (Some (world_session.session.begun + 1)) what (Some accepted) answered is begins_at refl (accepted, refl, refl)),
     )
 write_tied law servers world_sessions offers items told machine good tied who place program world_session new old_server new_server (Err writing.Journal) inside at none left known stands stays counts doubts begins =
     let seat_is = session_of_seat who (seat world_sessions who) (machine.sessions who) world_session (tied.sessions_are who inside) at in
@@ -169,7 +169,7 @@ write_tied law servers world_sessions offers items told machine good tied who pl
     let is = seat_is.2 in
     let here = runs_at servers world_sessions offers items told machine tied place old_server known stands in
     let core = here.core in
-    let begins_at = subst (λ n. Begins world_session n whats.Refused None new) (ap (λ (c : Core). c.id) core.is) begins in
+    let begins_at = subst (λ n. Begins world_session (asks_first world_session.session) n whats.Refused None new) (ap (λ (c : Core). c.id) core.is) begins in
     let may = may_begin machine who place world_session session seat_is.1 is none left here.running in
     let made : Made = record { write = doubts.made; past = writes (machine.servers place).held } in
     let makes = makes_there law machine good who place world_session session is counts program old_server.core doubts.made core doubts.makes in
@@ -177,30 +177,30 @@ write_tied law servers world_sessions offers items told machine good tied who pl
     (doubted_there machine.count machine.limit place old_server.core (machine.servers place) made core) in
     let machine_then = with_server machine place (with_doubt (machine.servers place) made) in (
       with_answer machine_then who session (refusal begins_at.entry),
-      WriteStep.doubted session begins_at.entry made may makes refl (entry_of who place world_session new session whats.Refused None is begins_at) refl,
+      WriteStep.doubted session begins_at.entry made may makes refl (entry_of who place world_session new session (Some (world_session.session.begun + 1)) whats.Refused None is begins_at) refl,
       with_seat (set servers place (Running new_server)) world_sessions offers items told machine_then
           (with_place servers world_sessions offers items told machine tied place (Running new_server) (with_doubt (machine.servers place) made) here.running.there
           (running_server machine.count machine.limit place new_server (with_doubt (machine.servers place) made) here.running.runs server_is (stays here.honest))) who new
           (record session { begun = session.begun + 1; flight = Some (refusal begins_at.entry) }) inside
-          (began who place world_session new session whats.Refused None (refusal begins_at.entry) is begins_at refl refl),
+          (began who place world_session new session (Some (world_session.session.begun + 1)) whats.Refused None (refusal begins_at.entry) is begins_at refl refl),
     )
 write_tied law servers world_sessions offers items told machine good tied who place program world_session new old_server new_server (Err writing.Down) inside at none left known stands stays counts refused begins =
     let here = runs_at servers world_sessions offers items told machine tied place old_server known stands in
     let core = here.core in
     refused_entry servers world_sessions offers items told law machine good tied who place program world_session new old_server new_server writing.Down inside at none left here stays counts (λ same. absurd (cc)) refused
-    (subst (λ n. Begins world_session n whats.Refused None new) (ap (λ (c : Core). c.id) core.is) begins)
+    (subst (λ n. Begins world_session (asks_first world_session.session) n whats.Refused None new) (ap (λ (c : Core). c.id) core.is) begins)
 write_tied law servers world_sessions offers items told machine good tied who place program world_session new old_server new_server (Err (writing.Behind vector)) inside at none left known stands stays counts refused begins =
     let here = runs_at servers world_sessions offers items told machine tied place old_server known stands in
     let core = here.core in
     refused_entry servers world_sessions offers items told law machine good tied who place program world_session new old_server new_server (writing.Behind vector) inside at none left here stays counts (λ same. absurd (cc)) refused
-    (subst (λ n. Begins world_session n whats.Refused None new) (ap (λ (c : Core). c.id) core.is) begins)
+    (subst (λ n. Begins world_session (asks_first world_session.session) n whats.Refused None new) (ap (λ (c : Core). c.id) core.is) begins)
 write_tied law servers world_sessions offers items told machine good tied who place program world_session new old_server new_server (Err writing.LogFull) inside at none left known stands stays counts refused begins =
     let here = runs_at servers world_sessions offers items told machine tied place old_server known stands in
     let core = here.core in
     refused_entry servers world_sessions offers items told law machine good tied who place program world_session new old_server new_server writing.LogFull inside at none left here stays counts (λ same. absurd (cc)) refused
-    (subst (λ n. Begins world_session n whats.Refused None new) (ap (λ (c : Core). c.id) core.is) begins)
+    (subst (λ n. Begins world_session (asks_first world_session.session) n whats.Refused None new) (ap (λ (c : Core). c.id) core.is) begins)
 write_tied law servers world_sessions offers items told machine good tied who place program world_session new old_server new_server (Err writing.OutOfMemory) inside at none left known stands stays counts refused begins =
     let here = runs_at servers world_sessions offers items told machine tied place old_server known stands in
     let core = here.core in
     refused_entry servers world_sessions offers items told law machine good tied who place program world_session new old_server new_server writing.OutOfMemory inside at none left here stays counts (λ same. absurd (cc)) refused
-    (subst (λ n. Begins world_session n whats.Refused None new) (ap (λ (c : Core). c.id) core.is) begins)
+    (subst (λ n. Begins world_session (asks_first world_session.session) n whats.Refused None new) (ap (λ (c : Core). c.id) core.is) begins)

@@ -71,12 +71,12 @@ pub fn sets_and_vectors_agree()
 /// that it hears, and so along every run. A server holds what the session needs, as sets, exactly where its vector dominates the join that
 /// is the session's need.
 pub fn a_sessions_vectors_stand_for_its_sets()
-    ensures begins { (id : SessionId) (asks : Asks) → StandsFor (first_told id asks) (new_session asks) }
+    ensures begins { (id : SessionId) (run : ℕ) (asks : Asks) → StandsFor (first_told id run asks) (new_session asks) }
     ensures hears { (count limit capacity : ℕ) (asks : ℕ → Option Asks) (events : List Event) (replies : List Reply) (last : Machine) → Run (first_machine count limit capacity asks) events replies last
         → (who : ℕ) (session : SessionSets) (answered : Answered) → last.sessions who ≡ Some session → session.flight ≡ Some answered
         → (old new : Told) → StandsFor old session → IsToldOf answered.entry.what old new → StandsFor new (heard answered session) }
-    ensures along { (count limit capacity : ℕ) (asks : ℕ → Option Asks) (who : ℕ) (id : SessionId) (wants : Asks) (events : List Event) (replies : List Reply) (last : Machine) (told : Told)
-        → asks who ≡ Some wants → RunTelling who (first_machine count limit capacity asks) (first_told id wants) events replies last told
+    ensures along { (count limit capacity : ℕ) (asks : ℕ → Option Asks) (who : ℕ) (id : SessionId) (run : ℕ) (wants : Asks) (events : List Event) (replies : List Reply) (last : Machine) (told : Told)
+        → asks who ≡ Some wants → RunTelling who (first_machine count limit capacity asks) (first_told id run wants) events replies last told
         → (session : SessionSets) → last.sessions who ≡ Some session → StandsFor told session }
     ensures needs { (count limit capacity : ℕ) (asks : ℕ → Option Asks) (events : List Event) (replies : List Reply) (last : Machine) → Run (first_machine count limit capacity asks) events replies last
         → (session : SessionSets) (told : Told) → StandsFor told session → NeedsAgree last session told }

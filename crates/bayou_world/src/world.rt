@@ -1,7 +1,9 @@
 //! Servers and sessions to which nothing has happened, and a run of them.
-ghost use Rattle.std.specs.Prelude.{◌≡◌, ◌<◌, ◌≤◌, [], IfOk, IsTrue, List, length, map};
+ghost use Rattle.std.specs.Prelude.{◌≡◌, ◌<◌, ◌≤◌, [], All, IfOk, IsTrue, List, length, map};
 ghost use Rattle.bayou_audit.specs.Blanks.{AreBlanksOf, named};
 ghost use Rattle.bayou_base.specs.declared.limits.TheConstants.{MAX_WRITES, SERVERS as SERVERS_NUMBER, SESSIONS as SESSIONS_NUMBER};
+ghost use Rattle.bayou_session.specs.declared.session.TheConstants.{FIRST_RUN as FIRST_RUN_NUMBER};
+ghost use Rattle.bayou_session.specs.Needs.{Told};
 ghost use Rattle.bayou_world.specs.Faults.{AreFused};
 ghost use Rattle.bayou_world.specs.Inner.Beginning.{AreFirstSeats, AreStarted, IsBooked, IsFirstSeat, IsFirstState, IsLeft, SoFar};
 ghost use Rattle.bayou_world.specs.Inner.Charges.{AreAmple, AreCharged, SpendsAt};
@@ -28,7 +30,7 @@ use crate::world_session::WorldSession;
 use bayou_audit::{Blanks, Four, Ledgers, Totals};
 use bayou_base::{MAX_ENTRIES, SESSIONS, ServerId};
 use bayou_lang::RestingWrite;
-use bayou_session::Session;
+use bayou_session::{FIRST_RUN, Session};
 use std::alloc::{AllocError, Global};
 use std::marker::{Brand, Model};
 use std::sync::ledger::{Blank, Ledger};
@@ -60,7 +62,8 @@ fn world_session_of(alloc: Global, sessions: &[Session], who: usize) -> Option<W
     for session in sessions {
         let id = session.id();
         if usize::from(id.index) == who {
-            return Some(WorldSession::new(alloc, Session::new(id, session.asks())));
+            let session = Session::new(id, FIRST_RUN, session.asks());
+            return Some(WorldSession::new(alloc, session));
         }
     }
     None
@@ -281,7 +284,7 @@ where
 
 impl World {
     /// So many servers, each of which may hold so many Writes, and these sessions, as new ones: of two with one name the first
-    /// counts.
+    /// counts. A world keeps nothing from a run to the next, so that each run is the first one.
     pub fn new(
         alloc: Global,
         count: u8,
@@ -290,6 +293,7 @@ impl World {
     ) -> Result<Self, AllocError>
         requires count { count ≤ SERVERS_NUMBER }
         requires limit { limit ≤ MAX_WRITES }
+        requires runs { All (λ (session : Told). session.run ≡ FIRST_RUN_NUMBER) sessions.now }
         ensures { IfOk result (λ world. world ≡ record { count = count; limit = limit; sessions = sessions.now }) }
     {
         let mut servers = Vec::new(alloc);

@@ -5,10 +5,10 @@ ghost use Rattle.bayou_server.specs.Reads.{Reads};
 ghost use Rattle.bayou_server.specs.Writes.{Writes};
 ghost use Rattle.bayou_world.specs.declared.reply.Reply.TheVariants.{Wrote};
 ghost use Rattle.bayou_world.specs.Faults.{tells_fault};
-ghost use Rattle.bayou_session.specs.Needs.{HasCounts, read_need, write_need};
+ghost use Rattle.bayou_session.specs.Needs.{HasCounts, asks_first, one_place_more, read_need, write_need};
 ghost use Rattle.bayou_world.specs.Inner.Charges.{Spends};
 ghost use Rattle.bayou_world.specs.Inner.WorldServers.{StaysHonest};
-ghost use Rattle.bayou_world.specs.Inner.WorldSessions.{Begins, Hears, Pops, accepted_as, accepted_of, after_accepted, after_read, seen_as};
+ghost use Rattle.bayou_world.specs.Inner.WorldSessions.{Begins, Hears, IsAnswered, Pops, accepted_as, accepted_of, after_accepted, after_read, seen_as};
 
 use bayou_base::{Accepted, Entry, Key, Seen, ServerId, What};
 use bayou_device::{MemoryDevice, OpenGate};
@@ -108,15 +108,14 @@ impl WorldSession {
         self.flight.is_none() && self.session.left() > 0
     }
 
-    /// It begins a place, and this answer of the server is on its way.
-    fn begin(&mut self, server: ServerId, what: What, accepted: Option<Accepted>)
-        requires { self.old.session.begun < MAX_PLACES }
-        ensures { Begins self.old server.index what accepted self.new }
+    /// At the place that it began last the server answers it this, which is on its way.
+    fn answered(&mut self, server: ServerId, what: What, accepted: Option<Accepted>)
+        requires { 0 < self.old.session.begun }
+        ensures { IsAnswered self.old server.index what accepted self.new }
     {
-        let place = self.session.begin();
         let entry = Entry {
             session: self.session.id(),
-            place,
+            place: self.session.place(),
             asks: self.session.asks(),
             server,
             what,
@@ -124,7 +123,7 @@ impl WorldSession {
         self.flight = Some(Flight { entry, accepted });
     }
 
-    /// It asks the server what the key has.
+    /// It asks the server what the key has, at a place that it begins.
     pub fn read(
         &mut self,
         server: &Server<MemoryDevice<OpenGate>>,
@@ -133,15 +132,17 @@ impl WorldSession {
         requires { self.old.session.begun < MAX_PLACES }
         ensures counts { HasCounts self.old.session }
         ensures answer { Reads server.now.core (read_need self.old.session) key.now result }
-        ensures begun { Begins self.old server.now.core.id (seen_as key.now result) None self.new }
+        ensures begun { Begins self.old (one_place_more self.old.session) server.now.core.id (seen_as key.now result) None self.new }
     {
         let answer = server.read(&self.session.need_read(), key);
         let what = what_seen(key, &answer);
-        self.begin(server.id(), what, None);
+        self.session.begin();
+        self.answered(server.id(), what, None);
         answer
     }
 
-    /// It asks the server to make a Write of the program.
+    /// It asks the server to make a Write of the program, at a place that it begins, behind which it may ask again. The tag of what it asks
+    /// goes nowhere: no server knows tags.
     pub fn write(
         &mut self,
         alloc: Global,
@@ -151,7 +152,7 @@ impl WorldSession {
         requires { self.old.session.begun < MAX_PLACES }
         ensures counts { HasCounts self.old.session }
         ensures answer { Writes server.old.core (write_need self.old.session) program result server.new.core }
-        ensures begun { Begins self.old server.old.core.id (accepted_as result) (accepted_of result) self.new }
+        ensures begun { Begins self.old (asks_first self.old.session) server.old.core.id (accepted_as result) (accepted_of result) self.new }
         ensures honest { StaysHonest server.old server.new }
         ensures spends { Spends (tells_fault (Wrote result)) false server.old.device server.new.device }
     {
@@ -161,7 +162,8 @@ impl WorldSession {
         let answer = server.write(alloc, &self.session.need_write(), program);
         let what = what_accepted(&answer);
         let accepted = accepted_in(&answer);
-        self.begin(id, what, accepted);
+        self.session.ask();
+        self.answered(id, what, accepted);
         answer
     }
 

@@ -1,7 +1,11 @@
 //! What the tests are made of: servers and sessions by their numbers, one key, and programs that put a number there.
+ghost use Rattle.std.specs.Prelude.{◌≡◌, All, IfOk};
+ghost use Rattle.bayou_session.specs.declared.session.TheConstants.{FIRST_RUN as FIRST_RUN_NUMBER};
+ghost use Rattle.bayou_session.specs.Needs.{Told};
+
 use bayou_base::{Asks, Key, ServerId, SessionId, Value};
 use bayou_lang::{Op, Program, RestingProgram, Term};
-use bayou_session::Session;
+use bayou_session::{FIRST_RUN, Session};
 use bayou_world::world::World;
 use bayou_world::{Event, Reply, RunHistory};
 use std::alloc::{AllocError, Global};
@@ -67,11 +71,13 @@ pub fn sessions_of(
     rt: &impl Abort,
     alloc: Global,
     asks: &[Asks],
-) -> Result<Vec<Session>, AllocError> {
+) -> Result<Vec<Session>, AllocError>
+    ensures { IfOk result (λ sessions. All (λ (session : Told). session.run ≡ FIRST_RUN_NUMBER) sessions.items) }
+{
     let mut sessions = Vec::new(alloc);
     let mut index: u8 = 0;
     for asked in asks {
-        sessions.push(Session::new(session_id(rt, index), *asked))?;
+        sessions.push(Session::new(session_id(rt, index), FIRST_RUN, *asked))?;
         index = index.saturating_add(1);
     }
     Ok(sessions)

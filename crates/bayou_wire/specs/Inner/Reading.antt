@@ -35,6 +35,8 @@ use Rattle.bayou_wire.specs.declared.front.PlainFront.TheVariants as plain_front
 use Rattle.bayou_wire.specs.declared.stream.FeedFault.{FeedFault}
 use Rattle.bayou_wire.specs.declared.stream.FeedFault.TheVariants as feeds
 use Rattle.bayou_wire.specs.declared.layout.TheConstants as layout
+use Rattle.bayou_wire.specs.declared.record.Form.{Form}
+use Rattle.bayou_wire.specs.declared.record.Form.TheVariants.{Plain, Tagged}
 use Rattle.bayou_wire.specs.Forms.{frame_of}
 use Rattle.bayou_wire.specs.Spelling.{IsFrame, frame_bytes, kind_of, payload_bytes}
 use Rattle.bayou_wire.specs.Stream.{IsFaulty, IsPackedFault, IsPartial, TakesIn, stream_of}
@@ -223,6 +225,18 @@ optional_wid_at [] = None
 optional_wid_at (tag ∷ bytes) =
     if tag == layout.ABSENT then Some (None, bytes)
     else (if tag == layout.PRESENT then made (λ wid. Some wid) wid_at bytes else None)
+
+-- what stands before the Write of a record that may have a tag
+unfoldable pub tagged_head_at : List ℕ → Read (Option Tag)
+tagged_head_at [] = None
+tagged_head_at (first ∷ bytes) =
+    if first == layout.RECORD_OTHERS then Some (None, bytes)
+    else (if first == layout.RECORD_OWN then made (λ tag. Some tag) tag_at bytes else None)
+
+-- and in each form
+abbrev pub head_at : Form → List ℕ → Read (Option Tag)
+head_at Plain bytes = Some (None, bytes)
+head_at Tagged bytes = tagged_head_at bytes
 
 unfoldable pub refusal_at : List ℕ → Read Refusal
 refusal_at [] = None

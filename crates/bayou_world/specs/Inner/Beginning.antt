@@ -4,6 +4,7 @@ use Rattle.std.specs.List.{slice_index_or}
 use Rattle.bayou_base.specs.declared.asks.Asks.{Asks}
 use Rattle.bayou_base.specs.declared.entry.Entry.{Entry}
 use Rattle.bayou_base.specs.declared.limits.TheConstants.{SESSIONS}
+use Rattle.bayou_session.specs.declared.session.TheConstants.{FIRST_RUN}
 use Rattle.bayou_session.specs.Needs.{Told, new_session}
 use Rattle.std.specs.Global.{Vec}
 use Rattle.bayou_audit.specs.declared.totals.Totals.{Totals}
@@ -33,7 +34,7 @@ pub record AreStarted (done count limit : ℕ) (servers : List WorldServer) : Ty
 -- a session to which nothing has happened
 pub record IsNewWorldSession (who : ℕ) (asks : Asks) (world_session : WorldSession) : Type 0 where
   pub name : world_session.session.id.index ≡ who
-  pub session : world_session.session ≡ new_session world_session.session.id asks
+  pub session : world_session.session ≡ new_session world_session.session.id FIRST_RUN asks
   pub flight : world_session.flight ≡ None
   pub waiting : world_session.waiting.items ≡ []
 

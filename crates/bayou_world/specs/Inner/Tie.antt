@@ -10,6 +10,7 @@ use Rattle.bayou_base.specs.declared.limits.TheConstants.{SERVERS, SESSIONS}
 use Rattle.bayou_lang.specs.declared.write.Write.{Write}
 use Rattle.bayou_lang.specs.Writes.{count_of}
 use Rattle.bayou_server.specs.Server.{Core}
+use Rattle.bayou_session.specs.declared.session.TheConstants.{FIRST_RUN}
 use Rattle.bayou_world.specs.declared.world_session.WorldSession.{WorldSession}
 use Rattle.bayou_world.specs.declared.world_session.Flight.{Flight}
 use Rattle.bayou_world.specs.declared.world_server.WorldServer.{WorldServer}
@@ -49,6 +50,7 @@ IsFlightOf (Some flight) None = ⊥
 pub record IsWorldSessionOf (who : ℕ) (world_session : WorldSession) (session : SessionSets) : Type 0 where
   pub name : world_session.session.id.index ≡ who
   pub asks : world_session.session.asks ≡ session.asks
+  pub run : world_session.session.run ≡ FIRST_RUN
   pub begun : world_session.session.begun ≡ session.begun
   pub long : (length world_session.session.reads ≡ SERVERS) × (length world_session.session.writes ≡ SERVERS)
   pub reads : IsVectorOf world_session.session.reads session.reads

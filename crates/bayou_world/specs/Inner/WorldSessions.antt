@@ -1,5 +1,5 @@
 -- A session of the code, and what is on its way to it: callers don't see it.
-use Rattle.std.specs.Prelude.{◌≡◌, ℕ, ◌+◌, List, [], ◌∷◌, ◌++◌, Option, None, Some, Result, Ok, Err}
+use Rattle.std.specs.Prelude.{◌≡◌, ℕ, List, [], ◌∷◌, ◌++◌, Option, None, Some, Result, Ok, Err}
 use Rattle.std.specs.Option.{option_to_list}
 use Rattle.bayou_base.specs.declared.answer.Accepted.{Accepted}
 use Rattle.bayou_base.specs.declared.answer.Seen.{Seen}
@@ -9,7 +9,7 @@ use Rattle.bayou_base.specs.declared.entry.What.TheVariants as whats
 use Rattle.bayou_base.specs.Vector.{joined}
 use Rattle.bayou_server.specs.declared.fault.Behind.{Behind}
 use Rattle.bayou_server.specs.declared.fault.WriteFault.{WriteFault}
-use Rattle.bayou_session.specs.Needs.{Told, after_write, one_place_more}
+use Rattle.bayou_session.specs.Needs.{Told, after_write}
 use Rattle.bayou_world.specs.declared.world_session.WorldSession.{WorldSession}
 
 -- what an answer to a read tells
@@ -26,17 +26,22 @@ abbrev pub accepted_of : Result Accepted WriteFault → Option Accepted
 accepted_of (Ok accepted) = Some accepted
 accepted_of (Err fault) = None
 
--- it has begun its next place, and the answer is on its way
-pub record Begins (old : WorldSession) (server : ℕ) (what : What) (accepted : Option Accepted) (new : WorldSession) : Type 0 where
+-- at the place that it began last the server answers it this, which is on its way
+pub record IsAnswered (old : WorldSession) (server : ℕ) (what : What) (accepted : Option Accepted) (new : WorldSession) : Type 0 where
   pub entry : Entry
   pub session_is : entry.session ≡ old.session.id
-  pub place_is : entry.place ≡ old.session.begun + 1
+  pub place_is : entry.place ≡ old.session.begun
   pub asks_are : entry.asks ≡ old.session.asks
   pub server_is : entry.server.index ≡ server
   pub what_is : entry.what ≡ what
-  pub session : new.session ≡ one_place_more old.session
+  pub session : new.session ≡ old.session
   pub flight : new.flight ≡ Some (record { entry = entry; accepted = accepted })
   pub waiting : new.waiting ≡ old.waiting
+
+-- It has begun its next place, by which its session is this, and is answered there: for a read it has begun a place, and for a Write it has
+-- asked, which it may do again.
+abbrev pub Begins : WorldSession → Told → (server : ℕ) → What → Option Accepted → WorldSession → Type 0
+Begins old session server what accepted new = IsAnswered (record old { session = session }) server what accepted new
 
 -- what a session is told
 abbrev pub after_read : What → Told → Told

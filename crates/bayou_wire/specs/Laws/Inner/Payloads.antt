@@ -24,7 +24,7 @@ use Rattle.bayou_wire.specs.Inner.Reading.{Read, both, made, key_at, value_at, p
 use Rattle.bayou_wire.specs.Laws.Inner.Formats.{IsBytes, IsFormat, both_format, made_takes, made_again, case_takes, u32_format, key_format, value_format, program_format, vector_format, wid_format, tag_format, accepted_format, write_format}
 
 -- a test of a tag, and what is read on either side
-link : {T P : Type 0} (tag is : ℕ) (first others : Read T) (x : T × List ℕ) → cond (tag == is) first others ≡ Some x
+pub link : {T P : Type 0} (tag is : ℕ) (first others : Read T) (x : T × List ℕ) → cond (tag == is) first others ≡ Some x
     → ((tag == is) ≡ true → first ≡ Some x → P) → (others ≡ Some x → P) → P
 link {T} {P} tag is first others x e here there =
     elim (tag == is) as (λ b. (tag == is) ≡ b → cond b first others ≡ Some x → P) [
@@ -33,7 +33,7 @@ link {T} {P} tag is first others x e here there =
     ] refl e
 
 -- a case with nothing behind its tag
-bare_takes : {T : Type 0} (Is : T → Type 0) (spelling : T → List ℕ) (tag : ℕ) (value : T) → Is value → spelling value ≡ tag ∷ []
+pub bare_takes : {T : Type 0} (Is : T → Type 0) (spelling : T → List ℕ) (tag : ℕ) (value : T) → Is value → spelling value ≡ tag ∷ []
     → (first : ℕ) (bytes : List ℕ) (x : T × List ℕ) → (first == tag) ≡ true → Some (value, bytes) ≡ Some x → Is x.0 × (first ∷ bytes ≡ spelling x.0 ++ x.1)
 bare_takes {T} Is spelling tag value is spells first bytes x same e =
     let whole : first ∷ bytes ≡ spelling value ++ bytes = rw (spells, eqb-true first tag same) refl in

@@ -8,7 +8,7 @@ returns c = record {
   begins = begins_standing;
   hears = λ count limit capacity asks events replies last run who session answered there flies old new is told.
       heard_standing last (run_is_good count limit capacity asks events replies last run) who session answered there flies old new is told;
-  along = λ count limit capacity asks who id wants events replies last told asked run. stands_along count limit capacity asks who id wants events replies last told asked run;
+  along = λ count limit capacity asks who id run wants events replies last told asked tells. stands_along count limit capacity asks who id run wants events replies last told asked tells;
   needs = λ count limit capacity asks events replies last run session told is.
       needs_agree c.read_need_is_what_is_asked.ensures c.write_need_is_what_is_asked.ensures last (run_is_good count limit capacity asks events replies last run) session told is;
 }
