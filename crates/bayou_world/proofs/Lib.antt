@@ -10,6 +10,7 @@ pub mod Keeping
 pub mod Telling
 pub mod Judging
 pub mod Consistent
+pub mod Tagging
 pub mod Collecting
 pub mod Possible
 pub mod Agreeing

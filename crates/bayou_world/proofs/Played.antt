@@ -201,6 +201,7 @@ new_world_session who (Some asks) (Some world_session) is =
       asks = ap (λ (t : Told). t.asks) is.session;
       run = ap (λ (t : Told). t.run) is.session;
       begun = ap (λ (t : Told). t.begun) is.session;
+      asked = ap (λ (t : Told). t.asked) is.session;
       long = subst (λ (t : Told). (length t.reads ≡ SERVERS) × (length t.writes ≡ SERVERS)) (sym is.session) (length-replicate {A = ℕ} SERVERS 0, length-replicate {A = ℕ} SERVERS 0);
       reads = subst (λ (t : Told). IsVectorOf t.reads []) (sym is.session) IsVectorOf-none;
       writes = subst (λ (t : Told). IsVectorOf t.writes []) (sym is.session) IsVectorOf-none;

@@ -15,9 +15,9 @@ use Rattle.bayou_world.specs.declared.event.Event.{Event}
 use Rattle.bayou_world.specs.declared.event.Event.TheVariants as events
 use Rattle.bayou_world.specs.declared.reply.Reply.{Reply}
 use Rattle.bayou_world.specs.Inner.Good.{AreGoodServers, IsCovered, IsCoveredWrite, IsGoodMachine, IsGoodFlight, IsGoodSession, IsHome, WasSo, IsTrueAnswer, MayBeDoubted}
-use Rattle.bayou_world.specs.Machine.{Answered, IsWithin, Machine, Made, Offered, ServerSets, SessionSets, changed, names, with_session, writes}
+use Rattle.bayou_world.specs.Machine.{Answered, Asking, IsWithin, Machine, Made, Offered, ServerSets, SessionSets, changed, names, with_session, writes}
 use Rattle.bayou_world.specs.Runs.{IsRead, Run}
-use Rattle.bayou_world.specs.Steps.{CollectStep, DeliverStep, FileStep, FuseStep, IsEntry, IsGiven, IsInFlight, IsNext, LoseStep, Makes, MayBegin, OfferStep, ReadStep, ReopenStep, RestartStep, Step, TakeStep, WriteStep, landed, refusal, served_by, stopped_now, told, with_answer, with_doubt, with_write}
+use Rattle.bayou_world.specs.Steps.{CollectStep, DeliverStep, FileStep, FuseStep, IsEntry, IsGiven, IsInFlight, IsNext, LoseStep, Makes, MayBegin, OfferStep, ReadStep, ReopenStep, RestartStep, Step, TakeStep, WriteStep, first_asking, landed, refusal, served_by, stopped_now, told, with_answer, with_doubt, with_write}
 use Rattle.bayou_world.proofs.Delivering.{heard_read, heard_write, more_of_other}
 use Rattle.bayou_world.proofs.Given.{given_fits}
 use Rattle.bayou_world.proofs.Growing.{HaveGrown, add_doubt, add_write, answer_grows, grown_by_doubt, grown_by_recovery, grown_by_stop, grown_by_write, home_grows, offers_grow, recover, stop}
@@ -53,11 +53,11 @@ item_at items item made got = (item, slice_get_within items item made got, get_o
 
 -- the answer goes in flight, over servers that may hold more
 begin_good : (old : Machine) → IsGoodMachine old → (servers : ℕ → ServerSets) → HaveGrown old.servers servers → AreGoodServers old.count old.limit servers
-    → (who place : ℕ) (session : SessionSets) (what : What) (answered : Answered) → MayBegin old who place session → IsEntry who place session what answered.entry
+    → (who place : ℕ) (session : SessionSets) (asked : Option Asking) (what : What) (answered : Answered) → MayBegin old who place session → IsEntry who place session what answered.entry
     → WasSo servers what place answered → IsCovered session what answered
-    → IsGoodMachine (with_answer (record old { servers = servers }) who session answered)
-begin_good old good servers grown are_good who place session what answered may entry is_true covered =
-    let new = record session { begun = session.begun + 1; flight = Some answered } in
+    → IsGoodMachine (with_answer (record old { servers = servers }) who session asked answered)
+begin_good old good servers grown are_good who place session asked what answered may entry is_true covered =
+    let new = record session { begun = session.begun + 1; asked = asked; flight = Some answered } in
     let mine = good.sessions who session may.there in
     let true_answer : IsTrueAnswer servers answered =
     subst (λ w. WasSo servers w answered.entry.server.index answered) (sym entry.what_is) (subst (λ n. WasSo servers what n answered) (sym entry.server_is) is_true) in
@@ -92,15 +92,15 @@ begin_good old good servers grown are_good who place session what answered may e
           (λ o s is a flies. answer_grows old.servers servers grown a (good.flights o s a is flies)) other found there flying in_flight;
     }
   where
-    covers : (what : What) → IsCovered session what answered → IsCovered (record session { begun = session.begun + 1; flight = Some answered }) what answered
+    covers : (what : What) → IsCovered session what answered → IsCovered (record session { begun = session.begun + 1; asked = asked; flight = Some answered }) what answered
     covers (whats.Read key vector) c = record { ryw = c.ryw; mr = c.mr }
     covers (whats.Write wid stamp deps) c = λ made is. let d = c made is in record { wfr = d.wfr; mw = d.mw }
     covers whats.Refused c = tt
 
 -- what the server makes may be held next
-pub made_may : (old : Machine) → IsGoodMachine old → (place : ℕ) (session : SessionSets) (program : Program) (made : Made) → place < old.count
-    → Makes old.limit place session (old.servers place) program made → MayBeDoubted old.count old.limit old.servers place (old.servers place).held made
-made_may old good place session program made known makes = record {
+pub made_may : (old : Machine) → IsGoodMachine old → (who place : ℕ) (session : SessionSets) (program : Program) (made : Made) → place < old.count
+    → Makes old.limit who place session (old.servers place) program made → MayBeDoubted old.count old.limit old.servers place (old.servers place).held made
+made_may old good who place session program made known makes = record {
   room = makes.room;
   fits = next_fits old.count (writes (old.servers place).held) place program made.write (fitting_at old.count old.limit old.servers good.servers place) known makes.next;
   deps = λ own. makes.next.deps;
@@ -120,28 +120,28 @@ added_home servers place made own =
 read_good : (old : Machine) (who place : ℕ) (key : List ℕ) (reply : Reply) (new : Machine) → IsGoodMachine old → ReadStep old who place key reply new → IsGoodMachine new
 read_good old who place key reply new good (ReadStep.skipped cannot is same) = subst IsGoodMachine (sym same) good
 read_good old who place key reply new good (ReadStep.behind session entry may not_may is entry_is same) =
-    subst IsGoodMachine (sym same) (begin_good old good old.servers (no_growth old.servers) good.servers who place session whats.Refused (refusal entry) may entry_is refl tt)
+    subst IsGoodMachine (sym same) (begin_good old good old.servers (no_growth old.servers) good.servers who place session None whats.Refused (refusal entry) may entry_is refl tt)
 read_good old who place key reply new good (ReadStep.served session entry seen may covered value vector is entry_is same) =
     let database = writes (old.servers place).held in
     subst IsGoodMachine (sym same)
-    (begin_good old good old.servers (no_growth old.servers) good.servers who place session (whats.Read key seen.vector) (record { entry = entry; database = database; made = None }) may entry_is
+    (begin_good old good old.servers (no_growth old.servers) good.servers who place session None (whats.Read key seen.vector) (record { entry = entry; database = database; made = None }) may entry_is
     (refl, whole_front database, vector) (record { ryw = covered.ryw; mr = covered.mr }))
 
 write_good : (old : Machine) (who place : ℕ) (program : Program) (reply : Reply) (new : Machine) → IsGoodMachine old → WriteStep old who place program reply new → IsGoodMachine new
 write_good old who place program reply new good (WriteStep.skipped cannot is same) = subst IsGoodMachine (sym same) good
 write_good old who place program reply new good (WriteStep.refused session entry fault may refused is entry_is same) =
-    subst IsGoodMachine (sym same) (begin_good old good old.servers (no_growth old.servers) good.servers who place session whats.Refused (refusal entry) may entry_is refl tt)
+    subst IsGoodMachine (sym same) (begin_good old good old.servers (no_growth old.servers) good.servers who place session (Some (first_asking place session program)) whats.Refused (refusal entry) may entry_is refl tt)
 write_good old who place program reply new good (WriteStep.doubted session entry made may makes is entry_is same) =
-    let may_be = made_may old good place session program made may.server.there makes in
+    let may_be = made_may old good who place session program made may.server.there makes in
     subst IsGoodMachine (sym same)
     (begin_good old good (changed old.servers place (with_doubt (old.servers place) made)) (grown_by_doubt old.servers place made)
-    (add_doubt old.count old.limit old.servers good.servers place made may_be) who place session whats.Refused (refusal entry) may entry_is refl tt)
+    (add_doubt old.count old.limit old.servers good.servers place made may_be) who place session (Some (first_asking place session program)) whats.Refused (refusal entry) may entry_is refl tt)
 write_good old who place program reply new good (WriteStep.accepted session entry made accepted may makes told_is is entry_is same) =
-    let may_be = made_may old good place session program made may.server.there makes in
+    let may_be = made_may old good who place session program made may.server.there makes in
     let covered = makes.ready.covered in
     subst IsGoodMachine (sym same)
     (begin_good old good (changed old.servers place (with_write (old.servers place) made)) (grown_by_write old.servers place made)
-    (add_write old.count old.limit old.servers good.servers place made makes.ready.up may_be) who place session (whats.Write accepted.wid accepted.stamp accepted.deps)
+    (add_write old.count old.limit old.servers good.servers place made makes.ready.up may_be) who place session (Some (first_asking place session program)) (whats.Write accepted.wid accepted.stamp accepted.deps)
     (record { entry = entry; database = made.past; made = Some made }) may entry_is
     (made, refl, added_home old.servers place made makes.next.origin, sym told_is.wid)
     (λ other is_it. subst (λ (m : Made). IsCoveredWrite session m.past) (some_is made other is_it)

@@ -19,9 +19,9 @@ use Rattle.bayou_world.specs.declared.event.Event.TheVariants as events
 use Rattle.bayou_world.specs.declared.reply.Reply.{Reply}
 use Rattle.bayou_world.specs.Inner.Good.{IsGoodFlight, IsGoodMachine, IsHome, IsTrueAnswer, WasSo}
 use Rattle.bayou_world.specs.Inner.Told.{Flies, IsLater, IsRemembered, IsToldBy, IsToldMachine, IsToldTrue, TellsOfOthers}
-use Rattle.bayou_world.specs.Machine.{Answered, Machine, Made, ServerSets, SessionSets, changed, names, with_session, writes}
+use Rattle.bayou_world.specs.Machine.{Answered, Asking, Machine, Made, ServerSets, SessionSets, changed, names, with_session, writes}
 use Rattle.bayou_world.specs.Runs.{Run, first_machine, new_session}
-use Rattle.bayou_world.specs.Steps.{CollectStep, DeliverStep, FileStep, FuseStep, IsEntry, IsInFlight, LoseStep, MayBegin, OfferStep, ReadStep, Recovers, ReopenStep, RestartStep, Step, TakeStep, WriteStep, refusal, served_by, stopped_now, told, with_answer, with_doubt, with_write}
+use Rattle.bayou_world.specs.Steps.{CollectStep, DeliverStep, FileStep, FuseStep, IsEntry, IsInFlight, LoseStep, MayBegin, OfferStep, ReadStep, Recovers, ReopenStep, RestartStep, Step, TakeStep, WriteStep, first_asking, refusal, served_by, stopped_now, told, with_answer, with_doubt, with_write}
 use Rattle.bayou_world.proofs.Homes.{fitting_at}
 use Rattle.bayou_world.proofs.Lists.{Contains-map, at_changed, changed-other, changed-same, same_number}
 use Rattle.bayou_world.proofs.Starting.{first_good}
@@ -132,11 +132,11 @@ hears count asks old is who session new answered there flight same none behind =
 
 -- an answer goes in flight, over servers that may hold more
 begins : (count : ℕ) (asks : ℕ → Option Asks) (old : Machine) → IsToldMachine count asks old → (servers : ℕ → ServerSets) → ((place : ℕ) → IsRemembered count place (servers place))
-    → (who : ℕ) (session : SessionSets) (answered : Answered) → old.sessions who ≡ Some session → IsToldTrue count asks answered
+    → (who : ℕ) (session : SessionSets) (asked : Option Asking) (answered : Answered) → old.sessions who ≡ Some session → IsToldTrue count asks answered
     → All (λ other. TellsOfOthers other answered) old.served → ((other : ℕ) (second : Answered) → Flies old.sessions other second → TellsOfOthers second answered)
-    → IsToldMachine count asks (with_answer (record old { servers = servers }) who session answered)
-begins count asks old is servers remembered who session answered there is_true fresh other_flights =
-    let new = record session { begun = session.begun + 1; flight = Some answered } in
+    → IsToldMachine count asks (with_answer (record old { servers = servers }) who session asked answered)
+begins count asks old is servers remembered who session asked answered there is_true fresh other_flights =
+    let new = record session { begun = session.begun + 1; asked = asked; flight = Some answered } in
     let split = flies_changed old.sessions who new in
     record {
       count_is = is.count_is;
@@ -231,10 +231,10 @@ known_server count asks old is place known = omega (arith, known, is.count_is)
 
 -- a refusal goes in flight, over servers that may hold more
 refuses : (count : ℕ) (asks : ℕ → Option Asks) (old : Machine) → IsToldMachine count asks old → (servers : ℕ → ServerSets) → ((other : ℕ) → IsRemembered count other (servers other))
-    → (who place : ℕ) (session : SessionSets) (entry : Entry) → MayBegin old who place session → IsEntry who place session whats.Refused entry
-    → IsToldMachine count asks (with_answer (record old { servers = servers }) who session (refusal entry))
-refuses count asks old is servers remembered who place session entry may entry_is =
-    begins count asks old is servers remembered who session (refusal entry) may.there
+    → (who place : ℕ) (session : SessionSets) (asked : Option Asking) (entry : Entry) → MayBegin old who place session → IsEntry who place session whats.Refused entry
+    → IsToldMachine count asks (with_answer (record old { servers = servers }) who session asked (refusal entry))
+refuses count asks old is servers remembered who place session asked entry may entry_is =
+    begins count asks old is servers remembered who session asked (refusal entry) may.there
     (entry_told count asks who place session whats.Refused (refusal entry) entry_is (known_server count asks old is place may.server.there) (is.asks_are who session may.there) tt)
     (λ k d within. tells_none whats.Refused (get_or old.served k d) (refusal entry) entry_is.what_is (λ name tells. tells))
     (λ other second flies. tells_none whats.Refused second (refusal entry) entry_is.what_is (λ name tells. tells))
@@ -242,12 +242,12 @@ refuses count asks old is servers remembered who place session entry may entry_i
 read_told : (count : ℕ) (asks : ℕ → Option Asks) (old : Machine) (who place : ℕ) (key : List ℕ) (reply : Reply) (new : Machine) → IsToldMachine count asks old → ReadStep old who place key reply new → IsToldMachine count asks new
 read_told count asks old who place key reply new is (ReadStep.skipped cannot replies same) = same_told count asks old new same is
 read_told count asks old who place key reply new is (ReadStep.behind session entry may not_may replies entry_is same) =
-    subst (IsToldMachine count asks) (sym same) (refuses count asks old is old.servers is.servers who place session entry may entry_is)
+    subst (IsToldMachine count asks) (sym same) (refuses count asks old is old.servers is.servers who place session None entry may entry_is)
 read_told count asks old who place key reply new is (ReadStep.served session entry seen may covered value vector replies entry_is same) =
     let what = whats.Read key seen.vector in
     let answered : Answered = record { entry = entry; database = writes (old.servers place).held; made = None } in
     subst (IsToldMachine count asks) (sym same)
-    (begins count asks old is old.servers is.servers who session answered may.there
+    (begins count asks old is old.servers is.servers who session None answered may.there
     (entry_told count asks who place session what answered entry_is (known_server count asks old is place may.server.there) (is.asks_are who session may.there) tt)
     (λ k d within. tells_none what (get_or old.served k d) answered entry_is.what_is (λ name tells. tells))
     (λ other second flies. tells_none what second answered entry_is.what_is (λ name tells. tells)))
@@ -256,13 +256,13 @@ write_told : (count : ℕ) (asks : ℕ → Option Asks) (old : Machine) (who pla
     → WriteStep old who place program reply new → IsToldMachine count asks new
 write_told count asks old who place program reply new good is (WriteStep.skipped cannot replies same) = same_told count asks old new same is
 write_told count asks old who place program reply new good is (WriteStep.refused session entry fault may refused replies entry_is same) =
-    subst (IsToldMachine count asks) (sym same) (refuses count asks old is old.servers is.servers who place session entry may entry_is)
+    subst (IsToldMachine count asks) (sym same) (refuses count asks old is old.servers is.servers who place session (Some (first_asking place session program)) entry may entry_is)
 write_told count asks old who place program reply new good is (WriteStep.doubted session entry made may makes replies entry_is same) =
     let doubted = with_doubt (old.servers place) made in
     subst (IsToldMachine count asks) (sym same)
     (refuses count asks old is (changed old.servers place doubted)
     (at_changed (IsRemembered count) old.servers place doubted (remembers_same count place (old.servers place) doubted refl refl (is.servers place)) is.servers)
-    who place session entry may entry_is)
+    who place session (Some (first_asking place session program)) entry may entry_is)
 write_told count asks old who place program reply new good is (WriteStep.accepted session entry made accepted may makes told_is replies entry_is same) =
     let server = old.servers place in
     let what = whats.Write accepted.wid accepted.stamp accepted.deps in
@@ -273,7 +273,7 @@ write_told count asks old who place program reply new good is (WriteStep.accepte
     subst (IsToldMachine count asks) (sym same)
     (begins count asks old is (changed old.servers place (with_write server made))
     (at_changed (IsRemembered count) old.servers place (with_write server made) (remembers_write count place server made server.doubt server.stopped known (is.servers place)) is.servers)
-    who session answered may.there
+    who session (Some (first_asking place session program)) answered may.there
     (entry_told count asks who place session what answered entry_is known (is.asks_are who session may.there)
     (made, refl, told_is.wid, told_is.stamp, told_is.deps ∙ ap count_of makes.past ∙ sym makes.next.deps, makes.next.origin))
     (All-weaker (IsTrueAnswer old.servers) (λ (o : Answered). TellsOfOthers o answered) is_new old.served good.served)

@@ -1,6 +1,7 @@
 -- What the servers and sessions that run do, the machine does.
 use Rattle.std.proofs.Common.{◌≡◌, ◌↔◌, inl, inr, ℕ, ◌+◌, ◌<◌, true, false, List, Option, None, Some, Result, Ok, Err, length, get_or, set, ap, sym, ◌∙◌, refl, subst, arith}
 use Rattle.std.proofs.lemmas.List.{get_or-set_other, get_or-set_same, length-set}
+use Rattle.std.specs.Option.{option_map}
 use Rattle.bayou_base.specs.declared.answer.Accepted.{Accepted}
 use Rattle.bayou_base.specs.declared.answer.Seen.{Seen}
 use Rattle.bayou_base.specs.declared.entry.Entry.{Entry}
@@ -28,9 +29,9 @@ use Rattle.bayou_world.specs.declared.reply.Reply.TheVariants as replies
 use Rattle.bayou_world.specs.Inner.WorldSessions.{Begins, seen_as}
 use Rattle.bayou_world.specs.Inner.Good.{IsGoodMachine}
 use Rattle.bayou_world.specs.Inner.WorldServers.{is_stopped}
-use Rattle.bayou_world.specs.Inner.Tie.{IsAcceptedIn, IsWorldSessionOf, IsFlightOf, IsSeatOf, IsWorldServerOf, IsServerOf, IsTied, seat}
+use Rattle.bayou_world.specs.Inner.Tie.{IsAcceptedIn, IsWorldSessionOf, IsFlightOf, IsSeatOf, IsWorldServerOf, IsServerOf, IsTied, number_of, seat}
 use Rattle.bayou_world.specs.Agreement.{StandsFor}
-use Rattle.bayou_world.specs.Machine.{Answered, Machine, ServerSets, SessionSets, changed, with_server, with_session, writes}
+use Rattle.bayou_world.specs.Machine.{Answered, Asking, Machine, ServerSets, SessionSets, changed, with_server, with_session, writes}
 use Rattle.bayou_world.specs.Steps.{CannotBegin, IsEntry, IsRunning, MayBegin, MayRead, ReadStep, refusal, with_answer}
 use Rattle.bayou_world.proofs.Agreeing.{ReadLaw, may_read}
 use Rattle.bayou_world.proofs.Homes.{fitting_at}
@@ -200,14 +201,15 @@ abbrev place_begun : Told → Option ℕ → Told
 place_begun told asked = record told { begun = told.begun + 1; asked = asked }
 
 -- the session that runs begins as the machine's does
-pub began : (who place : ℕ) (world_session new : WorldSession) (session : SessionSets) (asked : Option ℕ) (what : What) (accepted : Option Accepted) (answered : Answered) → IsWorldSessionOf who world_session session
+pub began : (who place : ℕ) (world_session new : WorldSession) (session : SessionSets) (asked : Option ℕ) (asking : Option Asking) → asked ≡ option_map number_of asking → (what : What) (accepted : Option Accepted) (answered : Answered) → IsWorldSessionOf who world_session session
     → (begins : Begins world_session (place_begun world_session.session asked) place what accepted new) → answered.entry ≡ begins.entry → IsAcceptedIn what accepted
-    → IsWorldSessionOf who new (record session { begun = session.begun + 1; flight = Some answered })
-began who place world_session new session asked what accepted answered is begins entry_is tells = record {
+    → IsWorldSessionOf who new (record session { begun = session.begun + 1; asked = asking; flight = Some answered })
+began who place world_session new session asked asking asked_is what accepted answered is begins entry_is tells = record {
   name = ap (λ (t : Told). t.id.index) begins.session ∙ is.name;
   asks = ap (λ (t : Told). t.asks) begins.session ∙ is.asks;
   run = ap (λ (t : Told). t.run) begins.session ∙ is.run;
   begun = ap (λ (t : Told). t.begun) begins.session ∙ ap (λ n. n + 1) is.begun;
+  asked = ap (λ (t : Told). t.asked) begins.session ∙ asked_is;
   long = subst (λ (t : Told). (length t.reads ≡ SERVERS) × (length t.writes ≡ SERVERS)) (sym begins.session) is.long;
   reads = subst (λ (t : Told). IsVectorOf t.reads session.reads) (sym begins.session) is.reads;
   writes = subst (λ (t : Told). IsVectorOf t.writes session.writes) (sym begins.session) is.writes;
@@ -265,11 +267,11 @@ read_tied law servers world_sessions offers items told machine good tied who pla
     let may = may_begin machine who place world_session session seat_is.1 is none left here.running in
     let answered : Answered = record { entry = begins_at.entry; database = writes (machine.servers place).held; made = None } in
     let covered = (read_covered law machine good who place world_session session is counts).0 (subst (λ h. Dominates (count_of h) (read_need world_session.session)) held_is serves.covered) in (
-      with_answer machine who session answered,
+      with_answer machine who session None answered,
       ReadStep.served session begins_at.entry seen may covered (serves.value ∙ ap (λ h. value_at (replay h) key) held_is) (serves.vector ∙ ap count_of held_is) refl
           (entry_of who place world_session new session None (whats.Read key seen.vector) None is begins_at) refl,
-      with_seat servers world_sessions offers items told machine tied who new (record session { begun = session.begun + 1; flight = Some answered }) inside
-          (began who place world_session new session None (whats.Read key seen.vector) None answered is begins_at refl refl),
+      with_seat servers world_sessions offers items told machine tied who new (record session { begun = session.begun + 1; asked = None; flight = Some answered }) inside
+          (began who place world_session new session None None refl (whats.Read key seen.vector) None answered is begins_at refl refl),
     )
 read_tied law servers world_sessions offers items told machine good tied who place key world_session new server (Err behind) inside at none left known stands counts serves begins =
     let seat_is = session_of_seat who (seat world_sessions who) (machine.sessions who) world_session (tied.sessions_are who inside) at in
@@ -281,12 +283,12 @@ read_tied law servers world_sessions offers items told machine good tied who pla
     let begins_at = subst (λ n. Begins world_session (one_place_more world_session.session) n whats.Refused None new) (ap (λ (c : Core). c.id) core.is) begins in
     let may = may_begin machine who place world_session session seat_is.1 is none left here.running in
     let vector : behind.vector ≡ count_of (writes (machine.servers place).held) = serves.held ∙ ap count_of held_is in (
-      with_answer machine who session (refusal begins_at.entry),
+      with_answer machine who session None (refusal begins_at.entry),
       ReadStep.behind session begins_at.entry may
           (λ covered. serves.not_covered (subst (λ h. Dominates (count_of h) (read_need world_session.session)) (sym held_is) ((read_covered law machine good who place world_session session is counts).1 covered)))
           (ap (λ v. replies.Read (Err (record { vector = v }))) vector) (entry_of who place world_session new session None whats.Refused None is begins_at) refl,
-      with_seat servers world_sessions offers items told machine tied who new (record session { begun = session.begun + 1; flight = Some (refusal begins_at.entry) }) inside
-          (began who place world_session new session None whats.Refused None (refusal begins_at.entry) is begins_at refl refl),
+      with_seat servers world_sessions offers items told machine tied who new (record session { begun = session.begun + 1; asked = None; flight = Some (refusal begins_at.entry) }) inside
+          (began who place world_session new session None None refl whats.Refused None (refusal begins_at.entry) is begins_at refl refl),
     )
 
 -- what can't be

@@ -49,6 +49,7 @@ hears_same machine good who place world_session new session answered accepted is
       asks = ap (λ (t : Told). t.asks) told_is ∙ is.asks;
       run = ap (λ (t : Told). t.run) told_is ∙ is.run;
       begun = ap (λ (t : Told). t.begun) told_is ∙ is.begun;
+      asked = ap (λ (t : Told). t.asked) told_is ∙ is.asked;
       long = subst (λ (t : Told). (length t.reads ≡ SERVERS) × (length t.writes ≡ SERVERS)) (sym told_is) (length-joined world_session.session.reads vector same_long ∙ is.long.0, is.long.1);
       reads = subst (λ (t : Told). IsVectorOf t.reads (session.reads ++ names answered.database)) (sym told_is)
           (IsVectorOf-joined world_session.session.reads vector session.reads (names answered.database) same_long is.reads counts);
@@ -64,6 +65,7 @@ hears_same machine good who place world_session new session answered accepted is
       asks = ap (λ (t : Told). t.asks) told_is ∙ is.asks;
       run = ap (λ (t : Told). t.run) told_is ∙ is.run;
       begun = ap (λ (t : Told). t.begun) told_is ∙ is.begun;
+      asked = ap (λ (t : Told). t.asked) told_is;
       long = subst (λ (t : Told). (length t.reads ≡ SERVERS) × (length t.writes ≡ SERVERS)) (sym told_is) (is.long.0, length-set world_session.session.writes _ _ ∙ is.long.1);
       reads = subst (λ (t : Told). IsVectorOf t.reads session.reads) (sym told_is) is.reads;
       writes = subst (λ (t : Told). IsVectorOf t.writes (session.writes ++ wid ∷ [])) (sym told_is)
@@ -80,6 +82,7 @@ hears_same machine good who place world_session new session answered accepted is
       asks = ap (λ (t : Told). t.asks) told_is ∙ is.asks;
       run = ap (λ (t : Told). t.run) told_is ∙ is.run;
       begun = ap (λ (t : Told). t.begun) told_is ∙ is.begun;
+      asked = ap (λ (t : Told). t.asked) told_is ∙ is.asked;
       long = subst (λ (t : Told). (length t.reads ≡ SERVERS) × (length t.writes ≡ SERVERS)) (sym told_is) is.long;
       reads = subst (λ (t : Told). IsVectorOf t.reads session.reads) (sym told_is) is.reads;
       writes = subst (λ (t : Told). IsVectorOf t.writes session.writes) (sym told_is) is.writes;
@@ -147,6 +150,7 @@ lose_tied servers world_sessions offers items told_so_far machine good tied who 
         asks = is.asks;
         run = is.run;
         begun = is.begun;
+        asked = is.asked;
         long = is.long;
         reads = is.reads;
         writes = is.writes;
@@ -181,6 +185,7 @@ oldest_some servers world_sessions offers items told_so_far machine tied who wor
         asks = ap (λ (t : Told). t.asks) same_session ∙ is.asks;
         run = ap (λ (t : Told). t.run) same_session ∙ is.run;
         begun = ap (λ (t : Told). t.begun) same_session ∙ is.begun;
+        asked = ap (λ (t : Told). t.asked) same_session ∙ is.asked;
         long = subst (λ (t : Told). (length t.reads ≡ SERVERS) × (length t.writes ≡ SERVERS)) (sym same_session) is.long;
         reads = subst (λ (t : Told). IsVectorOf t.reads session.reads) (sym same_session) is.reads;
         writes = subst (λ (t : Told). IsVectorOf t.writes session.writes) (sym same_session) is.writes;
@@ -209,6 +214,7 @@ oldest_none servers world_sessions offers items told_so_far machine tied who wor
         asks = ap (λ (t : Told). t.asks) same_session ∙ is.asks;
         run = ap (λ (t : Told). t.run) same_session ∙ is.run;
         begun = ap (λ (t : Told). t.begun) same_session ∙ is.begun;
+        asked = ap (λ (t : Told). t.asked) same_session ∙ is.asked;
         long = subst (λ (t : Told). (length t.reads ≡ SERVERS) × (length t.writes ≡ SERVERS)) (sym same_session) is.long;
         reads = subst (λ (t : Told). IsVectorOf t.reads session.reads) (sym same_session) is.reads;
         writes = subst (λ (t : Told). IsVectorOf t.writes session.writes) (sym same_session) is.writes;

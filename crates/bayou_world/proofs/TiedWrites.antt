@@ -6,6 +6,7 @@ use Rattle.bayou_base.specs.declared.answer.Accepted.{Accepted}
 use Rattle.bayou_base.specs.declared.entry.Entry.{Entry}
 use Rattle.bayou_base.specs.declared.entry.What.TheVariants as whats
 use Rattle.bayou_base.specs.declared.limits.TheConstants.{MAX_PLACES, SESSIONS}
+use Rattle.bayou_base.specs.declared.tag.Tag.{Tag}
 use Rattle.bayou_base.specs.Vector.{Dominates}
 use Rattle.bayou_lang.specs.declared.write.Write.{Write}
 use Rattle.bayou_lang.specs.declared.program.Program.{Program}
@@ -15,6 +16,7 @@ use Rattle.bayou_server.specs.declared.fault.WriteFault.TheVariants as writing
 use Rattle.bayou_server.specs.Writes as accepts
 use Rattle.bayou_device.specs.Memory.{Memory}
 use Rattle.bayou_server.specs.Server.{Core, ServerState}
+use Rattle.bayou_session.specs.declared.session.TheConstants.{FIRST_RUN}
 use Rattle.bayou_session.specs.Needs.{HasCounts, asks_first, write_need}
 use Rattle.bayou_world.specs.declared.world_session.WorldSession.{WorldSession}
 use Rattle.bayou_world.specs.declared.world_server.WorldServer.{WorldServer}
@@ -25,7 +27,7 @@ use Rattle.bayou_world.specs.Inner.Good.{IsGoodMachine}
 use Rattle.bayou_world.specs.Inner.WorldServers.{StaysHonest}
 use Rattle.bayou_world.specs.Inner.Tie.{IsWorldSessionOf, IsServerOf, IsTied, seat, write_of}
 use Rattle.bayou_world.specs.Machine.{Answered, Machine, Made, ServerSets, SessionSets, with_server, writes}
-use Rattle.bayou_world.specs.Steps.{IsReady, Makes, MayWrite, RefusesWrite, WriteStep, refusal, with_answer, with_doubt, with_write}
+use Rattle.bayou_world.specs.Steps.{IsReady, Makes, MayWrite, RefusesWrite, WriteStep, first_asking, refusal, with_answer, with_doubt, with_write}
 use Rattle.bayou_world.proofs.Agreeing.{WriteLaw, may_write}
 use Rattle.bayou_world.proofs.Homes.{fitting_at}
 use Rattle.bayou_world.proofs.Tied.{IsRunningServer, began, entry_of, may_begin, running_server, runs_at, same_place, session_of_seat, stands_for, with_place, with_seat}
@@ -87,10 +89,14 @@ refuses law machine good who place world_session session is counts program core 
 )
 refuses law machine good who place world_session session is counts program core new writing.Journal at no_fault doubts = absurd (no_fault refl)
 
+-- the tag of what the session asks at its next place
+abbrev tag_there : WorldSession → SessionSets → Tag
+tag_there world_session session = record { session = world_session.session.id; run = FIRST_RUN; number = session.begun + 1; in_range = (omega arith, omega arith) }
+
 -- the Write that is made is made there
 makes_there : WriteLaw → (machine : Machine) → IsGoodMachine machine → (who place : ℕ) (world_session : WorldSession) (session : SessionSets) → IsWorldSessionOf who world_session session → HasCounts world_session.session
     → (program : Program) (core : Core) (write : Write) → IsServerOf machine.count machine.limit place core (machine.servers place)
-    → accepts.Makes core (write_need world_session.session) program write → Makes machine.limit place session (machine.servers place) program (record { write = write; past = writes (machine.servers place).held })
+    → accepts.Makes core (write_need world_session.session) program write → Makes machine.limit who place session (machine.servers place) program (record { write = write; past = writes (machine.servers place).held; tag = tag_there world_session session })
 makes_there law machine good who place world_session session is counts program core write at makes =
     let next : IsNextWrite (writes (machine.servers place).held) place program write =
     subst (λ (c : Core). IsNextWrite c.held c.id program write) at.is makes.next in
@@ -99,6 +105,7 @@ makes_there law machine good who place world_session session is counts program c
       room = omega (arith, makes.room, length-map (machine.servers place).held write_of, ap length (ap (λ (c : Core). c.held) at.is), ap (λ (c : Core). c.limit) at.is);
       next = next;
       past = refl;
+      tag = record { session_is = is.name; run_is = refl; number_is = refl };
     }
 
 pub held_more : (count limit place : ℕ) (core : Core) (server : ServerSets) (made : Made) → IsServerOf count limit place core server
@@ -125,12 +132,12 @@ refused_entry servers world_sessions offers items told law machine good tied who
     let may = may_begin machine who place world_session session seat_is.1 is none left here.running in
     let both = refuses law machine good who place world_session session is counts program old_server.core new_server.core fault core no_fault refused in
     let same_server : IsServerOf machine.count machine.limit place new_server.core (machine.servers place) = subst (λ (c : Core). IsServerOf machine.count machine.limit place c (machine.servers place)) (sym both.1) core in (
-      with_answer machine who session (refusal begins.entry),
+      with_answer machine who session (Some (first_asking place session program)) (refusal begins.entry),
       WriteStep.refused session begins.entry fault may both.0 refl (entry_of who place world_session new session (Some (world_session.session.begun + 1)) whats.Refused None is begins) refl,
       with_seat (set servers place (Running new_server)) world_sessions offers items told machine (same_place servers world_sessions offers items told machine tied place (Running new_server) here.running.there
           (running_server machine.count machine.limit place new_server (machine.servers place) here.running.runs same_server (stays here.honest))) who new
-          (record session { begun = session.begun + 1; flight = Some (refusal begins.entry) }) inside
-          (began who place world_session new session (Some (world_session.session.begun + 1)) whats.Refused None (refusal begins.entry) is begins refl refl),
+          (record session { begun = session.begun + 1; asked = Some (first_asking place session program); flight = Some (refusal begins.entry) }) inside
+          (began who place world_session new session (Some (world_session.session.begun + 1)) (Some (first_asking place session program)) (ap (λ n. Some (n + 1)) is.begun) whats.Refused None (refusal begins.entry) is begins refl refl),
     )
 
 pub write_tied : WriteLaw → (servers : List WorldServer) (world_sessions : List (Option WorldSession)) (offers : List (List ℕ)) (items : List Write) (told : List Entry) (machine : Machine) → IsGoodMachine machine
@@ -148,20 +155,20 @@ write_tied law servers world_sessions offers items told machine good tied who pl
     let what = whats.Write accepted.wid accepted.stamp accepted.deps in
     let begins_at = subst (λ n. Begins world_session (asks_first world_session.session) n what (Some accepted) new) (ap (λ (c : Core). c.id) core.is) begins in
     let may = may_begin machine who place world_session session seat_is.1 is none left here.running in
-    let made : Made = record { write = accepts_it.made; past = writes (machine.servers place).held } in
+    let made : Made = record { write = accepts_it.made; past = writes (machine.servers place).held; tag = tag_there world_session session } in
     let makes = makes_there law machine good who place world_session session is counts program old_server.core accepts_it.made core accepts_it.makes in
     let answered : Answered = record { entry = begins_at.entry; database = made.past; made = Some made } in
     let server_is = subst (λ (c : Core). IsServerOf machine.count machine.limit place c (with_write (machine.servers place) made)) (sym accepts_it.is)
     (held_more machine.count machine.limit place old_server.core (machine.servers place) made core) in
     let machine_then = with_server machine place (with_write (machine.servers place) made) in (
-      with_answer machine_then who session answered,
+      with_answer machine_then who session (Some (first_asking place session program)) answered,
       WriteStep.accepted session begins_at.entry made accepted may makes (record { wid = accepts_it.wid; stamp = accepts_it.stamp; deps = accepts_it.deps ∙ makes.next.deps }) refl
           (entry_of who place world_session new session (Some (world_session.session.begun + 1)) what (Some accepted) is begins_at) refl,
       with_seat (set servers place (Running new_server)) world_sessions offers items told machine_then
           (with_place servers world_sessions offers items told machine tied place (Running new_server) (with_write (machine.servers place) made) here.running.there
           (running_server machine.count machine.limit place new_server (with_write (machine.servers place) made) here.running.runs server_is (stays here.honest))) who new
-          (record session { begun = session.begun + 1; flight = Some answered }) inside
-          (began who place world_session new session (Some (world_session.session.begun + 1)) what (Some accepted) answered is begins_at refl (accepted, refl, refl)),
+          (record session { begun = session.begun + 1; asked = Some (first_asking place session program); flight = Some answered }) inside
+          (began who place world_session new session (Some (world_session.session.begun + 1)) (Some (first_asking place session program)) (ap (λ n. Some (n + 1)) is.begun) what (Some accepted) answered is begins_at refl (accepted, refl, refl)),
     )
 write_tied law servers world_sessions offers items told machine good tied who place program world_session new old_server new_server (Err writing.Journal) inside at none left known stands stays counts doubts begins =
     let seat_is = session_of_seat who (seat world_sessions who) (machine.sessions who) world_session (tied.sessions_are who inside) at in
@@ -171,18 +178,18 @@ write_tied law servers world_sessions offers items told machine good tied who pl
     let core = here.core in
     let begins_at = subst (λ n. Begins world_session (asks_first world_session.session) n whats.Refused None new) (ap (λ (c : Core). c.id) core.is) begins in
     let may = may_begin machine who place world_session session seat_is.1 is none left here.running in
-    let made : Made = record { write = doubts.made; past = writes (machine.servers place).held } in
+    let made : Made = record { write = doubts.made; past = writes (machine.servers place).held; tag = tag_there world_session session } in
     let makes = makes_there law machine good who place world_session session is counts program old_server.core doubts.made core doubts.makes in
     let server_is = subst (λ (c : Core). IsServerOf machine.count machine.limit place c (with_doubt (machine.servers place) made)) (sym doubts.is)
     (doubted_there machine.count machine.limit place old_server.core (machine.servers place) made core) in
     let machine_then = with_server machine place (with_doubt (machine.servers place) made) in (
-      with_answer machine_then who session (refusal begins_at.entry),
+      with_answer machine_then who session (Some (first_asking place session program)) (refusal begins_at.entry),
       WriteStep.doubted session begins_at.entry made may makes refl (entry_of who place world_session new session (Some (world_session.session.begun + 1)) whats.Refused None is begins_at) refl,
       with_seat (set servers place (Running new_server)) world_sessions offers items told machine_then
           (with_place servers world_sessions offers items told machine tied place (Running new_server) (with_doubt (machine.servers place) made) here.running.there
           (running_server machine.count machine.limit place new_server (with_doubt (machine.servers place) made) here.running.runs server_is (stays here.honest))) who new
-          (record session { begun = session.begun + 1; flight = Some (refusal begins_at.entry) }) inside
-          (began who place world_session new session (Some (world_session.session.begun + 1)) whats.Refused None (refusal begins_at.entry) is begins_at refl refl),
+          (record session { begun = session.begun + 1; asked = Some (first_asking place session program); flight = Some (refusal begins_at.entry) }) inside
+          (began who place world_session new session (Some (world_session.session.begun + 1)) (Some (first_asking place session program)) (ap (λ n. Some (n + 1)) is.begun) whats.Refused None (refusal begins_at.entry) is begins_at refl refl),
     )
 write_tied law servers world_sessions offers items told machine good tied who place program world_session new old_server new_server (Err writing.Down) inside at none left known stands stays counts refused begins =
     let here = runs_at servers world_sessions offers items told machine tied place old_server known stands in

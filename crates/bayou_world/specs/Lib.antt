@@ -5,6 +5,7 @@ pub mod Faults
 pub mod RunHistories
 pub mod Judged
 pub mod Invariant
+pub mod Tags
 pub mod Agreement
 pub mod Never
 pub mod Inner

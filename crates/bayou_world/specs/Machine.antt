@@ -1,16 +1,21 @@
--- All servers and all sessions as one machine (Terry et al. 1994, 1995). It speaks of lists and sets of Writes, and counts none.
+-- All servers and all sessions as one machine (Terry et al. 1994, 1995). It speaks of lists and sets of Writes, and counts none. That a
+-- Write may be asked again, and has a tag for that, is this project's own.
 use Rattle.std.specs.Prelude.{ℕ, ◌==◌, Bool, List, Option, Some, Contains, map, if◌then◌else◌}
 use Rattle.bayou_base.specs.declared.asks.Asks.{Asks}
 use Rattle.bayou_base.specs.declared.entry.Entry.{Entry}
+use Rattle.bayou_base.specs.declared.tag.Tag.{Tag}
 use Rattle.bayou_base.specs.declared.wid.Wid.{Wid}
+use Rattle.bayou_lang.specs.declared.program.Program.{Program}
 use Rattle.bayou_lang.specs.declared.write.Write.{Write}
 
--- A Write with its past: what its own server held as it made it.
+-- A Write with its past, what its own server held as it made it, and with the tag of its asking. The two stand beside the Write, and are
+-- no part of it.
 pub record Made : Type 0 where
   pub write : Write
   pub past : List Write
+  pub tag : Tag
 
--- without their pasts
+-- without their pasts and tags
 abbrev pub writes : List Made → List Write
 writes list = map (λ (made : Made). made.write) list
 
@@ -37,11 +42,19 @@ pub record Answered : Type 0 where
   pub database : List Write
   pub made : Option Made
 
--- A session: what it asks for; how many places it has begun; its read-set and its write-set (Terry et al. 1994); the answer in flight
--- to it; and the entries of its delivered operations that aren't in the book yet, the oldest first.
+-- A Write that was asked for: the place of its first asking, which is the number of its tag; the server that was asked; and the program.
+pub record Asking : Type 0 where
+  pub number : ℕ
+  pub server : ℕ
+  pub program : Program
+
+-- A session: what it asks for; how many places it has begun; the Write that it may ask again, if there is one; its read-set and its
+-- write-set (Terry et al. 1994); the answer in flight to it; and the entries of its delivered operations that aren't in the book yet, the
+-- oldest first.
 pub record SessionSets : Type 0 where
   pub asks : Asks
   pub begun : ℕ
+  pub asked : Option Asking
   pub reads : List Wid
   pub writes : List Wid
   pub flight : Option Answered

@@ -21,7 +21,7 @@ new_server = record { held = []; doubt = None; stopped = false; had = [] ∷ [] 
 
 -- a session that has tried nothing yet
 abbrev pub new_session : Asks → SessionSets
-new_session asks = record { asks = asks; begun = 0; reads = []; writes = []; flight = None; waiting = [] }
+new_session asks = record { asks = asks; begun = 0; asked = None; reads = []; writes = []; flight = None; waiting = [] }
 
 -- what the session of this number asks for, if there is one
 abbrev pub asks_of : List Told → ℕ → Option Asks

@@ -8,6 +8,7 @@ use Rattle.bayou_base.specs.declared.entry.Entry.{Entry}
 use Rattle.bayou_base.specs.declared.entry.What.{What}
 use Rattle.bayou_base.specs.declared.entry.What.TheVariants as whats
 use Rattle.bayou_base.specs.declared.limits.TheConstants.{MAX_NUMBER, MAX_PLACES}
+use Rattle.bayou_base.specs.declared.tag.Tag.{Tag}
 use Rattle.bayou_base.specs.declared.wid.Wid.{Wid}
 use Rattle.bayou_base.specs.Order.{is_before}
 use Rattle.bayou_lang.specs.declared.program.Program.{Program}
@@ -25,11 +26,12 @@ use Rattle.bayou_server.specs.declared.fault.TakeFault.TheVariants as taking
 use Rattle.bayou_server.specs.declared.fault.WriteFault.{WriteFault}
 use Rattle.bayou_server.specs.declared.fault.WriteFault.TheVariants as writing
 use Rattle.bayou_server.specs.Honest.{IsHonestRefusal}
+use Rattle.bayou_session.specs.declared.session.TheConstants.{FIRST_RUN}
 use Rattle.bayou_world.specs.declared.event.Event.{Event}
 use Rattle.bayou_world.specs.declared.event.Event.TheVariants as events
 use Rattle.bayou_world.specs.declared.reply.Reply.{Reply}
 use Rattle.bayou_world.specs.declared.reply.Reply.TheVariants as replies
-use Rattle.bayou_world.specs.Machine.{Answered, IsWithin, Machine, Made, ServerSets, SessionSets, names, with_server, with_session, writes}
+use Rattle.bayou_world.specs.Machine.{Answered, Asking, IsWithin, Machine, Made, ServerSets, SessionSets, names, with_server, with_session, writes}
 
 -- the server is there, and isn't stopped
 pub record IsRunning (old : Machine) (place : ℕ) : Type 0 where
@@ -69,9 +71,9 @@ pub record IsEntry (who place : ℕ) (session : SessionSets) (what : What) (entr
   pub server_is : entry.server.index ≡ place
   pub what_is : entry.what ≡ what
 
--- it begins the place, and the answer goes in flight to it
-abbrev pub with_answer : Machine → ℕ → SessionSets → Answered → Machine
-with_answer machine who session answered = with_session machine who (record session { begun = session.begun + 1; flight = Some answered })
+-- it begins the place, behind which it may ask again what it asked there, if that is a Write, and the answer goes in flight to it
+abbrev pub with_answer : Machine → ℕ → SessionSets → Option Asking → Answered → Machine
+with_answer machine who session asked answered = with_session machine who (record session { begun = session.begun + 1; asked = asked; flight = Some answered })
 
 -- a refusal: nothing was read, and nothing made
 abbrev pub refusal : Entry → Answered
@@ -83,13 +85,23 @@ pub data ReadStep (old : Machine) (who place : ℕ) (key : List ℕ) (reply : Re
   skipped : CannotBegin old who place → reply ≡ replies.Skipped → new ≡ old → ReadStep old who place key reply new
   behind : (session : SessionSets) (entry : Entry) → MayBegin old who place session → (¬ MayRead session (old.servers place).held)
       → reply ≡ replies.Read (Err (record { vector = count_of (writes (old.servers place).held) }))
-      → IsEntry who place session whats.Refused entry → new ≡ with_answer old who session (refusal entry) → ReadStep old who place key reply new
+      → IsEntry who place session whats.Refused entry → new ≡ with_answer old who session None (refusal entry) → ReadStep old who place key reply new
   served : (session : SessionSets) (entry : Entry) (seen : Seen) → MayBegin old who place session → MayRead session (old.servers place).held
       → seen.value ≡ value_at (replay (writes (old.servers place).held)) key → seen.vector ≡ count_of (writes (old.servers place).held) → reply ≡ replies.Read (Ok seen)
       → IsEntry who place session (whats.Read key seen.vector) entry
-      → new ≡ with_answer old who session (record { entry = entry; database = writes (old.servers place).held; made = None }) → ReadStep old who place key reply new
+      → new ≡ with_answer old who session None (record { entry = entry; database = writes (old.servers place).held; made = None }) → ReadStep old who place key reply new
 
 -- ---- a Write
+
+-- what the session asks at its next place, a Write of the program, of the server
+abbrev pub first_asking : (place : ℕ) → SessionSets → Program → Asking
+first_asking place session program = record { number = session.begun + 1; server = place; program = program }
+
+-- the tag of what the session asked first at the place `number`, in the run, the first one, that the machine is of
+pub record IsTagOf (who number : ℕ) (tag : Tag) : Type 0 where
+  pub session_is : tag.session.index ≡ who
+  pub run_is : tag.run ≡ FIRST_RUN
+  pub number_is : tag.number ≡ number
 
 -- no Write is in doubt, and what the session needs is held
 pub record IsReady (session : SessionSets) (server : ServerSets) : Type 0 where
@@ -104,12 +116,13 @@ RefusesWrite limit session server writing.LogFull = IsReady session server × (l
 RefusesWrite limit session server writing.OutOfMemory = IsReady session server × (length server.held < limit)
 RefusesWrite limit session server writing.Journal = ⊥
 
--- the Write that the server makes of the program: the next of its own, whose past is what it holds
-pub record Makes (limit place : ℕ) (session : SessionSets) (server : ServerSets) (program : Program) (made : Made) : Type 0 where
+-- the Write that the server makes of the program: the next of its own, whose past is what it holds, with the tag of the session's next place
+pub record Makes (limit who place : ℕ) (session : SessionSets) (server : ServerSets) (program : Program) (made : Made) : Type 0 where
   pub ready : IsReady session server
   pub room : length server.held < limit
   pub next : IsNextWrite (writes server.held) place program made.write
   pub past : made.past ≡ writes server.held
+  pub tag : IsTagOf who (session.begun + 1) made.tag
 
 -- what is accepted is told by the Write's name and stamp, and what was held just before
 pub record IsAccepted (made : Made) (accepted : Accepted) : Type 0 where
@@ -128,21 +141,23 @@ with_doubt server made = record server { doubt = Some made }
 pub data WriteStep (old : Machine) (who place : ℕ) (program : Program) (reply : Reply) (new : Machine) : Type 0 where
   skipped : CannotBegin old who place → reply ≡ replies.Skipped → new ≡ old → WriteStep old who place program reply new
   refused : (session : SessionSets) (entry : Entry) (fault : WriteFault) → MayBegin old who place session → RefusesWrite old.limit session (old.servers place) fault
-      → reply ≡ replies.Wrote (Err fault) → IsEntry who place session whats.Refused entry → new ≡ with_answer old who session (refusal entry) → WriteStep old who place program reply new
-  doubted : (session : SessionSets) (entry : Entry) (made : Made) → MayBegin old who place session → Makes old.limit place session (old.servers place) program made
+      → reply ≡ replies.Wrote (Err fault) → IsEntry who place session whats.Refused entry → new ≡ with_answer old who session (Some (first_asking place session program)) (refusal entry) → WriteStep old who place program reply new
+  doubted : (session : SessionSets) (entry : Entry) (made : Made) → MayBegin old who place session → Makes old.limit who place session (old.servers place) program made
       → reply ≡ replies.Wrote (Err writing.Journal) → IsEntry who place session whats.Refused entry
-      → new ≡ with_answer (with_server old place (with_doubt (old.servers place) made)) who session (refusal entry) → WriteStep old who place program reply new
-  accepted : (session : SessionSets) (entry : Entry) (made : Made) (accepted : Accepted) → MayBegin old who place session → Makes old.limit place session (old.servers place) program made
+      → new ≡ with_answer (with_server old place (with_doubt (old.servers place) made)) who session (Some (first_asking place session program)) (refusal entry) → WriteStep old who place program reply new
+  accepted : (session : SessionSets) (entry : Entry) (made : Made) (accepted : Accepted) → MayBegin old who place session → Makes old.limit who place session (old.servers place) program made
       → IsAccepted made accepted → reply ≡ replies.Wrote (Ok accepted) → IsEntry who place session (whats.Write accepted.wid accepted.stamp accepted.deps) entry
-      → new ≡ with_answer (with_server old place (with_write (old.servers place) made)) who session (record { entry = entry; database = made.past; made = Some made })
+      → new ≡ with_answer (with_server old place (with_write (old.servers place) made)) who session (Some (first_asking place session program))
+      (record { entry = entry; database = made.past; made = Some made })
       → WriteStep old who place program reply new
 
 -- ---- the answer in flight
 
--- what the session is told: a read adds what it was served from to the read-set, and an accepted Write its name to the write-set
+-- what the session is told: a read adds what it was served from to the read-set, and an accepted Write its name to the write-set, which is
+-- then asked no more
 abbrev pub told : What → Answered → SessionSets → SessionSets
 told (whats.Read key vector) answered session = record session { reads = session.reads ++ names answered.database }
-told (whats.Write wid stamp deps) answered session = record session { writes = session.writes ++ wid ∷ [] }
+told (whats.Write wid stamp deps) answered session = record session { writes = session.writes ++ wid ∷ []; asked = None }
 told whats.Refused answered session = session
 
 -- an operation is served when an answer that is no refusal reached its session

@@ -25,6 +25,7 @@ ghost use Rattle.bayou_world.specs.Judged.{AreDumpsOf, AreOneHistory, IsJudgedCl
 ghost use Rattle.bayou_world.specs.Machine.{Answered, Machine, Made, SessionSets};
 ghost use Rattle.bayou_world.specs.Runs.{Run, first_machine, history_of_machine, new_session};
 ghost use Rattle.bayou_world.specs.Steps.{HoldsName, IsGiven, TakeStep, heard};
+ghost use Rattle.bayou_world.specs.Tags.{AreTagged, HasDistinctTags};
 
 use bayou_device::Device;
 use bayou_judge::laws::{a_vector_is_of_one_database, a_verdict_is_one};
@@ -84,6 +85,16 @@ pub fn a_sessions_vectors_stand_for_its_sets()
     read_need_is_what_is_asked();
     write_need_is_what_is_asked();
 }
+
+/// Over every run no two Writes have one tag, be they held, in doubt or in flight, and whichever servers made them; a tag is of an asking of
+/// its session, and a Write under the tag of what a session may ask again was made for that, by the server that was asked. So the Writes that
+/// a server holds have tags of their own, and the one in doubt there has another.
+pub fn a_tag_is_of_one_write()
+    ensures tagged { (count limit capacity : ℕ) (asks : ℕ → Option Asks) (events : List Event) (replies : List Reply) (last : Machine) → Run (first_machine count limit capacity asks) events replies last
+        → AreTagged last }
+    ensures apart { (count limit capacity : ℕ) (asks : ℕ → Option Asks) (events : List Event) (replies : List Reply) (last : Machine) → Run (first_machine count limit capacity asks) events replies last
+        → (place : ℕ) → HasDistinctTags (last.servers place) }
+{}
 
 /// Over every run no item is refused because another Write of its name is held, because its server made it and lost it, or because
 /// its stamp is wrong.

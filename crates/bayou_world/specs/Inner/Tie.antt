@@ -18,7 +18,7 @@ use Rattle.bayou_world.specs.declared.state.State.{State}
 use Rattle.bayou_world.specs.Inner.Good.{IsGoodMachine}
 use Rattle.bayou_world.specs.Inner.WorldServers.{IsKept, core_of, is_stopped}
 use Rattle.bayou_world.specs.Invariant.{IsVectorOf}
-use Rattle.bayou_world.specs.Machine.{Answered, Machine, Made, Offered, ServerSets, SessionSets, writes}
+use Rattle.bayou_world.specs.Machine.{Answered, Asking, Machine, Made, Offered, ServerSets, SessionSets, writes}
 
 -- the Write of it
 abbrev pub write_of : Made → Write
@@ -46,12 +46,17 @@ IsFlightOf (Some flight) (Some answered) = (flight.entry ≡ answered.entry) × 
 IsFlightOf None (Some answered) = ⊥
 IsFlightOf (Some flight) None = ⊥
 
--- the session's two vectors stand for its sets
+-- the place at which it was asked first
+abbrev pub number_of : Asking → ℕ
+number_of asking = asking.number
+
+-- the session's two vectors stand for its sets, and it may ask the same Write again, or none
 pub record IsWorldSessionOf (who : ℕ) (world_session : WorldSession) (session : SessionSets) : Type 0 where
   pub name : world_session.session.id.index ≡ who
   pub asks : world_session.session.asks ≡ session.asks
   pub run : world_session.session.run ≡ FIRST_RUN
   pub begun : world_session.session.begun ≡ session.begun
+  pub asked : world_session.session.asked ≡ option_map number_of session.asked
   pub long : (length world_session.session.reads ≡ SERVERS) × (length world_session.session.writes ≡ SERVERS)
   pub reads : IsVectorOf world_session.session.reads session.reads
   pub writes : IsVectorOf world_session.session.writes session.writes
