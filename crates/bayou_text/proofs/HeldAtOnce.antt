@@ -57,7 +57,7 @@ ops_read : (ops : List Op) → AllByRecursion IsOp ops → AllByRecursion (IsRea
 ops_read [] kept = tt
 ops_read (o ∷ ops) kept = (op_read o kept.0, ops_read ops kept.1)
 
-update_read : (is_whole : Bool) (ops : List Op) → AllByRecursion IsOp ops → IsRead 4 (update_json is_whole ops)
+pub update_read : (is_whole : Bool) (ops : List Op) → AllByRecursion IsOp ops → IsRead 4 (update_json is_whole ops)
 update_read false ops kept =
     let all = array_read 2 (map op_json ops) (ops_read ops kept) in
     record { again = rw all.again refl; no_deeper = omega (arith, all.no_deeper) }
@@ -119,7 +119,7 @@ ops_are : (ops : List Op) → AllByRecursion IsOp ops → AllZip OpIs (map op_js
 ops_are [] kept = tt
 ops_are (o ∷ ops) kept = (op_is o kept.0, ops_are ops kept.1)
 
-update_is : (is_whole : Bool) (p : Program) → p.check.items ≡ [] → p.merge.items ≡ [] → AllByRecursion IsOp p.update.items → length p.update.items ≤ MAX_OPS
+pub update_is : (is_whole : Bool) (p : Program) → p.check.items ≡ [] → p.merge.items ≡ [] → AllByRecursion IsOp p.update.items → length p.update.items ≤ MAX_OPS
     → ProgramIs (update_json is_whole p.update.items) p
 update_is false p no_check no_merge kept few = record {
   members = member (codes "update") (list_json op_json p.update.items) no_members;

@@ -3,3 +3,4 @@ pub mod Faults
 pub mod LineLaws
 pub mod AtOnce
 pub mod HeldAtOnce
+pub mod OperationAtOnce

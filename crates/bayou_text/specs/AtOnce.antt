@@ -1,9 +1,10 @@
--- The one spelling of an entry, as the JSON tokens that it is made of, and what the types of an entry keep.
+-- The one spelling of an entry, and the spellings of other lines that most of them have, as the JSON tokens that they are made of, and what
+-- the types of an entry keep.
 use Rattle.std.specs.Prelude.{◌≡◌, ◌<◌, ◌^◌, ℕ, Bool, true, false, List, [], ◌∷◌, ◌++◌, Result, OnOk, codes, flat_map, ⊤}
 use Rattle.json.specs.Token.{Token, begin_array, end_array, key as key_token}
 use Rattle.json.specs.Tree.{json_tokens}
 use Rattle.json.specs.Written.{Written}
-use Rattle.serde_json.specs.Data.{Data, array, object, member, no_items, no_members}
+use Rattle.serde_json.specs.Data.{Data, string, array, object, member, no_items, no_members}
 use Rattle.serde_json.specs.Written.{outline}
 use Rattle.bayou_base.specs.Vector.{AreCounts}
 use Rattle.bayou_base.specs.declared.entry.Entry.{Entry}
@@ -36,6 +37,10 @@ IsWhat (what.Write wid stamp deps) = AreCounts deps
 abbrev pub IsEntry : Entry → Type 0
 IsEntry told = (told.place < 2 ^ 32) × IsWhat told.what
 
+-- what the line of an operation begins with
+abbrev pub operation_head : List ℕ → ℕ → ℕ → List Data
+operation_head word who place = string word ∷ count_json who ∷ count_json place ∷ []
+
 -- ---- a Write whose program is an update alone
 
 -- {"update":[op, ..]}, or the same behind the empty "check" and "merge"
@@ -61,3 +66,7 @@ updating_json is_whole item n =
 -- ["held", server, [origin, seq, clock, deps, program]]
 abbrev pub update_held_json : Bool → ℕ → Write → ℕ → Data
 update_held_json is_whole place item n = form (codes "held") (count_json place ∷ updating_json is_whole item n ∷ [])
+
+-- ["write", session, server, program]
+abbrev pub update_line_json : Bool → ℕ → ℕ → List Op → Data
+update_line_json is_whole who place ops = form (codes "write") (count_json who ∷ count_json place ∷ update_json is_whole ops ∷ [])

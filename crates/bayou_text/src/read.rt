@@ -16,6 +16,7 @@ use crate::read::number::{count_in, limit_in, server_in, session_in};
 use crate::read::program::program_in;
 use crate::read::spelled::spelled_entry;
 use crate::read::spelled_held::spelled_held;
+use crate::read::spelled_operation::spelled_operation;
 use crate::read::value::{key_in, worded};
 use bayou_base::{MAX_LINE_BYTES, ServerId};
 use serde_json::Value;
@@ -32,6 +33,7 @@ mod part;
 mod program;
 mod spelled;
 mod spelled_held;
+mod spelled_operation;
 mod spelled_program;
 mod trial;
 mod value;
@@ -60,11 +62,14 @@ pub fn read_line(alloc: Global, bytes: &[u8]) -> Result<Line, LineFault>
     }
 }
 
-/// What the line says, where it stands in a spelling that most lines of an audit file have. It is read without a tree of JSON.
+/// What the line says, where it stands in a spelling that most lines of scripts and of audit files have. It is read without a tree of JSON.
 fn spelled_line(alloc: Global, bytes: &[u8]) -> Option<Line>
     requires { length bytes.now ≤ MAX_LINE_BYTES }
     ensures { IfSome result (λ line. Spells bytes.now (said line)) }
 {
+    if let Some(line) = spelled_operation(alloc, bytes) {
+        return Some(line);
+    }
     match spelled_entry(alloc, bytes) {
         Some(line) => Some(line),
         None => spelled_held(alloc, bytes),

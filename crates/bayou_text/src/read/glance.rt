@@ -1,4 +1,5 @@
 //! What a line may tell, at a glance: a guess, which is to be looked into before it is believed.
+use crate::command::Attempt;
 use bayou_base::{
     Asks, Entry, Key, MAX_OPS, SERVERS, ServerId, SessionId, Stamp, Value, Vector, What, Wid,
 };
@@ -114,6 +115,21 @@ impl<'a> Glance<'a> {
         Some(ops)
     }
 
+    /// The program that comes next, of an update alone, and whether its empty members stand there.
+    fn update(&mut self, alloc: Global) -> Option<(RestingProgram, bool)> {
+        self.pass(b"{");
+        let is_whole = self.pass(b"\"check\":[],\"merge\":[],");
+        if !self.pass(b"\"update\":[") {
+            return None;
+        }
+        let ops = self.puts(alloc)?;
+        if ops.len() > MAX_OPS || !self.pass(b"]}") {
+            return None;
+        }
+        let program = RestingProgram::new(Vec::new(alloc), ops, Vec::new(alloc));
+        Some((program, is_whole))
+    }
+
     /// The array of counts that comes next, and how many they are.
     fn vector(&mut self) -> Option<(Vector, u8)> {
         let mut counts = [0; SERVERS];
@@ -193,18 +209,47 @@ pub(crate) fn guess_held(alloc: Global, bytes: &[u8]) -> Option<GuessedHeld> {
     let stamp = Stamp::new(glance.next_number(), origin)?;
     glance.skip();
     let (vector, counts) = glance.vector()?;
-    glance.pass(b"],{");
-    let is_whole = glance.pass(b"\"check\":[],\"merge\":[],");
-    glance.pass(b"\"update\":[");
-    let ops = glance.puts(alloc)?;
-    if ops.len() > MAX_OPS {
-        return None;
-    }
-    let program = RestingProgram::new(Vec::new(alloc), ops, Vec::new(alloc));
+    glance.pass(b"],");
+    let (program, is_whole) = glance.update(alloc)?;
     Some(GuessedHeld {
         server,
         write: RestingWrite::new(wid, stamp, vector, program),
         counts,
+        is_whole,
+    })
+}
+
+/// What a session tries, as a line may tell it.
+#[derive(Drop)]
+pub(crate) struct GuessedOperation {
+    pub(crate) session: SessionId,
+    pub(crate) server: ServerId,
+    pub(crate) attempt: Attempt,
+    /// Whether the empty members of a program stand in the line.
+    pub(crate) is_whole: bool,
+}
+
+/// The operation that the line may tell: a read, or a Write whose program is an update alone.
+pub(crate) fn guess_operation(alloc: Global, bytes: &[u8]) -> Option<GuessedOperation> {
+    let mut glance = Glance { rest: bytes };
+    let is_write = glance.pass(b"[\"write\",");
+    if !is_write && !glance.pass(b"[\"read\",") {
+        return None;
+    }
+    let session = SessionId::new(u8::try_from(glance.number()).ok()?)?;
+    let server = ServerId::new(u8::try_from(glance.next_number()).ok()?)?;
+    glance.skip();
+    let (attempt, is_whole) = if is_write {
+        let (program, is_whole) = glance.update(alloc)?;
+        (Attempt::Write(program), is_whole)
+    } else {
+        glance.skip();
+        (Attempt::Read(glance.key()?), false)
+    };
+    Some(GuessedOperation {
+        session,
+        server,
+        attempt,
         is_whole,
     })
 }
