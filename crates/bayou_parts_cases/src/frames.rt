@@ -227,19 +227,19 @@ fn faults_in_a_frames_place(rt: HostRuntime) {
 /// A request to accept a Write, behind its length: its kind, its tag, its need and its program.
 const REQUEST: &str = "06 00 00000001 00000001 <none> <put>";
 
-/// Whether so many of these bytes are no request, whether the length counts all of them or those that are there.
-fn is_cut(rt: &impl Abort, alloc: Global, content: &[u8], count: usize) -> bool {
-    let (front, _) = content.split_at(count.min(content.len()));
-    let whole = content.len() as u16;
-    is_miscounted(rt, alloc, whole, front, "!BadBody")
-        && is_miscounted(rt, alloc, count as u16, front, "!BadBody")
+/// Whether so many of these 61 bytes are no request, whether the length counts all of them or those that are there.
+fn is_cut(rt: &impl Abort, alloc: Global, content: &[u8], count: u16) -> bool {
+    let (front, _) = content.split_at(usize::from(count).min(content.len()));
+    is_miscounted(rt, alloc, 61, front, "!BadBody")
+        && is_miscounted(rt, alloc, count, front, "!BadBody")
 }
 
 #[test]
 fn a_request_to_write_may_be_cut_at_each_byte(rt: HostRuntime) {
     let content = bytes_of(&rt, rt.alloc(), REQUEST);
-    for count in 0..61_usize {
-        must_be_so(&rt, is_cut(&rt, rt.alloc(), &content, count), count);
+    for count in 0..61_u16 {
+        let is_so = is_cut(&rt, rt.alloc(), &content, count);
+        must_be_so(&rt, is_so, usize::from(count));
     }
 }
 
