@@ -127,8 +127,11 @@ static CALLS: [(Call, Option<u32>, u32); 20] = [
     (Call::Again, None, 13),
 ];
 
-/// Makes the call: the tag that it gives, if it gives one.
+/// Makes the call, where a place is left: the tag that it gives, if it gives one.
 fn done(rt: &impl Abort, session: &mut Session, what: Call) -> Option<Tag> {
+    if session.left() == 0 {
+        return None;
+    }
     match what {
         Call::Begin => {
             let place = session.begin();
