@@ -75,7 +75,7 @@ module _ (writes : List Write) (order placed : List ℕ) (old : Slots) (n capaci
       )
 
   -- the database, those behind the place taken back
-  taken_back : after_undoing (drop n stack.undos) (database_of old) ≡ after_writes (take n (in_stamp_order writes)) empty
+  pub taken_back : after_undoing (drop n stack.undos) (database_of old) ≡ after_writes (take n (in_stamp_order writes)) empty
   taken_back =
       ap (after_undoing (drop n stack.undos)) applied.replayed
       ∙ AreUndos-undoing stack.undos first empty n applied.undos

@@ -1,4 +1,5 @@
 pub mod Agrees
+pub mod Became
 pub mod CatchingUp
 pub mod Indexed
 pub mod ListingLaws

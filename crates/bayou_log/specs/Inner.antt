@@ -1,3 +1,4 @@
+pub mod Beside
 pub mod Fields
 pub mod Index
 pub mod Lacking

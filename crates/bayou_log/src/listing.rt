@@ -1,10 +1,9 @@
 //! What became of each Write that a log holds.
-ghost use Rattle.std.specs.Prelude.{◌≡◌, ◌<◌, All, IfOk, length};
-ghost use Rattle.bayou_lang.specs.Database.{empty};
+ghost use Rattle.std.specs.Prelude.{◌≡◌, ◌<◌, All, IfOk, length, slice_index_or};
+ghost use Rattle.bayou_lang.specs.declared.eval.Outcome.{Outcome as Became};
 ghost use Rattle.bayou_log.specs.Inner.Fields.{picked};
-ghost use Rattle.bayou_log.specs.Listing.{listed_after};
+ghost use Rattle.bayou_log.specs.Inner.Beside.{listed_with};
 
-use crate::db::prepared;
 use bayou_base::{Stamp, Wid};
 use bayou_lang::{Outcome, RestingWrite};
 use std::alloc::{AllocError, Global};
@@ -18,26 +17,33 @@ pub struct Listed {
     pub outcome: Outcome,
 }
 
-/// The Writes at these places with their outcomes, as they are applied one after another to an empty database. That
-/// one is made anew, so that the log's own stays as it is.
-pub(crate) fn outcomes_in_turn(
+fn outcome_at(outcomes: &[Outcome], place: usize) -> Outcome
+    requires { place < length outcomes.now }
+    ensures { (d : Became) → result ≡ slice_index_or outcomes.now place d }
+{
+    outcomes[place]
+}
+
+/// The Writes at these places, each with its outcome.
+pub(crate) fn listed_in_turn(
     alloc: Global,
     writes: &[RestingWrite],
     order: &[usize],
+    outcomes: &[Outcome],
 ) -> Result<Vec<Listed>, AllocError>
     requires inside { All (λ at. at < length writes.now) order.now }
-    ensures { IfOk result (λ list. list.items ≡ listed_after (picked writes.now order.now) empty) }
+    requires as_many { length outcomes.now ≡ length order.now }
+    ensures { IfOk result (λ list. list.items ≡ listed_with (picked writes.now order.now) outcomes.now) }
 {
-    let mut db = prepared(alloc, writes)?;
-    let mut outcomes = Vec::new(alloc);
-    for at in order {
+    let mut list = Vec::with_capacity(alloc, order.len())?;
+    for (place, at) in order.iter().enumerate() {
         let write = &writes[*at];
-        let (outcome, _) = db.apply(write.program());
-        outcomes.push(Listed {
+        let outcome = outcome_at(outcomes, place);
+        list.push(Listed {
             wid: write.wid(),
             stamp: write.stamp(),
             outcome,
         })?;
     }
-    Ok(outcomes)
+    Ok(list)
 }

@@ -3,12 +3,12 @@ ghost use Rattle.std.specs.Prelude.{◌≡◌, ℕ, ◌+◌, ◌<◌, ◌≤◌,
 ghost use Rattle.arrayvec.specs.ArrayVec.{array_vec_len};
 ghost use Rattle.bayou_base.specs.declared.limits.TheConstants.{MAX_OPS, MAX_WRITES};
 ghost use Rattle.bayou_log.specs.Db.{database_of, room, has_room, HasRoomFor};
-ghost use Rattle.bayou_log.specs.Inner.Fields.{picked};
+ghost use Rattle.bayou_log.specs.Inner.Fields.{outcomes_after, picked};
 ghost use Rattle.bayou_log.specs.Inner.Undone.{after_undoing, changes_in, changes_of, AddsUndone};
 ghost use Rattle.bayou_log.specs.Replay.{after_writes};
 
 use crate::db::{Db, Undo};
-use bayou_lang::{Change, Changes, RestingWrite};
+use bayou_lang::{Change, Changes, Outcome, RestingWrite};
 use std::alloc::{AllocError, Global};
 use std::marker::Model;
 
@@ -144,10 +144,11 @@ pub(crate) fn take_back(db: &mut Db, undone: &mut UndoStack, left: usize)
     }
 }
 
-/// Applies the Writes at these places, one after another, which takes no memory.
+/// Applies the Writes at these places, one after another, and adds what became of each, which takes no memory.
 pub(crate) fn apply_in_turn(
     db: &mut Db,
     undone: &mut UndoStack,
+    outcomes: &mut Vec<Outcome>,
     writes: &[RestingWrite],
     order: &[usize],
 )
@@ -155,12 +156,16 @@ pub(crate) fn apply_in_turn(
     requires room { All (λ write. HasRoomFor (room db.old) write.program) writes.now }
     requires changes { changes_in undone.old.undos + changes_of (picked writes.now order.now) ≤ undone.old.room }
     requires entries { length undone.old.undos + length order.now ≤ undone.old.places }
+    requires outcomes { vec_len outcomes.old + length order.now ≤ vec_capacity outcomes.old }
     ensures database { database_of db.new ≡ after_writes (picked writes.now order.now) (database_of db.old) }
     ensures room { room db.new ≡ room db.old }
     ensures undone { AddsUndone (picked writes.now order.now) (database_of db.old) undone.old undone.new }
+    ensures outcomes { outcomes.new.items ≡ outcomes.old.items ++ outcomes_after (picked writes.now order.now) (database_of db.old) }
+    ensures capacity { vec_capacity outcomes.new ≡ vec_capacity outcomes.old }
 {
     for at in order {
-        let (_, undo) = db.apply(writes[*at].program());
+        let (outcome, undo) = db.apply(writes[*at].program());
+        outcomes.push_reserved(outcome);
         undone.push(undo);
     }
 }

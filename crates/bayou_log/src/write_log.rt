@@ -14,11 +14,11 @@ ghost use Rattle.bayou_log.specs.Replay.{replay};
 use crate::db::Db;
 use crate::fitting::{Misfit, is_next};
 use crate::index::Index;
-use crate::listing::{Listed, outcomes_in_turn};
+use crate::listing::{Listed, listed_in_turn};
 use crate::order::{earlier, put_in_order};
 use crate::undo::{UndoStack, apply_in_turn, take_back};
 use bayou_base::{Key, MAX_WRITES, SERVERS, Value, Vector, Wid};
-use bayou_lang::RestingWrite;
+use bayou_lang::{Outcome, RestingWrite};
 use std::alloc::{AllocError, Global};
 use std::marker::Model;
 
@@ -35,6 +35,8 @@ pub struct WriteLog {
     own: Index,
     // What takes them back.
     undone: UndoStack,
+    // What became of each of them, in stamp order.
+    outcomes: Vec<Outcome>,
     vector: Vector,
     // The greatest that a Write has, or 0.
     clock: u32,
@@ -45,7 +47,7 @@ pub struct WriteLog {
 impl Model for WriteLog {
     ghost use Rattle.std.specs.Prelude.{◌-◌, length, min, take, vec_len, vec_capacity};
     ghost use Rattle.bayou_log.specs.Log.{Log};
-    ghost use Rattle.bayou_log.specs.Inner.Fields.{AgreesWith, AreApplied, AreKept, HasRoomForAll};
+    ghost use Rattle.bayou_log.specs.Inner.Fields.{AgreesWith, AreApplied, AreKept, AreOutcomes, HasRoomForAll};
     ghost use Rattle.bayou_log.specs.Inner.Index.{AreIndexed};
     ghost use Rattle.bayou_log.specs.Db as database;
 
@@ -56,7 +58,7 @@ impl Model for WriteLog {
       count = l.count;
       limit = l.limit;
       room = record {
-        writes = min (min (vec_capacity l.writes - vec_len l.writes) (vec_capacity l.order - vec_len l.writes)) (min (l.undone.places - vec_len l.writes) l.own.room);
+        writes = min (min (vec_capacity l.writes - vec_len l.writes) (vec_capacity l.order - vec_len l.writes)) (min (min (l.undone.places - vec_len l.writes) (vec_capacity l.outcomes - vec_len l.writes)) l.own.room);
         keys = database.room l.db;
         changes = l.undone.room - l.undone.promised;
       };
@@ -65,7 +67,7 @@ impl Model for WriteLog {
 
     ghost invariant = { λ l. AreKept l.count l.limit l.writes.items × AgreesWith l.writes.items l.db l.vector l.clock
         × AreApplied (take (length l.order.items) l.writes.items) l.order.items l.db l.undone.undos × HasRoomForAll l.writes.items (vec_capacity l.order) l.undone
-        × AreIndexed l.own.rows l.writes.items };
+        × AreIndexed l.own.rows l.writes.items × AreOutcomes l.writes.items (length l.order.items) l.outcomes.items (vec_capacity l.outcomes) };
 }
 
 impl WriteLog {
@@ -84,6 +86,7 @@ impl WriteLog {
             db: Db::new(alloc),
             own: Index::new(alloc),
             undone: UndoStack::new(alloc),
+            outcomes: Vec::new(alloc),
             vector: Vector::zero(),
             clock: 0,
             count,
@@ -222,12 +225,11 @@ impl WriteLog {
         self.writes[self.own.place(server, seq)].stamp().clock
     }
 
-    /// The Writes held, but for those that wait, in stamp order, each with the outcome that it has in the replay. It takes time as an
-    /// insertion before all other Writes does.
+    /// The Writes held, but for those that wait, in stamp order, each with the outcome that it has in the replay.
     pub fn listing(&self, alloc: Global) -> Result<Vec<Listed>, AllocError>
         ensures { IfOk result (λ list. list.items ≡ listing_of (applied self.now)) }
     {
-        outcomes_in_turn(alloc, &self.writes, &self.order)
+        listed_in_turn(alloc, &self.writes, &self.order, &self.outcomes)
     }
 
     /// The first `max` of the Writes held, in stamp order, that the vector doesn't count: what a server with these counts
@@ -293,6 +295,8 @@ impl WriteLog {
         let held = self.writes.len();
         self.writes.try_reserve(1)?;
         self.order.try_reserve(held + 1 - self.order.len())?;
+        self.outcomes
+            .try_reserve((held + 1).saturating_sub(self.outcomes.len()))?;
         self.own.reserve()?;
         self.undone.reserve(held, write.program().most_changes())?;
         self.db.prepare(write.program())
@@ -319,9 +323,11 @@ impl WriteLog {
     {
         let first = put_in_order(&mut self.order, &self.writes);
         take_back(&mut self.db, &mut self.undone, first);
+        self.outcomes.truncate(first);
         apply_in_turn(
             &mut self.db,
             &mut self.undone,
+            &mut self.outcomes,
             &self.writes,
             &self.order[first..],
         );

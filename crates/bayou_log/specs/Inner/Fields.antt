@@ -1,12 +1,14 @@
 -- How the fields of a log belong together, which its callers don't see.
-use Rattle.std.specs.Prelude.{◌≡◌, ℕ, ◌<◌, ◌≤◌, List, All, length}
+use Rattle.std.specs.Prelude.{◌≡◌, ℕ, ◌<◌, ◌≤◌, List, [], ◌∷◌, All, length, take}
 use Rattle.std.specs.List.{filter_map, slice_get}
 use Rattle.bayou_base.specs.declared.limits.TheConstants.{SERVERS, MAX_WRITES}
 use Rattle.bayou_lang.specs.declared.change.Change.{Change}
+use Rattle.bayou_lang.specs.declared.eval.Outcome.{Outcome}
 use Rattle.bayou_lang.specs.declared.write.Write.{Write}
 use Rattle.bayou_lang.specs.Writes.{count_of, greatest_clock, in_stamp_order, AreFitting}
 use Rattle.bayou_log.specs.Db.{Slots, database_of, room, HasRoomFor}
-use Rattle.bayou_lang.specs.Database.{empty}
+use Rattle.bayou_lang.specs.Database.{Database, empty}
+use Rattle.bayou_lang.specs.Meaning.{mean}
 use Rattle.bayou_log.specs.Inner.Undone.{changes_of, AreUndos, Stack}
 use Rattle.bayou_log.specs.Replay.{replay}
 
@@ -42,3 +44,13 @@ pub record HasRoomForAll (writes : List Write) (capacity : ℕ) (undone : Stack)
   pub promised : undone.promised ≡ changes_of writes
   pub room : undone.promised ≤ undone.room
   pub places : length writes ≤ undone.places
+
+-- the outcome of each of the Writes, where the first of the list is applied first
+abbrev pub outcomes_after : List Write → Database → List Outcome
+outcomes_after [] database = []
+outcomes_after (write ∷ writes) database = (mean write.program database).0 ∷ outcomes_after writes (mean write.program database).1
+
+-- What became of each of those Writes that are applied, the first that came, in stamp order; and there is room for what becomes of all.
+pub record AreOutcomes (writes : List Write) (applied : ℕ) (outcomes : List Outcome) (capacity : ℕ) : Type 0 where
+  pub each : outcomes ≡ outcomes_after (in_stamp_order (take applied writes)) empty
+  pub room : length writes ≤ capacity

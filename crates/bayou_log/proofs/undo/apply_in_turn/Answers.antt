@@ -1,15 +1,17 @@
 use Rattle.std.proofs.Common.{◌≡◌, ℕ, ◌+◌, ◌<◌, List, [], ◌∷◌, ◌++◌, ap, sym, ◌∙◌, drop, length, take, get_or, subst, refl, arith, append_assoc, length-append}
 use Rattle.std.proofs.lemmas.List.{append-nil, at_drop_more, length-drop, take_more}
 use Rattle.bayou_lang.specs.declared.change.Change.{Change}
+use Rattle.bayou_lang.specs.declared.eval.Outcome.{Outcome}
 use Rattle.bayou_lang.specs.declared.write.Write.{Write}
 use Rattle.bayou_lang.specs.Changes.{most_changes}
 use Rattle.bayou_lang.specs.Meaning.{mean}
 use Rattle.bayou_log.specs.Db.{database_of, room, HasRoomFor, IsUndo}
-use Rattle.bayou_log.specs.Inner.Fields.{picked}
+use Rattle.bayou_log.specs.Inner.Fields.{outcomes_after, picked}
 use Rattle.bayou_log.specs.Inner.Undone.{changes_in, changes_of, AddsUndone, Stack}
 use Rattle.bayou_log.specs.Replay.{after_writes}
 use Rattle.bayou_log.proofs.Agrees.{after_writes-append}
 use Rattle.bayou_log.proofs.Picked.{picked-append, picked-cons}
+use Rattle.bayou_log.proofs.Became.{outcomes_after-append}
 use Rattle.bayou_log.proofs.Undone.{changes_in-push, AreUndos-append}
 use Rattle.bayou_log.proofs.undo.apply_in_turn.Goals as goal
 
@@ -20,10 +22,13 @@ loop-at-init c = record {
   adds = record { more = []; undo = tt; only = ap (λ undos. record c.args.undone.now { undos = undos }) (sym (append-nil c.args.undone.now.undos)) };
   changes = c.requires.changes;
   entries = c.requires.entries;
+  became = sym (append-nil c.args.outcomes.now.items);
+  same_capacity = refl;
+  left = omega (arith, c.requires.outcomes, c.args.outcomes.now.ok.0);
 }
 
-pub apply-undo-requires : goal.apply-undo-requires
-apply-undo-requires c =
+pub apply-outcome-requires : goal.apply-outcome-requires
+apply-outcome-requires c =
     let at = get_or c.args.order.now c.loop-at.at-index 0 in
     let write = c.index-writes-at.result in
     let within : at < length c.args.writes.now = c.requires.inside c.loop-at.at-index 0 c.loop-at-test.true in
@@ -55,7 +60,7 @@ push-requires-clause-room c =
       arith,
       c.loop-at.invariant.changes,
       changes_left c.args.writes.now c.args.order.now c.loop-at.at-index c.index-writes-at.result c.loop-at-test.true within c.index-writes-at.is,
-      c.apply-undo.ensures.undo.few,
+      c.apply-outcome.ensures.undo.few,
       ap most_changes c.program.ensures,
     )
 
@@ -67,21 +72,21 @@ loop-at-preserved c =
     let write = c.index-writes-at.result in
     let first = database_of c.args.db.now in
     let done = picked writes (take i order) in
-    let undo = c.apply-undo.result.1 in
+    let undo = c.apply-outcome.result.1 in
     let within = c.requires.inside i 0 c.loop-at-test.true in
     let more = picked_more writes order i write c.loop-at-test.true within c.index-writes-at.is in
     let undos_now : c.push.new.self.undos ≡ c.loop-at.undone.undos ++ undo ∷ [] = ap (λ (stack : Stack). stack.undos) c.push.ensures in
     let undoes : IsUndo write.program (after_writes done first) undo =
     subst (λ program. IsUndo program (after_writes done first) undo) c.program.ensures
-    (subst (λ before. IsUndo c.program.result.now before undo) c.loop-at.invariant.now c.apply-undo.ensures.undo) in
+    (subst (λ before. IsUndo c.program.result.now before undo) c.loop-at.invariant.now c.apply-outcome.ensures.undo) in
     let adds = c.loop-at.invariant.adds in
     record {
-      now = c.apply-undo.ensures.database
+      now = c.apply-outcome.ensures.database
           ∙ ap (λ program. (mean program (database_of c.loop-at.db)).1) c.program.ensures
           ∙ ap (λ before. (mean write.program before).1) c.loop-at.invariant.now
           ∙ sym (after_writes-append done (write ∷ []) first)
           ∙ sym (ap (λ list. after_writes list first) more);
-      same_keys = c.apply-undo.ensures.room ∙ c.loop-at.invariant.same_keys;
+      same_keys = c.apply-outcome.ensures.room ∙ c.loop-at.invariant.same_keys;
       adds = subst (λ list. AddsUndone list first c.args.undone.now c.push.new.self) (sym more) (record {
         more = adds.more ++ undo ∷ [];
         undo = AreUndos-append adds.more (undo ∷ []) done (write ∷ []) first adds.undo (undoes, tt);
@@ -93,7 +98,7 @@ loop-at-preserved c =
         arith,
         c.loop-at.invariant.changes,
         changes_left writes order i write c.loop-at-test.true within c.index-writes-at.is,
-        c.apply-undo.ensures.undo.few,
+        c.apply-outcome.ensures.undo.few,
         ap most_changes c.program.ensures,
         ap changes_in undos_now,
         changes_in-push c.loop-at.undone.undos undo,
@@ -108,5 +113,23 @@ loop-at-preserved c =
         length-drop (i + 1) order,
         c.loop-at-test.true,
         ap (λ (stack : Stack). stack.places) c.push.ensures,
+      );
+      became = c.push_reserved.ensures.items
+          ∙ ap (λ items. items ++ c.apply-outcome.result.0 ∷ []) c.loop-at.invariant.became
+          ∙ append_assoc c.args.outcomes.now.items (outcomes_after done first) (c.apply-outcome.result.0 ∷ [])
+          ∙ ap (λ outcome. c.args.outcomes.now.items ++ (outcomes_after done first ++ outcome ∷ []))
+          (c.apply-outcome.ensures.outcome ∙ ap (λ program. (mean program (database_of c.loop-at.db)).0) c.program.ensures ∙ ap (λ before. (mean write.program before).0) c.loop-at.invariant.now)
+          ∙ ap (λ items. c.args.outcomes.now.items ++ items) (sym (outcomes_after-append done (write ∷ []) first))
+          ∙ sym (ap (λ list. c.args.outcomes.now.items ++ outcomes_after list first) more);
+      same_capacity = c.push_reserved.ensures.capacity ∙ c.loop-at.invariant.same_capacity;
+      left = omega (
+        arith,
+        c.loop-at.invariant.left,
+        ap {A = List Outcome} length c.push_reserved.ensures.items,
+        length-append c.loop-at.outcomes.items (c.apply-outcome.result.0 ∷ []),
+        length-drop i order,
+        length-drop (i + 1) order,
+        c.loop-at-test.true,
+        c.push_reserved.ensures.capacity,
       );
     }

@@ -1,14 +1,16 @@
-use Rattle.std.proofs.Common.{◌≡◌, ◌-◌, ◌≤◌, List, length, take, drop, All, IsTrue, vec_len, sym, ◌∙◌, ap, refl, subst, arith}
-use Rattle.std.proofs.lemmas.List.{take_all}
+use Rattle.std.proofs.Common.{◌≡◌, ◌-◌, ◌≤◌, ◌++◌, List, vec_capacity, length, take, drop, All, IsTrue, vec_len, sym, ◌∙◌, ap, refl, subst, arith}
+use Rattle.std.proofs.lemmas.List.{length-drop, take_all}
 use Rattle.bayou_lang.specs.declared.write.Write.{Write}
+use Rattle.bayou_lang.specs.Database.{empty}
 use Rattle.bayou_lang.specs.Laws.Fitting.{fitting_distinct_stamps}
 use Rattle.bayou_lang.specs.Writes.{in_stamp_order, HaveDistinctStamps}
 use Rattle.bayou_log.specs.Db.{database_of, room, has_room, HasRoomFor}
-use Rattle.bayou_log.specs.Inner.Fields.{picked, AreApplied}
+use Rattle.bayou_log.specs.Inner.Fields.{outcomes_after, picked, AreApplied, AreOutcomes}
 use Rattle.bayou_log.specs.Inner.Undone.{changes_in, changes_of, AddsUndone, Stack}
 use Rattle.bayou_log.specs.Replay.{after_writes}
 use Rattle.bayou_log.proofs.Agrees.{applied_few, AgreesWith-more_room, HasRoomForAll-more_room}
-use Rattle.bayou_log.proofs.CatchingUp.{again, applied_in_order, changes_fit, rest_of, undos_reached, AreApplied-again}
+use Rattle.bayou_log.proofs.Became.{outcomes_again, outcomes_few}
+use Rattle.bayou_log.proofs.CatchingUp.{again, applied_in_order, changes_fit, rest_of, stays, taken_back, undos_reached, AreApplied-again}
 use Rattle.bayou_log.proofs.Picked.{AreInside}
 use Rattle.bayou_log.proofs.write_log.WriteLog.catch_up.Goals as goal
 
@@ -63,6 +65,27 @@ apply_in_turn-requires-clause-changes c =
       ap changes_of picks,
     )
 
+pub apply_in_turn-requires-clause-outcomes : goal.apply_in_turn-requires-clause-outcomes
+apply_in_turn-requires-clause-outcomes c =
+    let inside = c.self.inside in
+    let writes = inside.writes.items in
+    let order = inside.order.items in
+    let n = c.put_in_order-first.result in
+    let placed = c.put_in_order-first.new.order.items in
+    let few = applied_few writes order inside.db inside.undone.undos c.self.invariant.2 in
+    let within : n ≤ length order = omega (arith, c.put_in_order-first.ensures.within, inside.order.ok.0) in
+    let whole : length placed ≡ length writes = omega (arith, c.put_in_order-first.ensures.whole, c.put_in_order-first.new.order.ok.0, ap {A = List Write} length c.deref.ensures.value) in
+    omega (
+      arith,
+      outcomes_few writes (length order) inside.outcomes.items _ few.0 c.self.invariant.5,
+      inside.outcomes.ok.0,
+      c.truncate.ensures.len,
+      c.truncate.ensures.capacity,
+      c.self.invariant.5.room,
+      ap length (rest_of c.deref-3.result.now placed n c.deref-3.ensures.value),
+      length-drop n placed,
+    )
+
 pub invariant_of-self : goal.invariant_of-self
 invariant_of-self c =
     let inside = c.self.inside in
@@ -92,4 +115,13 @@ invariant_of-self c =
       HasRoomForAll-more_room writes writes _ _ inside.undone c.apply_in_turn.new.undone refl c.self.invariant.3 promised
           (omega (arith, c.put_in_order-first.ensures.capacity), omega (arith, room_now), omega (arith, places_now)),
       c.self.invariant.4,
+      subst (λ m. AreOutcomes writes m c.apply_in_turn.new.outcomes.items (vec_capacity c.apply_in_turn.new.outcomes)) (sym whole) (record {
+        each = outcomes_again (in_stamp_order writes) (in_stamp_order (take (length order) writes)) n inside.outcomes.items c.truncate.new.self.items c.apply_in_turn.new.outcomes.items
+            (database_of c.take_back.new.db) c.self.invariant.5.each
+            (stays writes order placed inside.db n 0 inside.undone c.self.invariant.2 among in_order c.put_in_order-first.ensures.front within whole) c.truncate.ensures.items
+            (c.take_back.ensures.database ∙ taken_back writes order placed inside.db n 0 inside.undone c.self.invariant.2 among in_order c.put_in_order-first.ensures.front within whole)
+            (c.apply_in_turn.ensures.outcomes ∙ ap (λ list. c.truncate.new.self.items ++ outcomes_after list (database_of c.take_back.new.db)) picks)
+            ∙ ap (λ list. outcomes_after (in_stamp_order list) empty) (sym (take_all (length writes) writes (omega arith)));
+        room = omega (arith, c.self.invariant.5.room, c.apply_in_turn.ensures.capacity, c.truncate.ensures.capacity);
+      }),
     )

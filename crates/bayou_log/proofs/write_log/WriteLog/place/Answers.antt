@@ -8,7 +8,8 @@ use Rattle.bayou_log.specs.Log.{IsReserved}
 use Rattle.bayou_log.specs.Inner.Fields.{HasRoomForAll}
 use Rattle.bayou_log.specs.Inner.Undone.{Stack}
 use Rattle.bayou_log.specs.Inner.Index.{place_in, AreIndexed}
-use Rattle.bayou_log.proofs.Agrees.{AgreesWith-push, AgreesWith-same, AreApplied-now, AreKept-push, HasRoomForAll-push}
+use Rattle.bayou_log.proofs.Became.{AreOutcomes-now}
+use Rattle.bayou_log.proofs.Agrees.{applied_few, AgreesWith-push, AgreesWith-same, AreApplied-now, AreKept-push, HasRoomForAll-push}
 use Rattle.bayou_log.proofs.Indexed.{AreIndexed-push}
 use Rattle.bayou_log.proofs.write_log.WriteLog.place.Goals as goal
 
@@ -38,6 +39,8 @@ invariant_of-self c =
           (ap (λ (stack : Stack). stack.undos) c.promise.ensures) c.self.invariant.2,
       subst (λ list. HasRoomForAll list (vec_capacity inside.order) c.promise.new.self) (sym c.push_reserved.ensures.items) has,
       subst (AreIndexed c.add.new.self.rows) (sym c.push_reserved.ensures.items) indexed,
+      AreOutcomes-now writes c.push_reserved.new.self.items write (length inside.order.items) inside.outcomes.items (vec_capacity inside.outcomes) c.push_reserved.ensures.items
+          (applied_few writes inside.order.items inside.db inside.undone.undos c.self.invariant.2).0 (omega (arith, reserved.0, inside.writes.ok.0)) c.self.invariant.5,
     )
 
 pub add-requires-clause-seq : goal.add-requires-clause-seq

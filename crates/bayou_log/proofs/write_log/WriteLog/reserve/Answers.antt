@@ -1,9 +1,10 @@
-use Rattle.std.proofs.Common.{◌-◌, min, vec_capacity, vec_len, Ok, Err, OnOk, ap, sym, subst, arith}
+use Rattle.std.proofs.Common.{◌-◌, length, min, vec_capacity, vec_len, Ok, Err, OnOk, ap, sym, subst, arith}
 use Rattle.bayou_lang.specs.Changes.{most_changes}
 use Rattle.bayou_log.specs.Db.{room, HasRoomFor}
 use Rattle.bayou_log.specs.Log.{IsReserved}
 use Rattle.bayou_log.specs.Inner.Index.{AreIndexed}
 use Rattle.bayou_log.specs.Inner.Fields.{AreKept}
+use Rattle.bayou_log.proofs.Became.{AreOutcomes-more_room}
 use Rattle.bayou_log.proofs.Agrees.{applied_few, AgreesWith-more_room, AreApplied-more_room, HasRoomForAll-more_room}
 use Rattle.bayou_log.proofs.write_log.WriteLog.reserve.Goals as goal
 
@@ -19,12 +20,15 @@ invariant_of-self-2 c =
       HasRoomForAll-more_room writes c.try_reserve.new.self.items (vec_capacity inside.order) (vec_capacity c.try_reserve-2.new.self) inside.undone c.reserve-2.new.self
           same c.self.invariant.3 c.reserve-2.ensures.same.1 (omega (arith, c.in_ok-try_reserve-2.ensures.ok), c.reserve-2.ensures.kept.0, c.reserve-2.ensures.kept.1),
       subst (AreIndexed c.reserve.new.self.rows) (sym same) (subst (λ rows. AreIndexed rows writes) (sym c.reserve.ensures.same) c.self.invariant.4),
+      AreOutcomes-more_room writes c.try_reserve.new.self.items (length inside.order.items) (length c.try_reserve-2.new.self.items) inside.outcomes.items c.try_reserve-3.new.self.items
+          (vec_capacity inside.outcomes) (vec_capacity c.try_reserve-3.new.self) same (ap length c.in_ok-try_reserve-2.ensures.items) c.in_ok-try_reserve-3.ensures.items
+          (omega (arith, c.in_ok-try_reserve-3.ensures.ok)) c.self.invariant.5,
     )
 
 pub returns-in_err-reserve-clause-kept : goal.returns-in_err-reserve-clause-kept
 returns-in_err-reserve-clause-kept c = λ other had.
     let had = subst (λ log. IsReserved log.room other) (sym c.self.view_is) had in (
-      omega (arith, had.0, c.in_ok-try_reserve.ensures.ok, c.in_ok-try_reserve.ensures.len, c.in_ok-try_reserve-2.ensures.ok, c.in_ok-try_reserve-2.ensures.len, c.reserve.ensures.kept),
+      omega (arith, had.0, c.in_ok-try_reserve.ensures.ok, c.in_ok-try_reserve.ensures.len, c.in_ok-try_reserve-2.ensures.ok, c.in_ok-try_reserve-2.ensures.len, c.in_ok-try_reserve-3.ensures.ok, c.in_ok-try_reserve-3.ensures.len, c.reserve.ensures.kept),
       had.1,
       had.2,
     )
@@ -32,7 +36,7 @@ returns-in_err-reserve-clause-kept c = λ other had.
 pub returns-in_err-reserve-2-clause-kept : goal.returns-in_err-reserve-2-clause-kept
 returns-in_err-reserve-2-clause-kept c = λ other had.
     let had = subst (λ log. IsReserved log.room other) (sym c.self.view_is) had in (
-      omega (arith, had.0, c.in_ok-try_reserve.ensures.ok, c.in_ok-try_reserve.ensures.len, c.in_ok-try_reserve-2.ensures.ok, c.in_ok-try_reserve-2.ensures.len, c.reserve-2.ensures.kept.1, c.reserve.ensures.kept),
+      omega (arith, had.0, c.in_ok-try_reserve.ensures.ok, c.in_ok-try_reserve.ensures.len, c.in_ok-try_reserve-2.ensures.ok, c.in_ok-try_reserve-2.ensures.len, c.in_ok-try_reserve-3.ensures.ok, c.in_ok-try_reserve-3.ensures.len, c.reserve-2.ensures.kept.1, c.reserve.ensures.kept),
       had.1,
       omega (arith, had.2, c.reserve-2.ensures.same.1, c.reserve-2.ensures.kept.0),
     )
@@ -40,7 +44,7 @@ returns-in_err-reserve-2-clause-kept c = λ other had.
 pub returns-clause-kept : goal.returns-clause-kept
 returns-clause-kept c = λ other had.
     let had = subst (λ log. IsReserved log.room other) (sym c.self.view_is) had in (
-      omega (arith, had.0, c.in_ok-try_reserve.ensures.ok, c.in_ok-try_reserve.ensures.len, c.in_ok-try_reserve-2.ensures.ok, c.in_ok-try_reserve-2.ensures.len, c.reserve-2.ensures.kept.1, c.reserve.ensures.kept),
+      omega (arith, had.0, c.in_ok-try_reserve.ensures.ok, c.in_ok-try_reserve.ensures.len, c.in_ok-try_reserve-2.ensures.ok, c.in_ok-try_reserve-2.ensures.len, c.in_ok-try_reserve-3.ensures.ok, c.in_ok-try_reserve-3.ensures.len, c.reserve-2.ensures.kept.1, c.reserve.ensures.kept),
       λ k d within. c.prepare.ensures.keeps _ (had.1 k d within),
       omega (arith, had.2, c.reserve-2.ensures.same.1, c.reserve-2.ensures.kept.0),
     )
@@ -55,7 +59,7 @@ pub returns-clause-ok : goal.returns-clause-ok
 returns-clause-ok c =
     let inside = c.self.inside in
     elim c.prepare.result as (λ r. OnOk r (HasRoomFor (room c.prepare.new.self) c.program-2.result.now) → OnOk r (IsReserved (record {
-      writes = min (min (vec_capacity c.try_reserve.new.self - vec_len c.try_reserve.new.self) (vec_capacity c.try_reserve-2.new.self - vec_len c.try_reserve.new.self)) (min (c.reserve-2.new.self.places - vec_len c.try_reserve.new.self) c.reserve.new.self.room);
+      writes = min (min (vec_capacity c.try_reserve.new.self - vec_len c.try_reserve.new.self) (vec_capacity c.try_reserve-2.new.self - vec_len c.try_reserve.new.self)) (min (min (c.reserve-2.new.self.places - vec_len c.try_reserve.new.self) (vec_capacity c.try_reserve-3.new.self - vec_len c.try_reserve.new.self)) c.reserve.new.self.room);
       keys = room c.prepare.new.self;
       changes = c.reserve-2.new.self.room - c.reserve-2.new.self.promised;
     }) c.args.write.now)) [
@@ -69,6 +73,10 @@ returns-clause-ok c =
           c.in_ok-try_reserve.ensures.len,
           c.in_ok-try_reserve-2.ensures.ok,
           c.in_ok-try_reserve-2.ensures.len,
+          c.in_ok-try_reserve-3.ensures.ok,
+          c.in_ok-try_reserve-3.ensures.len,
+          c.len-2.ensures,
+          c.saturating_sub.ensures,
           c.in_ok-reserve-2.ensures.ok.1,
           c.in_ok-reserve.ensures.ok,
         ),
