@@ -1,13 +1,16 @@
 -- How many device calls an opening makes.
 use Rattle.std.proofs.Common.{◌≡◌, inl, inr, ℕ, ◌+◌, ◌-◌, ◌≤◌, List, [], ◌∷◌, ◌++◌, length, refl, sym, ◌∙◌, ap, subst, arith, append_assoc, length-append}
-use Rattle.std.proofs.lemmas.List.{append-nil}
 use Rattle.bayou_device.specs.declared.device.Device.{Ghosts}
 use Rattle.bayou_device.specs.Device.{BeginsWith}
-use Rattle.bayou_journal.specs.Chain.{AreBodies, IsLongestChain, chain_end, entries, first_link, header, journal}
+use Rattle.bayou_journal.specs.Chain.{entries, first_link, header}
 use Rattle.bayou_journal.specs.Inner.Heads.{missing}
+use Rattle.bayou_journal.specs.Inner.Reads.{IsFound}
 use Rattle.bayou_journal.specs.Opening.{Finds, IsForeign, IsNew, IsOfAnother, OpensInCalls}
-use Rattle.bayou_journal.proofs.Ending.{ends_behind, finds_is_one, length-journal, nothing_missing, tenth}
-use Rattle.bayou_journal.proofs.Tearing.{no_entry}
+use Rattle.bayou_journal.specs.Versions.{AreLongest, Records, version_behind, version_of}
+use Rattle.bayou_journal.specs.declared.format.TheConstants.{NEWEST_VERSION}
+use Rattle.bayou_journal.specs.declared.opened.Place.{Place}
+use Rattle.bayou_journal.proofs.Ending.{Lacks, a_header, a_mark, finds_one, lacks, new_begins_not, ninth, tenth}
+use Rattle.bayou_journal.proofs.Raising.{lacks_none, newest_stays}
 
 -- any number of calls may be none, and calls follow calls
 abbrev pub Stays : {D : Type 0} → Ghosts D → Type 0
@@ -20,70 +23,101 @@ more : {D : Type 0} (d : Ghosts D) → Stays d → GoesOn d → (few many : ℕ)
 more d stays on few many old new within calls = on few 0 many old new new (omega (arith, within)) calls (stays 0 new)
 
 -- nothing but the read, or not even that
-pub one_call : {D : Type 0} (d : Ghosts D) (version server : ℕ) (old new : D) → Stays d → GoesOn d → d.leads_to 1 old new → OpensInCalls d version server old new
-one_call d version server old new stays on calls = record {
+pub one_call : {D : Type 0} (d : Ghosts D) (server : ℕ) (old new : D) → Stays d → GoesOn d → d.leads_to 1 old new → OpensInCalls d server old new
+one_call d server old new stays on calls = record {
   most = more d stays on 1 4 old new (omega arith) calls;
   empty = λ _ _. more d stays on 1 3 old new (omega arith) calls;
   headed = λ _ _. more d stays on 1 3 old new (omega arith) calls;
+  newest = λ _ _ _ _ _. more d stays on 1 3 old new (omega arith) calls;
+  older = λ _ _ _. more d stays on 1 3 old new (omega arith) calls;
   whole = λ _ _ _ _. more d stays on 1 2 old new (omega arith) calls;
   foreign = λ _ _. calls;
   another = λ _ _. calls;
 }
 
 -- bytes that begin with a header are no new journal's
-no_header : (version owner : ℕ) (bytes : List ℕ) → IsNew version bytes → BeginsWith (header version owner) bytes → ⊥
+no_header : (version owner : ℕ) (bytes : List ℕ) → IsNew bytes → BeginsWith (header version owner) bytes → ⊥
 no_header version owner bytes new begins =
-    omega (arith, ap length new.1, length-append bytes new.0, ap length begins.1, length-append (header version owner) begins.0)
+    omega (arith, ap length new.2.1, length-append bytes new.2.0, ap length begins.1, length-append (header version owner) begins.0)
 
-not_foreign : (version server : ℕ) (bytes : List ℕ) (bodies : List (List ℕ)) (dropped : ℕ) → Finds version server bytes bodies dropped → IsForeign version bytes → ⊥
-not_foreign version server bytes bodies dropped (inl new) foreign = foreign.no_front new.front
-not_foreign version server bytes bodies dropped (inr old) foreign = foreign.no_journal (server ∷ (entries (first_link version server) bodies ++ old.rest), old.chain.split)
+pub not_foreign : (server : ℕ) (bytes : List ℕ) (records : Records) (dropped : ℕ) → Finds server bytes records dropped → IsForeign bytes → ⊥
+not_foreign server bytes records dropped (inl new) foreign = foreign.no_front new.front
+not_foreign server bytes records dropped (inr old) foreign =
+    foreign.no_journal records.version old.longest.known (server ∷ (entries (first_link records.version server) records.bodies ++ old.rest), old.longest.chain.split)
 
-not_of_another : (version server : ℕ) (bytes : List ℕ) (bodies : List (List ℕ)) (dropped : ℕ) → Finds version server bytes bodies dropped → IsOfAnother version server bytes → ⊥
-not_of_another version server bytes bodies dropped (inl new) other = no_header version other.owner bytes new.front other.begins
-not_of_another version server bytes bodies dropped (inr old) other =
-    other.another (tenth version version other.owner server other.begins.0 (entries (first_link version server) bodies ++ old.rest)
-    (sym other.begins.1 ∙ old.chain.split ∙ append_assoc (header version server) (entries (first_link version server) bodies) old.rest))
+pub not_of_another : (server : ℕ) (bytes : List ℕ) (records : Records) (dropped : ℕ) → Finds server bytes records dropped → IsOfAnother server bytes → ⊥
+not_of_another server bytes records dropped (inl new) other = no_header other.version other.owner bytes new.front other.begins
+not_of_another server bytes records dropped (inr old) other =
+    let behind = entries (first_link records.version server) records.bodies in
+    other.another (tenth other.version records.version other.owner server other.begins.0 (behind ++ old.rest)
+    (sym other.begins.1 ∙ old.longest.chain.split ∙ append_assoc (header records.version server) behind old.rest))
 
--- where the header is there, none is missing
-not_missing : (version server : ℕ) (bytes : List ℕ) (bodies : List (List ℕ)) (dropped end : ℕ) → Finds version server bytes bodies dropped → dropped ≡ length bytes - end → end ≤ length bytes
-    → BeginsWith (header version server) bytes → missing version server end ≡ []
-not_missing version server bytes bodies dropped end (inl new) is within begins = absurd (no_header version server bytes new.front begins)
-not_missing version server bytes bodies dropped end (inr old) is within begins =
-    nothing_missing version server end (omega (arith, ends_behind version server bytes bodies dropped end old is within, length-journal version server bodies))
+pub not_both : (server : ℕ) (bytes : List ℕ) → IsForeign bytes → IsOfAnother server bytes → ⊥
+not_both server bytes foreign other = foreign.no_journal other.version other.known (other.owner ∷ other.begins.0, other.begins.1)
 
--- a whole journal is its own longest chain
-pub whole_is_longest : (version server : ℕ) (bodies : List (List ℕ)) → AreBodies bodies → IsLongestChain version server (journal version server bodies) bodies []
-whole_is_longest version server bodies are = record {
-  split = sym (append-nil (journal version server bodies));
-  sizes = are;
-  longest = no_entry (chain_end version server bodies);
-}
+-- where the newest header is there, nothing is missing
+headed : (server : ℕ) (bytes : List ℕ) (places : List Place) (now : ℕ) (last : List ℕ) (end : ℕ) → IsFound server bytes places now last end → BeginsWith (header NEWEST_VERSION server) bytes → missing server now last end ≡ []
+headed server bytes places now last end found begins = by (lacks server bytes places now last end found)
+  where
+    records : Records
+    records = found.records
+
+    by : Lacks server bytes records now last end → missing server now last end ≡ []
+    by (a_header new none is) = absurd (no_header NEWEST_VERSION server bytes new.front begins)
+    by (a_mark old front is) =
+        let behind = entries (first_link records.version server) records.bodies in
+        let same : NEWEST_VERSION ≡ records.version =
+        ninth NEWEST_VERSION records.version server server begins.0 (behind ++ old.rest) (sym begins.1 ∙ old.longest.chain.split ∙ append_assoc (header records.version server) behind old.rest) in
+        is ∙ lacks_none server records (ap (λ (v : ℕ). version_behind v records.bodies) (sym same) ∙ newest_stays records.bodies)
+
+-- and where its version is the newest
+at_newest : (server : ℕ) (bytes : List ℕ) (places : List Place) (now : ℕ) (last : List ℕ) (end : ℕ) → (found : IsFound server bytes places now last end) → (others : Records) (rest : List ℕ) → AreLongest server bytes others rest
+    → version_of others ≡ NEWEST_VERSION → missing server now last end ≡ []
+at_newest server bytes places now last end found others rest longest newest = by (lacks server bytes places now last end found)
+  where
+    records : Records
+    records = found.records
+
+    by : Lacks server bytes records now last end → missing server now last end ≡ []
+    by (a_header new none is) = absurd (new_begins_not bytes others.version server others.bodies new.front (rest, longest.chain.split))
+    by (a_mark old front is) =
+        let same = finds_one server bytes records others (length bytes - end) (length rest) found.finds (inr (record { rest = rest; longest = longest; behind = refl })) in
+        is ∙ lacks_none server records (ap version_of same.0 ∙ newest)
+
+-- where nothing stands behind the longest chain, nothing is cut
+cuts_none : (server : ℕ) (bytes : List ℕ) (places : List Place) (now : ℕ) (last : List ℕ) (end : ℕ) → (found : IsFound server bytes places now last end) → (others : Records) → AreLongest server bytes others [] → end ≡ length bytes
+cuts_none server bytes places now last end found others longest =
+    let same = finds_one server bytes found.records others (length bytes - end) 0 found.finds (inr (record { rest = []; longest = longest; behind = refl })) in
+    omega (arith, same.1, found.end_within)
 
 -- the read, then the cut or none, then the append of what is missing, if anything is, and the sync
-pub all_calls : {D : Type 0} (d : Ghosts D) (version server : ℕ) (old read cut new : D) (bytes : List ℕ) (bodies : List (List ℕ)) (dropped end : ℕ) (piece : List ℕ) → Stays d → GoesOn d
-    → (d.is_modelled → bytes ≡ d.content old) → Finds version server bytes bodies dropped → dropped ≡ length bytes - end → end ≤ length bytes → piece ≡ missing version server end
+pub all_calls : {D : Type 0} (d : Ghosts D) (server : ℕ) (old read cut new : D) (bytes : List ℕ) (places : List Place) (now : ℕ) (last : List ℕ) (end : ℕ) (piece : List ℕ) → Stays d → GoesOn d
+    → (d.is_modelled → bytes ≡ d.content old) → IsFound server bytes places now last end → piece ≡ missing server now last end
     → d.leads_to 1 old read → d.leads_to 1 read cut → (end ≡ length bytes → d.leads_to 0 read cut) → d.leads_to 2 cut new → (piece ≡ [] → d.leads_to 1 cut new)
-    → OpensInCalls d version server old new
-all_calls {D} d version server old read cut new bytes bodies dropped end piece stays on is_read finds is within is_piece reads cuts no_cut adds no_piece =
+    → OpensInCalls d server old new
+all_calls {D} d server old read cut new bytes places now last end piece stays on is_read found is_piece reads cuts no_cut adds no_piece =
     let both = on 1 1 2 old read cut (omega arith) reads cuts in
+    let here : (records : Records) (rest : List ℕ) → d.is_modelled → AreLongest server (d.content old) records rest → AreLongest server bytes records rest =
+    λ records rest modelled longest. subst (λ (b : List ℕ). AreLongest server b records rest) (sym (is_read modelled)) longest in
+    let uncut : end ≡ length bytes → d.leads_to 1 old cut = λ all. on 1 0 1 old read cut (omega arith) reads (no_cut all) in
     record {
       most = on 2 2 4 old cut new (omega arith) both adds;
       empty = λ modelled none.
           let short : length bytes ≡ 0 = ap length (is_read modelled ∙ none) in
-          on 1 2 3 old cut new (omega arith) (on 1 0 1 old read cut (omega arith) reads (no_cut (omega arith))) adds;
+          on 1 2 3 old cut new (omega arith) (uncut (omega (arith, found.end_within))) adds;
       headed = λ modelled begins.
-          let here = subst (λ (b : List ℕ). BeginsWith (header version server) b) (sym (is_read modelled)) begins in
-          on 2 1 3 old cut new (omega arith) both (no_piece (is_piece ∙ not_missing version server bytes bodies dropped end finds is within here));
-      whole = λ modelled others are is_whole.
-          let here : bytes ≡ journal version server others = is_read modelled ∙ is_whole in
-          let again : Finds version server bytes others 0 = inr (record { rest = []; chain = subst (λ (b : List ℕ). IsLongestChain version server b others []) (sym here) (whole_is_longest version server others are); behind = refl }) in
-          let same = finds_is_one version server bytes bodies others dropped 0 finds again in
-          let begins : BeginsWith (header version server) bytes = (entries (first_link version server) others, here) in
-          on 1 1 2 old cut new (omega arith) (on 1 0 1 old read cut (omega arith) reads (no_cut (omega (arith, same.1, is, within))))
-          (no_piece (is_piece ∙ not_missing version server bytes bodies dropped end finds is within begins));
-      foreign = λ modelled is_foreign. absurd (not_foreign version server bytes bodies dropped finds (subst (IsForeign version) (sym (is_read modelled)) is_foreign));
-      another = λ modelled is_other. absurd (not_of_another version server bytes bodies dropped finds (subst (IsOfAnother version server) (sym (is_read modelled)) is_other));
+          let begins_here = subst (λ (b : List ℕ). BeginsWith (header NEWEST_VERSION server) b) (sym (is_read modelled)) begins in
+          on 2 1 3 old cut new (omega arith) both (no_piece (is_piece ∙ headed server bytes places now last end found begins_here));
+      newest = λ modelled records rest longest at.
+          on 2 1 3 old cut new (omega arith) both (no_piece (is_piece ∙ at_newest server bytes places now last end found records rest (here records rest modelled longest) at));
+      older = λ modelled records longest.
+          on 1 2 3 old cut new (omega arith) (uncut (cuts_none server bytes places now last end found records (here records [] modelled longest))) adds;
+      whole = λ modelled records longest at.
+          let is_longest = here records [] modelled longest in
+          on 1 1 2 old cut new (omega arith) (uncut (cuts_none server bytes places now last end found records is_longest))
+          (no_piece (is_piece ∙ at_newest server bytes places now last end found records [] is_longest at));
+      foreign = λ modelled is_foreign. absurd (not_foreign server bytes found.records (length bytes - end) found.finds (subst IsForeign (sym (is_read modelled)) is_foreign));
+      another = λ modelled is_other. absurd (not_of_another server bytes found.records (length bytes - end) found.finds (subst (IsOfAnother server) (sym (is_read modelled)) is_other));
     }
 
 -- where nothing was dropped there was no cut

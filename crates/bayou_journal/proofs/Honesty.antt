@@ -1,158 +1,140 @@
 -- What an opening makes of an honest device, and what it leaves where a call fails.
-use Rattle.std.proofs.Common.{◌≡◌, ◌⊎◌, inl, inr, ℕ, ◌<◌, ◌≤◌, List, [], ◌∷◌, ◌++◌, Option, None, Some, length, take, drop, refl, sym, ◌∙◌, ap, arith, append_assoc, get_or, length-append, subst, take-append-drop}
-use Rattle.std.specs.Prelude.{IfSome}
+use Rattle.std.proofs.Common.{◌≡◌, ◌⊎◌, inl, inr, ℕ, ◌+◌, ◌<◌, ◌≤◌, List, [], ◌∷◌, ◌++◌, Option, None, Some, length, take, drop, refl, sym, ◌∙◌, ap, arith, append_assoc, length-append, subst, take-append-drop}
 use Rattle.std.proofs.lemmas.Bool.{cases_order}
 use Rattle.std.proofs.lemmas.List.{append-nil, take_all, take_at}
 use Rattle.bayou_device.specs.Device.{BeginsWith}
-use Rattle.bayou_device.specs.Memory.{AddsFront, Memory, crashed, kept_bytes}
-use Rattle.bayou_device.specs.MemoryDevice.{memory_device}
+use Rattle.bayou_device.specs.Memory.{AddsFront}
 use Rattle.bayou_device.specs.declared.device.Device.{Ghosts}
-use Rattle.bayou_journal.specs.Chain.{AreBodies, IsBody, IsLongestChain, NoEntry, chain_end, entries, entry, first_link, header, journal, link}
-use Rattle.bayou_journal.specs.Laws.Chain.{AreBodies-push, chain_end-push, journal-push, longest_is_one}
-use Rattle.bayou_journal.specs.Honest.{HasCrashed, IsHonest, IsHonestDevice, IsPassing, IsRecoverable, IsWhole, KeepsBodies, NoOtherEntry, OnlyTears, torn}
+use Rattle.bayou_journal.specs.Chain.{AreBodies, IsBody, IsLongestChain, entries, entry, first_link, header, journal, link, name}
+use Rattle.bayou_journal.specs.Laws.Chain.{AreBodies-push, chain_end-push, journal-push}
+use Rattle.bayou_journal.specs.Honest.{BeginsWithBodies, HasJournal, IsHonest, IsHonestDevice, IsPassing, IsRecoverable, IsRecovered, IsWhole, OnlyTears, added_body, torn}
 use Rattle.bayou_journal.specs.Opened.{Found}
-use Rattle.bayou_journal.specs.Opening.{FailsToAdd, FailsToOpen, Finds, HasOpened, HasRefused, IsForeign, IsOfAnother, KeepsChains}
+use Rattle.bayou_journal.specs.Opening.{FailsToAdd, FailsToOpen, Finds, HasOpened, HasRefused, IsForeign, IsOfAnother, KeepsChains, mark_for, new_records}
+use Rattle.bayou_journal.specs.Versions.{AreLongest, Body, IsVersion, Records, bodies_in, body_in, end_of, journal_of, newest_mark, raised, told, version_of}
 use Rattle.bayou_journal.specs.declared.fault.OpenFault.{OpenFault}
 use Rattle.bayou_journal.specs.declared.fault.OpenFault.TheVariants.{Device, NotAJournal, OtherServer, OutOfMemory}
-use Rattle.bayou_journal.proofs.Ending.{begins_on, new_begins_not}
+use Rattle.bayou_journal.specs.declared.format.TheConstants.{HEADER_BYTES, NEWEST_VERSION}
+use Rattle.bayou_journal.proofs.Ending.{begins_on, finds_one, new_begins_not, ninth, same_longest, sizes_found, tenth}
 use Rattle.bayou_journal.proofs.Heading.{is_new}
-use Rattle.bayou_journal.proofs.Tearing.{append_tears, front_of_chain, no_entry, no_front, no_part, some_entry}
+use Rattle.bayou_journal.proofs.Raising.{Raising, is_newest, is_pushed, is_raised, mark_is_body, marks, raising, stays, tells-mark, told-append}
+use Rattle.bayou_journal.proofs.Tearing.{front_of_chain, no_entry, no_front, no_part, some_entry, tears_none, tears_one, with_body}
 
--- a front of a header has no body
-no_body : (version server : ℕ) (found : List (List ℕ)) (rest more : List ℕ) → header version server ≡ (journal version server found ++ rest) ++ more → found ≡ []
-no_body version server [] rest more is = refl
-no_body version server (body ∷ found) rest more is =
-    let first = first_link version server in
-    absurd (omega (
-      arith,
-      ap length is,
-      length-append (journal version server (body ∷ found) ++ rest) more,
-      length-append (journal version server (body ∷ found)) rest,
-      length-append (header version server) (entries first (body ∷ found)),
-      length-append (entry first body) (entries (link first body) found),
-      some_entry first body,
-    ))
-
-the_same : (bodies : List (List ℕ)) (doubt : Option (List ℕ)) (found : List (List ℕ)) → found ≡ bodies → IsHonest bodies doubt found
+pub the_same : (bodies : List Body) (doubt : Option Body) (found : List Body) → found ≡ bodies → IsHonest bodies doubt found
 the_same bodies None found is = is
 the_same bodies (Some body) found is = inl is
 
--- the chain that goes on with the body in doubt
-goes_on : (version server : ℕ) (bytes : List ℕ) (bodies : List (List ℕ)) (body rest more : List ℕ) → AreBodies bodies → IsBody body → bytes ≡ journal version server bodies ++ rest
-    → rest ≡ entry (chain_end version server bodies) body ++ more → NoEntry (link (chain_end version server bodies) body) more → IsLongestChain version server bytes (bodies ++ body ∷ []) more
-goes_on version server bytes bodies body rest more are is split first none =
-    let one = entry (chain_end version server bodies) body in
-    record {
-      split = split
-          ∙ ap (λ (l : List ℕ). journal version server bodies ++ l) first
-          ∙ sym (append_assoc (journal version server bodies) one more)
-          ∙ ap (λ (l : List ℕ). l ++ more) (sym (journal-push version server bodies body));
-      sizes = AreBodies-push bodies body are is;
-      longest = subst (λ (l : List ℕ). NoEntry l more) (sym (chain_end-push version server bodies body)) none;
-    }
+-- a front of a header has no entry
+no_body : (version server : ℕ) (records : Records) (rest more : List ℕ) → header version server ≡ (journal_of server records ++ rest) ++ more → records.bodies ≡ []
+no_body version server records rest more is = by records.bodies refl
+  where
+    by : (bodies : List (List ℕ)) → records.bodies ≡ bodies → records.bodies ≡ []
+    by [] same = same
+    by (body ∷ bodies) same =
+        let first = first_link records.version server in
+        let size : length (journal_of server records) ≡ HEADER_BYTES + length (entry first body ++ entries (link first body) bodies) =
+        ap (λ (l : List (List ℕ)). length (journal records.version server l)) same ∙ length-append (header records.version server) (entry first body ++ entries (link first body) bodies) in
+        absurd (omega (
+          arith,
+          ap length is,
+          length-append (journal_of server records ++ rest) more,
+          length-append (journal_of server records) rest,
+          size,
+          length-append (entry first body) (entries (link first body) bodies),
+          some_entry first body,
+        ))
 
--- the longest chain that a recoverable journal has
-record Longest (version server : ℕ) (bytes : List ℕ) (bodies : List (List ℕ)) (doubt : Option (List ℕ)) : Type 0 where
-  pub found : List (List ℕ)
-  pub rest : List ℕ
-  pub chain : IsLongestChain version server bytes found rest
-  pub honest : IsHonest bodies doubt found
+tells_none : (records : Records) → records.bodies ≡ [] → bodies_in records ≡ []
+tells_none records none = ap (told records.version) none
 
-longest_of : (version server : ℕ) (bytes : List ℕ) (bodies : List (List ℕ)) (doubt : Option (List ℕ)) (rest : List ℕ) → AreBodies bodies → IfSome doubt IsBody → bytes ≡ journal version server bodies ++ rest
-    → NoOtherEntry (chain_end version server bodies) doubt rest → Longest version server bytes bodies doubt
-longest_of version server bytes bodies None rest are is split none = record {
-  found = bodies;
-  rest = rest;
-  chain = record { split = split; sizes = are; longest = none };
-  honest = refl;
-}
-longest_of version server bytes bodies (Some body) rest are is split (inl none) = record {
-  found = bodies;
-  rest = rest;
-  chain = record { split = split; sizes = are; longest = none };
-  honest = inl refl;
-}
-longest_of version server bytes bodies (Some body) rest are is split (inr (more, first, none)) = record {
-  found = bodies ++ body ∷ [];
-  rest = more;
-  chain = goes_on version server bytes bodies body rest more are is split first none;
-  honest = inr refl;
+pub finds_honestly : (server : ℕ) (bodies : List Body) (doubt : Option Body) (bytes : List ℕ) (records : Records) (dropped : ℕ) → IsRecoverable server bodies doubt bytes → Finds server bytes records dropped
+    → IsHonest bodies doubt (bodies_in records)
+finds_honestly server bodies doubt bytes records dropped (inl (none, front)) (inl new) = the_same bodies doubt (bodies_in records) (ap bodies_in new.empty ∙ sym none)
+finds_honestly server bodies doubt bytes records dropped (inl (none, (version, known, front))) (inr old) =
+    the_same bodies doubt (bodies_in records)
+    (tells_none records (no_body version server records old.rest front.0 (front.1 ∙ ap (λ (l : List ℕ). l ++ front.0) old.longest.chain.split)) ∙ sym none)
+finds_honestly server bodies doubt bytes records dropped (inr was) (inl new) = absurd (new_begins_not bytes was.records.version server was.records.bodies new.front (was.rest, was.longest.chain.split))
+finds_honestly server bodies doubt bytes records dropped (inr was) (inr old) =
+    subst (λ (r : Records). IsHonest bodies doubt (bodies_in r)) (same_longest server bytes was.records records was.rest old.rest was.longest old.longest).0 was.honest
+
+-- a journal and nothing else is its own longest chain
+pub whole_is_longest : (server : ℕ) (records : Records) → IsVersion records.version → AreBodies records.bodies → AreLongest server (journal_of server records) records []
+whole_is_longest server records known sizes = record {
+  known = known;
+  chain = record { split = sym (append-nil (journal_of server records)); sizes = sizes; longest = no_entry (end_of server records) };
 }
 
--- an opening finds nothing else
-pub finds_honestly : (version server : ℕ) (bodies : List (List ℕ)) (doubt : Option (List ℕ)) (bytes : List ℕ) (found : List (List ℕ)) (dropped : ℕ) → AreBodies bodies → IfSome doubt IsBody
-    → IsRecoverable version server bodies doubt bytes → Finds version server bytes found dropped → IsHonest bodies doubt found
-finds_honestly version server bodies doubt bytes found dropped are is (inl (none, front)) (inl new) = the_same bodies doubt found (new.empty ∙ sym none)
-finds_honestly version server bodies doubt bytes found dropped are is (inl (none, front)) (inr old) =
-    the_same bodies doubt found (no_body version server found old.rest front.0 (front.1 ∙ ap (λ (l : List ℕ). l ++ front.0) old.chain.split) ∙ sym none)
-finds_honestly version server bodies doubt bytes found dropped are is (inr (rest, split, none)) (inl new) =
-    absurd (new_begins_not version bytes version server bodies new.front (rest, split))
-finds_honestly version server bodies doubt bytes found dropped are is (inr (rest, split, none)) (inr old) =
-    let longest = longest_of version server bytes bodies doubt rest are is split none in
-    subst (λ (f : List (List ℕ)). IsHonest bodies doubt f) (longest_is_one version server bytes longest.found found longest.rest old.rest longest.chain old.chain).0 longest.honest
+pub whole_recovered : (server : ℕ) (bodies : List Body) (doubt : Option Body) (records : Records) (after : List ℕ) → IsVersion records.version → AreBodies records.bodies → IsHonest bodies doubt (bodies_in records)
+    → after ≡ journal_of server records → IsRecovered server bodies doubt after
+whole_recovered server bodies doubt records after known sizes honest is = record {
+  records = records;
+  rest = [];
+  longest = subst (λ (b : List ℕ). AreLongest server b records []) (sym is) (whole_is_longest server records known sizes);
+  honest = honest;
+}
 
 -- and it finds something
-whole_header : (version server : ℕ) (bytes : List ℕ) → header version server ≡ bytes ++ [] → IsLongestChain version server bytes [] []
-whole_header version server bytes is = record {
-  split = sym (append-nil bytes) ∙ sym is ∙ sym (append-nil (header version server)) ∙ sym (append-nil (journal version server []));
-  sizes = tt;
-  longest = no_entry (chain_end version server []);
-}
-
-pub finds_something : (version server : ℕ) (bodies : List (List ℕ)) (doubt : Option (List ℕ)) (bytes : List ℕ) → AreBodies bodies → IfSome doubt IsBody
-    → IsRecoverable version server bodies doubt bytes → (found : List (List ℕ)) × (dropped : ℕ) × Finds version server bytes found dropped
-finds_something version server bodies doubt bytes are is (inl (none, ([], front))) =
-    ([], 0, inr (record { rest = []; chain = whole_header version server bytes front; behind = refl }))
-finds_something version server bodies doubt bytes are is (inl (none, (x ∷ more, front))) =
-    let short : length bytes < 10 = omega (arith, ap length front, length-append bytes (x ∷ more)) in
+pub finds_something : (server : ℕ) (bodies : List Body) (doubt : Option Body) (bytes : List ℕ) → IsRecoverable server bodies doubt bytes → (found : Records) × (dropped : ℕ) × Finds server bytes found dropped
+finds_something server bodies doubt bytes (inl (none, (version, known, ([], front)))) =
+    let whole : Records = record { version = version; bodies = [] } in
+    let is : bytes ≡ journal_of server whole = sym (append-nil bytes) ∙ sym front ∙ sym (append-nil (header version server)) in
+    let was = whole_recovered server [] None whole bytes known tt refl is in
+    (was.records, length was.rest, inr (record { rest = was.rest; longest = was.longest; behind = refl }))
+finds_something server bodies doubt bytes (inl (none, (version, known, (x ∷ more, front)))) =
+    let short : length bytes < HEADER_BYTES = omega (arith, ap length front, length-append bytes (x ∷ more)) in
     let same : take (length bytes) (header version server) ≡ bytes = ap (take (length bytes)) front ∙ take_at bytes (x ∷ more) (length bytes) refl in
-    ([], length bytes, inl (record { front = is_new version server bytes short same; empty = refl; whole = refl }))
-finds_something version server bodies doubt bytes are is (inr (rest, split, none)) =
-    let longest = longest_of version server bytes bodies doubt rest are is split none in
-    (longest.found, length longest.rest, inr (record { rest = longest.rest; chain = longest.chain; behind = refl }))
+    (new_records, length bytes, inl (record { front = is_new version server bytes known (omega arith) same; empty = refl; whole = refl }))
+finds_something server bodies doubt bytes (inr was) = (was.records, length was.rest, inr (record { rest = was.rest; longest = was.longest; behind = refl }))
 
--- what was found, and is left, is recoverable
-of_found : (version server : ℕ) (bodies : List (List ℕ)) (doubt : Option (List ℕ)) (found : List (List ℕ)) (after : List ℕ) → IsHonest bodies doubt found → after ≡ journal version server found
-    → IsRecoverable version server bodies doubt after
-of_found version server bodies None found after same is =
-    inr ([], is ∙ ap (journal version server) same ∙ sym (append-nil (journal version server bodies)), no_entry (chain_end version server bodies))
-of_found version server bodies (Some body) found after (inl same) is =
-    inr ([], is ∙ ap (journal version server) same ∙ sym (append-nil (journal version server bodies)), inl (no_entry (chain_end version server bodies)))
-of_found version server bodies (Some body) found after (inr more) is =
-    let end = chain_end version server bodies in
-    inr (entry end body, is ∙ ap (journal version server) more ∙ journal-push version server bodies body, inr ([], sym (append-nil (entry end body)), no_entry (link end body)))
-
--- a front of the entry of the body in doubt is no other entry
-pub front_is_no_other : (before body : List ℕ) (count : ℕ) → IsBody body → NoOtherEntry before (Some body) (take count (entry before body))
-front_is_no_other before body count is = by (cases_order count (length one))
+-- a front of one entry more behind it is none, or that entry
+pub torn_recovered : (server : ℕ) (bodies : List Body) (doubt : Option Body) (records : Records) (body : List ℕ) (count : ℕ) (after : List ℕ) → IsVersion records.version → AreBodies records.bodies → IsBody body
+    → IsHonest bodies doubt (bodies_in records) → IsHonest bodies doubt (bodies_in (with_body records body))
+    → after ≡ journal_of server records ++ take count (entry (end_of server records) body) → IsRecovered server bodies doubt after
+torn_recovered server bodies doubt records body count after known sizes is without with is_after = by (cases_order count (length one))
   where
     one : List ℕ
-    one = entry before body
+    one = entry (end_of server records) body
 
-    whole : length one ≤ count → NoOtherEntry before (Some body) (take count one)
-    whole long = inr ([], take_all count one long ∙ sym (append-nil one), no_entry (link before body))
+    part : count < length one → IsRecovered server bodies doubt after
+    part short = record {
+      records = records;
+      rest = take count one;
+      longest = record { known = known; chain = record { split = is_after; sizes = sizes; longest = no_part (end_of server records) body count is short } };
+      honest = without;
+    }
 
-    by : (count ≡ length one) ⊎ ((count < length one) ⊎ (length one < count)) → NoOtherEntry before (Some body) (take count one)
+    whole : length one ≤ count → IsRecovered server bodies doubt after
+    whole long =
+        whole_recovered server bodies doubt (with_body records body) after known (AreBodies-push records.bodies body sizes is) with
+        (is_after ∙ ap (λ (l : List ℕ). journal_of server records ++ l) (take_all count one long) ∙ sym (journal-push records.version server records.bodies body))
+
+    by : (count ≡ length one) ⊎ ((count < length one) ⊎ (length one < count)) → IsRecovered server bodies doubt after
     by (inl same) = whole (omega (arith, same))
-    by (inr (inl short)) = inl (no_part before body count is short)
+    by (inr (inl short)) = part short
     by (inr (inr long)) = whole (omega (arith, long))
 
-pub torn_recovers : (version server : ℕ) (bodies : List (List ℕ)) (body : List ℕ) (count : ℕ) → AreBodies bodies → IsBody body → IsRecoverable version server bodies (Some body) (torn version server bodies body count)
-torn_recovers version server bodies body count are is =
-    let end = chain_end version server bodies in
-    inr (take count (entry end body), refl, front_is_no_other end body count is)
+-- what a failed append of the mark leaves
+mark_recovered : (server : ℕ) (bodies : List Body) (doubt : Option Body) (records : Records) (after : List ℕ) → IsVersion records.version → AreBodies records.bodies → IsHonest bodies doubt (bodies_in records)
+    → FailsToAdd AddsFront (mark_for server records) (journal_of server records) after → IsRecovered server bodies doubt after
+mark_recovered server bodies doubt records after known sizes honest fails = by (raising server records known)
+  where
+    by : Raising server records → IsRecovered server bodies doubt after
+    by (stays newest is none same) = whole_recovered server bodies doubt records after known sizes honest (tears_none (journal_of server records) (mark_for server records) after none fails)
+    by (marks before is mark next) =
+        let left = tears_one (journal_of server records) (mark_for server records) after fails in
+        torn_recovered server bodies doubt records newest_mark left.0 after known sizes mark_is_body honest (subst (IsHonest bodies doubt) (sym (tells-mark records before)) honest)
+        (left.1 ∙ ap (λ (l : List ℕ). journal_of server records ++ take left.0 l) mark)
 
 -- an opening that fails leaves a recoverable journal so
-stays : (version server : ℕ) (bodies : List (List ℕ)) (doubt : Option (List ℕ)) (before after : List ℕ) → AreBodies bodies → IfSome doubt IsBody
-    → IsRecoverable version server bodies doubt before → FailsToOpen AddsFront version server before after → IsRecoverable version server bodies doubt after
-stays version server bodies doubt before after are is was (inl left) = subst (λ (b : List ℕ). IsRecoverable version server bodies doubt b) (sym (no_front before after left)) was
-stays version server bodies doubt before after are is (inl (none, front)) (inr (inl (new, left))) =
-    let whole = header version server in
-    inl (none, (drop left.0 whole, sym (take-append-drop left.0 whole) ∙ ap (λ (l : List ℕ). l ++ drop left.0 whole) (sym left.1)))
-stays version server bodies doubt before after are is (inr (rest, split, none)) (inr (inl (new, left))) =
-    absurd (new_begins_not version before version server bodies new (rest, split))
-stays version server bodies doubt before after are is was (inr (inr (found, dropped, finds, left))) =
-    of_found version server bodies doubt found after (finds_honestly version server bodies doubt before found dropped are is was finds) (no_front (journal version server found) after left)
+pub stays_recoverable : (server : ℕ) (bodies : List Body) (doubt : Option Body) (before after : List ℕ) → IsRecoverable server bodies doubt before → FailsToOpen AddsFront server before after → IsRecoverable server bodies doubt after
+stays_recoverable server bodies doubt before after was (inl left) = subst (λ (b : List ℕ). IsRecoverable server bodies doubt b) (sym (no_front before after left)) was
+stays_recoverable server bodies doubt before after (inl (none, front)) (inr (inl (new, left))) =
+    let whole = header NEWEST_VERSION server in
+    inl (none, (NEWEST_VERSION, is_newest, (drop left.0 whole, sym (take-append-drop left.0 whole) ∙ ap (λ (l : List ℕ). l ++ drop left.0 whole) (sym left.1))))
+stays_recoverable server bodies doubt before after (inr was) (inr (inl (new, left))) =
+    absurd (new_begins_not before was.records.version server was.records.bodies new (was.rest, was.longest.chain.split))
+stays_recoverable server bodies doubt before after was (inr (inr (records, dropped, finds, left))) =
+    let of = sizes_found server before records dropped finds in
+    inr (mark_recovered server bodies doubt records after of.0 of.1 (finds_honestly server bodies doubt before records dropped was finds) left)
 
 -- ---- devices
 
@@ -160,192 +142,196 @@ fails_to_add : {D : Type 0} (d : Ghosts D) (piece before after : List ℕ) → O
 fails_to_add d piece before after tears (inl left) = inl (tears.adds_front piece before after left)
 fails_to_add d piece before after tears (inr left) = inr (tears.adds_front [] (before ++ piece) after left)
 
-fails_to_open : {D : Type 0} (d : Ghosts D) (version server : ℕ) (before after : List ℕ) → OnlyTears d → FailsToOpen d.may_leave version server before after → FailsToOpen AddsFront version server before after
-fails_to_open d version server before after tears (inl left) = inl (tears.adds_front [] before after left)
-fails_to_open d version server before after tears (inr (inl left)) = inr (inl (left.0, tears.adds_front (header version server) [] after left.1))
-fails_to_open d version server before after tears (inr (inr left)) = inr (inr (left.0, left.1, left.2, tears.adds_front [] (journal version server left.0) after left.3))
+fails_to_open : {D : Type 0} (d : Ghosts D) (server : ℕ) (before after : List ℕ) → OnlyTears d → FailsToOpen d.may_leave server before after → FailsToOpen AddsFront server before after
+fails_to_open d server before after tears (inl left) = inl (tears.adds_front [] before after left)
+fails_to_open d server before after tears (inr (inl left)) = inr (inl (left.0, tears.adds_front (header NEWEST_VERSION server) [] after left.1))
+fails_to_open d server before after tears (inr (inr (records, dropped, finds, left))) =
+    inr (inr (records, dropped, finds, fails_to_add d (mark_for server records) (journal_of server records) after tears left))
 
-kept_again : (version server : ℕ) (bodies : List (List ℕ)) (before after : List ℕ) → AreBodies bodies → (bodies ≡ []) ⊎ BeginsWith (journal version server bodies) before → KeepsChains before after
-    → (bodies ≡ []) ⊎ BeginsWith (journal version server bodies) after
-kept_again version server bodies before after are (inl none) keeps = inl none
-kept_again version server bodies before after are (inr begins) keeps = inr (keeps version server bodies are begins)
+pub begins_again : (server : ℕ) (bodies : List Body) (before after : List ℕ) → BeginsWithBodies server bodies before → KeepsChains before after → BeginsWithBodies server bodies after
+begins_again server bodies before after was keeps = record {
+  records = was.records;
+  known = was.known;
+  sizes = was.sizes;
+  tells = was.tells;
+  begins = keeps was.records.version server was.records.bodies was.sizes was.begins;
+}
+
+kept_again : (server : ℕ) (bodies : List Body) (before after : List ℕ) → (bodies ≡ []) ⊎ BeginsWithBodies server bodies before → KeepsChains before after → (bodies ≡ []) ⊎ BeginsWithBodies server bodies after
+kept_again server bodies before after (inl none) keeps = inl none
+kept_again server bodies before after (inr was) keeps = inr (begins_again server bodies before after was keeps)
 
 -- where something is found the bytes are not refused
 abbrev pub NeverForeign : Type 0
-NeverForeign = (version server : ℕ) (bytes : List ℕ) (bodies : List (List ℕ)) (dropped : ℕ) → Finds version server bytes bodies dropped → IsForeign version bytes → ⊥
+NeverForeign = (server : ℕ) (bytes : List ℕ) (records : Records) (dropped : ℕ) → Finds server bytes records dropped → IsForeign bytes → ⊥
 
 abbrev pub NeverAnother : Type 0
-NeverAnother = (version server : ℕ) (bytes : List ℕ) (bodies : List (List ℕ)) (dropped : ℕ) → Finds version server bytes bodies dropped → IsOfAnother version server bytes → ⊥
+NeverAnother = (server : ℕ) (bytes : List ℕ) (records : Records) (dropped : ℕ) → Finds server bytes records dropped → IsOfAnother server bytes → ⊥
 
-pub passes : {D : Type 0} (d : Ghosts D) → NeverForeign → NeverAnother → (version server : ℕ) (bodies : List (List ℕ)) (doubt : Option (List ℕ)) (old new : D) (fault : OpenFault) → d.is_modelled → AreBodies bodies → IfSome doubt IsBody
-    → IsHonestDevice d version server bodies doubt old → HasRefused d version server old new fault → IsPassing fault
-passes d foreign another version server bodies doubt old new Device modelled are is honest refused = tt
-passes d foreign another version server bodies doubt old new OutOfMemory modelled are is honest refused = tt
-passes d foreign another version server bodies doubt old new NotAJournal modelled are is honest refused =
-    let found = finds_something version server bodies doubt (d.content old) are is honest.recoverable in
-    foreign version server (d.content old) found.0 found.1 found.2 (refused.1 modelled)
-passes d foreign another version server bodies doubt old new OtherServer modelled are is honest refused =
-    let found = finds_something version server bodies doubt (d.content old) are is honest.recoverable in
-    another version server (d.content old) found.0 found.1 found.2 (refused.1 modelled)
+pub passes : {D : Type 0} (d : Ghosts D) → NeverForeign → NeverAnother → (server : ℕ) (bodies : List Body) (doubt : Option Body) (old new : D) (fault : OpenFault) → d.is_modelled
+    → IsHonestDevice d server bodies doubt old → HasRefused d server old new fault → IsPassing fault
+passes d foreign another server bodies doubt old new Device modelled honest refused = tt
+passes d foreign another server bodies doubt old new OutOfMemory modelled honest refused = tt
+passes d foreign another server bodies doubt old new NotAJournal modelled honest refused =
+    let found = finds_something server bodies doubt (d.content old) honest.recoverable in
+    foreign server (d.content old) found.0 found.1 found.2 (refused.1 modelled)
+passes d foreign another server bodies doubt old new OtherServer modelled honest refused =
+    let found = finds_something server bodies doubt (d.content old) honest.recoverable in
+    another server (d.content old) found.0 found.1 found.2 (refused.1 modelled)
 
-pub refused_honestly : {D : Type 0} (d : Ghosts D) (version server : ℕ) (bodies : List (List ℕ)) (doubt : Option (List ℕ)) (old new : D) (fault : OpenFault) → OnlyTears d → AreBodies bodies → IfSome doubt IsBody
-    → IsHonestDevice d version server bodies doubt old → HasRefused d version server old new fault → KeepsChains (d.kept old) (d.kept new) → IsHonestDevice d version server bodies doubt new
-refused_honestly {D} d version server bodies doubt old new fault tears are is honest refused keeps = record {
-  kept = kept_again version server bodies (d.kept old) (d.kept new) are honest.kept keeps;
+pub refused_honestly : {D : Type 0} (d : Ghosts D) (server : ℕ) (bodies : List Body) (doubt : Option Body) (old new : D) (fault : OpenFault) → OnlyTears d
+    → IsHonestDevice d server bodies doubt old → HasRefused d server old new fault → KeepsChains (d.kept old) (d.kept new) → IsHonestDevice d server bodies doubt new
+refused_honestly {D} d server bodies doubt old new fault tears honest refused keeps = record {
+  kept = kept_again server bodies (d.kept old) (d.kept new) honest.kept keeps;
   recoverable = left fault refused;
 }
   where
-    same : d.content new ≡ d.content old → IsRecoverable version server bodies doubt (d.content new)
-    same as_was = subst (λ (b : List ℕ). IsRecoverable version server bodies doubt b) (sym as_was) honest.recoverable
+    same : d.content new ≡ d.content old → IsRecoverable server bodies doubt (d.content new)
+    same as_was = subst (λ (b : List ℕ). IsRecoverable server bodies doubt b) (sym as_was) honest.recoverable
 
-    left : (fault : OpenFault) → HasRefused d version server old new fault → IsRecoverable version server bodies doubt (d.content new)
-    left Device told = stays version server bodies doubt (d.content old) (d.content new) are is honest.recoverable (fails_to_open d version server (d.content old) (d.content new) tears (told.1 tears.modelled))
+    left : (fault : OpenFault) → HasRefused d server old new fault → IsRecoverable server bodies doubt (d.content new)
+    left Device told = stays_recoverable server bodies doubt (d.content old) (d.content new) honest.recoverable (fails_to_open d server (d.content old) (d.content new) tears (told.1 tears.modelled))
     left NotAJournal told = same told.0.same
     left OtherServer told = same told.0.same
     left OutOfMemory told = same told.same
 
-pub opens_honestly : {D : Type 0} (d : Ghosts D) (version server : ℕ) (bodies : List (List ℕ)) (doubt : Option (List ℕ)) (old new : D) (found : Found) (last : List ℕ) → d.is_modelled → AreBodies bodies → IfSome doubt IsBody
-    → IsHonestDevice d version server bodies doubt old → HasOpened d version server old new found last → IsHonest bodies doubt found.bodies × IsWhole d version server found.bodies new
-opens_honestly d version server bodies doubt old new found last modelled are is honest opened = (
-  finds_honestly version server bodies doubt (d.content old) found.bodies found.dropped are is honest.recoverable (opened.finds modelled),
-  record { whole = opened.leaves modelled; synced = opened.synced },
-)
+pub opens_whole : {D : Type 0} (d : Ghosts D) (server : ℕ) (old new : D) (found : Found) (last : List ℕ) → d.is_modelled → HasOpened d server old new found last → IsWhole d server found.bodies last new
+opens_whole d server old new found last modelled opened =
+    let up = is_raised server opened.records opened.known opened.sizes in
+    record {
+      has = record {
+        records = raised opened.records;
+        known = up.known;
+        sizes = up.sizes;
+        tells = up.tells ∙ sym opened.tells;
+        newest = up.newest;
+        ends = sym opened.ends;
+        whole = opened.leaves modelled;
+      };
+      synced = opened.synced;
+    }
 
-pub whole_is_honest : {D : Type 0} (d : Ghosts D) (version server : ℕ) (bodies : List (List ℕ)) (doubt : Option (List ℕ)) (device : D) → IsWhole d version server bodies device → IsHonestDevice d version server bodies doubt device
-whole_is_honest d version server bodies doubt device whole = record {
-  kept = inr ([], whole.synced ∙ whole.whole ∙ sym (append-nil (journal version server bodies)));
-  recoverable = of_found version server bodies doubt bodies (d.content device) (the_same bodies doubt bodies refl) whole.whole;
-}
+pub opens_honestly : {D : Type 0} (d : Ghosts D) (server : ℕ) (bodies : List Body) (doubt : Option Body) (old new : D) (found : Found) (last : List ℕ) → d.is_modelled
+    → IsHonestDevice d server bodies doubt old → HasOpened d server old new found last → IsHonest bodies doubt found.bodies
+opens_honestly d server bodies doubt old new found last modelled honest opened =
+    subst (IsHonest bodies doubt) (sym opened.tells) (finds_honestly server bodies doubt (d.content old) opened.records found.dropped honest.recoverable (opened.finds modelled))
 
 -- an opening that succeeds leaves the device honest for what was added before it too
-front_of_found : (version server : ℕ) (bodies : List (List ℕ)) (doubt : Option (List ℕ)) (found : List (List ℕ)) → IsHonest bodies doubt found → BeginsWith (journal version server bodies) (journal version server found)
-front_of_found version server bodies None found same = ([], ap (journal version server) same ∙ sym (append-nil (journal version server bodies)))
-front_of_found version server bodies (Some body) found (inl same) = ([], ap (journal version server) same ∙ sym (append-nil (journal version server bodies)))
-front_of_found version server bodies (Some body) found (inr more) =
-    (entry (chain_end version server bodies) body, ap (journal version server) more ∙ journal-push version server bodies body)
-
-pub honest_again : {D : Type 0} (d : Ghosts D) (version server : ℕ) (bodies : List (List ℕ)) (doubt : Option (List ℕ)) (old new : D) (found : Found) (last : List ℕ) → d.is_modelled → AreBodies bodies → IfSome doubt IsBody
-    → IsHonestDevice d version server bodies doubt old → HasOpened d version server old new found last → IsHonestDevice d version server bodies doubt new
-honest_again d version server bodies doubt old new found last modelled are is honest opened =
-    let one = opens_honestly d version server bodies doubt old new found last modelled are is honest opened in
-    let front = front_of_found version server bodies doubt found.bodies one.0 in
+pub honest_again : {D : Type 0} (d : Ghosts D) (server : ℕ) (bodies : List Body) (doubt : Option Body) (old new : D) (found : Found) (last : List ℕ) → d.is_modelled
+    → IsHonestDevice d server bodies doubt old → HasOpened d server old new found last → KeepsChains (d.kept old) (d.kept new) → IsHonestDevice d server bodies doubt new
+honest_again d server bodies doubt old new found last modelled honest opened keeps =
+    let is_honest = opens_honestly d server bodies doubt old new found last modelled honest opened in
+    let has = (opens_whole d server old new found last modelled opened).has in
     record {
-      kept = inr (front.0, one.1.synced ∙ one.1.whole ∙ front.1);
-      recoverable = of_found version server bodies doubt found.bodies (d.content new) one.0 one.1.whole;
+      kept = kept_again server bodies (d.kept old) (d.kept new) honest.kept keeps;
+      recoverable = inr (whole_recovered server bodies doubt has.records (d.content new) has.known has.sizes (subst (IsHonest bodies doubt) (sym has.tells) is_honest) has.whole);
     }
 
-pub append_honestly : {D : Type 0} (d : Ghosts D) (version server : ℕ) (bodies : List (List ℕ)) (body : List ℕ) (old new : D) → OnlyTears d → AreBodies bodies → IsBody body → IsWhole d version server bodies old
-    → FailsToAdd d.may_leave (entry (chain_end version server bodies) body) (d.content old) (d.content new) → KeepsChains (d.kept old) (d.kept new) → IsHonestDevice d version server bodies (Some body) new
-append_honestly d version server bodies body old new tears are is whole fails keeps =
-    let one = entry (chain_end version server bodies) body in
-    let left = subst (λ (b : List ℕ). FailsToAdd AddsFront one b (d.content new)) whole.whole (fails_to_add d one (d.content old) (d.content new) tears fails) in
-    let torn_is = append_tears version server bodies body (d.content new) left in
+pub whole_is_honest : {D : Type 0} (d : Ghosts D) (server : ℕ) (bodies : List Body) (doubt : Option Body) (last : List ℕ) (device : D) → IsWhole d server bodies last device → IsHonestDevice d server bodies doubt device
+whole_is_honest d server bodies doubt last device whole =
+    let has = whole.has in
     record {
-      kept = kept_again version server bodies (d.kept old) (d.kept new) are (whole_is_honest d version server bodies None old whole).kept keeps;
-      recoverable = subst (λ (b : List ℕ). IsRecoverable version server bodies (Some body) b) (sym torn_is.1) (torn_recovers version server bodies body torn_is.0 are is);
+      kept = inr (record { records = has.records; known = has.known; sizes = has.sizes; tells = has.tells; begins = ([], whole.synced ∙ has.whole ∙ sym (append-nil (journal_of server has.records))) });
+      recoverable = inr (whole_recovered server bodies doubt has.records (d.content device) has.known has.sizes (the_same bodies doubt (bodies_in has.records) has.tells) has.whole);
     }
+
+pub journal-more : (server : ℕ) (bodies : List Body) (last bytes body : List ℕ) → HasJournal server bodies last bytes → IsBody body
+    → HasJournal server (bodies ++ body_in NEWEST_VERSION body ∷ []) (link last body) (bytes ++ entry last body)
+journal-more server bodies last bytes body has is = record {
+  records = with_body has.records body;
+  known = has.known;
+  sizes = AreBodies-push has.records.bodies body has.sizes is;
+  tells = (is_pushed has.records body has.newest).tells ∙ ap (λ (l : List Body). l ++ body_in NEWEST_VERSION body ∷ []) has.tells;
+  newest = (is_pushed has.records body has.newest).newest;
+  ends = chain_end-push has.records.version server has.records.bodies body ∙ ap (λ (l : List ℕ). link l body) has.ends;
+  whole = ap (λ (l : List ℕ). l ++ entry last body) has.whole ∙ ap (λ (l : List ℕ). journal_of server has.records ++ entry l body) (sym has.ends)
+      ∙ sym (journal-push has.records.version server has.records.bodies body);
+}
+
+pub added_whole : {D : Type 0} (d : Ghosts D) (server : ℕ) (bodies : List Body) (last body : List ℕ) (old new : D) → IsWhole d server bodies last old → IsBody body
+    → d.content new ≡ d.content old ++ entry last body → d.kept new ≡ d.content new → IsWhole d server (bodies ++ body_in NEWEST_VERSION body ∷ []) (link last body) new
+added_whole d server bodies last body old new whole is behind synced = record {
+  has = subst (HasJournal server (bodies ++ body_in NEWEST_VERSION body ∷ []) (link last body)) (sym behind) (journal-more server bodies last (d.content old) body whole.has is);
+  synced = synced;
+}
+
+pub append_honestly : {D : Type 0} (d : Ghosts D) (server : ℕ) (bodies : List Body) (last body : List ℕ) (old new : D) → OnlyTears d → IsBody body → IsWhole d server bodies last old
+    → FailsToAdd d.may_leave (entry last body) (d.content old) (d.content new) → KeepsChains (d.kept old) (d.kept new) → IsHonestDevice d server bodies (Some (body_in NEWEST_VERSION body)) new
+append_honestly d server bodies last body old new tears is whole fails keeps =
+    let has = whole.has in
+    let torn_is = tears_one (d.content old) (entry last body) (d.content new) (fails_to_add d (entry last body) (d.content old) (d.content new) tears fails) in
+    let after : d.content new ≡ journal_of server has.records ++ take torn_is.0 (entry (end_of server has.records) body) =
+    torn_is.1 ∙ ap (λ (l : List ℕ). l ++ take torn_is.0 (entry last body)) has.whole ∙ ap (λ (l : List ℕ). journal_of server has.records ++ take torn_is.0 (entry l body)) (sym has.ends) in
+    record {
+      kept = kept_again server bodies (d.kept old) (d.kept new) (whole_is_honest d server bodies None last old whole).kept keeps;
+      recoverable = inr (torn_recovered server bodies (Some (body_in NEWEST_VERSION body)) has.records body torn_is.0 (d.content new) has.known has.sizes is (inl has.tells)
+          (inr ((is_pushed has.records body has.newest).tells ∙ ap (λ (l : List Body). l ++ body_in NEWEST_VERSION body ∷ []) has.tells)) after);
+    }
+
+-- a torn journal is recoverable
+pub torn_recovers : (server : ℕ) (records : Records) (body : List ℕ) (count : ℕ) → IsVersion records.version → AreBodies records.bodies → IsBody body → version_of records ≡ NEWEST_VERSION
+    → IsRecoverable server (bodies_in records) (Some (added_body body)) (torn records.version server records.bodies body count)
+torn_recovers server records body count known sizes is newest =
+    inr (torn_recovered server (bodies_in records) (Some (added_body body)) records body count (torn records.version server records.bodies body count) known sizes is (inl refl)
+    (inr (is_pushed records body newest).tells) refl)
 
 -- ---- what is kept
 
-pub kept_is_found : {D : Type 0} (d : Ghosts D) (version server : ℕ) (bodies : List (List ℕ)) (old new : D) (found : Found) (last : List ℕ) → BeginsWith (d.kept old) (d.content old) → d.is_modelled → AreBodies bodies
-    → BeginsWith (journal version server bodies) (d.kept old) → HasOpened d version server old new found last → (more : List (List ℕ)) × (found.bodies ≡ bodies ++ more)
-kept_is_found d version server bodies old new found last keeps modelled are begins opened = by (opened.finds modelled)
+pub kept_is_found : {D : Type 0} (d : Ghosts D) (server : ℕ) (bodies : List Body) (old new : D) (found : Found) (last : List ℕ) → BeginsWith (d.kept old) (d.content old) → d.is_modelled
+    → BeginsWithBodies server bodies (d.kept old) → HasOpened d server old new found last → (more : List Body) × (found.bodies ≡ bodies ++ more)
+kept_is_found d server bodies old new found last keeps modelled was opened = by (opened.finds modelled)
   where
-    front : BeginsWith (journal version server bodies) (d.content old)
-    front = begins_on (journal version server bodies) (d.kept old) (d.content old) begins keeps
+    front : BeginsWith (journal_of server was.records) (d.content old)
+    front = begins_on (journal_of server was.records) (d.kept old) (d.content old) was.begins keeps
 
-    by : Finds version server (d.content old) found.bodies found.dropped → (more : List (List ℕ)) × (found.bodies ≡ bodies ++ more)
-    by (inl first) = absurd (new_begins_not version (d.content old) version server bodies first.front front)
-    by (inr chain) = front_of_chain version server (d.content old) bodies found.bodies chain.rest are front chain.chain
+    by : Finds server (d.content old) opened.records found.dropped → (more : List Body) × (found.bodies ≡ bodies ++ more)
+    by (inl first) = absurd (new_begins_not (d.content old) was.records.version server was.records.bodies first.front front)
+    by (inr chain) =
+        let left = entries (first_link was.records.version server) was.records.bodies in
+        let right = entries (first_link opened.records.version server) opened.records.bodies in
+        let whole : header was.records.version server ++ (left ++ front.0) ≡ header opened.records.version server ++ (right ++ chain.rest) =
+        sym (append_assoc (header was.records.version server) left front.0) ∙ sym front.1 ∙ chain.longest.chain.split ∙ append_assoc (header opened.records.version server) right chain.rest in
+        let version : was.records.version ≡ opened.records.version = ninth was.records.version opened.records.version server server (left ++ front.0) (right ++ chain.rest) whole in
+        let moved : IsLongestChain was.records.version server (d.content old) opened.records.bodies chain.rest =
+        subst (λ (v : ℕ). IsLongestChain v server (d.content old) opened.records.bodies chain.rest) (sym version) chain.longest.chain in
+        let more = front_of_chain was.records.version server (d.content old) was.records.bodies opened.records.bodies chain.rest was.sizes front moved in (
+          told (version_of was.records) more.0,
+          opened.tells
+              ∙ ap (λ (v : ℕ). told v opened.records.bodies) (sym version)
+              ∙ ap (told was.records.version) more.1
+              ∙ told-append was.records.version was.records.bodies more.0
+              ∙ ap (λ (l : List Body). l ++ told (version_of was.records) more.0) was.tells,
+        )
 
-pub kept_passes : {D : Type 0} (d : Ghosts D) (version server : ℕ) (bodies : List (List ℕ)) (old new : D) (fault : OpenFault) → BeginsWith (d.kept old) (d.content old) → d.is_modelled
-    → BeginsWith (journal version server bodies) (d.kept old) → HasRefused d version server old new fault → IsPassing fault
-kept_passes d version server bodies old new Device keeps modelled begins refused = tt
-kept_passes d version server bodies old new OutOfMemory keeps modelled begins refused = tt
-kept_passes d version server bodies old new NotAJournal keeps modelled begins refused =
-    let front = begins_on (journal version server bodies) (d.kept old) (d.content old) begins keeps in
-    (refused.1 modelled).no_journal (server ∷ (entries (first_link version server) bodies ++ front.0), front.1)
-kept_passes d version server bodies old new OtherServer keeps modelled begins refused =
-    let front = begins_on (journal version server bodies) (d.kept old) (d.content old) begins keeps in
+pub kept_passes : {D : Type 0} (d : Ghosts D) (server : ℕ) (bodies : List Body) (old new : D) (fault : OpenFault) → BeginsWith (d.kept old) (d.content old) → d.is_modelled
+    → BeginsWithBodies server bodies (d.kept old) → HasRefused d server old new fault → IsPassing fault
+kept_passes d server bodies old new Device keeps modelled was refused = tt
+kept_passes d server bodies old new OutOfMemory keeps modelled was refused = tt
+kept_passes d server bodies old new NotAJournal keeps modelled was refused =
+    let records = was.records in
+    let front = begins_on (journal_of server records) (d.kept old) (d.content old) was.begins keeps in
+    (refused.1 modelled).no_journal records.version was.known (server ∷ (entries (first_link records.version server) records.bodies ++ front.0), front.1)
+kept_passes d server bodies old new OtherServer keeps modelled was refused =
+    let records = was.records in
+    let behind = entries (first_link records.version server) records.bodies in
+    let front = begins_on (journal_of server records) (d.kept old) (d.content old) was.begins keeps in
     let other = refused.1 modelled in
-    let tenth : other.owner ≡ server = ap (λ (l : List ℕ). get_or l 9 0) (sym other.begins.1 ∙ front.1) in
-    other.another tenth
+    other.another (tenth other.version records.version other.owner server other.begins.0 (behind ++ front.0)
+    (sym other.begins.1 ∙ front.1 ∙ append_assoc (header records.version server) behind front.0))
 
-pub kept_and_tail : {D : Type 0} (d : Ghosts D) (version server : ℕ) (bodies : List (List ℕ)) (doubt : Option (List ℕ)) (device : D) (tail : List ℕ) → d.kept device ≡ journal version server bodies
-    → d.content device ≡ d.kept device ++ tail → NoOtherEntry (chain_end version server bodies) doubt tail → IsHonestDevice d version server bodies doubt device
-kept_and_tail d version server bodies doubt device tail keeps behind none = record {
-  kept = inr ([], keeps ∙ sym (append-nil (journal version server bodies)));
-  recoverable = inr (tail, behind ∙ ap (λ (l : List ℕ). l ++ tail) keeps, none);
-}
+-- ---- what is told of an opening is one
 
--- the entry of the body in doubt, and no entry behind it
-pub entry_in_doubt : (before body tail : List ℕ) → NoEntry (link before body) tail → NoOtherEntry before (Some body) (entry before body ++ tail)
-entry_in_doubt before body tail none = inr (tail, refl, none)
+pub opened_is_one : {D : Type 0} (d : Ghosts D) (server : ℕ) (old new next : D) (found others : Found) (last end : List ℕ) → d.is_modelled → HasOpened d server old new found last → HasOpened d server old next others end
+    → (found ≡ others) × (last ≡ end)
+opened_is_one d server old new next found others last end modelled one other =
+    let same = finds_one server (d.content old) one.records other.records found.dropped others.dropped (one.finds modelled) (other.finds modelled) in
+    let bodies : found.bodies ≡ others.bodies = one.tells ∙ ap bodies_in same.0 ∙ sym other.tells in
+    let dropped : found.dropped ≡ others.dropped = same.1 in
+    ((λ i. record { bodies = bodies i; dropped = dropped i }), one.ends ∙ ap (λ (r : Records). end_of server (raised r)) same.0 ∙ sym other.ends)
 
--- the body in doubt is kept too, as behind an opening that wasn't answered
-pub doubt_is_kept : {D : Type 0} (d : Ghosts D) (version server : ℕ) (bodies : List (List ℕ)) (body : List ℕ) (device : D) (tail : List ℕ) → d.kept device ≡ journal version server (bodies ++ body ∷ [])
-    → d.content device ≡ d.kept device ++ tail → NoEntry (chain_end version server (bodies ++ body ∷ [])) tail → IsHonestDevice d version server bodies (Some body) device
-doubt_is_kept d version server bodies body device tail keeps behind none =
-    let end = chain_end version server bodies in
-    let front : d.kept device ≡ journal version server bodies ++ entry end body = keeps ∙ journal-push version server bodies body in
-    record {
-      kept = inr (entry end body, front);
-      recoverable = inr (
-        entry end body ++ tail,
-        behind ∙ ap (λ (l : List ℕ). l ++ tail) front ∙ append_assoc (journal version server bodies) (entry end body) tail,
-        entry_in_doubt end body tail (subst (λ (l : List ℕ). NoEntry l tail) (chain_end-push version server bodies body) none),
-      );
-    }
-
--- ---- a crash
-
-pub crashed_honestly : {D : Type 0} (d : Ghosts D) (version server : ℕ) (bodies : List (List ℕ)) (doubt : Option (List ℕ)) (old new : D) → KeepsBodies d version server bodies old
-    → HasCrashed d version server bodies doubt old new → IsHonestDevice d version server bodies doubt new
-crashed_honestly {D} d version server bodies doubt old new keeps crash = record {
-  kept = subst (λ (k : List ℕ). (bodies ≡ []) ⊎ BeginsWith (journal version server bodies) k) (sym crash.as_kept) keeps;
-  recoverable = by keeps crash.begun;
-}
-  where
-    goes : BeginsWith (journal version server bodies) (d.kept old) → IsRecoverable version server bodies doubt (d.content new)
-    goes (more, split) = inr (
-      more ++ crash.tail,
-      crash.behind ∙ ap (λ (l : List ℕ). l ++ crash.tail) split ∙ append_assoc (journal version server bodies) more crash.tail,
-      crash.none more split,
-    )
-
-    by : (bodies ≡ []) ⊎ BeginsWith (journal version server bodies) (d.kept old) → BeginsWith (header version server) (d.kept old) ⊎ BeginsWith (d.kept old ++ crash.tail) (header version server)
-        → IsRecoverable version server bodies doubt (d.content new)
-    by (inr begins) begun = goes begins
-    by (inl none) (inl (more, split)) =
-        let same : journal version server bodies ≡ header version server = ap (journal version server) none ∙ append-nil (header version server) in
-        goes (more, split ∙ ap (λ (l : List ℕ). l ++ more) (sym same))
-    by (inl none) (inr front) = inl (none, subst (λ (b : List ℕ). BeginsWith b (header version server)) (sym crash.behind) front)
-
-pub memory_crashes : (version server : ℕ) (bodies : List (List ℕ)) (doubt : Option (List ℕ)) (tail : List ℕ) (old new : Memory) → new ≡ crashed tail old → kept_bytes new ≡ kept_bytes old
-    → ((more : List ℕ) → kept_bytes old ≡ journal version server bodies ++ more → NoOtherEntry (chain_end version server bodies) doubt (more ++ tail))
-    → BeginsWith (header version server) (kept_bytes old) ⊎ BeginsWith (kept_bytes old ++ tail) (header version server)
-    → HasCrashed memory_device version server bodies doubt old new
-memory_crashes version server bodies doubt tail old new is kept none begun = record {
-  as_kept = kept;
-  tail = tail;
-  behind = ap (λ (d : Memory). d.bytes) is;
-  none = none;
-  begun = begun;
-}
-
-pub the_same_device : {D : Type 0} (d : Ghosts D) (version server : ℕ) (bodies : List (List ℕ)) (doubt : Option (List ℕ)) (device other : D) → d.content other ≡ d.content device → d.kept other ≡ d.kept device
-    → IsHonestDevice d version server bodies doubt device → IsHonestDevice d version server bodies doubt other
-the_same_device d version server bodies doubt device other content kept honest = record {
-  kept = subst (λ (k : List ℕ). (bodies ≡ []) ⊎ BeginsWith (journal version server bodies) k) (sym kept) honest.kept;
-  recoverable = subst (λ (b : List ℕ). IsRecoverable version server bodies doubt b) (sym content) honest.recoverable;
-}
-
-pub memory_tears : OnlyTears memory_device
-memory_tears = record { modelled = tt; adds_front = λ piece before after left. left }
-
-pub added_whole : {D : Type 0} (d : Ghosts D) (version server : ℕ) (bodies : List (List ℕ)) (body : List ℕ) (old new : D) → IsWhole d version server bodies old
-    → d.content new ≡ d.content old ++ entry (chain_end version server bodies) body → d.kept new ≡ d.content new → IsWhole d version server (bodies ++ body ∷ []) new
-added_whole d version server bodies body old new whole behind synced = record {
-  whole = behind ∙ ap (λ (l : List ℕ). l ++ entry (chain_end version server bodies) body) whole.whole ∙ sym (journal-push version server bodies body);
-  synced = synced;
-}
+pub opens_nothing : {D : Type 0} (d : Ghosts D) (server : ℕ) (old new : D) (found : Found) (last : List ℕ) → d.is_modelled → d.content old ≡ [] → HasOpened d server old new found last → (found.bodies ≡ []) × (found.dropped ≡ 0)
+opens_nothing d server old new found last modelled none opened =
+    let new_one : Finds server (d.content old) new_records 0 =
+    inl (record { front = (NEWEST_VERSION, is_newest, (name NEWEST_VERSION, ap (λ (l : List ℕ). l ++ name NEWEST_VERSION) (sym none))); empty = refl; whole = sym (ap length none) }) in
+    let same = finds_one server (d.content old) opened.records new_records found.dropped 0 (opened.finds modelled) new_one in
+    (opened.tells ∙ ap bodies_in same.0, same.1)

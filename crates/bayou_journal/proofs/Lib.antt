@@ -1,7 +1,9 @@
 pub mod Calls
+pub mod Crashing
 pub mod Ending
 pub mod Heading
 pub mod Honesty
+pub mod Raising
 pub mod Reading
 pub mod Tearing
 pub mod Walking

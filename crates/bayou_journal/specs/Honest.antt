@@ -3,56 +3,93 @@ use Rattle.std.specs.Prelude.{◌≡◌, ◌⊎◌, ℕ, List, [], ◌∷◌, �
 use Rattle.bayou_device.specs.Device.{BeginsWith}
 use Rattle.bayou_device.specs.Memory.{AddsFront}
 use Rattle.bayou_device.specs.declared.device.Device.{Ghosts}
-use Rattle.bayou_journal.specs.Chain.{NoEntry, chain_end, entry, header, journal, link}
+use Rattle.bayou_journal.specs.Chain.{AreBodies, NoEntry, chain_end, entries, entry, header, journal, last_link}
+use Rattle.bayou_journal.specs.Versions.{AreLongest, Body, IsVersion, Records, bodies_in, body_in, end_of, journal_of, told, version_of}
 use Rattle.bayou_journal.specs.declared.fault.OpenFault.{OpenFault}
 use Rattle.bayou_journal.specs.declared.fault.OpenFault.TheVariants.{Device, NotAJournal, OtherServer, OutOfMemory}
+use Rattle.bayou_journal.specs.declared.format.TheConstants.{NEWEST_VERSION}
 
 -- The bodies found are those that were added, or those and the one in doubt, whose append failed, if there is one.
-abbrev pub IsHonest : (bodies : List (List ℕ)) → (doubt : Option (List ℕ)) → (found : List (List ℕ)) → Type 0
+abbrev pub IsHonest : (bodies : List Body) → (doubt : Option Body) → (found : List Body) → Type 0
 IsHonest bodies None found = found ≡ bodies
 IsHonest bodies (Some body) found = (found ≡ bodies) ⊎ (found ≡ bodies ++ body ∷ [])
+
+-- a body as it is added: in the newest version
+abbrev pub added_body : List ℕ → Body
+added_body bytes = body_in NEWEST_VERSION bytes
 
 -- the journal of these bodies, and behind it the first so many bytes of the entry of one more
 abbrev pub torn : ℕ → ℕ → List (List ℕ) → List ℕ → ℕ → List ℕ
 torn version server bodies body count = journal version server bodies ++ take count (entry (chain_end version server bodies) body)
 
--- no entry stands there, behind that digest, but that of the body in doubt, if there is one, and none behind that
-abbrev pub NoOtherEntry : (before : List ℕ) → (doubt : Option (List ℕ)) → (bytes : List ℕ) → Type 0
-NoOtherEntry before None bytes = NoEntry before bytes
-NoOtherEntry before (Some body) bytes = NoEntry before bytes
-    ⊎ ((rest : List ℕ) × (bytes ≡ entry before body ++ rest) × NoEntry (link before body) rest)
+-- The bytes are the server's journal, which tells these bodies, is at the newest version, and whose next entry stands behind that
+-- digest.
+pub record HasJournal (server : ℕ) (bodies : List Body) (last bytes : List ℕ) : Type 0 where
+  pub records : Records
+  pub known : IsVersion records.version
+  pub sizes : AreBodies records.bodies
+  pub tells : bodies_in records ≡ bodies
+  pub newest : version_of records ≡ NEWEST_VERSION
+  pub ends : end_of server records ≡ last
+  pub whole : bytes ≡ journal_of server records
 
--- The bytes are the journal of these bodies, and a rest in which no entry goes on from them but that of the body in doubt; or no
--- body was added yet, and they are a front of the header.
-abbrev pub IsRecoverable : (version server : ℕ) → (bodies : List (List ℕ)) → (doubt : Option (List ℕ)) → (bytes : List ℕ) → Type 0
-IsRecoverable version server bodies doubt bytes =
-    ((bodies ≡ []) × BeginsWith bytes (header version server))
-    ⊎ ((rest : List ℕ) × (bytes ≡ journal version server bodies ++ rest) × NoOtherEntry (chain_end version server bodies) doubt rest)
+-- the device has such a journal and nothing else, and all of it is kept
+pub record IsWhole {D : Type 0} (d : Ghosts D) (server : ℕ) (bodies : List Body) (last : List ℕ) (device : D) : Type 0 where
+  pub has : HasJournal server bodies last (d.content device)
+  pub synced : d.kept device ≡ d.content device
 
--- what is kept begins with the journal of the bodies that were added, if there are any
-abbrev pub KeepsBodies : {D : Type 0} → Ghosts D → (version server : ℕ) → (bodies : List (List ℕ)) → (device : D) → Type 0
-KeepsBodies d version server bodies device = (bodies ≡ []) ⊎ BeginsWith (journal version server bodies) (d.kept device)
+-- the bytes are a front of the header of the server's journal, in some version
+abbrev pub IsFrontOfHeader : ℕ → List ℕ → Type 0
+IsFrontOfHeader server bytes = (version : ℕ) × IsVersion version × BeginsWith bytes (header version server)
 
--- The device is honest for the bodies that were added: what is kept begins with their journal, if there are any; and a read gives
--- that, and no other entry behind it but that of the body in doubt.
-pub record IsHonestDevice {D : Type 0} (d : Ghosts D) (version server : ℕ) (bodies : List (List ℕ)) (doubt : Option (List ℕ)) (device : D) : Type 0 where
-  pub kept : KeepsBodies d version server bodies device
-  pub recoverable : IsRecoverable version server bodies doubt (d.content device)
+-- the longest chain in the bytes tells the bodies that were added, or those and the one in doubt
+pub record IsRecovered (server : ℕ) (bodies : List Body) (doubt : Option Body) (bytes : List ℕ) : Type 0 where
+  pub records : Records
+  pub rest : List ℕ
+  pub longest : AreLongest server bytes records rest
+  pub honest : IsHonest bodies doubt (bodies_in records)
+
+-- it does; or no body was added yet, and the bytes are a front of the header
+abbrev pub IsRecoverable : ℕ → List Body → Option Body → List ℕ → Type 0
+IsRecoverable server bodies doubt bytes = ((bodies ≡ []) × IsFrontOfHeader server bytes) ⊎ IsRecovered server bodies doubt bytes
+
+-- the bytes begin with the server's journal of some records, which tell these bodies
+pub record BeginsWithBodies (server : ℕ) (bodies : List Body) (bytes : List ℕ) : Type 0 where
+  pub records : Records
+  pub known : IsVersion records.version
+  pub sizes : AreBodies records.bodies
+  pub tells : bodies_in records ≡ bodies
+  pub begins : BeginsWith (journal_of server records) bytes
+
+-- what is kept begins with the bodies that were added, if there are any
+abbrev pub KeepsBodies : {D : Type 0} → Ghosts D → (server : ℕ) → (bodies : List Body) → (device : D) → Type 0
+KeepsBodies d server bodies device = (bodies ≡ []) ⊎ BeginsWithBodies server bodies (d.kept device)
+
+-- The device is honest for the bodies that were added: what is kept begins with them, if there are any; and a read gives them, and no
+-- other behind them but the one in doubt.
+pub record IsHonestDevice {D : Type 0} (d : Ghosts D) (server : ℕ) (bodies : List Body) (doubt : Option Body) (device : D) : Type 0 where
+  pub kept : KeepsBodies d server bodies device
+  pub recoverable : IsRecoverable server bodies doubt (d.content device)
+
+-- the entries that go on in the bytes behind these records, up to where none stands, tell nothing, or the body in doubt
+pub record GoesOnHonestly (server : ℕ) (records : Records) (doubt : Option Body) (bytes : List ℕ) : Type 0 where
+  pub more : List (List ℕ)
+  pub rest : List ℕ
+  pub sizes : AreBodies more
+  pub split : bytes ≡ entries (end_of server records) more ++ rest
+  pub longest : NoEntry (last_link (end_of server records) more) rest
+  pub honest : IsHonest [] doubt (told (version_of records) more)
 
 -- The device crashed, maybe as a body was being added: it keeps what it kept, and behind that stands any tail. In what is kept behind the
--- bodies that were added, and the tail, no entry goes on from them but that of the body in doubt, and none behind that; and where the
--- header wasn't kept yet, no more than the header stands there.
-pub record HasCrashed {D : Type 0} (d : Ghosts D) (version server : ℕ) (bodies : List (List ℕ)) (doubt : Option (List ℕ)) (old new : D) : Type 0 where
+-- bodies that were added, and the tail, nothing goes on from them but the body in doubt; and where the header wasn't kept yet, no more
+-- than the header stands there.
+pub record HasCrashed {D : Type 0} (d : Ghosts D) (server : ℕ) (bodies : List Body) (doubt : Option Body) (old new : D) : Type 0 where
   pub as_kept : d.kept new ≡ d.kept old
   pub tail : List ℕ
   pub behind : d.content new ≡ d.kept old ++ tail
-  pub none : (more : List ℕ) → d.kept old ≡ journal version server bodies ++ more → NoOtherEntry (chain_end version server bodies) doubt (more ++ tail)
-  pub begun : BeginsWith (header version server) (d.kept old) ⊎ BeginsWith (d.kept old ++ tail) (header version server)
-
--- the device has the journal of these bodies and nothing else, and all of it is kept
-pub record IsWhole {D : Type 0} (d : Ghosts D) (version server : ℕ) (bodies : List (List ℕ)) (device : D) : Type 0 where
-  pub whole : d.content device ≡ journal version server bodies
-  pub synced : d.kept device ≡ d.content device
+  pub none : (records : Records) (more : List ℕ) → IsVersion records.version → AreBodies records.bodies → bodies_in records ≡ bodies → d.kept old ≡ journal_of server records ++ more
+      → GoesOnHonestly server records doubt (more ++ tail)
+  pub begun : ((version : ℕ) × IsVersion version × BeginsWith (header version server) (d.kept old)) ⊎ IsFrontOfHeader server (d.kept old ++ tail)
 
 -- The clauses say what the device holds, and a call that fails does no more than to tear: it adds no more than a front of its piece.
 pub record OnlyTears {D : Type 0} (d : Ghosts D) : Type 0 where

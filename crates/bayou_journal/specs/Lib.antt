@@ -6,3 +6,4 @@ pub mod Journal
 pub mod Laws
 pub mod Opened
 pub mod Opening
+pub mod Versions

@@ -1,14 +1,18 @@
-ghost use Rattle.std.specs.Prelude.{◌≡◌, ◌+◌, ◌-◌, ◌++◌, ◌↔◌, ℕ, List, All, IfNone, IfOk, IfSome, IsErrOf, IsTrue, length, map};
+ghost use Rattle.std.specs.Prelude.{◌≡◌, ◌+◌, ◌++◌, ◌↔◌, ℕ, List, IfNone, IfOk, IfSome, IsErrOf, IsTrue, get_or, length};
 ghost use Rattle.bayou_device.specs.Device.{BeginsWith};
 ghost use Rattle.bayou_journal.specs.Chain;
-ghost use Rattle.bayou_journal.specs.Chain.{AreBodies, IsBody, IsLongestChain, NoEntry, chain_end, header};
-ghost use Rattle.bayou_journal.specs.Opened.{IsWithin, bytes_at};
-ghost use Rattle.bayou_journal.specs.declared.format.TheConstants.{VERSION};
-ghost use Rattle.bayou_journal.specs.Inner.Heads.{EndsAt, HasHead};
-ghost use Rattle.bayou_journal.specs.Opening.{Finds, IsForeign, IsOfAnother};
+ghost use Rattle.bayou_journal.specs.Chain.{IsBody, NoEntry, header};
+ghost use Rattle.bayou_journal.specs.declared.format.TheConstants.{MAGIC_BYTES, NEWEST_VERSION};
+ghost use Rattle.bayou_journal.specs.Inner.Heads.{HasHead};
+ghost use Rattle.bayou_journal.specs.Inner.Reads.{IsFound, IsRead};
+ghost use Rattle.bayou_journal.specs.Opening.{IsForeign, IsOfAnother};
+ghost use Rattle.bayou_journal.specs.Versions.{IsVersion, marked};
 
 use crate::fault::OpenFault;
-use crate::format::{DIGEST_BYTES, HEADER_BYTES, LENGTH_BYTES, NAME_BYTES, header_of, link_of};
+use crate::format::{
+    DIGEST_BYTES, HEADER_BYTES, LENGTH_BYTES, MAGIC_BYTES, NAME_BYTES, NEWEST_VERSION, header_of,
+    is_version, link_of,
+};
 use crate::opened::Place;
 use bayou_base::{MAX_BODY_BYTES, ServerId};
 use sha2::{Digest, Sha256};
@@ -17,10 +21,10 @@ use std::alloc::{AllocError, Global};
 // What stands at the front of some bytes.
 #[derive(Clone, Copy)]
 pub enum Head {
-    // The front of a header, and nothing behind it.
+    // The front of a header, in some version, and nothing behind it.
     New,
-    // The server's header.
-    Whole,
+    // The server's own header, in this version.
+    Own(u8),
     // Another server's header.
     OfAnother,
     // Anything else.
@@ -35,11 +39,12 @@ pub struct Entry<'a> {
     pub rest: &'a [u8],
 }
 
-// The chain that some bytes hold: where its bodies lie, the digest of the last entry, and where it ends (0 where not even
-// a header is there).
+// The chain that some bytes hold, as it was read: where the bodies lie that it tells, the version and the digest that it has
+// behind its last entry, and where it ends (0 where not even a header is there).
 #[derive(Drop)]
-pub struct Links {
+pub struct ReadChain {
     pub places: Vec<Place>,
+    pub version: u8,
     pub last: [u8; DIGEST_BYTES],
     pub end: usize,
 }
@@ -74,78 +79,105 @@ pub fn first_entry<'a>(before: &[u8; DIGEST_BYTES], bytes: &'a [u8]) -> Option<E
     Some(Entry { body, digest, rest })
 }
 
-// The digest that a server's first entry stands behind.
-pub fn first_link_of(server: ServerId) -> [u8; DIGEST_BYTES]
-    ensures { result ≡ Chain.first_link VERSION server.index }
+// The digest that a server's first entry stands behind, in a version of the format.
+pub fn first_link_of(version: u8, server: ServerId) -> [u8; DIGEST_BYTES]
+    ensures { result ≡ Chain.first_link version server.index }
 {
-    Sha256::digest(header_of(server))
+    Sha256::digest(header_of(version, server))
 }
 
-// The longest chain of a server's journal.
-pub fn chain_of(alloc: Global, server: ServerId, bytes: &[u8]) -> Result<Links, AllocError>
-    requires { BeginsWith (header VERSION server.index) bytes.now }
-    ensures chain { IfOk result (λ links. (rest : List ℕ) × IsLongestChain VERSION server.index bytes.now (map (bytes_at bytes.now) links.places.items) rest × (links.end + length rest ≡ length bytes.now)) }
-    ensures last { IfOk result (λ links. links.last ≡ chain_end VERSION server.index (map (bytes_at bytes.now) links.places.items)) }
-    ensures within { IfOk result (λ links. All (IsWithin (length bytes.now)) links.places.items) }
+// The later version that the body marks, where the chain has this one.
+pub fn marked_by(version: u8, body: &[u8]) -> Option<u8>
+    ensures { result ≡ marked version body.now }
+{
+    match body {
+        [mark] if version < *mark && *mark <= NEWEST_VERSION => Some(*mark),
+        _ => None,
+    }
+}
+
+// The longest chain of a server's journal whose header has this version.
+pub fn chain_of(
+    alloc: Global,
+    version: u8,
+    server: ServerId,
+    bytes: &[u8],
+) -> Result<ReadChain, AllocError>
+    requires version { IsVersion version }
+    requires header { BeginsWith (header version server.index) bytes.now }
+    ensures { IfOk result (λ chain. (rest : List ℕ) × IsRead version server.index bytes.now chain.places.items chain.version chain.last rest × NoEntry chain.last rest
+        × (chain.end + length rest ≡ length bytes.now)) }
 {
     let mut places = Vec::new(alloc);
-    let mut last = first_link_of(server);
+    let mut now = version;
+    let mut last = first_link_of(version, server);
     let mut rest = &bytes[HEADER_BYTES..];
     while let Some(first) = first_entry(&last, rest) {
         let start = bytes.len() - rest.len() + LENGTH_BYTES;
         let end = start + first.body.len();
-        places.push(Place { start, end })?;
+        match marked_by(now, first.body) {
+            Some(later) => now = later,
+            None => places.push(Place {
+                start,
+                end,
+                version: now,
+            })?,
+        }
         last = first.digest;
         rest = first.rest;
     }
-    Ok(Links {
+    Ok(ReadChain {
         places,
+        version: now,
         last,
         end: bytes.len() - rest.len(),
     })
 }
 
+// The version that the bytes name; or the newest, where they are too short to name one.
+pub fn version_in(bytes: &[u8]) -> u8
+    ensures { result ≡ get_or bytes.now MAGIC_BYTES NEWEST_VERSION }
+{
+    match bytes.get(MAGIC_BYTES) {
+        Some(version) => *version,
+        None => NEWEST_VERSION,
+    }
+}
+
 // What stands at the front of the bytes of what should be a server's journal.
 pub fn head_of(server: ServerId, bytes: &[u8]) -> Head
-    ensures { HasHead VERSION server.index bytes.now result }
+    ensures { HasHead server.index bytes.now result }
 {
-    let header = header_of(server);
-    if bytes.len() < HEADER_BYTES {
-        let (front, _) = header.as_slice().split_at(bytes.len());
-        return if is_same(front, bytes) {
-            Head::New
-        } else {
-            Head::Foreign
-        };
-    }
-    if !is_same(&bytes[..NAME_BYTES], &header[..NAME_BYTES]) {
+    let version = version_in(bytes);
+    let header = header_of(version, server);
+    let named = bytes.len().min(NAME_BYTES);
+    if !is_version(version) || !is_same(&bytes[..named], &header[..named]) {
         return Head::Foreign;
     }
-    if bytes[NAME_BYTES] == server.index {
-        Head::Whole
+    if bytes.len() < HEADER_BYTES {
+        Head::New
+    } else if bytes[NAME_BYTES] == server.index {
+        Head::Own(version)
     } else {
         Head::OfAnother
     }
 }
 
 // The chain that an opening finds.
-pub fn links_of(alloc: Global, server: ServerId, bytes: &[u8]) -> Result<Links, OpenFault>
-    ensures finds { IfOk result (λ links. Finds VERSION server.index bytes.now (map (bytes_at bytes.now) links.places.items) (length bytes.now - links.end)) }
-    ensures end { IfOk result (λ links. EndsAt VERSION server.index bytes.now (map (bytes_at bytes.now) links.places.items) links.end) }
-    ensures last { IfOk result (λ links. links.last ≡ chain_end VERSION server.index (map (bytes_at bytes.now) links.places.items)) }
-    ensures sizes { IfOk result (λ links. AreBodies (map (bytes_at bytes.now) links.places.items)) }
-    ensures within { IfOk result (λ links. All (IsWithin (length bytes.now)) links.places.items) }
-    ensures foreign { IsErrOf result OpenFault.NotAJournal → IsForeign VERSION bytes.now }
-    ensures other { IsErrOf result OpenFault.OtherServer → IsOfAnother VERSION server.index bytes.now }
+pub fn find_chain(alloc: Global, server: ServerId, bytes: &[u8]) -> Result<ReadChain, OpenFault>
+    ensures found { IfOk result (λ chain. IsFound server.index bytes.now chain.places.items chain.version chain.last chain.end) }
+    ensures foreign { IsErrOf result OpenFault.NotAJournal → IsForeign bytes.now }
+    ensures other { IsErrOf result OpenFault.OtherServer → IsOfAnother server.index bytes.now }
     ensures no_device { IsErrOf result OpenFault.Device → ⊥ }
 {
     match head_of(server, bytes) {
-        Head::New => Ok(Links {
+        Head::New => Ok(ReadChain {
             places: Vec::new(alloc),
-            last: first_link_of(server),
+            version: NEWEST_VERSION,
+            last: first_link_of(NEWEST_VERSION, server),
             end: 0,
         }),
-        Head::Whole => Ok(chain_of(alloc, server, bytes)?),
+        Head::Own(version) => Ok(chain_of(alloc, version, server, bytes)?),
         Head::Foreign => Err(OpenFault::NotAJournal),
         Head::OfAnother => Err(OpenFault::OtherServer),
     }

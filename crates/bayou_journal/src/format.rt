@@ -1,7 +1,7 @@
-ghost use Rattle.std.specs.Prelude.{◌≡◌, ◌+◌, ◌<◌, ◌≤◌, ◌^◌, ◌++◌, length, vec_capacity, vec_len};
+ghost use Rattle.std.specs.Prelude.{◌≡◌, ◌↔◌, ◌+◌, ◌<◌, ◌≤◌, ◌^◌, ◌++◌, IsTrue, length, vec_capacity, vec_len};
 ghost use Rattle.bayou_base.specs.declared.limits.TheConstants.{MAX_BODY_BYTES};
-ghost use Rattle.bayou_journal.specs.declared.format.TheConstants.{VERSION};
 ghost use Rattle.bayou_journal.specs.Chain;
+ghost use Rattle.bayou_journal.specs.Versions.{IsVersion};
 
 use bayou_base::{MAX_BODY_BYTES, ServerId};
 use sha2::{Digest, Sha256};
@@ -9,14 +9,21 @@ use sha2::{Digest, Sha256};
 /// What every journal begins with, before its version.
 pub const MAGIC: [u8; 8] = *b"BAYOUJNL";
 
-/// The version of the format: entries of plain bodies.
-pub const VERSION: u8 = 1;
+/// The oldest version of the format that is read: entries of plain bodies.
+pub const FIRST_VERSION: u8 = 1;
+
+/// The version of new journals, and the one that bodies are added in. A journal of an earlier one is raised to it in place, behind a
+/// mark.
+pub const NEWEST_VERSION: u8 = 1;
+
+/// How many bytes stand before the version: the magic bytes.
+pub const MAGIC_BYTES: usize = 8;
 
 /// How many bytes stand before the server's identifier: the magic bytes and the version.
-pub const NAME_BYTES: usize = 9;
+pub const NAME_BYTES: usize = MAGIC_BYTES + 1;
 
 /// How many bytes a header has: the name and the server's identifier.
-pub const HEADER_BYTES: usize = 10;
+pub const HEADER_BYTES: usize = NAME_BYTES + 1;
 
 /// How many bytes an entry's length has, before its body.
 pub const LENGTH_BYTES: usize = 2;
@@ -27,12 +34,19 @@ pub const DIGEST_BYTES: usize = 32;
 /// How many bytes an entry has at the most.
 pub const ENTRY_BYTES: usize = LENGTH_BYTES + MAX_BODY_BYTES + DIGEST_BYTES;
 
-/// The header of a server's journal.
-pub fn header_of(server: ServerId) -> [u8; HEADER_BYTES]
-    ensures { result ≡ Chain.header VERSION server.index }
+// Whether the format has such a version.
+pub(crate) fn is_version(version: u8) -> bool
+    ensures { IsTrue result ↔ IsVersion version }
+{
+    FIRST_VERSION <= version && version <= NEWEST_VERSION
+}
+
+/// The header of a server's journal in a version of the format.
+pub fn header_of(version: u8, server: ServerId) -> [u8; HEADER_BYTES]
+    ensures { result ≡ Chain.header version server.index }
 {
     let [b, a, y, o, u, j, n, l] = MAGIC;
-    [b, a, y, o, u, j, n, l, VERSION, server.index]
+    [b, a, y, o, u, j, n, l, version, server.index]
 }
 
 /// The digest of an entry.
@@ -69,4 +83,14 @@ pub(crate) fn write_entry(bytes: &mut Vec<u8>, body: &[u8], digest: &[u8; DIGEST
     put(bytes, (body.len() as u16).to_be_bytes().as_slice());
     put(bytes, body);
     put(bytes, digest.as_slice());
+}
+
+// Writes a header in the place of what the bytes were, which takes no memory.
+pub(crate) fn write_header(bytes: &mut Vec<u8>, header: &[u8; HEADER_BYTES])
+    requires room { ENTRY_BYTES ≤ vec_capacity bytes.old }
+    ensures items { bytes.new.items ≡ header.now }
+    ensures room { ENTRY_BYTES ≤ vec_capacity bytes.new }
+{
+    bytes.clear();
+    put(bytes, header.as_slice());
 }

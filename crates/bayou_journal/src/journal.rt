@@ -5,7 +5,6 @@ ghost use Rattle.bayou_journal.specs.contracts.journal.Journal.{the_row};
 ghost use Rattle.bayou_device.specs.Device.{Rose};
 ghost use Rattle.bayou_journal.specs.Chain;
 ghost use Rattle.bayou_journal.specs.Chain.{IsBody};
-ghost use Rattle.bayou_journal.specs.declared.format.TheConstants.{VERSION};
 ghost use Rattle.bayou_journal.specs.Opening.{FailsToAdd, HasOpened, HasRefused, KeepsChains, OpensInCalls};
 
 use crate::fault::{AppendFault, NotOpened, OpenFault};
@@ -42,20 +41,21 @@ impl<D> Model for Journal<D> {
 
 impl<D: Device> Journal<D> {
     /// Opens the server's journal that the device has, or begins it where the device has nothing but the front of a header.
-    /// Device calls: the read; the cut, if something stands behind the chain; the append of the header, if it isn't there;
-    /// the sync. A refusal hands the device back.
+    /// A journal of an earlier version is raised to the newest, behind a mark. Device calls: the read; the cut, if something
+    /// stands behind the chain; the append of the header, if it isn't there, or of the mark, if the chain is of an earlier
+    /// version; the sync. A refusal hands the device back.
     pub fn open(
         alloc: Global,
         server: ServerId,
         device: D,
     ) -> Result<(Journal<D>, Opened), NotOpened<D>>
-        ensures opened { IfOk result (λ opened. HasOpened D.Device VERSION server.index device opened.0.device opened.1 opened.0.last) }
+        ensures opened { IfOk result (λ opened. HasOpened D.Device server.index device opened.0.device opened.1 opened.0.last) }
         ensures state { IfOk result (λ opened. (opened.0.server ≡ server.index) × (opened.0.is_down ≡ false)) }
-        ensures refused { IfErr result (λ refused. HasRefused D.Device VERSION server.index device refused.device refused.fault) }
+        ensures refused { IfErr result (λ refused. HasRefused D.Device server.index device refused.device refused.fault) }
         ensures safe { D.is_modelled → IfOk result (λ opened. KeepsChains (D.kept device) (D.kept opened.0.device)) }
         ensures safe_refused { D.is_modelled → IfErr result (λ refused. KeepsChains (D.kept device) (D.kept refused.device)) }
-        ensures calls { IfOk result (λ opened. OpensInCalls D.Device VERSION server.index device opened.0.device) }
-        ensures calls_refused { IfErr result (λ refused. OpensInCalls D.Device VERSION server.index device refused.device) }
+        ensures calls { IfOk result (λ opened. OpensInCalls D.Device server.index device opened.0.device) }
+        ensures calls_refused { IfErr result (λ refused. OpensInCalls D.Device server.index device refused.device) }
         ensures uncut { IfOk result (λ opened. opened.1.dropped ≡ 0 → D.leads_to 3 device opened.0.device) }
     {
         let mut device = device;
@@ -66,7 +66,7 @@ impl<D: Device> Journal<D> {
                 device,
             });
         }
-        match restore(alloc, server, &mut device) {
+        match restore(alloc, server, &mut device, &mut entry) {
             Err(fault) => Err(NotOpened { fault, device }),
             Ok(restored) => {
                 let last = restored.last;
@@ -118,15 +118,15 @@ impl<D: Device> Journal<D> {
     /// Opens it again, with the same device calls, also where it isn't down. After a refusal it is down, and a cut that was
     /// made stays made.
     pub fn reopen(&mut self, alloc: Global) -> Result<Opened, OpenFault>
-        ensures opened { IfOk result (λ opened. HasOpened D.Device VERSION self.old.server self.old.device self.new.device opened self.new.last) }
+        ensures opened { IfOk result (λ opened. HasOpened D.Device self.old.server self.old.device self.new.device opened self.new.last) }
         ensures up { OnOk result (self.new ≡ record self.old { device = self.new.device; last = self.new.last; is_down = false }) }
-        ensures refused { IfErr result (λ fault. HasRefused D.Device VERSION self.old.server self.old.device self.new.device fault) }
+        ensures refused { IfErr result (λ fault. HasRefused D.Device self.old.server self.old.device self.new.device fault) }
         ensures down { OnErr result (self.new ≡ record self.old { device = self.new.device; is_down = true }) }
         ensures safe { D.is_modelled → KeepsChains (D.kept self.old.device) (D.kept self.new.device) }
-        ensures calls { OpensInCalls D.Device VERSION self.old.server self.old.device self.new.device }
+        ensures calls { OpensInCalls D.Device self.old.server self.old.device self.new.device }
         ensures uncut { IfOk result (λ opened. opened.dropped ≡ 0 → D.leads_to 3 self.old.device self.new.device) }
     {
-        match restore(alloc, self.server, &mut self.device) {
+        match restore(alloc, self.server, &mut self.device, &mut self.entry) {
             Err(fault) => {
                 self.is_down = true;
                 Err(fault)

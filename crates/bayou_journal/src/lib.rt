@@ -6,6 +6,11 @@
 //! the digest (SHA-256, FIPS 180-4) over the digest before it, the body's length and the body; the chain is the longest
 //! run of such entries from the header on, and there is one. At every exit, each chain that was synced at entry is there.
 //!
+//! The header names a version of the format, from the first to the newest. An entry's body of one byte, which is a later
+//! version than the chain has there, is a mark: the chain has that version from there on. Callers don't see marks; they see
+//! each other body, in the version that the chain has there. An opening raises an older chain to the newest version by a
+//! mark behind it, and changes nothing before that, so bodies are added in the newest version alone.
+//!
 //! A caller appends bodies of 1 to [`MAX_BODY_BYTES`](bayou_base::MAX_BODY_BYTES) bytes. The crate doesn't promise what a
 //! real file holds, nor that a digest is never met by chance.
 #![tactic(auto)]

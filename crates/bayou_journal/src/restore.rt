@@ -1,13 +1,14 @@
-ghost use Rattle.std.specs.Prelude.{◌≡◌, ◌≤◌, ◌++◌, ℕ, [], length, take, IfOk, OnErr, OnOk, IfErr};
+ghost use Rattle.std.specs.Prelude.{◌≡◌, ◌≤◌, ◌++◌, [], length, take, IfOk, OnErr, OnOk, IfErr, vec_capacity};
 ghost use Rattle.bayou_device.specs.Device.{BeginsWith, Rose};
-ghost use Rattle.bayou_journal.specs.declared.format.TheConstants.{VERSION};
-ghost use Rattle.bayou_journal.specs.Chain;
-ghost use Rattle.bayou_journal.specs.Inner.Heads.{missing};
+ghost use Rattle.bayou_journal.specs.declared.format.TheConstants.{ENTRY_BYTES};
+ghost use Rattle.bayou_journal.specs.Inner.Heads.{missing, raised_link};
 ghost use Rattle.bayou_journal.specs.Opening.{FailsToAdd, HasOpened, HasRefused, KeepsChains, OpensInCalls};
 
-use crate::chain::links_of;
+use crate::chain::{ReadChain, find_chain};
 use crate::fault::OpenFault;
-use crate::format::{DIGEST_BYTES, HEADER_BYTES, header_of};
+use crate::format::{
+    DIGEST_BYTES, ENTRY_BYTES, NEWEST_VERSION, header_of, link_of, write_entry, write_header,
+};
 use crate::opened::Opened;
 use bayou_base::ServerId;
 use bayou_device::{Device, Failed};
@@ -57,34 +58,52 @@ pub fn drop_tail<D: Device>(device: &mut D, total: usize, end: usize) -> Result<
     device.cut(end)
 }
 
-// The header, where nothing is left.
-fn missing_of(end: usize, header: &[u8; HEADER_BYTES]) -> &[u8]
-    ensures { (server : ℕ) → header.now ≡ Chain.header VERSION server → result.now ≡ missing VERSION server end }
+// Writes what the chain lacks in the place of what the piece was: the header, where nothing is left; the mark of the newest
+// version, where the chain hasn't got it; or nothing. It gives the digest that the next entry stands behind then.
+fn write_missing(piece: &mut Vec<u8>, server: ServerId, chain: &ReadChain) -> [u8; DIGEST_BYTES]
+    requires room { ENTRY_BYTES ≤ vec_capacity piece.old }
+    ensures items { piece.new.items ≡ missing server.index chain.now.version chain.now.last chain.now.end }
+    ensures last { result ≡ raised_link chain.now.version chain.now.last }
+    ensures room { ENTRY_BYTES ≤ vec_capacity piece.new }
 {
-    if end == 0 { header.as_slice() } else { &[] }
+    if chain.version != NEWEST_VERSION {
+        let mark = [NEWEST_VERSION];
+        let digest = link_of(&chain.last, &mark);
+        write_entry(piece, &mark, &digest);
+        return digest;
+    }
+    if chain.end == 0 {
+        write_header(piece, &header_of(NEWEST_VERSION, server));
+    } else {
+        piece.clear();
+    }
+    chain.last
 }
 
-// Reads the journal, cuts what stands behind its longest chain, adds the header where it isn't there, and syncs.
+// Reads the journal, cuts what stands behind its longest chain, adds the header where it isn't there, or the mark behind an
+// older chain, and syncs. The piece is room for what is added.
 pub fn restore<D: Device>(
     alloc: Global,
     server: ServerId,
     device: &mut D,
+    piece: &mut Vec<u8>,
 ) -> Result<Restored, OpenFault>
-    ensures opened { IfOk result (λ restored. HasOpened D.Device VERSION server.index device.old device.new restored.opened restored.last) }
-    ensures refused { IfErr result (λ fault. HasRefused D.Device VERSION server.index device.old device.new fault) }
+    requires room { ENTRY_BYTES ≤ vec_capacity piece.old }
+    ensures room { ENTRY_BYTES ≤ vec_capacity piece.new }
+    ensures opened { IfOk result (λ restored. HasOpened D.Device server.index device.old device.new restored.opened restored.last) }
+    ensures refused { IfErr result (λ fault. HasRefused D.Device server.index device.old device.new fault) }
     ensures safe { D.is_modelled → KeepsChains (D.kept device.old) (D.kept device.new) }
-    ensures calls { OpensInCalls D.Device VERSION server.index device.old device.new }
+    ensures calls { OpensInCalls D.Device server.index device.old device.new }
     ensures uncut { IfOk result (λ restored. restored.opened.dropped ≡ 0 → D.leads_to 3 device.old device.new) }
 {
     let bytes = device.read_all(alloc)?;
-    let links = links_of(alloc, server, &bytes)?;
-    drop_tail(device, bytes.len(), links.end)?;
-    let header = header_of(server);
-    let last = links.last;
-    match write_through(device, missing_of(links.end, &header)) {
+    let chain = find_chain(alloc, server, &bytes)?;
+    drop_tail(device, bytes.len(), chain.end)?;
+    let last = write_missing(piece, server, &chain);
+    match write_through(device, piece) {
         Err(Failed) => Err(OpenFault::Device),
         Ok(()) => Ok(Restored {
-            opened: Opened::new(bytes, links.places, links.end),
+            opened: Opened::new(bytes, chain.places, chain.end),
             last,
         }),
     }

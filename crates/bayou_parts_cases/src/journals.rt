@@ -33,10 +33,10 @@ fn device_of(bytes: Vec<u8>) -> Memory {
     MemoryDevice::with_bytes(bytes, OpenGate)
 }
 
-/// Whether the bodies found are these.
+/// Whether the bodies found are these, each in the format's only version.
 fn are_found(found: &Opened, bodies: &[&[u8]]) -> bool {
     for (at, body) in bodies.iter().enumerate() {
-        if at >= found.len() || found.body(at) != *body {
+        if at >= found.len() || found.body(at) != *body || found.version(at) != 1 {
             return false;
         }
     }
@@ -113,6 +113,18 @@ fn the_longest_body_is_found_again(rt: HostRuntime) {
         None => false,
     };
     assert!(rt; is_found);
+}
+
+/// Bodies of one byte each, which would mark a version if there were a later one.
+static BYTES: [&[u8]; 4] = [b"\x00", b"\x01", b"\x02", b"\x03"];
+
+#[test]
+fn no_body_marks_a_version(rt: HostRuntime) {
+    let are_found = match with_bodies(rt.alloc(), server_id(&rt, 0), &BYTES) {
+        Some(device) => device.bytes().len() == 150,
+        None => false,
+    };
+    assert!(rt; are_found);
 }
 
 /// What an opening finds, and the device then.
@@ -214,9 +226,15 @@ fn a_changed_byte_ends_the_chain_before_it(rt: HostRuntime) {
 }
 
 /// A server, bytes, and why they are no journal of its own.
-static FOREIGN: [(u8, &str, OpenFault); 2] = [
+static FOREIGN: [(u8, &str, OpenFault); 7] = [
     (0, "68656c6c6f", OpenFault::NotAJournal),
     (1, THREE, OpenFault::OtherServer),
+    // Versions that there aren't, with no identifier behind them, with the server's, and with another's.
+    (0, "4241594f554a4e4c 02", OpenFault::NotAJournal),
+    (0, "4241594f554a4e4c 0200", OpenFault::NotAJournal),
+    (0, "4241594f554a4e4c 0201", OpenFault::NotAJournal),
+    (0, "4241594f554a4e4c 00", OpenFault::NotAJournal),
+    (0, "4241594f554a4e4c 0000", OpenFault::NotAJournal),
 ];
 
 /// Whether the bytes that the text says have this fault, and are left so.

@@ -1,25 +1,25 @@
 -- How a Write is added: the entry behind those of the Writes held, and then the Write.
 use Rattle.std.proofs.Common.{◌≡◌, ℕ, ◌≤◌, List, [], ◌∷◌, ◌++◌, Option, None, Some, Result, Ok, Err, true, false, refl, sym, ◌∙◌, ap, subst}
 use Rattle.std.specs.Prelude.{IsErrOf, OnOk, is_err, is_some}
-use Rattle.std.proofs.lemmas.List.{map-append}
 use Rattle.bayou_base.specs.declared.limits.TheConstants.{MAX_WRITES}
 use Rattle.bayou_device.specs.Device.{Rose}
 use Rattle.bayou_journal.specs.declared.fault.AppendFault.{AppendFault}
 use Rattle.bayou_journal.specs.declared.fault.AppendFault.TheVariants as append
-use Rattle.bayou_journal.specs.Chain.{chain_end, entry, journal, link}
-use Rattle.bayou_journal.specs.Laws.Chain.{chain_end-push, journal-push}
+use Rattle.bayou_journal.specs.Chain.{IsBody, entry, link}
+use Rattle.bayou_journal.specs.Honest.{HasJournal, added_body}
 use Rattle.bayou_journal.specs.Journal.{JournalState}
-use Rattle.bayou_journal.specs.declared.format.TheConstants.{VERSION}
+use Rattle.bayou_journal.specs.Versions.{Body}
 use Rattle.bayou_journal.specs.Opening.{FailsToAdd}
 use Rattle.bayou_lang.specs.declared.write.Write.{Write}
 use Rattle.bayou_log.specs.Log.{Log, IsReserved}
 use Rattle.bayou_wire.specs.Spelling.{write_bytes}
-use Rattle.bayou_server.specs.Inner.Fields.{BelongTogether, Stands, core_of}
+use Rattle.bayou_server.specs.Inner.Fields.{BelongTogether, Stands, core_of, server_of}
 use Rattle.bayou_server.specs.declared.storing.Stored.{Stored}
 use Rattle.bayou_server.specs.declared.storing.Stored.TheVariants.{Held, InDoubt}
-use Rattle.bayou_server.specs.Inner.Storing.{Settles, StoresEntry}
+use Rattle.bayou_server.specs.Inner.Storing.{Settles, StaysStored, StoresEntry}
 use Rattle.bayou_server.specs.Server.{Core, IsSoundServer, MayBeInDoubt, ServerState}
-use Rattle.bayou_server.specs.Stored.{HasAdded, IsEntryOf, IsStored, bodies_of}
+use Rattle.bayou_server.specs.Stored.{HasAdded, IsEntryOf, IsStored, IsBodyOf, Stores}
+use Rattle.bayou_server.proofs.Bodies.{both_more}
 use Rattle.bayou_server.proofs.Steps.{sound_next}
 use Rattle.bayou_device.specs.declared.device.Device.{Ghosts}
 
@@ -33,53 +33,21 @@ pub none_of : (doubt : Option Write) → is_some doubt ≡ false → doubt ≡ N
 none_of None up = refl
 none_of (Some write) up = absurd cc
 
--- while the server is up its journal is, and ends as the Writes held say
-pub stands_up : {D : Type 0} (journal : JournalState D) (log : Log) (id : ℕ) (doubt : Option Write) → BelongTogether journal log id doubt → is_some doubt ≡ false
-    → (journal.is_down ≡ false) × (journal.last ≡ chain_end VERSION id (bodies_of log.receipts))
-stands_up journal log id doubt together up =
-    let stands : Stands journal log None = subst (λ (d : Option Write). Stands journal log d) (none_of doubt up) together.stands in
-    (stands.0, stands.1 ∙ ap (λ (s : ℕ). chain_end VERSION s (bodies_of log.receipts)) together.owner)
-
--- one body more
-pub bodies_of-push : (held : List Write) (write : Write) → bodies_of (held ++ write ∷ []) ≡ bodies_of held ++ write_bytes write ∷ []
-bodies_of-push held write = map-append write_bytes held (write ∷ [])
-
--- the entry that the journal adds
-pub entry_is : {D : Type 0} (journal : JournalState D) (log : Log) (id : ℕ) (doubt : Option Write) (made : Write) (bytes : List ℕ) → BelongTogether journal log id doubt
-    → is_some doubt ≡ false → bytes ≡ write_bytes made → IsEntryOf id log.receipts made (entry journal.last bytes)
-entry_is journal log id doubt made bytes together up spelled = record {
-  bodies = bodies_of log.receipts;
-  body = write_bytes made;
-  before = refl;
-  after = sym (bodies_of-push log.receipts made);
-  is = ap (λ (l : List ℕ). entry l bytes) (stands_up journal log id doubt together up).1
-      ∙ ap (λ (b : List ℕ). entry (chain_end VERSION id (bodies_of log.receipts)) b) spelled;
-}
+-- while the server is up its journal is
+pub stands_up : {D : Type 0} (journal : JournalState D) (log : Log) (id : ℕ) (doubt : Option Write) → BelongTogether journal log id doubt → is_some doubt ≡ false → journal.is_down ≡ false
+stands_up journal log id doubt together up = subst (λ (d : Option Write). Stands journal log d) (none_of doubt up) together.stands
 
 -- the fields still belong together once the entry and the Write were added
 pub after_adding : {D : Type 0} (journal new : JournalState D) (log after : Log) (id : ℕ) (doubt : Option Write) (made : Write) (bytes : List ℕ)
-    → BelongTogether journal log id doubt → is_some doubt ≡ false → MayBeInDoubt id log.count log.limit log.receipts made → bytes ≡ write_bytes made
+    → BelongTogether journal log id doubt → is_some doubt ≡ false → MayBeInDoubt id log.count log.limit log.receipts made
     → new ≡ record journal { device = new.device; last = link journal.last bytes }
     → after ≡ record log { receipts = log.receipts ++ made ∷ []; room = after.room; waiting = after.waiting } → BelongTogether new after id doubt
-after_adding {D} journal new log after id doubt made bytes together up may spelled new_is after_is =
-    let before = stands_up journal log id doubt together up in
-    let owner : new.server ≡ id = ap (λ (j : JournalState D). j.server) new_is ∙ together.owner in
-    let receipts : after.receipts ≡ log.receipts ++ made ∷ [] = ap (λ (l : Log). l.receipts) after_is in
-    let last : new.last ≡ chain_end VERSION new.server (bodies_of after.receipts) =
-    ap (λ (j : JournalState D). j.last) new_is
-    ∙ ap (λ (l : List ℕ). link l bytes) before.1
-    ∙ ap (λ (b : List ℕ). link (chain_end VERSION id (bodies_of log.receipts)) b) spelled
-    ∙ sym (chain_end-push VERSION id (bodies_of log.receipts) (write_bytes made))
-    ∙ ap (λ (bodies : List (List ℕ)). chain_end VERSION id bodies) (sym (bodies_of-push log.receipts made))
-    ∙ ap (λ (writes : List Write). chain_end VERSION id (bodies_of writes)) (sym receipts)
-    ∙ ap (λ (s : ℕ). chain_end VERSION s (bodies_of after.receipts)) (sym owner) in
-    record {
-      owner = owner;
-      limit = subst (λ (l : Log). l.limit ≤ MAX_WRITES) (sym after_is) together.limit;
-      sound = subst (λ (l : Log). IsSoundServer (core_of l id doubt)) (sym after_is) (sound_next (core_of log id doubt) made together.sound (none_of doubt up) may);
-      stands = subst (λ (d : Option Write). Stands new after d) (sym (none_of doubt up))
-          (ap (λ (j : JournalState D). j.is_down) new_is ∙ before.0, last);
-    }
+after_adding {D} journal new log after id doubt made bytes together up may new_is after_is = record {
+  owner = ap (λ (j : JournalState D). j.server) new_is ∙ together.owner;
+  limit = subst (λ (l : Log). l.limit ≤ MAX_WRITES) (sym after_is) together.limit;
+  sound = subst (λ (l : Log). IsSoundServer (core_of l id doubt)) (sym after_is) (sound_next (core_of log id doubt) made together.sound (none_of doubt up) may);
+  stands = subst (λ (d : Option Write). Stands new after d) (sym (none_of doubt up)) (ap (λ (j : JournalState D). j.is_down) new_is ∙ stands_up journal log id doubt together up);
+}
 
 -- what an append told, and what it left
 pub record Appends {D : Type 0} (d : Ghosts D) (journal new : JournalState D) (bytes : List ℕ) (result : Result (Unit {0}) AppendFault) : Type 0 where
@@ -120,17 +88,18 @@ doubted_core log reserved new id doubt left made same is in_doubt =
 fault_of : {D : Type 0} (d : Ghosts D) (journal new : JournalState D) (log : Log) (id : ℕ) (doubt : Option Write) (bytes : List ℕ) (reason : AppendFault)
     → BelongTogether journal log id doubt → doubt ≡ None → Appends d journal new bytes (Err reason) → IsErrOf {T = Unit {0}} (Err reason) append.Device
 fault_of d journal new log id doubt bytes reason together up appends =
-    device_fault (Err reason) refl (λ down. absurd (let was = appends.down down in let is = (stands_up journal log id doubt together (ap is_some up)).0 in cc))
+    device_fault (Err reason) refl (λ down. absurd (let was = appends.down down in let is = stands_up journal log id doubt together (ap is_some up) in cc))
 
 pub settled_stores : {D : Type 0} (d : Ghosts D) (journal new : JournalState D) (log reserved after : Log) (id : ℕ) (doubt left : Option Write) (made : Write) (bytes : List ℕ)
     (added : Result (Unit {0}) AppendFault) (result : Stored)
     → Adds journal log reserved id doubt made bytes → Appends d journal new bytes added → Settles reserved doubt made added result after left
-    → StoresEntry d (record { core = core_of log id doubt; device = journal.device }) result (record { core = core_of after id left; device = new.device })
-settled_stores d journal new log reserved after id doubt left made bytes (Ok done) Held adds appends settles = record {
+    → StoresEntry d (server_of journal log id doubt) result (server_of new after id left)
+settled_stores {D} d journal new log reserved after id doubt left made bytes (Ok done) Held adds appends settles = record {
   made = made;
   held = ap (λ (c : Core). c.held) (held_core log reserved after id doubt left made adds.same settles.0 settles.1);
   added = entry journal.last bytes;
-  entry_of = entry_is journal log id doubt made bytes adds.together (ap is_some adds.up) adds.spelled;
+  entry_of = record { body = bytes; stands = adds.spelled; is = refl };
+  ends = ap (λ (j : JournalState D). j.last) appends.ends;
   behind = appends.added;
   synced = appends.synced;
   counts = appends.counts;
@@ -141,7 +110,7 @@ settled_stores d journal new log reserved after id doubt left made bytes (Err re
       made = made;
       doubt = settles.1;
       added = entry journal.last bytes;
-      entry_of = entry_is journal log id doubt made bytes adds.together (ap is_some adds.up) adds.spelled;
+      entry_of = record { body = bytes; stands = adds.spelled; is = refl };
       left = λ modelled. appends.left modelled fault;
       rose = appends.rose fault;
     }
@@ -173,7 +142,7 @@ pub settled_together : {D : Type 0} (d : Ghosts D) (journal new : JournalState D
     → BelongTogether new after id left
 settled_together d journal new log reserved after id doubt left made bytes (Ok done) Held adds appends settles =
     subst (λ (o : Option Write). BelongTogether new after id o) (sym settles.1)
-    (after_adding journal new log after id doubt made bytes adds.together (ap is_some adds.up) adds.may adds.spelled appends.ends
+    (after_adding journal new log after id doubt made bytes adds.together (ap is_some adds.up) adds.may appends.ends
     (settles.0 ∙ ap (λ (l : Log). record l { receipts = l.receipts ++ made ∷ []; room = after.room; waiting = after.waiting }) adds.same))
 settled_together d journal new log reserved after id doubt left made bytes (Err reason) InDoubt adds appends settles =
     after_failing journal new log reserved after id doubt left made bytes adds
@@ -181,16 +150,35 @@ settled_together d journal new log reserved after id doubt left made bytes (Err 
 settled_together d journal new log reserved after id doubt left made bytes (Ok done) InDoubt adds appends settles = absurd settles
 settled_together d journal new log reserved after id doubt left made bytes (Err reason) Held adds appends settles = absurd settles
 
+-- what the journal's law says of one body more
+abbrev pub OneBodyMore : Type 0
+OneBodyMore = (server : ℕ) (bodies : List Body) (last bytes body : List ℕ) → HasJournal server bodies last bytes → IsBody body
+    → HasJournal server (bodies ++ added_body body ∷ []) (link last body) (bytes ++ entry last body)
+
 -- a device that had the journal of the Writes held has that of those and the new one
-pub stored_after : {D : Type 0} (d : Ghosts D) (old new : ServerState D) → d.is_modelled → new.core.id ≡ old.core.id → HasAdded d old new → IsStored d old → IsStored d new
-stored_after {D} d old new modelled same has stored =
+pub stored_after : {D : Type 0} (d : Ghosts D) → OneBodyMore → (old new : ServerState D) → d.is_modelled → new.core.id ≡ old.core.id → (has : HasAdded d old new) → IsBody has.entry_of.body
+    → IsStored d old → IsStored d new
+stored_after {D} d law old new modelled same has is (bodies, stores, journal) =
     let one = has.entry_of in
-    let both : stored.0 ≡ one.bodies = stored.1 ∙ sym one.before in (
-      one.bodies ++ one.body ∷ [],
-      one.after ∙ ap bodies_of (sym has.held),
-      has.behind modelled
-          ∙ ap (λ (l : List ℕ). l ++ has.added) (stored.2 ∙ ap (journal VERSION old.core.id) both)
-          ∙ ap (λ (l : List ℕ). journal VERSION old.core.id one.bodies ++ l) one.is
-          ∙ sym (journal-push VERSION old.core.id one.bodies one.body)
-          ∙ ap (λ (s : ℕ). journal VERSION s (one.bodies ++ one.body ∷ [])) (sym same),
+    let held : Stores (bodies ++ added_body one.body ∷ []) new.core.held =
+    subst (λ (w : List Write). Stores (bodies ++ added_body one.body ∷ []) w) (sym has.held) (both_more IsBodyOf bodies old.core.held (added_body one.body) has.made stores one.stands) in
+    let more : HasJournal old.core.id (bodies ++ added_body one.body ∷ []) (link old.last one.body) (d.content old.device ++ entry old.last one.body) =
+    law old.core.id bodies old.last (d.content old.device) one.body journal is in
+    let content : d.content old.device ++ entry old.last one.body ≡ d.content new.device = sym (has.behind modelled ∙ ap (λ (l : List ℕ). d.content old.device ++ l) one.is) in (
+      bodies ++ added_body one.body ∷ [],
+      held,
+      subst (λ (s : ℕ). HasJournal s (bodies ++ added_body one.body ∷ []) new.last (d.content new.device)) (sym same)
+          (subst (λ (l : List ℕ). HasJournal old.core.id (bodies ++ added_body one.body ∷ []) l (d.content new.device)) (sym has.ends)
+          (subst (λ (b : List ℕ). HasJournal old.core.id (bodies ++ added_body one.body ∷ []) (link old.last one.body) b) content more)),
     )
+
+pub settled_stored : {D : Type 0} (d : Ghosts D) → OneBodyMore → (journal new : JournalState D) (log reserved after : Log) (id : ℕ) (doubt left : Option Write) (made : Write) (bytes : List ℕ)
+    (added : Result (Unit {0}) AppendFault) (result : Stored)
+    → d.is_modelled → IsBody bytes → Adds journal log reserved id doubt made bytes → Appends d journal new bytes added → Settles reserved doubt made added result after left
+    → StaysStored d (server_of journal log id doubt) result (server_of new after id left)
+unfolding settled_stores
+settled_stored d law journal new log reserved after id doubt left made bytes (Ok done) Held modelled is adds appends settles =
+    stored_after d law (server_of journal log id doubt) (server_of new after id left) modelled refl (settled_stores d journal new log reserved after id doubt left made bytes (Ok done) Held adds appends settles) is
+settled_stored d law journal new log reserved after id doubt left made bytes (Err reason) InDoubt modelled is adds appends settles = tt
+settled_stored d law journal new log reserved after id doubt left made bytes (Ok done) InDoubt modelled is adds appends settles = absurd settles
+settled_stored d law journal new log reserved after id doubt left made bytes (Err reason) Held modelled is adds appends settles = absurd settles

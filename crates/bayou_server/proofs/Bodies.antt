@@ -1,9 +1,9 @@
--- Lists of bodies against the lists that they are to be of.
-use Rattle.std.proofs.Common.{◌≡◌, ℕ, zero, suc, ◌+◌, ◌<◌, List, [], ◌∷◌, ◌++◌, Some, length, take, drop, map, refl, sym, ◌∙◌, ap, arith, length-append}
-use Rattle.std.specs.List.{slice_get}
-use Rattle.std.specs.Option.{option_map}
-use Rattle.std.proofs.lemmas.List.{append-nil, drop_more, length-map, take-append-drop, take_more}
-use Rattle.std.proofs.lemmas.Option.{get_or_from_slice_get, slice_get_within}
+-- Bodies of a journal against the Writes that they stand for, one for one.
+use Rattle.std.proofs.Common.{◌≡◌, ℕ, zero, suc, ◌+◌, ◌<◌, Bool, true, false, List, [], ◌∷◌, ◌++◌, Some, get_or, length, take, drop, refl, sym, ◌∙◌, ap, subst, arith, length-append}
+use Rattle.std.specs.List.{AllZip, slice_get}
+use Rattle.std.specs.Prelude.{IfSome, Option, None}
+use Rattle.std.proofs.lemmas.List.{drop_more, take-append-drop, take_more}
+use Rattle.std.proofs.lemmas.Option.{get_or_from_slice_get, slice_get-get_or, slice_get_within}
 
 -- one more of the list
 pub take_next : {A : Type 0} (xs : List A) (k : ℕ) (x : A) → slice_get xs k ≡ Some x → take (k + 1) xs ≡ take k xs ++ x ∷ []
@@ -15,49 +15,68 @@ split_at xs k x is =
     sym (take-append-drop k xs)
     ∙ ap (λ l. take k xs ++ l) (drop_more xs k x (slice_get_within xs k x is) ∙ ap (λ y. y ∷ drop (k + 1) xs) (get_or_from_slice_get xs k x x is))
 
--- Where each of the list has its own at its place in the other list, that one begins with theirs.
-pub begins_of : {A B : Type 0} (f : A → B) (xs : List A) (ys : List B) → ((k : ℕ) → k < length xs → slice_get ys k ≡ option_map f (slice_get xs k))
-    → (more : List B) × (ys ≡ map f xs ++ more)
-begins_of f [] ys all = (ys, refl)
-begins_of f (x ∷ xs) [] all = absurd (let first = all 0 (omega arith) in cc)
-begins_of f (x ∷ xs) (y ∷ ys) all =
-    let first : Some y ≡ Some (f x) = all 0 (omega arith) in
-    let head : y ≡ f x = cc in
-    let rest = begins_of f xs ys (λ k within. all (suc k) (omega arith)) in
-    (rest.0, ap (λ z. z ∷ ys) head ∙ ap (λ l. f x ∷ l) rest.1)
+-- the element that is read at a place
+pub read_at : {A : Type 0} (xs : List A) (k : ℕ) (x : A) → k < length xs → x ≡ get_or xs k x → slice_get xs k ≡ Some x
+read_at xs k x within is = slice_get-get_or xs k x within ∙ ap (λ y. Some y) (sym is)
 
--- and the other way round
-pub at_front : {A B : Type 0} (f : A → B) (xs : List A) (more : List B) (k : ℕ) → k < length xs → slice_get (map f xs ++ more) k ≡ option_map f (slice_get xs k)
-at_front f [] more k within = absurd (omega arith)
-at_front f (x ∷ xs) more zero within = refl
-at_front f (x ∷ xs) more (suc k) within = at_front f xs more k (omega arith)
+-- nothing is true and false
+pub not_both : {b : Bool} → b ≡ true → b ≡ false → ⊥
+not_both is is_not = absurd cc
 
--- what stands at the place of one of them is its own
-pub own_at : {A B : Type 0} (f : A → B) (xs : List A) (ys more : List B) (k : ℕ) (x : A) (y : B) → ys ≡ map f xs ++ more → slice_get xs k ≡ Some x → slice_get ys k ≡ Some y → y ≡ f x
-own_at f xs ys more k x y split is there =
-    let own : Some y ≡ Some (f x) =
-    sym there ∙ ap (λ l. slice_get l k) split ∙ at_front f xs more k (slice_get_within xs k x is) ∙ ap (option_map f) is in
-    cc
+-- what is told of the element at a place
+pub told_at : {A : Type 0} (P : A → Type 0) (xs : List A) (k : ℕ) → k < length xs → IfSome (slice_get xs k) P → (x : A) × (slice_get xs k ≡ Some x) × P x
+told_at P [] k within is = absurd (omega arith)
+told_at P (x ∷ xs) zero within is = (x, refl, is)
+told_at P (x ∷ xs) (suc k) within is = told_at P xs k (omega arith) is
 
--- how many follow
-pub length-more : {A B : Type 0} (f : A → B) (xs : List A) (ys more : List B) → ys ≡ map f xs ++ more → length ys ≡ length xs + length more
-length-more f xs ys more split = ap length split ∙ length-append (map f xs) more ∙ ap (λ n. n + length more) (length-map xs f)
+-- how many they are
+pub as_many : {A B : Type 0} (R : A → B → Type 0) (xs : List A) (ys : List B) → AllZip R xs ys → length xs ≡ length ys
+as_many R [] [] all = refl
+as_many R [] (y ∷ ys) all = absurd all
+as_many R (x ∷ xs) [] all = absurd all
+as_many R (x ∷ xs) (y ∷ ys) all = ap suc (as_many R xs ys all.1)
 
--- nothing follows
-pub no_more : {A B : Type 0} (f : A → B) (xs : List A) (ys more : List B) → ys ≡ map f xs ++ more → length ys ≡ length xs → ys ≡ map f xs
-no_more f xs ys [] split same = split ∙ append-nil (map f xs)
-no_more f xs ys (z ∷ more) split same = absurd (omega (arith, length-more f xs ys (z ∷ more) split))
+-- one more of both
+pub both_more : {A B : Type 0} (R : A → B → Type 0) (xs : List A) (ys : List B) (x : A) (y : B) → AllZip R xs ys → R x y → AllZip R (xs ++ x ∷ []) (ys ++ y ∷ [])
+both_more R [] [] x y all is = (is, tt)
+both_more R [] (b ∷ ys) x y all is = absurd all
+both_more R (a ∷ xs) [] x y all is = absurd all
+both_more R (a ∷ xs) (b ∷ ys) x y all is = (all.0, both_more R xs ys x y all.1 is)
+
+-- what stands at one place
+pub at_place : {A B : Type 0} (R : A → B → Type 0) (xs : List A) (ys : List B) (k : ℕ) (x : A) (y : B) → AllZip R xs ys → slice_get xs k ≡ Some x → slice_get ys k ≡ Some y → R x y
+at_place R [] ys k x y all is there = absurd (omega (arith, slice_get_within [] k x is))
+at_place R (a ∷ xs) [] k x y all is there = absurd all
+at_place R (a ∷ xs) (b ∷ ys) zero x y all is there =
+    let one : a ≡ x = cc in
+    let other : b ≡ y = cc in
+    subst (λ v. R v y) one (subst (λ v. R a v) other all.0)
+at_place R (a ∷ xs) (b ∷ ys) (suc k) x y all is there = at_place R xs ys k x y all.1 is there
+
+-- what stands in the front of a longer list
+pub in_front : {A : Type 0} (xs more : List A) (k : ℕ) → k < length xs → slice_get (xs ++ more) k ≡ slice_get xs k
+in_front [] more k within = absurd (omega arith)
+in_front (x ∷ xs) more zero within = refl
+in_front (x ∷ xs) more (suc k) within = in_front xs more k (omega arith)
+
+-- and behind it
+pub at_end : {A : Type 0} (xs : List A) (y : A) → slice_get (xs ++ y ∷ []) (length xs) ≡ Some y
+at_end [] y = refl
+at_end (x ∷ xs) y = at_end xs y
 
 at_seam : {A : Type 0} (xs more : List A) (y : A) → slice_get (xs ++ more) (length xs) ≡ Some y → slice_get more 0 ≡ Some y
 at_seam [] more y is = is
 at_seam (x ∷ xs) more y is = at_seam xs more y is
 
+-- nothing follows
+pub no_more : {A : Type 0} (xs front more : List A) → xs ≡ front ++ more → length xs ≡ length front → more ≡ []
+no_more xs front [] split same = refl
+no_more xs front (z ∷ more) split same = absurd (omega (arith, ap length split, length-append front (z ∷ more)))
+
 -- one follows
-pub one_more : {A B : Type 0} (f : A → B) (xs : List A) (ys more : List B) (y : B) → ys ≡ map f xs ++ more → length ys ≡ length xs + 1 → slice_get ys (length xs) ≡ Some y → more ≡ y ∷ []
-one_more f xs ys [] y split longer there = absurd (omega (arith, length-more f xs ys [] split))
-one_more f xs ys (z ∷ []) y split longer there =
-    let place : length (map f xs) ≡ length xs = length-map xs f in
-    let here : slice_get (map f xs ++ z ∷ []) (length (map f xs)) ≡ Some y = ap (slice_get (map f xs ++ z ∷ [])) place ∙ ap (λ l. slice_get l (length xs)) (sym split) ∙ there in
-    let same : Some z ≡ Some y = at_seam (map f xs) (z ∷ []) y here in
+pub one_more : {A : Type 0} (xs front more : List A) (y : A) → xs ≡ front ++ more → length xs ≡ length front + 1 → slice_get xs (length front) ≡ Some y → more ≡ y ∷ []
+one_more xs front [] y split longer there = absurd (omega (arith, ap length split, length-append front []))
+one_more xs front (z ∷ []) y split longer there =
+    let same : Some z ≡ Some y = at_seam front (z ∷ []) y (ap (λ l. slice_get l (length front)) (sym split) ∙ there) in
     cc
-one_more f xs ys (z ∷ w ∷ more) y split longer there = absurd (omega (arith, length-more f xs ys (z ∷ w ∷ more) split))
+one_more xs front (z ∷ w ∷ more) y split longer there = absurd (omega (arith, ap length split, length-append front (z ∷ w ∷ more)))

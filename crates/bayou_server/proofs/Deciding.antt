@@ -1,8 +1,9 @@
 -- That the bodies of a journal decide what a server holds.
-use Rattle.std.proofs.Common.{◌≡◌, ℕ, ◌+◌, suc, List, [], ◌∷◌, ◌++◌, Option, None, Some, All, length, drop, refl, sym, ◌∙◌, ap, subst, arith, length-append}
-use Rattle.std.proofs.lemmas.List.{append-nil, length-map}
+use Rattle.std.proofs.Common.{◌≡◌, ℕ, ◌<◌, zero, suc, List, [], ◌∷◌, ◌++◌, Option, None, Some, All, get_or, length, refl, sym, ◌∙◌, ap, subst, arith, length-append}
+use Rattle.std.proofs.lemmas.List.{append-nil}
 use Rattle.bayou_base.specs.declared.wid.Wid.{Wid}
-use Rattle.bayou_journal.specs.Chain.{AreBodies, IsBody}
+use Rattle.bayou_journal.specs.Chain.{IsBody}
+use Rattle.bayou_journal.specs.Versions.{Body}
 use Rattle.bayou_lang.specs.declared.write.Write.{Write}
 use Rattle.bayou_lang.specs.Ranges.{IsWrite}
 use Rattle.bayou_wire.specs.Spelling.{write_bytes}
@@ -10,9 +11,10 @@ use Rattle.bayou_server.specs.declared.fault.StartFault.{StartFault}
 use Rattle.bayou_server.specs.declared.fault.StartFault.TheVariants.{Journal, BadRecord, Gap, LogFull, OutOfMemory}
 use Rattle.bayou_server.specs.Reopens.{Recovers}
 use Rattle.bayou_server.specs.Server.{Core, MayFollow, MayHold}
-use Rattle.bayou_server.specs.Stored.{BeginsWithHeld, HasOther, bodies_of}
+use Rattle.bayou_server.specs.Stored.{BeginsWithHeld, HasOther, IsBodyOf, Stores}
 use Rattle.bayou_server.specs.Starts.{RefusesEntry}
-use Rattle.bayou_server.proofs.Adding.{bodies_of-push}
+use Rattle.bayou_server.specs.Laws.Stored.{begins_before}
+use Rattle.bayou_server.proofs.Bodies.{as_many}
 
 -- no Write's spelling begins another's
 abbrev pub BeginsNone : Type 0
@@ -28,51 +30,54 @@ pub rest_of_all : (write : Write) (writes : List Write) → All IsWrite (write �
 rest_of_all write writes all = λ k d within. all (suc k) d (omega arith)
 
 -- bodies are of one list of Writes
-pub one_list : BeginsNone → (writes others : List Write) → All IsWrite writes → All IsWrite others → bodies_of writes ≡ bodies_of others → writes ≡ others
-one_list law [] [] all every same = refl
-one_list law [] (other ∷ others) all every same = absurd (omega (arith, ap length same))
-one_list law (write ∷ writes) [] all every same = absurd (omega (arith, ap length same))
-one_list law (write ∷ writes) (other ∷ others) all every same =
-    let heads : write_bytes write ≡ write_bytes other = cc in
-    let tails : bodies_of writes ≡ bodies_of others = ap (drop 1) same in
-    let first = one_write law write other (first_of_all write writes all) (first_of_all other others every) heads in
-    let rest = one_list law writes others (rest_of_all write writes all) (rest_of_all other others every) tails in
+pub one_list : BeginsNone → (bodies : List Body) (writes others : List Write) → All IsWrite writes → All IsWrite others → Stores bodies writes → Stores bodies others → writes ≡ others
+one_list law [] [] [] all every stores again = refl
+one_list law [] [] (other ∷ others) all every stores again = absurd again
+one_list law [] (write ∷ writes) others all every stores again = absurd stores
+one_list law (body ∷ bodies) [] others all every stores again = absurd stores
+one_list law (body ∷ bodies) (write ∷ writes) [] all every stores again = absurd again
+one_list law (body ∷ bodies) (write ∷ writes) (other ∷ others) all every stores again =
+    let first = one_write law write other (first_of_all write writes all) (first_of_all other others every) (sym stores.0 ∙ again.0) in
+    let rest = one_list law bodies writes others (rest_of_all write writes all) (rest_of_all other others every) stores.1 again.1 in
     ap (λ (w : Write). w ∷ writes) first ∙ ap (λ (l : List Write). other ∷ l) rest
 
--- no body is of no Write
-pub of_nothing : (writes : List Write) → bodies_of writes ≡ [] → writes ≡ []
-of_nothing [] none = refl
-of_nothing (write ∷ writes) none = absurd (omega (arith, ap length none))
+-- no body stands for no Write
+pub of_nothing : (writes : List Write) → Stores [] writes → writes ≡ []
+of_nothing [] stores = refl
+of_nothing (write ∷ writes) stores = absurd stores
 
--- bodies of Writes are bodies, where each is one
-pub are_bodies : ((write : Write) → IsWrite write → IsBody (write_bytes write)) → (writes : List Write) → All IsWrite writes → AreBodies (bodies_of writes)
-are_bodies law [] all = tt
-are_bodies law (write ∷ writes) all = (law write (first_of_all write writes all), are_bodies law writes (rest_of_all write writes all))
+-- what stands for a Write is a body, where each Write's bytes are one
+pub are_bodies : ((write : Write) → IsWrite write → IsBody (write_bytes write)) → (bodies : List Body) (writes : List Write) → All IsWrite writes → Stores bodies writes
+    → (k : ℕ) (d : Body) → k < length bodies → IsBody (get_or bodies k d).bytes
+are_bodies law [] writes all stores k d within = absurd (omega arith)
+are_bodies law (body ∷ bodies) [] all stores k d within = absurd stores
+are_bodies law (body ∷ bodies) (write ∷ writes) all stores zero d within = subst IsBody (sym stores.0) (law write (first_of_all write writes all))
+are_bodies law (body ∷ bodies) (write ∷ writes) all stores (suc k) d within = are_bodies law bodies writes (rest_of_all write writes all) stores.1 k d (omega arith)
 
 -- the Write of the list whose body stands behind those of the others
-pub record Next (whole held : List Write) (body : List ℕ) : Type 0 where
+pub record Next (whole held : List Write) (body : Body) : Type 0 where
   pub write : Write
   pub after : List Write
   pub split : whole ≡ held ++ write ∷ after
   pub is : IsWrite write
-  pub spelled : body ≡ write_bytes write
+  pub spelled : body.bytes ≡ write_bytes write
 
-pub next_of_whole : BeginsNone → (whole held : List Write) (body : List ℕ) (rest : List (List ℕ)) → All IsWrite whole → All IsWrite held
-    → bodies_of whole ≡ bodies_of held ++ body ∷ rest → Next whole held body
-next_of_whole law [] [] body rest all every same = absurd (omega (arith, ap length same))
-next_of_whole law [] (other ∷ held) body rest all every same = absurd (omega (arith, ap length same))
-next_of_whole law (write ∷ whole) [] body rest all every same = record {
+pub next_of_whole : BeginsNone → (front : List Body) (body : Body) (rest : List Body) (whole held : List Write) → All IsWrite whole → All IsWrite held
+    → Stores front held → Stores (front ++ body ∷ rest) whole → Next whole held body
+next_of_whole law [] body rest [] held all every stores all_stores = absurd all_stores
+next_of_whole law [] body rest (write ∷ whole) [] all every stores all_stores = record {
   write = write;
   after = whole;
   split = refl;
   is = first_of_all write whole all;
-  spelled = cc;
+  spelled = all_stores.0;
 }
-next_of_whole law (write ∷ whole) (other ∷ held) body rest all every same =
-    let heads : write_bytes write ≡ write_bytes other = cc in
-    let tails : bodies_of whole ≡ bodies_of held ++ body ∷ rest = ap (drop 1) same in
-    let first = one_write law write other (first_of_all write whole all) (first_of_all other held every) heads in
-    let next = next_of_whole law whole held body rest (rest_of_all write whole all) (rest_of_all other held every) tails in
+next_of_whole law [] body rest (write ∷ whole) (other ∷ held) all every stores all_stores = absurd stores
+next_of_whole law (one ∷ front) body rest whole [] all every stores all_stores = absurd stores
+next_of_whole law (one ∷ front) body rest [] (other ∷ held) all every stores all_stores = absurd all_stores
+next_of_whole law (one ∷ front) body rest (write ∷ whole) (other ∷ held) all every stores all_stores =
+    let first = one_write law write other (first_of_all write whole all) (first_of_all other held every) (sym all_stores.0 ∙ stores.0) in
+    let next = next_of_whole law front body rest whole held (rest_of_all write whole all) (rest_of_all other held every) stores.1 all_stores.1 in
     record {
       write = next.write;
       after = next.after;
@@ -89,44 +94,42 @@ follows_before server count limit whole before write after holds split = record 
   own = holds.sound.own before write after split;
 }
 
--- the entry that isn't taken stands behind those of Writes
-entry_split : {server count limit : ℕ} {bodies : List (List ℕ)} {fault : StartFault} (refuses : RefusesEntry server count limit bodies fault)
-    → bodies ≡ bodies_of refuses.held ++ refuses.body ∷ refuses.rest
-entry_split refuses = refuses.split ∙ ap (λ (l : List (List ℕ)). l ++ refuses.body ∷ refuses.rest) refuses.stores
+-- the Write that stands where an entry isn't taken
+next_refused : BeginsNone → {server count limit : ℕ} {bodies : List Body} {fault : StartFault} (whole : List Write) → All IsWrite whole → Stores bodies whole
+    → (refuses : RefusesEntry server count limit bodies fault) → Next whole refuses.held refuses.body
+next_refused law whole all stores refuses =
+    next_of_whole law refuses.front refuses.body refuses.rest whole refuses.held all refuses.spelled refuses.stores (subst (λ (b : List Body). Stores b whole) refuses.split stores)
 
 -- the bodies of what a server may hold have no entry that it doesn't take
-pub none_refused : BeginsNone → (server count limit : ℕ) (whole : List Write) (bodies : List (List ℕ)) (fault : StartFault) → All IsWrite whole → MayHold server count limit whole
-    → bodies_of whole ≡ bodies → RefusesEntry server count limit bodies fault → ⊥
-none_refused law server count limit whole bodies (BadRecord at) all holds same refuses =
-    let next = next_of_whole law whole refuses.held refuses.body refuses.rest all refuses.spelled (same ∙ entry_split refuses) in
+pub none_refused : BeginsNone → (server count limit : ℕ) (whole : List Write) (bodies : List Body) (fault : StartFault) → All IsWrite whole → MayHold server count limit whole
+    → Stores bodies whole → RefusesEntry server count limit bodies fault → ⊥
+none_refused law server count limit whole bodies (BadRecord at) all holds stores refuses =
+    let next = next_refused law whole all stores refuses in
     refuses.why.1 next.write (record { is = next.is; spelled = next.spelled })
-none_refused law server count limit whole bodies (Gap at) all holds same refuses =
-    let next = next_of_whole law whole refuses.held refuses.body refuses.rest all refuses.spelled (same ∙ entry_split refuses) in
+none_refused law server count limit whole bodies (Gap at) all holds stores refuses =
+    let next = next_refused law whole all stores refuses in
     let other = refuses.why.1 in
     let one : next.write ≡ other.0 = one_write law next.write other.0 next.is other.1.is (sym next.spelled ∙ other.1.spelled) in
     other.2 (subst (λ (w : Write). MayFollow server count refuses.held w) one (follows_before server count limit whole refuses.held next.write next.after holds next.split))
-none_refused law server count limit whole bodies LogFull all holds same refuses =
-    let next = next_of_whole law whole refuses.held refuses.body refuses.rest all refuses.spelled (same ∙ entry_split refuses) in
+none_refused law server count limit whole bodies LogFull all holds stores refuses =
+    let next = next_refused law whole all stores refuses in
     omega (arith, ap length next.split, length-append refuses.held (next.write ∷ next.after), holds.within, refuses.why.0)
-none_refused law server count limit whole bodies OutOfMemory all holds same refuses = refuses.why
-none_refused law server count limit whole bodies (Journal fault) all holds same refuses = refuses.why
-
--- how many bodies
-length-bodies : (writes : List Write) → length (bodies_of writes) ≡ length writes
-length-bodies writes = length-map writes write_bytes
-
-longer_by_one : (held : List Write) (write : Write) → length (bodies_of (held ++ write ∷ [])) ≡ length (bodies_of held) + 1
-longer_by_one held write = omega (arith, length-bodies held, length-bodies (held ++ write ∷ []), length-append held (write ∷ []))
+none_refused law server count limit whole bodies OutOfMemory all holds stores refuses = refuses.why
+none_refused law server count limit whole bodies (Journal fault) all holds stores refuses = refuses.why
 
 -- the bodies decide what is adopted
-pub one_adopted : (old : Core) (adopted other : Option Wid) (new next : Core) → Recovers old adopted new → Recovers old other next → bodies_of new.held ≡ bodies_of next.held
+longer_by_one : (bodies : List Body) (held : List Write) (write : Write) → Stores bodies held → Stores bodies (held ++ write ∷ []) → ⊥
+longer_by_one bodies held write stores again =
+    omega (arith, as_many IsBodyOf bodies held stores, as_many IsBodyOf bodies (held ++ write ∷ []) again, length-append held (write ∷ []))
+
+pub one_adopted : (old : Core) (adopted other : Option Wid) (new next : Core) (bodies : List Body) → Recovers old adopted new → Recovers old other next → Stores bodies new.held → Stores bodies next.held
     → (adopted ≡ other) × (new.held ≡ next.held)
-one_adopted old None None new next is was same = (refl, ap (λ (c : Core). c.held) (is.1 ∙ sym was.1))
-one_adopted old None (Some wid) new next is was same =
-    absurd (omega (arith, longer_by_one old.held was.0, ap length (ap (λ (c : Core). bodies_of c.held) (sym is.1) ∙ same ∙ ap (λ (c : Core). bodies_of c.held) was.3)))
-one_adopted old (Some wid) None new next is was same =
-    absurd (omega (arith, longer_by_one old.held is.0, ap length (ap (λ (c : Core). bodies_of c.held) (sym is.3) ∙ same ∙ ap (λ (c : Core). bodies_of c.held) was.1)))
-one_adopted old (Some wid) (Some name) new next is was same =
+one_adopted old None None new next bodies is was stores again = (refl, ap (λ (c : Core). c.held) (is.1 ∙ sym was.1))
+one_adopted old None (Some wid) new next bodies is was stores again =
+    absurd (longer_by_one bodies old.held was.0 (subst (λ (c : Core). Stores bodies c.held) is.1 stores) (subst (λ (c : Core). Stores bodies c.held) was.3 again))
+one_adopted old (Some wid) None new next bodies is was stores again =
+    absurd (longer_by_one bodies old.held is.0 (subst (λ (c : Core). Stores bodies c.held) was.1 again) (subst (λ (c : Core). Stores bodies c.held) is.3 stores))
+one_adopted old (Some wid) (Some name) new next bodies is was stores again =
     let both : Some is.0 ≡ Some was.0 = sym is.1 ∙ was.1 in
     let one : is.0 ≡ was.0 = cc in (
       ap (λ (w : Wid). Some w) (is.2 ∙ ap (λ (w : Write). w.wid) one ∙ sym was.2),
@@ -134,24 +137,20 @@ one_adopted old (Some wid) (Some name) new next is was same =
     )
 
 -- what is up again begins with what was held
-pub begins_again : (old : Core) (adopted : Option Wid) (new : Core) (bodies : List (List ℕ)) → Recovers old adopted new → bodies_of new.held ≡ bodies → BeginsWithHeld old.held bodies
-begins_again old None new bodies is same = record {
-  front = bodies_of old.held;
+pub begins_again : (old : Core) (adopted : Option Wid) (new : Core) (bodies : List Body) → Recovers old adopted new → Stores bodies new.held → BeginsWithHeld old.held bodies
+begins_again old None new bodies is stores = record {
+  front = bodies;
   more = [];
-  stores = refl;
-  split = sym same ∙ ap (λ (c : Core). bodies_of c.held) is.1 ∙ sym (append-nil (bodies_of old.held));
+  stores = subst (λ (c : Core). Stores bodies c.held) is.1 stores;
+  split = sym (append-nil bodies);
 }
-begins_again old (Some wid) new bodies is same = record {
-  front = bodies_of old.held;
-  more = write_bytes is.0 ∷ [];
-  stores = refl;
-  split = sym same ∙ ap (λ (c : Core). bodies_of c.held) is.3 ∙ bodies_of-push old.held is.0;
-}
+begins_again old (Some wid) new bodies is stores =
+    begins_before bodies old.held is.0 (subst (λ (c : Core). Stores bodies c.held) is.3 stores)
 
-pub nothing_other : (old : Core) (doubt : Write) (adopted : Option Wid) (new : Core) (bodies : List (List ℕ)) → old.doubt ≡ Some doubt → Recovers old adopted new → bodies_of new.held ≡ bodies
+pub nothing_other : (old : Core) (doubt : Write) (adopted : Option Wid) (new : Core) (bodies : List Body) → old.doubt ≡ Some doubt → Recovers old adopted new → Stores bodies new.held
     → HasOther old.held doubt bodies → ⊥
-nothing_other old doubt None new bodies was is same has = has.not_held (sym same ∙ ap (λ (c : Core). bodies_of c.held) is.1)
-nothing_other old doubt (Some wid) new bodies was is same has =
+nothing_other old doubt None new bodies was is stores has = has.not_held (subst (λ (c : Core). Stores bodies c.held) is.1 stores)
+nothing_other old doubt (Some wid) new bodies was is stores has =
     let both : Some is.0 ≡ Some doubt = sym is.1 ∙ was in
     let one : is.0 ≡ doubt = cc in
-    has.not_adopted (sym same ∙ ap (λ (c : Core). bodies_of c.held) is.3 ∙ ap (λ (w : Write). bodies_of (old.held ++ w ∷ [])) one)
+    has.not_adopted (subst (λ (w : Write). Stores bodies (old.held ++ w ∷ [])) one (subst (λ (c : Core). Stores bodies c.held) is.3 stores))

@@ -1,5 +1,6 @@
 pub mod Adding
 pub mod Bodies
+pub mod Comparing
 pub mod Crashing
 pub mod Deciding
 pub mod Entries

@@ -104,14 +104,14 @@ own_of_taking old given (Err taking.Journal) new takes = ap own_count takes.2
 -- after an answer that leaves a server as it is the device is as it was
 pub stays_stored : {D : Type 0} (d : Ghosts D) (server : ServerState D) (given : Write) (answer : Result Took TakeFault) → Takes server.core given answer server.core → StoresTaken d server answer server
 stays_stored d server given (Ok New) takes = absurd (omega (arith, ap (λ (core : Core). length core.held) takes.2, length-append server.core.held (given ∷ [])))
-stays_stored d server given (Ok Had) takes = refl
-stays_stored d server given (Err taking.Conflict) takes = refl
-stays_stored d server given (Err taking.Down) takes = refl
-stays_stored d server given (Err taking.OwnLost) takes = refl
-stays_stored d server given (Err taking.Gap) takes = refl
-stays_stored d server given (Err taking.BadStamp) takes = refl
-stays_stored d server given (Err taking.LogFull) takes = refl
-stays_stored d server given (Err taking.OutOfMemory) takes = refl
+stays_stored d server given (Ok Had) takes = record { device = refl; last = refl }
+stays_stored d server given (Err taking.Conflict) takes = record { device = refl; last = refl }
+stays_stored d server given (Err taking.Down) takes = record { device = refl; last = refl }
+stays_stored d server given (Err taking.OwnLost) takes = record { device = refl; last = refl }
+stays_stored d server given (Err taking.Gap) takes = record { device = refl; last = refl }
+stays_stored d server given (Err taking.BadStamp) takes = record { device = refl; last = refl }
+stays_stored d server given (Err taking.LogFull) takes = record { device = refl; last = refl }
+stays_stored d server given (Err taking.OutOfMemory) takes = record { device = refl; last = refl }
 stays_stored d server given (Err taking.Journal) takes =
     let some : Some given ≡ None = sym (ap (λ (core : Core). core.doubt) takes.2) ∙ takes.0.fit.foreign.up in
     absurd (cc)

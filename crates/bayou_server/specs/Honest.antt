@@ -2,7 +2,7 @@
 use Rattle.std.specs.Prelude.{◌≡◌, ◌⊎◌, ℕ, List, [], ◌∷◌, ◌++◌, Option, None, Some, Result, Ok, Err}
 use Rattle.bayou_device.specs.declared.device.Device.{Ghosts}
 use Rattle.bayou_journal.specs.Honest as journals
-use Rattle.bayou_journal.specs.declared.format.TheConstants.{VERSION}
+use Rattle.bayou_journal.specs.Versions.{Body}
 use Rattle.bayou_lang.specs.declared.write.Write.{Write}
 use Rattle.bayou_server.specs.declared.answer.Reopened.{Reopened}
 use Rattle.bayou_server.specs.declared.fault.JournalFault.TheVariants.{Device, NotAJournal, OtherServer}
@@ -11,63 +11,59 @@ use Rattle.bayou_server.specs.declared.fault.ReopenFault.TheVariants as reopenin
 use Rattle.bayou_server.specs.declared.fault.StartFault.{StartFault}
 use Rattle.bayou_server.specs.declared.fault.StartFault.TheVariants as starting
 use Rattle.bayou_server.specs.Server.{ServerState}
-use Rattle.bayou_server.specs.Stored.{Stores}
+use Rattle.bayou_server.specs.Stored.{IsBodyOf, Stores}
 
--- behind the bodies of the Writes held, that of the Write in doubt stands for it, if one is in doubt
-abbrev pub StoresDoubt : (bodies : List (List ℕ)) → Option (List ℕ) → (held : List Write) → Option Write → Type 0
-StoresDoubt bodies None held None = Unit {0}
-StoresDoubt bodies (Some body) held (Some doubt) = Stores (bodies ++ body ∷ []) (held ++ doubt ∷ [])
-StoresDoubt bodies None held (Some doubt) = ⊥
-StoresDoubt bodies (Some body) held None = ⊥
+-- the body in doubt stands for the Write in doubt, if one is
+abbrev pub StoresDoubt : Option Body → Option Write → Type 0
+StoresDoubt None None = Unit {0}
+StoresDoubt (Some body) (Some doubt) = IsBodyOf body doubt
+StoresDoubt None (Some doubt) = ⊥
+StoresDoubt (Some body) None = ⊥
 
 -- The device is honest for the server's Writes: the entries of those held are kept, and no other entry goes on from them but that
 -- of the Write in doubt, if one is.
 pub record IsHonestServerDevice {D : Type 0} (d : Ghosts D) (id : ℕ) (held : List Write) (doubt : Option Write) (device : D) : Type 0 where
-  pub bodies : List (List ℕ)
-  pub body : Option (List ℕ)
+  pub bodies : List Body
+  pub body : Option Body
   pub stores : Stores bodies held
-  pub stores_doubt : StoresDoubt bodies body held doubt
-  pub honest : journals.IsHonestDevice d VERSION id bodies body device
+  pub stores_doubt : StoresDoubt body doubt
+  pub honest : journals.IsHonestDevice d id bodies body device
 
--- the device has the server's journal, with the Writes held and nothing else, all of it kept
-pub record IsWholeDevice {D : Type 0} (d : Ghosts D) (id : ℕ) (held : List Write) (device : D) : Type 0 where
-  pub bodies : List (List ℕ)
+-- the device has the server's journal, with the Writes held and nothing else, all of it kept; its next entry stands behind that digest
+pub record IsWholeDevice {D : Type 0} (d : Ghosts D) (id : ℕ) (held : List Write) (last : List ℕ) (device : D) : Type 0 where
+  pub bodies : List Body
   pub stores : Stores bodies held
-  pub whole : journals.IsWhole d VERSION id bodies device
+  pub whole : journals.IsWhole d id bodies last device
 
 -- what a server that is up has on its device, and one that is down
-abbrev pub IsLeft : {D : Type 0} → Ghosts D → (id : ℕ) → (held : List Write) → Option Write → (device : D) → Type 0
-IsLeft d id held None device = IsWholeDevice d id held device
-IsLeft d id held (Some doubt) device = IsHonestServerDevice d id held (Some doubt) device
+abbrev pub IsLeft : {D : Type 0} → Ghosts D → (id : ℕ) → (held : List Write) → Option Write → (last : List ℕ) → (device : D) → Type 0
+IsLeft d id held None last device = IsWholeDevice d id held last device
+IsLeft d id held (Some doubt) last device = IsHonestServerDevice d id held (Some doubt) device
 
 -- The server is over an honest device: while it is up a whole one.
 abbrev pub IsHonestServer : {D : Type 0} → Ghosts D → ServerState D → Type 0
-IsHonestServer d server = IsLeft d server.core.id server.core.held server.core.doubt server.device
+IsHonestServer d server = IsLeft d server.core.id server.core.held server.core.doubt server.last server.device
 
 -- the entries of the Writes held are kept, if any are held
 pub record KeepsWrites {D : Type 0} (d : Ghosts D) (id : ℕ) (held : List Write) (device : D) : Type 0 where
-  pub bodies : List (List ℕ)
+  pub bodies : List Body
   pub stores : Stores bodies held
-  pub keeps : journals.KeepsBodies d VERSION id bodies device
+  pub keeps : journals.KeepsBodies d id bodies device
 
 -- what a server that is up keeps on its device, and one that is down, whatever its failed calls left behind that
-abbrev pub IsKept : {D : Type 0} → Ghosts D → (id : ℕ) → (held : List Write) → Option Write → (device : D) → Type 0
-IsKept d id held None device = IsWholeDevice d id held device
-IsKept d id held (Some doubt) device = KeepsWrites d id held device
+abbrev pub IsKept : {D : Type 0} → Ghosts D → (id : ℕ) → (held : List Write) → Option Write → (last : List ℕ) → (device : D) → Type 0
+IsKept d id held None last device = IsWholeDevice d id held last device
+IsKept d id held (Some doubt) last device = KeepsWrites d id held device
 
 -- What a server holds is kept: while it is up it has a whole device.
 abbrev pub IsKeptServer : {D : Type 0} → Ghosts D → ServerState D → Type 0
-IsKeptServer d server = IsKept d server.core.id server.core.held server.core.doubt server.device
+IsKeptServer d server = IsKept d server.core.id server.core.held server.core.doubt server.last server.device
 
 -- The device of a server crashed, maybe as the entry of the Write in doubt was being stored: it keeps what it kept, and behind that stands
--- any tail. In what is kept behind the entries of the Writes held, and the tail, no entry goes on from them but that of the Write in doubt,
--- and none behind that.
-pub record HasCrashed {D : Type 0} (d : Ghosts D) (id : ℕ) (held : List Write) (doubt : Option Write) (old new : D) : Type 0 where
-  pub bodies : List (List ℕ)
-  pub body : Option (List ℕ)
-  pub stores : Stores bodies held
-  pub stores_doubt : StoresDoubt bodies body held doubt
-  pub crashed : journals.HasCrashed d VERSION id bodies body old new
+-- any tail. In what is kept behind the bodies of the Writes held, whatever their versions, and the tail, nothing goes on from them but
+-- a body of the Write in doubt.
+abbrev pub HasCrashed : {D : Type 0} → Ghosts D → (id : ℕ) → (held : List Write) → (doubt : Option Write) → (old new : D) → Type 0
+HasCrashed d id held doubt old new = (bodies : List Body) → Stores bodies held → (body : Option Body) × StoresDoubt body doubt × journals.HasCrashed d id bodies body old new
 
 -- the Writes are those that were held, or those and the one that was in doubt, if one was
 abbrev pub AreHonest : (held : List Write) → (doubt : Option Write) → List Write → Type 0

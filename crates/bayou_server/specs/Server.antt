@@ -14,10 +14,11 @@ pub record Core : Type 0 where
   pub held : List Write
   pub doubt : Option Write
 
--- and its device
+-- and its device, and the digest that the next entry of its journal stands behind, which counts while the server is up
 pub record ServerState (D : Type 0) : Type 0 where
   pub core : Core
   pub device : D
+  pub last : List ℕ
 
 -- the server, over another device
 abbrev pub with_device : {D : Type 0} → ServerState D → D → ServerState D

@@ -1,9 +1,8 @@
 -- How a server starts from what its journal has: this project's own.
 use Rattle.std.specs.Prelude.{◌≡◌, ◌⊎◌, ℕ, List, ◌∷◌, ◌++◌, None, All, length}
 use Rattle.bayou_device.specs.declared.device.Device.{Ghosts}
-use Rattle.bayou_journal.specs.Chain.{chain_end}
 use Rattle.bayou_journal.specs.Opening.{HasOpened, HasRefused}
-use Rattle.bayou_journal.specs.declared.format.TheConstants.{VERSION}
+use Rattle.bayou_journal.specs.Versions.{Body}
 use Rattle.bayou_journal.specs.declared.fault.OpenFault.TheVariants as opening
 use Rattle.bayou_lang.specs.declared.write.Write.{Write}
 use Rattle.bayou_lang.specs.Ranges.{IsWrite}
@@ -21,11 +20,11 @@ pub record Starts (id count limit : ℕ) (core : Core) : Type 0 where
 
 -- its journal was opened on the device, and has exactly the Writes that it holds, in their order; so many bytes were cut
 pub record StartsOn {D : Type 0} (d : Ghosts D) (device : D) (server : ServerState D) (dropped : ℕ) : Type 0 where
-  pub bodies : List (List ℕ)
+  pub bodies : List Body
   pub stores : Stores bodies server.core.held
-  pub opened : HasOpened d VERSION server.core.id device server.device (record { bodies = bodies; dropped = dropped }) (chain_end VERSION server.core.id bodies)
+  pub opened : HasOpened d server.core.id device server.device (record { bodies = bodies; dropped = dropped }) server.last
 
--- What is wrong with the body of an entry behind those of the Writes held: it is no Write's; or a Write's that may not follow;
+-- What is wrong with the bytes of a body behind those of the Writes held: it is no Write's; or a Write's that may not follow;
 -- or one's that may, and as many are held as may be.
 abbrev pub RefusesBody : (id count limit : ℕ) → (held : List Write) → (body : List ℕ) → StartFault → Type 0
 RefusesBody id count limit held body (BadRecord at) = (at ≡ length held) × ((write : Write) → ¬ SpellsWrite body write)
@@ -37,28 +36,29 @@ RefusesBody id count limit held body OutOfMemory = ⊥
 RefusesBody id count limit held body (Journal fault) = ⊥
 
 -- the first entry that a server doesn't take, and why
-pub record RefusesEntry (id count limit : ℕ) (bodies : List (List ℕ)) (fault : StartFault) : Type 0 where
+pub record RefusesEntry (id count limit : ℕ) (bodies : List Body) (fault : StartFault) : Type 0 where
   pub held : List Write
-  pub front : List (List ℕ)
-  pub body : List ℕ
-  pub rest : List (List ℕ)
+  pub front : List Body
+  pub body : Body
+  pub rest : List Body
   pub stores : Stores front held
   pub split : bodies ≡ front ++ body ∷ rest
   pub spelled : All IsWrite held
   pub holds : MayHold id count limit held
-  pub why : RefusesBody id count limit held body fault
+  pub why : RefusesBody id count limit held body.bytes fault
 
 -- the journal was opened, and the server doesn't take what it found
 pub record StopsAtEntry {D : Type 0} (d : Ghosts D) (id count limit : ℕ) (device left : D) (fault : StartFault) : Type 0 where
-  pub bodies : List (List ℕ)
-  pub opened : OpensWith d id device left bodies
+  pub bodies : List Body
+  pub last : List ℕ
+  pub opened : OpensWith d id device left bodies last
   pub refused : RefusesEntry id count limit bodies fault
 
 -- A server doesn't start: the journal's refusal, or the first entry that it doesn't take; and what is left of the device.
 abbrev pub FailsToStart : {D : Type 0} → Ghosts D → (id count limit : ℕ) → (device left : D) → StartFault → Type 0
-FailsToStart d id count limit device left (Journal fault) = HasRefused d VERSION id device left (open_fault fault)
+FailsToStart d id count limit device left (Journal fault) = HasRefused d id device left (open_fault fault)
 FailsToStart d id count limit device left (BadRecord at) = StopsAtEntry d id count limit device left (BadRecord at)
 FailsToStart d id count limit device left (Gap at) = StopsAtEntry d id count limit device left (Gap at)
 FailsToStart d id count limit device left LogFull = StopsAtEntry d id count limit device left LogFull
 FailsToStart d id count limit device left OutOfMemory =
-    HasRefused d VERSION id device left opening.OutOfMemory ⊎ ((bodies : List (List ℕ)) × OpensWith d id device left bodies)
+    HasRefused d id device left opening.OutOfMemory ⊎ ((bodies : List Body) × (last : List ℕ) × OpensWith d id device left bodies last)

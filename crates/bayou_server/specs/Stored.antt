@@ -1,12 +1,14 @@
 -- What a journal stores of the Writes of a server, and how the device stands after each call: this project's own.
-use Rattle.std.specs.Prelude.{◌≡◌, ◌⊎◌, ℕ, List, [], ◌∷◌, ◌++◌, Some, Result, Ok, Err, map}
+use Rattle.std.specs.Prelude.{◌≡◌, ◌⊎◌, ℕ, List, [], ◌∷◌, ◌++◌, Some, Result, Ok, Err}
+use Rattle.std.specs.List.{AllZip}
 use Rattle.bayou_base.specs.declared.answer.Accepted.{Accepted}
 use Rattle.bayou_device.specs.Device.{Rose}
 use Rattle.bayou_device.specs.declared.device.Device.{Ghosts}
-use Rattle.bayou_journal.specs.Chain.{chain_end, entry, journal}
-use Rattle.bayou_journal.specs.declared.format.TheConstants.{VERSION}
+use Rattle.bayou_journal.specs.Chain.{entry, link}
+use Rattle.bayou_journal.specs.Honest.{HasJournal, added_body}
 use Rattle.bayou_journal.specs.Opening.{FailsToAdd, HasOpened, HasRefused}
 use Rattle.bayou_journal.specs.Opening as journals
+use Rattle.bayou_journal.specs.Versions.{Body}
 use Rattle.bayou_journal.specs.declared.fault.OpenFault.TheVariants as opening
 use Rattle.bayou_lang.specs.declared.write.Write.{Write}
 use Rattle.bayou_wire.specs.Spelling.{write_bytes}
@@ -22,34 +24,38 @@ use Rattle.bayou_server.specs.declared.fault.WriteFault.TheVariants.{Down, Behin
 use Rattle.bayou_server.specs.Faults.{open_fault}
 use Rattle.bayou_server.specs.Server.{ServerState}
 
--- each Write in its one spelling
-abbrev pub bodies_of : List Write → List (List ℕ)
-bodies_of writes = map write_bytes writes
+-- the body of a journal stands for the Write: it is its one spelling
+abbrev pub IsBodyOf : Body → Write → Type 0
+IsBodyOf body write = body.bytes ≡ write_bytes write
 
--- The bodies of a journal's entries stand for these Writes. There is one case: each is the bytes of the Write at its place.
-abbrev pub Stores : List (List ℕ) → List Write → Type 0
-Stores bodies writes = bodies ≡ bodies_of writes
+-- the bodies of a journal stand for these Writes, each for the one at its place
+abbrev pub Stores : List Body → List Write → Type 0
+Stores bodies writes = AllZip IsBodyOf bodies writes
 
 -- the device has the server's journal, with the Writes held and nothing else
 abbrev pub IsStored : {D : Type 0} → Ghosts D → ServerState D → Type 0
-IsStored d server = (bodies : List (List ℕ)) × Stores bodies server.core.held × (d.content server.device ≡ journal VERSION server.core.id bodies)
+IsStored d server = (bodies : List Body) × Stores bodies server.core.held × HasJournal server.core.id bodies server.last (d.content server.device)
 
 -- ---- a Write
 
--- an entry stands for one Write more behind those held
-pub record IsEntryOf (server : ℕ) (held : List Write) (made : Write) (added : List ℕ) : Type 0 where
-  pub bodies : List (List ℕ)
+-- the bytes are the entry, behind that digest, of a body that stands for the Write
+pub record IsEntryOf (last : List ℕ) (made : Write) (added : List ℕ) : Type 0 where
   pub body : List ℕ
-  pub before : Stores bodies held
-  pub after : Stores (bodies ++ body ∷ []) (held ++ made ∷ [])
-  pub is : added ≡ entry (chain_end VERSION server bodies) body
+  pub stands : IsBodyOf (added_body body) made
+  pub is : added ≡ entry last body
+
+-- neither the device nor the digest has changed
+pub record IsUntouched {D : Type 0} (old new : ServerState D) : Type 0 where
+  pub device : new.device ≡ old.device
+  pub last : new.last ≡ old.last
 
 -- the entry of the Write that is held now was added, and all was synced
 pub record HasAdded {D : Type 0} (d : Ghosts D) (old new : ServerState D) : Type 0 where
   pub made : Write
   pub held : new.core.held ≡ old.core.held ++ made ∷ []
   pub added : List ℕ
-  pub entry_of : IsEntryOf old.core.id old.core.held made added
+  pub entry_of : IsEntryOf old.last made added
+  pub ends : new.last ≡ link old.last entry_of.body
   pub behind : d.is_modelled → d.content new.device ≡ d.content old.device ++ added
   pub synced : d.kept new.device ≡ d.content new.device
   pub counts : d.failures new.device ≡ d.failures old.device
@@ -59,56 +65,56 @@ pub record HasFailed {D : Type 0} (d : Ghosts D) (old new : ServerState D) : Typ
   pub made : Write
   pub doubt : new.core.doubt ≡ Some made
   pub added : List ℕ
-  pub entry_of : IsEntryOf old.core.id old.core.held made added
+  pub entry_of : IsEntryOf old.last made added
   pub left : d.is_modelled → FailsToAdd d.may_leave added (d.content old.device) (d.content new.device)
   pub rose : Rose (d.failures old.device) (d.failures new.device)
 
 -- how the device stands after a program was answered
 abbrev pub StoresWrite : {D : Type 0} → Ghosts D → (old : ServerState D) → Result Accepted WriteFault → (new : ServerState D) → Type 0
 StoresWrite d old (Ok accepted) new = HasAdded d old new
-StoresWrite d old (Err Down) new = new.device ≡ old.device
-StoresWrite d old (Err (Behind vector)) new = new.device ≡ old.device
-StoresWrite d old (Err LogFull) new = new.device ≡ old.device
-StoresWrite d old (Err OutOfMemory) new = new.device ≡ old.device
+StoresWrite d old (Err Down) new = IsUntouched old new
+StoresWrite d old (Err (Behind vector)) new = IsUntouched old new
+StoresWrite d old (Err LogFull) new = IsUntouched old new
+StoresWrite d old (Err OutOfMemory) new = IsUntouched old new
 StoresWrite d old (Err Journal) new = HasFailed d old new
 
 -- how the device stands after a Write that another server accepted was answered
 abbrev pub StoresTaken : {D : Type 0} → Ghosts D → (old : ServerState D) → Result Took TakeFault → (new : ServerState D) → Type 0
 StoresTaken d old (Ok New) new = HasAdded d old new
-StoresTaken d old (Ok Had) new = new.device ≡ old.device
-StoresTaken d old (Err taking.Conflict) new = new.device ≡ old.device
-StoresTaken d old (Err taking.Down) new = new.device ≡ old.device
-StoresTaken d old (Err taking.OwnLost) new = new.device ≡ old.device
-StoresTaken d old (Err taking.Gap) new = new.device ≡ old.device
-StoresTaken d old (Err taking.BadStamp) new = new.device ≡ old.device
-StoresTaken d old (Err taking.LogFull) new = new.device ≡ old.device
-StoresTaken d old (Err taking.OutOfMemory) new = new.device ≡ old.device
+StoresTaken d old (Ok Had) new = IsUntouched old new
+StoresTaken d old (Err taking.Conflict) new = IsUntouched old new
+StoresTaken d old (Err taking.Down) new = IsUntouched old new
+StoresTaken d old (Err taking.OwnLost) new = IsUntouched old new
+StoresTaken d old (Err taking.Gap) new = IsUntouched old new
+StoresTaken d old (Err taking.BadStamp) new = IsUntouched old new
+StoresTaken d old (Err taking.LogFull) new = IsUntouched old new
+StoresTaken d old (Err taking.OutOfMemory) new = IsUntouched old new
 StoresTaken d old (Err taking.Journal) new = HasFailed d old new
 
 -- ---- an opening
 
 -- how many device calls the opening of a server's journal makes at the most
 abbrev pub OpensInCalls : {D : Type 0} → Ghosts D → (id : ℕ) → (old new : D) → Type 0
-OpensInCalls d id old new = journals.OpensInCalls d VERSION id old new
+OpensInCalls d id old new = journals.OpensInCalls d id old new
 
--- the journal was opened: these bodies were found, and are all that it is left with
-pub record OpensWith {D : Type 0} (d : Ghosts D) (id : ℕ) (old new : D) (bodies : List (List ℕ)) : Type 0 where
+-- the journal was opened: these bodies were found, and are all that it tells then; its next entry stands behind that digest
+pub record OpensWith {D : Type 0} (d : Ghosts D) (id : ℕ) (old new : D) (bodies : List Body) (last : List ℕ) : Type 0 where
   pub dropped : ℕ
-  pub opened : HasOpened d VERSION id old new (record { bodies = bodies; dropped = dropped }) (chain_end VERSION id bodies)
+  pub opened : HasOpened d id old new (record { bodies = bodies; dropped = dropped }) last
 
 -- the journal was opened, and these Writes are what it stores
-abbrev pub OpensWithWrites : {D : Type 0} → Ghosts D → (id : ℕ) → (old new : D) → List Write → Type 0
-OpensWithWrites d id old new writes = (bodies : List (List ℕ)) × Stores bodies writes × OpensWith d id old new bodies
+abbrev pub OpensWithWrites : {D : Type 0} → Ghosts D → (id : ℕ) → (old new : D) → List Write → (last : List ℕ) → Type 0
+OpensWithWrites d id old new writes last = (bodies : List Body) × Stores bodies writes × OpensWith d id old new bodies last
 
 -- the bodies begin with those of the Writes held, in their order
-pub record BeginsWithHeld (held : List Write) (bodies : List (List ℕ)) : Type 0 where
-  pub front : List (List ℕ)
-  pub more : List (List ℕ)
+pub record BeginsWithHeld (held : List Write) (bodies : List Body) : Type 0 where
+  pub front : List Body
+  pub more : List Body
   pub stores : Stores front held
   pub split : bodies ≡ front ++ more
 
 -- they do, and are neither of the Writes held alone, nor of those and the Write in doubt
-pub record HasOther (held : List Write) (doubt : Write) (bodies : List (List ℕ)) : Type 0 where
+pub record HasOther (held : List Write) (doubt : Write) (bodies : List Body) : Type 0 where
   pub begins : BeginsWithHeld held bodies
   pub not_held : ¬ Stores bodies held
   pub not_adopted : ¬ Stores bodies (held ++ doubt ∷ [])
@@ -116,14 +122,14 @@ pub record HasOther (held : List Write) (doubt : Write) (bodies : List (List ℕ
 -- How the device stands after a reopening was answered, and what of its journal the answer comes from. The refusals stand in
 -- their order; want of memory may come anywhere behind the first.
 abbrev pub ReopensJournal : {D : Type 0} → Ghosts D → (old : ServerState D) → Result Reopened ReopenFault → (new : ServerState D) → Type 0
-ReopensJournal d old (Ok reopened) new = OpensWithWrites d old.core.id old.device new.device new.core.held
-ReopensJournal d old (Err reopening.NotDown) new = new.device ≡ old.device
-ReopensJournal d old (Err (reopening.Journal fault)) new = HasRefused d VERSION old.core.id old.device new.device (open_fault fault)
+ReopensJournal d old (Ok reopened) new = OpensWithWrites d old.core.id old.device new.device new.core.held new.last
+ReopensJournal d old (Err reopening.NotDown) new = IsUntouched old new
+ReopensJournal d old (Err (reopening.Journal fault)) new = HasRefused d old.core.id old.device new.device (open_fault fault)
 ReopensJournal d old (Err reopening.Lost) new =
-    (bodies : List (List ℕ)) × OpensWith d old.core.id old.device new.device bodies × (¬ BeginsWithHeld old.core.held bodies)
+    (bodies : List Body) × OpensWith d old.core.id old.device new.device bodies new.last × (¬ BeginsWithHeld old.core.held bodies)
 ReopensJournal d old (Err (reopening.BadRecord at)) new =
     (doubt : Write) × (old.core.doubt ≡ Some doubt)
-    × ((bodies : List (List ℕ)) × OpensWith d old.core.id old.device new.device bodies × HasOther old.core.held doubt bodies)
+    × ((bodies : List Body) × OpensWith d old.core.id old.device new.device bodies new.last × HasOther old.core.held doubt bodies)
 ReopensJournal d old (Err reopening.OutOfMemory) new =
-    HasRefused d VERSION old.core.id old.device new.device opening.OutOfMemory
-    ⊎ ((bodies : List (List ℕ)) × OpensWith d old.core.id old.device new.device bodies)
+    HasRefused d old.core.id old.device new.device opening.OutOfMemory
+    ⊎ ((bodies : List Body) × OpensWith d old.core.id old.device new.device bodies new.last)

@@ -8,10 +8,10 @@ ghost use Rattle.bayou_lang.specs.declared.write.Write.{Write};
 ghost use Rattle.bayou_server.specs.declared.fault.JournalFault.{JournalFault};
 ghost use Rattle.bayou_server.specs.declared.fault.StartFault.{StartFault};
 ghost use Rattle.bayou_server.specs.declared.fault.StartFault.TheVariants.{Journal};
-ghost use Rattle.bayou_device.specs.Device.{BeginsWith};
-ghost use Rattle.bayou_journal.specs.Chain.{AreBodies, IsBody, journal};
-ghost use Rattle.bayou_journal.specs.declared.format.TheConstants.{VERSION};
+ghost use Rattle.bayou_journal.specs.Chain.{IsBody};
+ghost use Rattle.bayou_journal.specs.Honest.{BeginsWithBodies, OnlyTears};
 ghost use Rattle.bayou_journal.specs.Opening.{KeepsChains};
+ghost use Rattle.bayou_journal.specs.Versions.{Body};
 ghost use Rattle.bayou_lang.specs.Ranges.{IsWrite};
 ghost use Rattle.bayou_wire.specs.Spelling.{write_bytes};
 ghost use Rattle.bayou_server.specs.declared.answer.Reopened.{Reopened};
@@ -19,7 +19,6 @@ ghost use Rattle.bayou_server.specs.declared.fault.ReopenFault.{ReopenFault};
 ghost use Rattle.bayou_server.specs.declared.answer.Took.{Took};
 ghost use Rattle.bayou_server.specs.declared.fault.TakeFault.{TakeFault};
 ghost use Rattle.bayou_server.specs.declared.fault.WriteFault.{WriteFault};
-ghost use Rattle.bayou_journal.specs.Honest.{OnlyTears};
 ghost use Rattle.bayou_server.specs.Honest.{AreHonest, HasCrashed, IsHonestAnswer, IsHonestServerDevice, IsHonestRefusal, IsHonestServer, IsKept, IsKeptServer, KeepsWrites, LosesNothing};
 ghost use Rattle.bayou_server.specs.Reopens.{Recovers, Reopens};
 ghost use Rattle.bayou_server.specs.Server.{Core, IsSoundServer, ServerState, with_device};
@@ -31,7 +30,7 @@ ghost use Rattle.bayou_server.specs.Writes.{Writes};
 use bayou_device::Device;
 use bayou_journal::laws::{
     a_crash_leaves_an_honest_device as a_crash_of_a_journal, an_append_leaves_an_honest_device,
-    an_honest_device_opens_honestly, what_is_found_is_one, what_is_kept_is_found,
+    an_honest_device_opens_honestly, what_is_kept_is_found, what_is_opened_is_one,
     what_stands_behind_the_kept_decides,
 };
 use bayou_wire::laws::{a_write_is_spelled_by_a_body, no_write_begins_another};
@@ -43,7 +42,7 @@ pub fn a_start_is_one<D: Device>()
         → Starts id count limit other.core → StartsOn D.Device device other more
         → (one.core.held ≡ other.core.held) × (dropped ≡ more) }
 {
-    what_is_found_is_one();
+    what_is_opened_is_one::<D>();
     no_write_begins_another();
 }
 
@@ -53,29 +52,29 @@ pub fn what_starts_is_not_refused<D: Device>()
         → Starts id count limit server.core → StartsOn D.Device device server dropped
         → StopsAtEntry D.Device id count limit device left fault → ⊥ }
 {
-    what_is_found_is_one();
+    what_is_opened_is_one::<D>();
     no_write_begins_another();
 }
 
 /// What a reopening adopts, and what is held then, is one.
 pub fn a_reopening_is_one<D: Device>()
     ensures { (adopted other : Option Wid) (old new next : ServerState D) → D.is_modelled
-        → Recovers old.core adopted new.core → OpensWithWrites D.Device old.core.id old.device new.device new.core.held
-        → Recovers old.core other next.core → OpensWithWrites D.Device old.core.id old.device next.device next.core.held
+        → Recovers old.core adopted new.core → OpensWithWrites D.Device old.core.id old.device new.device new.core.held new.last
+        → Recovers old.core other next.core → OpensWithWrites D.Device old.core.id old.device next.device next.core.held next.last
         → (adopted ≡ other) × (new.core.held ≡ next.core.held) }
 {
-    what_is_found_is_one();
+    what_is_opened_is_one::<D>();
 }
 
 /// A journal with which a server is up again begins with what it held, and has nothing else behind that but the Write in
 /// doubt.
 pub fn what_reopens_is_not_refused<D: Device>()
-    ensures { (adopted : Option Wid) (old new : ServerState D) (left : D) (bodies : List (List ℕ)) (doubt : Write) → D.is_modelled
-        → Recovers old.core adopted new.core → OpensWithWrites D.Device old.core.id old.device new.device new.core.held
-        → OpensWith D.Device old.core.id old.device left bodies → old.core.doubt ≡ Some doubt
+    ensures { (adopted : Option Wid) (old new : ServerState D) (left : D) (bodies : List Body) (last : List ℕ) (doubt : Write) → D.is_modelled
+        → Recovers old.core adopted new.core → OpensWithWrites D.Device old.core.id old.device new.device new.core.held new.last
+        → OpensWith D.Device old.core.id old.device left bodies last → old.core.doubt ≡ Some doubt
         → BeginsWithHeld old.core.held bodies × (¬ HasOther old.core.held doubt bodies) }
 {
-    what_is_found_is_one();
+    what_is_opened_is_one::<D>();
 }
 
 /// A server that starts on an empty device holds nothing.
@@ -84,13 +83,13 @@ pub fn a_start_on_an_empty_device_holds_nothing<D: Device>()
         → Starts id count limit server.core → StartsOn D.Device device server dropped
         → (server.core.held ≡ []) × (dropped ≡ 0) }
 {
-    what_is_found_is_one();
+    what_is_opened_is_one::<D>();
 }
 
-/// The bytes of a Write that has a spelling are a body of a journal, and those of Writes that have one are bodies.
+/// The bytes of a Write that has a spelling are a body of a journal, and so is each that stands for such a Write.
 pub fn a_write_is_a_body()
     ensures one { (write : Write) → IsWrite write → IsBody (write_bytes write) }
-    ensures each { (bodies : List (List ℕ)) (writes : List Write) → All IsWrite writes → Stores bodies writes → AreBodies bodies }
+    ensures each { (bodies : List Body) (writes : List Write) → All IsWrite writes → Stores bodies writes → All (λ body. IsBody body.bytes) bodies }
 {
     a_write_is_spelled_by_a_body();
 }
@@ -121,7 +120,6 @@ pub fn an_honest_server_is_reopened_honestly<D: Device>()
 {
     an_honest_device_opens_honestly::<D>();
     an_append_leaves_an_honest_device::<D>();
-    a_write_is_a_body();
 }
 
 /// A start on an honest device is honest: it holds what was held, or that and the Write in doubt, and is over a whole device. It is
@@ -139,7 +137,6 @@ pub fn a_start_on_an_honest_device_is_honest<D: Device>()
         → IsHonestServerDevice D.Device old.id old.held old.doubt left }
 {
     an_honest_device_opens_honestly::<D>();
-    a_write_is_a_body();
     no_write_begins_another();
 }
 
@@ -156,10 +153,13 @@ pub fn what_is_held_is_kept<D: Device>()
     ensures reopened { (result : Result Reopened ReopenFault) (old new : ServerState D) → D.is_modelled → IsSoundServer old.core
         → IsKeptServer D.Device old → Reopens old.core result new.core → ReopensJournal D.Device old result new → KeepsChains (D.kept old.device) (D.kept new.device)
         → IsKeptServer D.Device new }
-    ensures device { (id : ℕ) (held : List Write) (doubt : Option Write) (device : D) → IsKept D.Device id held doubt device → KeepsWrites D.Device id held device }
+    ensures device { (id : ℕ) (held : List Write) (doubt : Option Write) (last : List ℕ) (device : D) → IsKept D.Device id held doubt last device → KeepsWrites D.Device id held device }
     ensures honest_device { (id : ℕ) (held : List Write) (doubt : Option Write) (device : D) → IsHonestServerDevice D.Device id held doubt device → KeepsWrites D.Device id held device }
-    ensures again { (id : ℕ) (held : List Write) (old new : D) → All IsWrite held → KeepsWrites D.Device id held old → KeepsChains (D.kept old) (D.kept new) → KeepsWrites D.Device id held new }
+    ensures again { (id : ℕ) (held : List Write) (old new : D) → KeepsWrites D.Device id held old → KeepsChains (D.kept old) (D.kept new) → KeepsWrites D.Device id held new }
 {
+    an_append_leaves_an_honest_device::<D>();
+    an_honest_device_opens_honestly::<D>();
+    what_is_kept_is_found::<D>();
     a_write_is_a_body();
 }
 
@@ -198,24 +198,23 @@ pub fn what_its_device_holds_decides<D: Device>()
 /// Whatever a failed call or a crash leaves behind what is kept: where the entries of the Writes held are kept, no reopening says that
 /// one is lost, and a start holds them, before all others; neither says that the journal is another server's, or none.
 pub fn what_is_kept_is_never_lost<D: Device>()
-    ensures reopened { (bodies : List (List ℕ)) (result : Result Reopened ReopenFault) (old new : ServerState D) → D.is_modelled → IsSoundServer old.core
-        → Stores bodies old.core.held → BeginsWith (journal VERSION old.core.id bodies) (D.kept old.device)
+    ensures reopened { (bodies : List Body) (result : Result Reopened ReopenFault) (old new : ServerState D) → D.is_modelled → IsSoundServer old.core
+        → Stores bodies old.core.held → BeginsWithBodies old.core.id bodies (D.kept old.device)
         → ReopensJournal D.Device old result new → LosesNothing result }
-    ensures started { (bodies : List (List ℕ)) (held : List Write) (id count limit dropped : ℕ) (device : D) (server : ServerState D) → D.is_modelled → All IsWrite held
-        → Stores bodies held → BeginsWith (journal VERSION id bodies) (D.kept device)
+    ensures started { (bodies : List Body) (held : List Write) (id count limit dropped : ℕ) (device : D) (server : ServerState D) → D.is_modelled → All IsWrite held
+        → Stores bodies held → BeginsWithBodies id bodies (D.kept device)
         → Starts id count limit server.core → StartsOn D.Device device server dropped → (more : List Write) × (server.core.held ≡ held ++ more) }
-    ensures refused { (bodies : List (List ℕ)) (id count limit : ℕ) (device left : D) (fault : JournalFault) → D.is_modelled
-        → BeginsWith (journal VERSION id bodies) (D.kept device)
+    ensures refused { (bodies : List Body) (id count limit : ℕ) (device left : D) (fault : JournalFault) → D.is_modelled
+        → BeginsWithBodies id bodies (D.kept device)
         → FailsToStart D.Device id count limit device left (Journal fault) → IsHonestRefusal (Journal fault) }
 {
     what_is_kept_is_found::<D>();
-    a_write_is_a_body();
     no_write_begins_another();
 }
 
 /// What a journal stores is of one list of Writes.
 pub fn what_is_stored_is_one()
-    ensures { (bodies : List (List ℕ)) (writes others : List Write) → All IsWrite writes → All IsWrite others → Stores bodies writes → Stores bodies others → writes ≡ others }
+    ensures { (bodies : List Body) (writes others : List Write) → All IsWrite writes → All IsWrite others → Stores bodies writes → Stores bodies others → writes ≡ others }
 {
     no_write_begins_another();
 }

@@ -26,6 +26,7 @@ use crate::taking::{take_one, take_several};
 use bayou_base::{Accepted, Key, Seen, ServerId, Vector, Wid};
 use bayou_device::Device;
 use bayou_journal::Journal;
+use bayou_journal::laws::an_honest_device_opens_honestly;
 use bayou_lang::{RestingProgram, RestingWrite};
 use bayou_log::{Listed, WriteLog};
 use std::alloc::{AllocError, Global};
@@ -48,7 +49,7 @@ impl<D> Model for Server<D> {
 
     ghost Value = { ServerState D };
 
-    ghost view = { λ s. record { core = core_of s.log s.id.index s.doubt; device = s.journal.device } };
+    ghost view = { λ s. record { core = core_of s.log s.id.index s.doubt; device = s.journal.device; last = s.journal.last } };
 
     // None of the Writes held waits to be applied.
     ghost invariant = { λ s. BelongTogether s.journal s.log s.id.index s.doubt × (s.log.waiting ≡ 0) };
@@ -80,6 +81,7 @@ impl<D: Device> Server<D> {
             (λ started. OpensInCalls D.Device id.index device started.0.device)
             (λ refused. OpensInCalls D.Device id.index device refused.device) }
     {
+        an_honest_device_opens_honestly::<D>();
         let (journal, opened) = match Journal::open(alloc, id, device) {
             Ok(opened) => opened,
             Err(refused) => {
@@ -229,6 +231,7 @@ impl<D: Device> Server<D> {
         ensures safe { D.is_modelled → KeepsChains (D.kept self.old.device) (D.kept self.new.device) }
         ensures calls { OpensInCalls D.Device self.old.core.id self.old.device self.new.device }
     {
+        an_honest_device_opens_honestly::<D>();
         let Some(doubt) = &self.doubt else {
             return Err(ReopenFault::NotDown);
         };

@@ -1,14 +1,16 @@
 //! How a server stores one Write more: its entry behind the others of the journal, and then the Write. What of the log isn't applied
 //! waits for whoever calls.
-ghost use Rattle.std.specs.Prelude.{◌≡◌, ◌<◌, MatchResult, length};
+ghost use Rattle.std.specs.Prelude.{◌≡◌, ◌<◌, IfOk, MatchResult, length};
 ghost use Rattle.bayou_journal.specs.Opening.{KeepsChains};
 ghost use Rattle.bayou_lang.specs.Writes.{Fits};
 ghost use Rattle.bayou_log.specs.Log.{IsReserved};
 ghost use Rattle.bayou_server.specs.Inner.Fields.{BelongTogether, core_of, server_of};
-ghost use Rattle.bayou_server.specs.Inner.Storing.{Keeps, MayBeStored, Settles, StoresEntry};
+ghost use Rattle.bayou_server.specs.Inner.Storing.{Keeps, MayBeStored, Settles, StaysStored, StoresEntry};
+ghost use Rattle.bayou_server.specs.Stored.{IsUntouched};
 
 use bayou_base::ServerId;
 use bayou_device::Device;
+use bayou_journal::laws::an_append_leaves_an_honest_device;
 use bayou_journal::{AppendFault, Journal};
 use bayou_lang::RestingWrite;
 use bayou_log::WriteLog;
@@ -64,10 +66,12 @@ pub fn store<D: Device>(
         (λ _. core_of log.new id.index doubt.new ≡ core_of log.old id.index doubt.old) }
     ensures stores { MatchResult result
         (λ stored. StoresEntry D.Device (server_of journal.old log.old id.index doubt.old) stored (server_of journal.new log.new id.index doubt.new))
-        (λ _. journal.new.device ≡ journal.old.device) }
+        (λ _. IsUntouched (server_of journal.old log.old id.index doubt.old) (server_of journal.new log.new id.index doubt.new)) }
+    ensures stored { D.is_modelled → IfOk result (λ stored. StaysStored D.Device (server_of journal.old log.old id.index doubt.old) stored (server_of journal.new log.new id.index doubt.new)) }
     ensures safe { D.is_modelled → KeepsChains (D.kept journal.old.device) (D.kept journal.new.device) }
     ensures calls { D.leads_to 2 journal.old.device journal.new.device }
 {
+    an_append_leaves_an_honest_device::<D>();
     log.reserve(&write)?;
     let body = encode_resting_write(alloc, &write)?;
     let added = journal.append(&body);

@@ -58,29 +58,29 @@ as_it_was old new same = subst (Spends false false old) (sym same) (same_spends 
 pub wrote_spends : (answer : Result Accepted WriteFault) (old new : ServerState Memory) → LeadsTo 2 old.device new.device → StoresWrite memory_device old answer new
     → Spends (tells_fault (replies.Wrote answer)) false old.device new.device
 wrote_spends (Ok accepted) old new calls stores = steady 2 old.device new.device calls stores.counts
-wrote_spends (Err writing.Down) old new calls same = as_it_was old.device new.device same
-wrote_spends (Err (writing.Behind vector)) old new calls same = as_it_was old.device new.device same
-wrote_spends (Err writing.LogFull) old new calls same = as_it_was old.device new.device same
-wrote_spends (Err writing.OutOfMemory) old new calls same = as_it_was old.device new.device same
+wrote_spends (Err writing.Down) old new calls same = as_it_was old.device new.device same.device
+wrote_spends (Err (writing.Behind vector)) old new calls same = as_it_was old.device new.device same.device
+wrote_spends (Err writing.LogFull) old new calls same = as_it_was old.device new.device same.device
+wrote_spends (Err writing.OutOfMemory) old new calls same = as_it_was old.device new.device same.device
 wrote_spends (Err writing.Journal) old new calls fails = rises 2 old.device new.device calls fails.rose
 
 pub took_spends : (answer : Result Took TakeFault) (old new : ServerState Memory) → LeadsTo 2 old.device new.device → StoresTaken memory_device old answer new
     → Spends (tells_fault (replies.Took answer)) false old.device new.device
 took_spends (Ok New) old new calls stores = steady 2 old.device new.device calls stores.counts
-took_spends (Ok Had) old new calls same = as_it_was old.device new.device same
-took_spends (Err taking.Conflict) old new calls same = as_it_was old.device new.device same
-took_spends (Err taking.Down) old new calls same = as_it_was old.device new.device same
-took_spends (Err taking.OwnLost) old new calls same = as_it_was old.device new.device same
-took_spends (Err taking.Gap) old new calls same = as_it_was old.device new.device same
-took_spends (Err taking.BadStamp) old new calls same = as_it_was old.device new.device same
-took_spends (Err taking.LogFull) old new calls same = as_it_was old.device new.device same
-took_spends (Err taking.OutOfMemory) old new calls same = as_it_was old.device new.device same
+took_spends (Ok Had) old new calls same = as_it_was old.device new.device same.device
+took_spends (Err taking.Conflict) old new calls same = as_it_was old.device new.device same.device
+took_spends (Err taking.Down) old new calls same = as_it_was old.device new.device same.device
+took_spends (Err taking.OwnLost) old new calls same = as_it_was old.device new.device same.device
+took_spends (Err taking.Gap) old new calls same = as_it_was old.device new.device same.device
+took_spends (Err taking.BadStamp) old new calls same = as_it_was old.device new.device same.device
+took_spends (Err taking.LogFull) old new calls same = as_it_was old.device new.device same.device
+took_spends (Err taking.OutOfMemory) old new calls same = as_it_was old.device new.device same.device
 took_spends (Err taking.Journal) old new calls fails = rises 2 old.device new.device calls fails.rose
 
 pub reopened_spends : (answer : Result Reopened ReopenFault) (old new : ServerState Memory) → LeadsTo 4 old.device new.device → ReopensJournal memory_device old answer new
     → Spends (tells_fault (replies.Reopened answer)) false old.device new.device
 reopened_spends (Ok reopened) old new calls (bodies, stores, opens) = steady 4 old.device new.device calls opens.opened.counts
-reopened_spends (Err reopening.NotDown) old new calls same = as_it_was old.device new.device same
+reopened_spends (Err reopening.NotDown) old new calls same = as_it_was old.device new.device same.device
 reopened_spends (Err (reopening.Journal Device)) old new calls (rose, left) = rises 4 old.device new.device calls rose
 reopened_spends (Err (reopening.Journal NotAJournal)) old new calls (unchanged, foreign) = steady 4 old.device new.device calls unchanged.counts
 reopened_spends (Err (reopening.Journal OtherServer)) old new calls (unchanged, another) = steady 4 old.device new.device calls unchanged.counts
@@ -98,7 +98,7 @@ start_spends id count limit old left (starting.BadRecord at) calls stops = stead
 start_spends id count limit old left (starting.Gap at) calls stops = steady 4 old left calls stops.opened.opened.counts
 start_spends id count limit old left starting.LogFull calls stops = steady 4 old left calls stops.opened.opened.counts
 start_spends id count limit old left starting.OutOfMemory calls (inl unchanged) = steady 4 old left calls unchanged.counts
-start_spends id count limit old left starting.OutOfMemory calls (inr (bodies, opens)) = steady 4 old left calls opens.opened.counts
+start_spends id count limit old left starting.OutOfMemory calls (inr (bodies, last, opens)) = steady 4 old left calls opens.opened.counts
 
 -- ---- of all servers
 

@@ -2,10 +2,11 @@
 use Rattle.std.proofs.Common.{◌≡◌, inl, inr, ◌⊎◌, ℕ, List, [], ◌∷◌, ◌++◌, None, Some, Result, Ok, Err, ap, sym, ◌∙◌, refl, subst}
 use Rattle.std.specs.List.{slice_get}
 use Rattle.std.specs.Option.{option_map}
-use Rattle.std.proofs.lemmas.List.{append-nil, map-append}
+use Rattle.std.proofs.lemmas.List.{append-nil}
 use Rattle.std.proofs.lemmas.List.Elements.{All-contains}
 use Rattle.std.proofs.lemmas.Option.{get_or_from_slice_get, slice_get_within}
 use Rattle.bayou_device.specs.declared.device.Device.{Ghosts}
+use Rattle.bayou_journal.specs.Versions.{Body}
 use Rattle.bayou_lang.specs.declared.write.Write.{Write}
 use Rattle.bayou_server.specs.declared.answer.Reopened.{Reopened}
 use Rattle.bayou_server.specs.declared.answer.Took.{Took}
@@ -16,7 +17,8 @@ use Rattle.bayou_server.specs.declared.fault.TakeFault.{TakeFault}
 use Rattle.bayou_server.specs.declared.fault.TakeFault.TheVariants as taking
 use Rattle.bayou_server.specs.Honest.{AreHonest}
 use Rattle.bayou_server.specs.Server.{Core, ServerState}
-use Rattle.bayou_server.specs.Stored.{BeginsWithHeld, ReopensJournal, Stores, bodies_of}
+use Rattle.bayou_server.specs.Stored.{BeginsWithHeld, ReopensJournal, Stores}
+use Rattle.bayou_server.specs.Laws.Stored.{begins_before}
 use Rattle.bayou_server.specs.Takes as takes
 use Rattle.bayou_world.specs.declared.reply.Reply.TheVariants as replies
 use Rattle.bayou_world.specs.Inner.Good.{IsGoodMachine, IsHome}
@@ -71,23 +73,22 @@ rows_of_rules machine good place item made given answer new takes_it =
     )
 
 -- what an honest opening finds begins with what was held, and is that, or that and the Write in doubt
-honest_found : (core : Core) (bodies : List (List ℕ)) (found : List Write) → Stores bodies found → AreHonest core.held core.doubt found
+honest_found : (core : Core) (bodies : List Body) (found : List Write) → Stores bodies found → AreHonest core.held core.doubt found
     → BeginsWithHeld core.held bodies × (Stores bodies core.held ⊎ ((doubt : Write) × (core.doubt ≡ Some doubt) × Stores bodies (core.held ++ doubt ∷ [])))
 honest_found core bodies found stores honest = by_doubt core.doubt refl honest
   where
     held_alone : found ≡ core.held → BeginsWithHeld core.held bodies × (Stores bodies core.held ⊎ ((doubt : Write) × (core.doubt ≡ Some doubt) × Stores bodies (core.held ++ doubt ∷ [])))
     held_alone same =
-        let is : bodies ≡ bodies_of core.held = stores ∙ ap bodies_of same in
-        (record { front = bodies_of core.held; more = []; stores = refl; split = is ∙ sym (append-nil (bodies_of core.held)) }, inl is)
+        let is : Stores bodies core.held = subst (Stores bodies) same stores in
+        (record { front = bodies; more = []; stores = is; split = sym (append-nil bodies) }, inl is)
 
     by_doubt : (doubt : _) → core.doubt ≡ doubt → AreHonest core.held doubt found
         → BeginsWithHeld core.held bodies × (Stores bodies core.held ⊎ ((doubt : Write) × (core.doubt ≡ Some doubt) × Stores bodies (core.held ++ doubt ∷ [])))
     by_doubt None is same = held_alone same
     by_doubt (Some doubt) is (inl same) = held_alone same
     by_doubt (Some doubt) is (inr same) =
-        let whole : bodies ≡ bodies_of (core.held ++ doubt ∷ []) = stores ∙ ap bodies_of same in
-        let split : bodies_of (core.held ++ doubt ∷ []) ≡ bodies_of core.held ++ bodies_of (doubt ∷ []) = map-append _ core.held (doubt ∷ []) in
-        (record { front = bodies_of core.held; more = bodies_of (doubt ∷ []); stores = refl; split = whole ∙ split }, inr (doubt, is, whole))
+        let whole : Stores bodies (core.held ++ doubt ∷ []) = subst (Stores bodies) same stores in
+        (begins_before bodies core.held doubt whole, inr (doubt, is, whole))
 
 some_write : (a b : Write) → Some a ≡ Some b → a ≡ b
 some_write a b same = cc
@@ -97,10 +98,10 @@ nothing_other_is_found D d old new (Ok reopened) honest reopens = λ no. no
 nothing_other_is_found D d old new (Err reopening.NotDown) honest reopens = λ no. no
 nothing_other_is_found D d old new (Err (reopening.Journal fault)) honest reopens = λ no. no
 nothing_other_is_found D d old new (Err reopening.Lost) honest (bodies, opens, lost) =
-    let found = honest new.device bodies opens in
+    let found = honest new.device bodies new.last opens in
     absurd (lost (honest_found old.core bodies found.0 found.1 found.2).0)
 nothing_other_is_found D d old new (Err (reopening.BadRecord at)) honest (doubt, is, (bodies, opens, other)) =
-    let found = honest new.device bodies opens in
+    let found = honest new.device bodies new.last opens in
     elim (honest_found old.core bodies found.0 found.1 found.2).1 as (λ _. ¬ FindsOthers (Err (reopening.BadRecord at))) [
       | inl held ↦ absurd (other.not_held held)
       | inr more ↦

@@ -2,6 +2,7 @@
 use Rattle.std.specs.Prelude.{ℕ, List, Result, Ok, Err}
 use Rattle.std.specs.Option.{option_map}
 use Rattle.bayou_device.specs.declared.device.Device.{Ghosts}
+use Rattle.bayou_journal.specs.Versions.{Body}
 use Rattle.bayou_lang.specs.declared.write.Write.{Write}
 use Rattle.bayou_server.specs.declared.answer.Reopened.{Reopened}
 use Rattle.bayou_server.specs.declared.fault.ReopenFault.{ReopenFault}
@@ -23,7 +24,7 @@ core_at machine place = record {
 
 -- Whatever an opening of the server's journal finds, those are the Writes that it held, or those and the Write in doubt.
 abbrev pub OpensHonestly : {D : Type 0} → Ghosts D → ServerState D → Type 0
-OpensHonestly {D} d server = (left : D) (bodies : List (List ℕ)) → OpensWith d server.core.id server.device left bodies
+OpensHonestly {D} d server = (left : D) (bodies : List Body) (last : List ℕ) → OpensWith d server.core.id server.device left bodies last
     → (found : List Write) × Stores bodies found × AreHonest server.core.held server.core.doubt found
 
 -- the journal has lost a Write that was held, or has another than those that may be there

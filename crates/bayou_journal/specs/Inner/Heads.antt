@@ -1,23 +1,28 @@
--- What stands at the front of what should be a server's journal, and where its chain ends: this project's own.
-use Rattle.std.specs.Prelude.{◌≡◌, ℕ, ◌≤◌, zero, suc, List, [], ◌++◌, take, length}
+-- What stands at the front of what should be a server's journal, and what an opening adds behind its chain: this project's own.
+use Rattle.std.specs.Prelude.{◌==◌, ℕ, zero, suc, List, [], if◌then◌else◌}
 use Rattle.bayou_device.specs.Device.{BeginsWith}
-use Rattle.bayou_journal.specs.Chain.{header, journal}
+use Rattle.bayou_journal.specs.Chain.{entry, header, link}
 use Rattle.bayou_journal.specs.Opening.{IsForeign, IsNew, IsOfAnother}
+use Rattle.bayou_journal.specs.Versions.{IsVersion, newest_mark}
 use Rattle.bayou_journal.specs.declared.chain.Head.{Head}
-use Rattle.bayou_journal.specs.declared.chain.Head.TheVariants.{New, Whole, OfAnother, Foreign}
+use Rattle.bayou_journal.specs.declared.chain.Head.TheVariants.{New, Own, OfAnother, Foreign}
+use Rattle.bayou_journal.specs.declared.format.TheConstants.{NEWEST_VERSION}
 
-abbrev pub HasHead : ℕ → ℕ → List ℕ → Head → Type 0
-HasHead version server bytes New = IsNew version bytes
-HasHead version server bytes Whole = BeginsWith (header version server) bytes
-HasHead version server bytes OfAnother = IsOfAnother version server bytes
-HasHead version server bytes Foreign = IsForeign version bytes
+abbrev pub HasHead : ℕ → List ℕ → Head → Type 0
+HasHead server bytes New = IsNew bytes
+HasHead server bytes (Own version) = IsVersion version × BeginsWith (header version server) bytes
+HasHead server bytes OfAnother = IsOfAnother server bytes
+HasHead server bytes Foreign = IsForeign bytes
 
--- what has to be added behind the cut: a whole header, where nothing is left
-abbrev pub missing : ℕ → ℕ → ℕ → List ℕ
-missing version server zero = header version server
-missing version server (suc end) = []
+-- a whole header, where nothing is left
+abbrev pub missing_header : (server end : ℕ) → List ℕ
+missing_header server zero = header NEWEST_VERSION server
+missing_header server (suc end) = []
 
--- behind the cut, and what is missing, the journal of these bodies stands
-pub record EndsAt (version server : ℕ) (bytes : List ℕ) (bodies : List (List ℕ)) (end : ℕ) : Type 0 where
-  pub within : end ≤ length bytes
-  pub whole : take end bytes ++ missing version server end ≡ journal version server bodies
+-- What has to be added behind the cut, where the chain has this version and this digest there.
+abbrev pub missing : (server version : ℕ) → (last : List ℕ) → (end : ℕ) → List ℕ
+missing server version last end = if version == NEWEST_VERSION then missing_header server end else entry last newest_mark
+
+-- the digest that the next entry stands behind then
+abbrev pub raised_link : (version : ℕ) → (last : List ℕ) → List ℕ
+raised_link version last = if version == NEWEST_VERSION then last else link last newest_mark

@@ -42,6 +42,14 @@ journal-append version server bodies more =
     ap (λ (l : List ℕ). header version server ++ l) (entries-append (first_link version server) bodies more)
     ∙ sym (append_assoc (header version server) (entries (first_link version server) bodies) (entries (chain_end version server bodies) more))
 
+pub last_link-append : (before : List ℕ) (bodies more : List (List ℕ)) → last_link before (bodies ++ more) ≡ last_link (last_link before bodies) more
+last_link-append before [] more = refl
+last_link-append before (first ∷ bodies) more = last_link-append (link before first) bodies more
+
+pub AreBodies-append : (bodies more : List (List ℕ)) → AreBodies bodies → AreBodies more → AreBodies (bodies ++ more)
+AreBodies-append [] more are others = others
+AreBodies-append (first ∷ bodies) more are others = (are.0, AreBodies-append bodies more are.1 others)
+
 -- two fronts of one length, and what stands behind each
 pub record Same (xs ys ts us : List ℕ) : Type 0 where
   pub front : xs ≡ ys

@@ -9,7 +9,7 @@ use Rattle.bayou_log.specs.Log.{Log}
 use Rattle.bayou_server.specs.declared.storing.Stored.{Stored}
 use Rattle.bayou_server.specs.declared.storing.Stored.TheVariants.{Held, InDoubt}
 use Rattle.bayou_server.specs.Server.{Core, IsUp, ServerState}
-use Rattle.bayou_server.specs.Stored.{HasAdded, HasFailed}
+use Rattle.bayou_server.specs.Stored.{HasAdded, HasFailed, IsStored}
 
 -- the server is up, and may hold the Write next: there is room for it, it fits what is held, and the server's own is its next
 pub record MayBeStored (core : Core) (write : Write) : Type 0 where
@@ -27,6 +27,11 @@ Keeps old write InDoubt new = IsWrite write × (new ≡ record old { doubt = Som
 abbrev pub StoresEntry : {D : Type 0} → Ghosts D → (old : ServerState D) → Stored → (new : ServerState D) → Type 0
 StoresEntry d old Held new = HasAdded d old new
 StoresEntry d old InDoubt new = HasFailed d old new
+
+-- a device that had the journal of the Writes held, and nothing else, has that of those held then
+abbrev pub StaysStored : {D : Type 0} → Ghosts D → (old : ServerState D) → Stored → (new : ServerState D) → Type 0
+StaysStored d old Held new = IsStored d old → IsStored d new
+StaysStored d old InDoubt new = Unit {0}
 
 -- what comes of a Write in the log once its entry was to be added: it is held behind the others, or is in doubt
 abbrev pub Settles : Log → Option Write → Write → Result (Unit {0}) AppendFault → Stored → (new : Log) → (left : Option Write) → Type 0

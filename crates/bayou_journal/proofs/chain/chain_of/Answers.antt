@@ -1,27 +1,28 @@
--- One entry more is walked.
-use Rattle.std.proofs.Common.{ℕ, ◌+◌, ◌-◌, ◌≤◌, List, [], ◌∷◌, ◌++◌, length, map, arith, refl, sym, ap, subst, length-append}
-use Rattle.bayou_journal.specs.Opened.{bytes_at}
+-- One entry more is read: a mark, or a body in the version that the chain has there.
+use Rattle.std.proofs.Common.{◌≡◌, ℕ, ◌+◌, ◌-◌, ◌≤◌, List, None, Some, length, arith, refl, sym, ◌∙◌, ap, length-append}
+use Rattle.bayou_journal.specs.Chain.{journal}
+use Rattle.bayou_journal.specs.Inner.Reads.{IsRead}
+use Rattle.bayou_journal.specs.Versions.{marked}
 use Rattle.bayou_journal.specs.declared.opened.Place.{Place}
-use Rattle.bayou_journal.specs.Chain.{NoEntry, journal}
-use Rattle.bayou_journal.specs.declared.format.TheConstants.{VERSION}
-use Rattle.bayou_journal.proofs.Walking.{IsWalked, walks_on}
+use Rattle.bayou_journal.proofs.Walking.{reads_body, reads_mark}
 use Rattle.bayou_journal.proofs.chain.chain_of.Goals as goal
+use Rattle.bayou_journal.proofs.chain.chain_of.Goals.{in-Some-marked_by, in-None+in_ok-push-in-None}
 
 pub loop-first-preserved : goal.loop-first-preserved
 loop-first-preserved c =
     let first = c.in-Some.first in
     let so_far = c.loop-first in
-    let short : length so_far.rest.now ≤ length c.args.bytes.now = omega (arith, ap length so_far.invariant.split, length-append (journal VERSION c.args.server.index (map (bytes_at c.args.bytes.now) so_far.places.items)) so_far.rest.now) in
-    let place : Place = record { start = length c.args.bytes.now - length so_far.rest.now + 2; end = length c.args.bytes.now - length so_far.rest.now + 2 + length first.body.now } in
-    let on = walks_on VERSION c.args.server.index c.args.bytes.now so_far.places.items so_far.last so_far.rest.now first.body.now first.rest.now place so_far.invariant c.in-Some.ensures.body c.in-Some.ensures.split (omega arith) refl in
-    let moved = subst (λ (d : List ℕ). IsWalked VERSION c.args.server.index c.args.bytes.now (so_far.places.items ++ place ∷ []) d first.rest.now) (sym c.in-Some.ensures.digest) on in
-    subst (λ (ps : List Place). IsWalked VERSION c.args.server.index c.args.bytes.now ps first.digest first.rest.now) (sym c.in_ok-push.ensures.items) moved
-
-pub returns-clause-chain : goal.returns-clause-chain
-returns-clause-chain c =
-    let walked = c.loop-first.invariant in
-    let bodies = map (bytes_at c.args.bytes.now) c.loop-first.places.items in (
-      c.loop-first.rest.now,
-      record { split = walked.split; sizes = walked.sizes; longest = subst (λ (l : List ℕ). NoEntry l c.loop-first.rest.now) walked.ends c.in_default.ensures.none },
-      omega (arith, ap length walked.split, length-append (journal VERSION c.args.server.index bodies) c.loop-first.rest.now),
-    )
+    let IsSo : List Place → ℕ → List ℕ → Type 0 = λ places now last. IsRead c.args.version c.args.server.index c.args.bytes.now places now last first.rest.now in
+    elim c.match-marked_by.branch [
+      | in-Some-marked_by w ↦
+          let later = w.in-Some-marked_by.later in
+          let mark : marked so_far.now first.body.now ≡ Some later = sym c.marked_by.ensures ∙ w.in-Some-marked_by.is in
+          let on = reads_mark c.args.version c.args.server.index c.args.bytes.now so_far.places.items so_far.now later so_far.last so_far.rest.now first.body.now first.rest.now so_far.invariant c.in-Some.ensures.body c.in-Some.ensures.split mark in
+          rw (w.places-is, w.now-is, c.in-Some.ensures.digest) on
+      | in-None+in_ok-push-in-None w ↦
+          let plain : marked so_far.now first.body.now ≡ None = sym c.marked_by.ensures ∙ w.in-None.is in
+          let short : length so_far.rest.now ≤ length c.args.bytes.now = omega (arith, ap length so_far.invariant.split, length-append (journal c.args.version c.args.server.index so_far.invariant.bodies) so_far.rest.now) in
+          let place : Place = record { start = length c.args.bytes.now - length so_far.rest.now + 2; end = length c.args.bytes.now - length so_far.rest.now + 2 + length first.body.now; version = so_far.now } in
+          let on = reads_body c.args.version c.args.server.index c.args.bytes.now so_far.places.items so_far.now so_far.last so_far.rest.now first.body.now first.rest.now place so_far.invariant c.in-Some.ensures.body c.in-Some.ensures.split plain (omega arith) refl refl in
+          rw (w.places-is, w.in_ok-push-in-None.ensures.items, w.now-is, c.in-Some.ensures.digest) on
+    ]

@@ -1,4 +1,4 @@
-use Rattle.bayou_journal.proofs.Honesty.{memory_crashes}
+use Rattle.bayou_journal.proofs.Crashing.{memory_crashes}
 use Rattle.bayou_journal.proofs.laws.a_device_in_memory_crashes.Goals as goal
 
 pub returns : goal.returns

@@ -1,9 +1,12 @@
-use Rattle.std.proofs.Common.{sym, ◌∙◌}
-use Rattle.bayou_journal.specs.declared.format.TheConstants.{VERSION}
+use Rattle.std.proofs.Common.{List, ap, subst, sym}
+use Rattle.bayou_journal.specs.Opened.{Found}
+use Rattle.bayou_journal.specs.Versions.{Body}
+use Rattle.bayou_server.specs.Stored.{Stores}
 use Rattle.bayou_server.proofs.Deciding.{one_adopted}
 use Rattle.bayou_server.proofs.laws.a_reopening_is_one.Goals as goal
 
 pub returns : goal.returns
 returns g c = λ adopted other old new next modelled recovers opened again reopened.
-    let same = c.what_is_found_is_one.ensures VERSION old.core.id (g.D.Device.content old.device) opened.0 reopened.0 opened.2.dropped reopened.2.dropped (opened.2.opened.finds modelled) (reopened.2.opened.finds modelled) in
-    one_adopted old.core adopted other new.core next.core recovers again (sym opened.1 ∙ same.0 ∙ reopened.1)
+    let same = c.what_is_opened_is_one.ensures.one old.core.id old.device new.device next.device _ _ new.last next.last modelled opened.2.opened reopened.2.opened in
+    one_adopted old.core adopted other new.core next.core opened.0 recovers again opened.1
+    (subst (λ (b : List Body). Stores b next.core.held) (sym (ap (λ (f : Found). f.bodies) same.0)) reopened.1)

@@ -1,5 +1,4 @@
-use Rattle.std.proofs.Common.{sym, subst, arith}
-use Rattle.bayou_journal.specs.Chain.{AreBodies}
+use Rattle.std.proofs.Common.{arith}
 use Rattle.bayou_server.proofs.Deciding.{are_bodies}
 use Rattle.bayou_server.proofs.laws.a_write_is_a_body.Goals as goal
 
@@ -9,4 +8,4 @@ returns-clause-one c = λ write is.
     record { some = size.0; within = omega (arith, size.1) }
 
 pub returns-clause-each : goal.returns-clause-each
-returns-clause-each c = λ bodies writes all stores. subst AreBodies (sym stores) (are_bodies (returns-clause-one c) writes all)
+returns-clause-each c = λ bodies writes all stores. are_bodies (returns-clause-one c) bodies writes all stores

@@ -3,12 +3,12 @@ use Rattle.bayou_server.proofs.laws.an_honest_server_is_reopened_honestly.Goals 
 
 pub returns-clause-answer : goal.returns-clause-answer
 returns-clause-answer g c =
-    answers g.D.Device c.an_append_leaves_an_honest_device.ensures.whole c.an_honest_device_opens_honestly.ensures.opened c.an_honest_device_opens_honestly.ensures.passing c.a_write_is_a_body.ensures.each
+    answers g.D.Device c.an_append_leaves_an_honest_device.ensures.whole c.an_honest_device_opens_honestly.ensures.opened c.an_honest_device_opens_honestly.ensures.passing
 
 pub returns-clause-held : goal.returns-clause-held
 returns-clause-held g c = recovers
 
 pub returns-clause-left : goal.returns-clause-left
 returns-clause-left g c =
-    reopened_left g.D.Device c.an_append_leaves_an_honest_device.ensures.whole c.an_honest_device_opens_honestly.ensures.opened c.an_honest_device_opens_honestly.ensures.again
-    c.an_honest_device_opens_honestly.ensures.refused c.a_write_is_a_body.ensures.each
+    reopened_left g.D.Device c.an_append_leaves_an_honest_device.ensures.whole c.an_honest_device_opens_honestly.ensures.whole c.an_honest_device_opens_honestly.ensures.again
+    c.an_honest_device_opens_honestly.ensures.refused

@@ -3,4 +3,4 @@ use Rattle.bayou_server.proofs.laws.what_its_device_holds_decides.Goals as goal
 
 pub returns : goal.returns
 returns g c = λ server other content kept left.
-    same_left g.D.Device c.what_stands_behind_the_kept_decides.ensures.same server.core.id server.core.held server.core.doubt server.device other content kept left
+    same_left g.D.Device c.what_stands_behind_the_kept_decides.ensures.same server.core.id server.core.held server.core.doubt server.last server.device other content kept left

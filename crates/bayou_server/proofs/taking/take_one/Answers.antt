@@ -1,12 +1,10 @@
-use Rattle.std.proofs.Common.{Ok, ap, subst}
+use Rattle.std.proofs.Common.{Ok, subst}
 use Rattle.bayou_server.specs.declared.answer.Took.TheVariants.{New}
 use Rattle.bayou_server.specs.declared.storing.Stored.{Stored}
 use Rattle.bayou_server.specs.declared.storing.Stored.TheVariants.{Held}
 use Rattle.bayou_server.specs.Inner.Fields.{server_of}
-use Rattle.bayou_server.specs.Inner.Storing.{Keeps, StoresEntry}
-use Rattle.bayou_server.specs.Server.{Core}
+use Rattle.bayou_server.specs.Inner.Storing.{Keeps, StaysStored, StoresEntry}
 use Rattle.bayou_server.specs.Takes.{Takes}
-use Rattle.bayou_server.proofs.Adding.{stored_after}
 use Rattle.bayou_server.proofs.Steps.{own_of_taking}
 use Rattle.bayou_server.proofs.taking.take_one.Goals as goal
 
@@ -22,7 +20,7 @@ returns-in-Held-clause-takes g c =
       own = own_of_taking old.core c.args.write (Ok New) new.core takes;
       sound = (c.requires.sound, c.store.ensures.together.sound);
       stores = stores;
-      stored = λ modelled. stored_after g.D.Device old new modelled (ap (λ (core : Core). core.id) takes.2) stores;
+      stored = λ modelled. subst (λ (s : Stored). StaysStored g.D.Device old s new) c.in-Held.is (c.in_ok-store.ensures.stored modelled);
       safe = c.store.ensures.safe;
       calls = c.store.ensures.calls;
     }

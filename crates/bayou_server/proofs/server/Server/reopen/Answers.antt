@@ -2,15 +2,14 @@ use Rattle.std.proofs.Common.{◌≡◌, ℕ, List, [], ◌∷◌, ◌++◌, Boo
 use Rattle.std.specs.Prelude.{IsSome}
 use Rattle.std.proofs.lemmas.Result.{err_from_is_err_and}
 use Rattle.bayou_journal.specs.Opening.{HasRefused}
-use Rattle.bayou_journal.specs.declared.format.TheConstants.{VERSION}
 use Rattle.bayou_lang.specs.declared.write.Write.{Write}
 use Rattle.bayou_log.specs.Log.{Log}
-use Rattle.bayou_server.specs.Inner.Fields.{core_of}
+use Rattle.bayou_server.specs.Inner.Fields.{core_of, server_of}
 use Rattle.bayou_server.specs.Inner.Replaying.{AreHeldAnd, AreOthers}
 use Rattle.bayou_server.specs.Faults.{reopen_fault}
 use Rattle.bayou_server.specs.Reopens.{Reopens}
 use Rattle.bayou_server.specs.Server.{ServerState}
-use Rattle.bayou_server.specs.Stored.{ReopensJournal, bodies_of}
+use Rattle.bayou_server.specs.Stored.{ReopensJournal, Stores}
 use Rattle.bayou_server.proofs.Recovering.{after_adopting, doubted_is_reserved, doubted_may, held_and_applied, journal_refuses, opens_with, others_refused, same_doubt, stays_other, stays_refused}
 use Rattle.bayou_server.proofs.Steps.{own_of_recovery}
 use Rattle.bayou_server.proofs.server.Server.reopen.Goals as goal
@@ -28,9 +27,9 @@ returns-in_err-opened-clause-opens g c =
     let inside = c.self.inside in
     let p = err_from_is_err_and c.from_residual.result c.from_residual.ensures.1 in
     rw (p.1, p.2)
-    (subst (λ (s : ServerState g.row.D.Denot). ReopensJournal g.D.Device s (Err (reopen_fault c.in_err-opened.field-0.0)) (record { core = core_of inside.log inside.id.index inside.doubt; device = c.reopen.new.self.device })) c.self.view_is
-    (journal_refuses g.D.Device (record { core = core_of inside.log inside.id.index inside.doubt; device = inside.journal.device }) (record { core = core_of inside.log inside.id.index inside.doubt; device = c.reopen.new.self.device }) c.in_err-opened.field-0.0
-    (subst (λ (s : ℕ). HasRefused g.D.Device VERSION s inside.journal.device c.reopen.new.self.device c.in_err-opened.field-0.0) c.self.invariant.0.owner c.in_err-opened.ensures.refused)))
+    (subst (λ (s : ServerState g.row.D.Denot). ReopensJournal g.D.Device s (Err (reopen_fault c.in_err-opened.field-0.0)) (record { core = core_of inside.log inside.id.index inside.doubt; device = c.reopen.new.self.device; last = c.reopen.new.self.last })) c.self.view_is
+    (journal_refuses g.D.Device (server_of inside.journal inside.log inside.id.index inside.doubt) (record { core = core_of inside.log inside.id.index inside.doubt; device = c.reopen.new.self.device; last = c.reopen.new.self.last }) c.in_err-opened.field-0.0
+    (subst (λ (s : ℕ). HasRefused g.D.Device s inside.journal.device c.reopen.new.self.device c.in_err-opened.field-0.0) c.self.invariant.0.owner c.in_err-opened.ensures.refused)))
 
 pub returns-in_err-opened-clause-safe : goal.returns-in_err-opened-clause-safe
 returns-in_err-opened-clause-safe g c = rw (← c.self.view_is) c.reopen.ensures.safe
@@ -49,8 +48,8 @@ returns-in_err-adopts-clause-opens g c =
     let inside = c.self.inside in
     let p = err_from_is_err_and c.from_residual-in_err-adopts.result c.from_residual-in_err-adopts.ensures.1 in
     rw (p.1, p.2)
-    (subst (λ (s : ServerState g.row.D.Denot). ReopensJournal g.D.Device s (Err c.in_err-adopts.field-0.0) (record { core = core_of inside.log inside.id.index inside.doubt; device = c.reopen.new.self.device })) c.self.view_is
-    (others_refused g.D.Device (record { core = core_of inside.log inside.id.index inside.doubt; device = inside.journal.device }) (record { core = core_of inside.log inside.id.index inside.doubt; device = c.reopen.new.self.device }) c.in-Some.doubt c.in_ok-opened.opened.bodies c.in_err-adopts.field-0.0 c.in-Some.is
+    (subst (λ (s : ServerState g.row.D.Denot). ReopensJournal g.D.Device s (Err c.in_err-adopts.field-0.0) (record { core = core_of inside.log inside.id.index inside.doubt; device = c.reopen.new.self.device; last = c.reopen.new.self.last })) c.self.view_is
+    (others_refused g.D.Device (server_of inside.journal inside.log inside.id.index inside.doubt) (record { core = core_of inside.log inside.id.index inside.doubt; device = c.reopen.new.self.device; last = c.reopen.new.self.last }) c.in-Some.doubt c.in_ok-opened.opened.bodies c.in_err-adopts.field-0.0 c.in-Some.is
     (opens_with g.D.Device inside.journal.server inside.id.index inside.journal.device c.reopen.new.self.device c.in_ok-opened.opened c.reopen.new.self.last c.self.invariant.0.owner c.in_ok-opened.ensures.opened)
     (subst (λ (writes : List Write). AreOthers writes c.in-Some.doubt c.in_ok-opened.opened.bodies c.in_err-adopts.field-0.0) c.receipts.ensures.value c.in_err-adopts.ensures)))
 
@@ -63,9 +62,9 @@ returns-then-not-adopts-clause-reopens g c = rw (← c.self.view_is) (subst IsSo
 pub returns-then-not-adopts-clause-opens : goal.returns-then-not-adopts-clause-opens
 returns-then-not-adopts-clause-opens g c =
     let inside = c.self.inside in
-    let held : c.in_ok-opened.opened.bodies ≡ bodies_of inside.log.receipts =
-    subst (λ (b : Bool). AreHeldAnd c.receipts.result.now c.in-Some.doubt c.in_ok-opened.opened.bodies b) c.if-not-adopts.true c.in_ok-adopts.ensures
-    ∙ ap bodies_of c.receipts.ensures.value in
+    let held : Stores c.in_ok-opened.opened.bodies inside.log.receipts =
+    subst (Stores c.in_ok-opened.opened.bodies) c.receipts.ensures.value
+    (subst (λ (b : Bool). AreHeldAnd c.receipts.result.now c.in-Some.doubt c.in_ok-opened.opened.bodies b) c.if-not-adopts.true c.in_ok-adopts.ensures) in
     rw (← c.self.view_is) (
       c.in_ok-opened.opened.bodies,
       held,
@@ -93,14 +92,9 @@ insert-requires-clause-below_limit g c =
 pub invariant_of-self-2 : goal.invariant_of-self-2
 invariant_of-self-2 g c =
     let inside = c.self.inside in
-    let write = c.in-Some-take.write in
-    let one : c.in-Some.doubt ≡ write = same_doubt inside.doubt c.take.result c.in-Some.doubt write c.in-Some.is c.take.ensures.value c.in-Some-take.is in
-    let held : c.in_ok-opened.opened.bodies ≡ bodies_of (inside.log.receipts ++ write ∷ []) =
-    subst (λ (b : Bool). AreHeldAnd c.receipts.result.now c.in-Some.doubt c.in_ok-opened.opened.bodies b) c.if-not-adopts.false c.in_ok-adopts.ensures
-    ∙ ap (λ (writes : List Write). bodies_of (writes ++ c.in-Some.doubt ∷ [])) c.receipts.ensures.value
-    ∙ ap (λ (w : Write). bodies_of (inside.log.receipts ++ w ∷ [])) one in (
-      after_adopting inside.journal c.reopen.new.self inside.log c.insert.new.self inside.id.index inside.doubt c.take.new.self write c.in_ok-opened.opened.bodies
-          c.self.invariant.0 (sym c.take.ensures.value ∙ c.in-Some-take.is) c.take.ensures.after c.in_ok-opened.ensures.up c.in_ok-opened.ensures.opened.ends held (held_and_applied inside.log c.insert.new.self (inside.log.receipts ++ write ∷ []) c.insert.ensures),
+    let write = c.in-Some-take.write in (
+      after_adopting inside.journal c.reopen.new.self inside.log c.insert.new.self inside.id.index inside.doubt c.take.new.self write
+          c.self.invariant.0 (sym c.take.ensures.value ∙ c.in-Some-take.is) c.take.ensures.after c.in_ok-opened.ensures.up (held_and_applied inside.log c.insert.new.self (inside.log.receipts ++ write ∷ []) c.insert.ensures),
       ap (λ (log : Log). log.waiting) c.insert.ensures,
     )
 
@@ -121,10 +115,11 @@ returns-clause-opens g c =
     let inside = c.self.inside in
     let write = c.in-Some-take.write in
     let one : c.in-Some.doubt ≡ write = same_doubt inside.doubt c.take.result c.in-Some.doubt write c.in-Some.is c.take.ensures.value c.in-Some-take.is in
-    let held : c.in_ok-opened.opened.bodies ≡ bodies_of (inside.log.receipts ++ write ∷ []) =
-    subst (λ (b : Bool). AreHeldAnd c.receipts.result.now c.in-Some.doubt c.in_ok-opened.opened.bodies b) c.if-not-adopts.false c.in_ok-adopts.ensures
-    ∙ ap (λ (writes : List Write). bodies_of (writes ++ c.in-Some.doubt ∷ [])) c.receipts.ensures.value
-    ∙ ap (λ (w : Write). bodies_of (inside.log.receipts ++ w ∷ [])) one in
+    let bodies = c.in_ok-opened.opened.bodies in
+    let held : Stores bodies (inside.log.receipts ++ write ∷ []) =
+    subst (λ (w : Write). Stores bodies (inside.log.receipts ++ w ∷ [])) one
+    (subst (λ (writes : List Write). Stores bodies (writes ++ c.in-Some.doubt ∷ [])) c.receipts.ensures.value
+    (subst (λ (b : Bool). AreHeldAnd c.receipts.result.now c.in-Some.doubt bodies b) c.if-not-adopts.false c.in_ok-adopts.ensures)) in
     rw (← c.self.view_is, c.insert.ensures) (
       c.in_ok-opened.opened.bodies,
       held,

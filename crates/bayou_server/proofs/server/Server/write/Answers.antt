@@ -4,11 +4,10 @@ use Rattle.bayou_server.specs.declared.fault.WriteFault.TheVariants as faults
 use Rattle.bayou_server.specs.declared.storing.Stored.{Stored}
 use Rattle.bayou_server.specs.declared.storing.Stored.TheVariants.{Held, InDoubt}
 use Rattle.bayou_server.specs.Inner.Fields.{core_of, server_of}
-use Rattle.bayou_server.specs.Inner.Storing.{Keeps, StoresEntry}
+use Rattle.bayou_server.specs.Inner.Storing.{Keeps, StaysStored}
 use Rattle.bayou_server.specs.Server.{Core}
 use Rattle.bayou_server.specs.Stored.{IsStored}
 use Rattle.bayou_server.specs.Writes.{Writes}
-use Rattle.bayou_server.proofs.Adding.{stored_after}
 use Rattle.bayou_server.proofs.Steps.{next_may_be_stored, own_of_write}
 use Rattle.bayou_server.proofs.server.Server.write.Goals as goal
 use Rattle.bayou_server.proofs.server.Server.write.Goals.{in-Held, in-InDoubt}
@@ -71,11 +70,10 @@ returns-clause-stored g c = λ modelled.
     let same : core_of c.catch_up.new.self inside.id.index c.store-stored.new.doubt ≡ new.core =
     ap (λ (log : Log). core_of log inside.id.index c.store-stored.new.doubt) c.catch_up.ensures in
     rw (← c.self.view_is)
-    (subst (λ (core : Core). OnOk c.match-branch-2.result (IsStored g.D.Device old → IsStored g.D.Device (record { core = core; device = new.device }))) (sym same)
+    (subst (λ (core : Core). OnOk c.match-branch-2.result (IsStored g.D.Device old → IsStored g.D.Device (record { core = core; device = new.device; last = new.last }))) (sym same)
     (elim c.match-branch-2.branch [
       | in-Held w ↦
-          let kept : Keeps old.core c.next_write-write.result Held new.core = subst (λ (s : Stored). Keeps old.core c.next_write-write.result s new.core) w.in-Held.is c.in_ok-stored.ensures.keeps in
-          let stores : StoresEntry g.D.Device old Held new = subst (λ (s : Stored). StoresEntry g.D.Device old s new) w.in-Held.is c.in_ok-stored.ensures.stores in
-          rw w.result-is (stored_after g.D.Device old new modelled (ap (λ (core : Core). core.id) kept.1) stores)
+          let stays : StaysStored g.D.Device old Held new = subst (λ (s : Stored). StaysStored g.D.Device old s new) w.in-Held.is (c.in_ok-stored.ensures.stored modelled) in
+          rw w.result-is stays
       | in-InDoubt w ↦ rw w.result-is tt
     ]))
