@@ -3,7 +3,7 @@ ghost use Rattle.std.specs.Prelude.{◌≡◌, ℕ, ◌<◌, ◌≤◌, ◌↔�
 ghost use Rattle.bayou_base.specs.declared.limits.TheConstants.{SERVERS, MAX_WRITES};
 ghost use Rattle.bayou_base.specs.Vector.{Dominates};
 ghost use Rattle.bayou_lang.specs.Writes.{count_of, covered_by, greatest_clock, AreFitting, Fits, HasNoGap, IsWellStamped};
-ghost use Rattle.bayou_judge.specs.Inner.Checks.{IsLastClock};
+ghost use Rattle.bayou_lang.specs.Laws.Clocks.{IsLastClock};
 ghost use Rattle.bayou_judge.specs.Inner.Index.{IsIndexOf};
 
 use crate::finding::find;

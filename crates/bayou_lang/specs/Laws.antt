@@ -1,3 +1,4 @@
+pub mod Clocks
 pub mod Database
 pub mod Equality
 pub mod Fitting

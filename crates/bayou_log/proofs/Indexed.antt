@@ -8,7 +8,7 @@ use Rattle.bayou_lang.specs.declared.write.Write.{Write}
 use Rattle.bayou_lang.specs.Laws.Equality.{server-ext, wid-ext}
 use Rattle.bayou_lang.specs.Laws.Fitting.{count_of-push, counted-other, counted-own, fits_new_wid, fitting_clocks_rise, fitting_is_prefix_closed}
 use Rattle.bayou_lang.specs.Writes.{count_of, counted, covered_by, greatest_clock, AreFitting, Fits}
-use Rattle.bayou_log.specs.Inner.Index.{place_in, AreIndexed, IsLastClock}
+use Rattle.bayou_log.specs.Inner.Index.{place_in, AreIndexed}
 
 -- the place of a Write that the counts count
 pub place_held : (count : ℕ) (rows : List (List ℕ)) (writes : List Write) (server seq : ℕ) → AreFitting count writes → AreIndexed rows writes → 0 < seq → seq ≤ slice_index (count_of writes) server
@@ -65,98 +65,3 @@ AreIndexed-push count rows new writes write fitting fits indexed here others len
             omega (arith, kept, indexed.counts server, lengths.1)
       ] refl;
 }
-
--- there is no Write of the number 0
-pub no_clock : (server seq : ℕ) (writes : List Write) → seq ≡ 0 → IsLastClock server seq writes 0
-no_clock server seq writes none = record {
-  greatest = λ k d within at below. absurd (omega (arith, none, below, (get_or writes k d).wid.in_range.0));
-  reached = inl refl;
-}
-
--- the last of the Writes up to a number has the greatest clock of them
-pub IsLastClock-held : (count : ℕ) (writes : List Write) (server seq place : ℕ) (last : Write) → AreFitting count writes → place < length writes → get_or writes place last ≡ last
-    → last.wid.origin.index ≡ server → last.wid.seq ≡ seq → (rows : List (List ℕ)) → AreIndexed rows writes → IsLastClock server seq writes last.stamp.clock
-IsLastClock-held count writes server seq place last fitting within is origin number rows indexed = record {
-  greatest = λ k d inside at below.
-      let held = get_or writes k d in
-      let same_server : held.wid.origin ≡ last.wid.origin = server-ext held.wid.origin last.wid.origin (at ∙ sym origin) in
-      elim (nat_lt held.wid.seq seq) as (λ t. nat_lt held.wid.seq seq ≡ t → held.stamp.clock ≤ last.stamp.clock) [
-        | true ↦ λ lower.
-            let earlier : held.wid.seq < last.wid.seq = grind (arith, nat_tests, number) in
-            let rises = subst (λ (w : Write). held.wid.origin ≡ w.wid.origin → held.wid.seq < w.wid.seq → held.stamp.clock < w.stamp.clock) is
-            (fitting_clocks_rise count writes fitting k d inside place last within) in
-            omega (arith, rises same_server earlier)
-        | false ↦ λ not_lower.
-            let equal : held.wid.seq ≡ last.wid.seq = grind (arith, nat_tests, number, below) in
-            let one : k ≡ place =
-            sym (indexed.places k d inside)
-            ∙ ap (λ s. place_in rows s held.wid.seq) (at ∙ sym origin) ∙ ap (place_in rows last.wid.origin.index) equal
-            ∙ ap (λ (w : Write). place_in rows w.wid.origin.index w.wid.seq) (sym is) ∙ indexed.places place last within in
-            let same : held ≡ last = get_or_default writes k d last inside ∙ ap (λ p. get_or writes p last) one ∙ is in
-            omega (arith, ap (λ (w : Write). w.stamp.clock) same)
-      ] refl;
-  reached = inr (last, (place, within, is), origin, omega (arith, number), refl);
-}
-
--- a bound of the counted clocks
-abbrev pub IsBound : List ℕ → List Write → ℕ → Type 0
-IsBound counts writes clock = All (λ write. write.wid.seq ≤ slice_index counts write.wid.origin.index → write.stamp.clock ≤ clock) writes
-
--- a Write that is counted has the clock, unless it is 0
-abbrev pub IsReached : List ℕ → List Write → ℕ → Type 0
-IsReached counts writes clock = (clock ≡ 0) ⊎ ((write : Write) × Contains writes write × (write.wid.seq ≤ slice_index counts write.wid.origin.index) × (write.stamp.clock ≡ clock))
-
-covered_most : (counts : List ℕ) (writes : List Write) (clock : ℕ) → IsBound counts writes clock → greatest_clock (covered_by counts writes) ≤ clock
-covered_most counts [] clock bound = omega arith
-covered_most counts (write ∷ writes) clock bound =
-    let Bounded : Write → Type 0 = λ write. write.wid.seq ≤ slice_index counts write.wid.origin.index → write.stamp.clock ≤ clock in
-    let rest = covered_most counts writes clock (All-tail Bounded write writes bound) in
-    let covered = covered_by counts writes in
-    elim (nat_le write.wid.seq (slice_index counts write.wid.origin.index)) as (λ t. nat_le write.wid.seq (slice_index counts write.wid.origin.index) ≡ t → greatest_clock (cond t (write ∷ covered) covered) ≤ clock) [
-      | true ↦ λ is.
-          let within : write.wid.seq ≤ slice_index counts write.wid.origin.index = grind (arith, nat_tests) in
-          omega (arith, All-head Bounded write writes bound within, rest)
-      | false ↦ λ isnt. rest
-    ] refl
-
-covered_least : (counts : List ℕ) (writes : List Write) → IsBound counts writes (greatest_clock (covered_by counts writes))
-covered_least counts [] = λ k d within. absurd (omega arith)
-covered_least counts (write ∷ writes) =
-    let covered = covered_by counts writes in
-    elim (nat_le write.wid.seq (slice_index counts write.wid.origin.index)) as (λ t. nat_le write.wid.seq (slice_index counts write.wid.origin.index) ≡ t → IsBound counts (write ∷ writes) (greatest_clock (cond t (write ∷ covered) covered))) [
-      | true ↦ λ is.
-          let most = greatest_clock (write ∷ covered) in
-          let Bounded : Write → Type 0 = λ write. write.wid.seq ≤ slice_index counts write.wid.origin.index → write.stamp.clock ≤ most in
-          All-cons Bounded write writes (λ within. omega arith) (λ k d inside within. omega (arith, covered_least counts writes k d inside within))
-      | false ↦ λ isnt.
-          let most = greatest_clock covered in
-          let Bounded : Write → Type 0 = λ write. write.wid.seq ≤ slice_index counts write.wid.origin.index → write.stamp.clock ≤ most in
-          All-cons Bounded write writes (λ within. absurd (grind (arith, nat_tests))) (covered_least counts writes)
-    ] refl
-
--- a bound that is reached is the greatest of the counted clocks
-pub reached_bound : (counts : List ℕ) (writes : List Write) (clock : ℕ) → IsBound counts writes clock → IsReached counts writes clock → clock ≡ greatest_clock (covered_by counts writes)
-reached_bound counts writes clock bound (inl none) = omega (arith, none, covered_most counts writes clock bound)
-reached_bound counts writes clock bound (inr found) =
-    let write = found.0 in
-    let least = subst (λ (w : Write). w.wid.seq ≤ slice_index counts w.wid.origin.index → w.stamp.clock ≤ greatest_clock (covered_by counts writes)) found.1.2
-    (covered_least counts writes found.1.0 write found.1.1) in
-    omega (arith, least found.2, found.3, covered_most counts writes clock bound)
-
-last_reached : (counts : List ℕ) (writes : List Write) (server last : ℕ)
-    → (last ≡ 0) ⊎ ((write : Write) × Contains writes write × (write.wid.origin.index ≡ server) × (write.wid.seq ≤ slice_index counts server) × (write.stamp.clock ≡ last)) → IsReached counts writes last
-last_reached counts writes server last (inl none) = inl none
-last_reached counts writes server last (inr found) =
-    inr (found.0, found.1, subst (λ s. found.0.wid.seq ≤ slice_index counts s) (sym found.2) found.3, found.4)
-
--- with the clocks of one more server
-pub IsReached-more : (counts : List ℕ) (writes : List Write) (server clock last : ℕ) → IsReached counts writes clock → IsLastClock server (slice_index counts server) writes last → IsReached counts writes (max clock last)
-IsReached-more counts writes server clock last reached one =
-    elim (nat_lt clock last) as (λ t. nat_lt clock last ≡ t → IsReached counts writes (max clock last)) [
-      | true ↦ λ is.
-          let greater : max clock last ≡ last = grind (arith, nat_tests) in
-          subst (IsReached counts writes) (sym greater) (last_reached counts writes server last one.reached)
-      | false ↦ λ isnt.
-          let kept : max clock last ≡ clock = grind (arith, nat_tests) in
-          subst (IsReached counts writes) (sym kept) reached
-    ] refl

@@ -5,7 +5,7 @@ ghost use Rattle.bayou_lang.specs.Database.{value_at};
 ghost use Rattle.bayou_lang.specs.Writes.{count_of, covered_by, greatest_clock, lacking_of, AreFitting, Fits, HasNoGap};
 ghost use Rattle.bayou_base.specs.Vector.{Dominates};
 ghost use Rattle.bayou_log.specs.Fitting.{FitAnswer};
-ghost use Rattle.bayou_log.specs.Inner.Index.{IsLastClock};
+ghost use Rattle.bayou_lang.specs.Laws.Clocks.{IsLastClock};
 ghost use Rattle.bayou_log.specs.Inner.Lacking.{IsFirstMissed};
 ghost use Rattle.bayou_log.specs.Listing.{listing_of};
 ghost use Rattle.bayou_log.specs.Log.{IsReserved, applied};

@@ -20,11 +20,6 @@ abbrev pub ForgedAnswer : ℕ → List (List Write) → List Entry → Option �
 ForgedAnswer count dumps entries None = AreGenuine count dumps entries
 ForgedAnswer count dumps entries (Some at) = IsFirstForged count dumps entries at
 
--- No clock of the server's Writes up to this sequence number is greater, and one of them has it; it is 0 where there is none.
-pub record IsLastClock (server seq : ℕ) (writes : List Write) (clock : ℕ) : Type 0 where
-  pub greatest : All (λ write. write.wid.origin.index ≡ server → write.wid.seq ≤ seq → write.stamp.clock ≤ clock) writes
-  pub reached : (clock ≡ 0) ⊎ ((write : Write) × Contains writes write × (write.wid.origin.index ≡ server) × (write.wid.seq ≤ seq) × (write.stamp.clock ≡ clock))
-
 -- so many servers' dumps were read: each Write of each of them is good, and each has its tables
 pub record AreRead (count : ℕ) (dumps : List (List Write)) (servers : ℕ) (indexes : List Tables) : Type 0 where
   pub good : (other place : ℕ) → other < servers → IsGoodAt count dumps other place

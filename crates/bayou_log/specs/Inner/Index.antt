@@ -18,8 +18,3 @@ pub record AreIndexed (rows : List (List ℕ)) (writes : List Write) : Type 0 wh
   pub places : (place : ℕ) (d : Write) → place < length writes
       → place_in rows (slice_index_or writes place d).wid.origin.index (slice_index_or writes place d).wid.seq ≡ place
   pub counts : (server : ℕ) → slice_index (count_of writes) server ≤ length rows
-
--- No clock of the server's Writes up to this sequence number is greater, and one of them has it; it is 0 where there is none.
-pub record IsLastClock (server seq : ℕ) (writes : List Write) (clock : ℕ) : Type 0 where
-  pub greatest : All (λ write. write.wid.origin.index ≡ server → write.wid.seq ≤ seq → write.stamp.clock ≤ clock) writes
-  pub reached : (clock ≡ 0) ⊎ ((write : Write) × Contains writes write × (write.wid.origin.index ≡ server) × (write.wid.seq ≤ seq) × (write.stamp.clock ≡ clock))

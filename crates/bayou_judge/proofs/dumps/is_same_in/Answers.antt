@@ -2,7 +2,7 @@ use Rattle.std.proofs.Common.{◌≡◌, slice_index_or, sym, ◌∙◌, refl}
 use Rattle.std.proofs.lemmas.List.Elements.{All-contains, Contains-get_or}
 use Rattle.bayou_lang.specs.declared.write.Write.{Write}
 use Rattle.bayou_lang.specs.Laws.Equality.{same_write-decides}
-use Rattle.bayou_judge.proofs.DumpsClocks.{one_of_name}
+use Rattle.bayou_lang.specs.Laws.Clocks.{one_of_name}
 use Rattle.bayou_judge.proofs.dumps.is_same_in.Goals as goal
 
 pub returns-in-Some : goal.returns-in-Some

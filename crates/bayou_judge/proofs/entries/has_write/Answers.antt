@@ -1,7 +1,7 @@
 use Rattle.std.proofs.Common.{◌≡◌, true, false, ap, sym, ◌∙◌}
 use Rattle.std.specs.Cmp.Lexicographic.{bytes_decides}
 use Rattle.bayou_lang.specs.declared.write.Write.{Write}
-use Rattle.bayou_judge.proofs.DumpsClocks.{one_of_name}
+use Rattle.bayou_lang.specs.Laws.Clocks.{one_of_name}
 use Rattle.bayou_judge.proofs.EntriesHeard.{stamp-decides}
 use Rattle.bayou_judge.proofs.entries.has_write.Goals as goal
 

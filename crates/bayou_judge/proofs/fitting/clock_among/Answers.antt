@@ -1,6 +1,6 @@
 use Rattle.std.proofs.Common.{◌≡◌, ◌<◌, ◌≤◌, inl, max, nat_lt, true, false, slice_index, slice_index_or, sym, refl, subst, arith}
 use Rattle.std.proofs.lemmas.Bool.Decides.{nat_tests}
-use Rattle.bayou_judge.proofs.DumpsClocks.{reached_bound, IsReached, IsReached-more}
+use Rattle.bayou_lang.specs.Laws.Clocks.{reached_bound, IsReached, IsReached-more}
 use Rattle.bayou_judge.proofs.fitting.clock_among.Goals as goal
 
 pub loop-server-init : goal.loop-server-init

@@ -5,8 +5,8 @@ use Rattle.bayou_base.specs.declared.wid.Wid.{Wid}
 use Rattle.bayou_lang.specs.declared.write.Write.{Write}
 use Rattle.bayou_lang.specs.Writes.{count_of}
 use Rattle.bayou_lang.specs.Laws.Fitting.{covered-where_held}
-use Rattle.bayou_judge.specs.Inner.Checks.{IsLastClock}
-use Rattle.bayou_judge.proofs.DumpsClocks.{no_clock, IsLastClock-held, count_within}
+use Rattle.bayou_lang.specs.Laws.Clocks.{IsLastClock, IsLastClock-held, no_clock}
+use Rattle.bayou_judge.proofs.DumpsClocks.{count_within}
 use Rattle.bayou_judge.proofs.fitting.last_clock.Goals as goal
 
 pub returns-in_default-new-clause-value : goal.returns-in_default-new-clause-value

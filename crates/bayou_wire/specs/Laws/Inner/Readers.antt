@@ -22,7 +22,7 @@ use Rattle.bayou_base.specs.declared.tag.Tag.{Tag}
 use Rattle.bayou_base.specs.declared.wid.Wid.{Wid}
 use Rattle.bayou_lang.specs.declared.program.Program.{Program}
 use Rattle.bayou_lang.specs.declared.write.Write.{Write}
-use Rattle.bayou_lang.specs.Laws.Equality.{session-ext}
+use Rattle.bayou_lang.specs.Laws.Equality.{server-ext, session-ext, stamp-ext}
 use Rattle.bayou_wire.specs.Inner.Reading.{Read, ◌>>=◌, short_at, key_at, text_at, times, server_if, server_of, placed_if, placed, wid_of, session_if, session_of, counted_if, counted, tag_of, accepted_of, vector_of, accepted_at, program_at, write_at}
 
 -- ---- keys and texts
@@ -76,24 +76,6 @@ text_is bytes front given text rest read utf8 same short is =
     text_at-is bytes front rest read utf8 within ∙ ap (λ t. Some (t, rest)) (sym same ∙ sym is)
 
 -- ---- names and stamps
-
-pub server-ext : (a b : ServerId) → a.index ≡ b.index → a ≡ b
-server-ext a b same =
-    let made : (n : ℕ) → n < SERVERS → ServerId = λ n h. record { index = n; in_range = h } in
-    let P : ℕ → Type 0 = λ n. (h : n < SERVERS) → made a.index a.in_range ≡ made n h in
-    subst P same (λ h. ap (made a.index) (le_prop a.in_range h)) b.in_range
-
-pub wid-ext : (a b : Wid) → a.origin ≡ b.origin → a.seq ≡ b.seq → a ≡ b
-wid-ext a b same_origin same_seq =
-    let made : (n : ℕ) → (0 < n) × (n ≤ MAX_WRITES) → ServerId → Wid = λ n h o. record { origin = o; seq = n; in_range = h } in
-    let P : ℕ → Type 0 = λ n. (h : (0 < n) × (n ≤ MAX_WRITES)) → made a.seq a.in_range a.origin ≡ made n h b.origin in
-    subst P same_seq (λ h. ap (λ o. made a.seq a.in_range o) same_origin ∙ ap (λ p. made a.seq p b.origin) (×_prop le_prop le_prop a.in_range h)) b.in_range
-
-pub stamp-ext : (a b : Stamp) → a.clock ≡ b.clock → a.origin ≡ b.origin → a ≡ b
-stamp-ext a b same_clock same_origin =
-    let made : (n : ℕ) → (0 < n) × (n ≤ MAX_WRITES) → ServerId → Stamp = λ n h o. record { clock = n; origin = o; in_range = h } in
-    let P : ℕ → Type 0 = λ n. (h : (0 < n) × (n ≤ MAX_WRITES)) → made a.clock a.in_range a.origin ≡ made n h b.origin in
-    subst P same_clock (λ h. ap (λ o. made a.clock a.in_range o) same_origin ∙ ap (λ p. made a.clock p b.origin) (×_prop le_prop le_prop a.in_range h)) b.in_range
 
 pub server_set : IsSet ServerId
 server_set = hlevel (ℕ_set, le_prop)

@@ -3,9 +3,8 @@ use Rattle.std.proofs.lemmas.Bool.Decides.{nat_tests}
 use Rattle.bayou_base.specs.Vector.{Dominates}
 use Rattle.bayou_lang.specs.Writes.{covered_by, greatest_clock}
 use Rattle.bayou_lang.specs.Laws.Fitting.{covered_by-fitting, covered_clock-most, greatest_clock-most}
-use Rattle.bayou_log.specs.Inner.Index.{IsLastClock}
 use Rattle.bayou_log.specs.Log.{Log}
-use Rattle.bayou_log.proofs.Indexed.{reached_bound, IsReached, IsReached-more}
+use Rattle.bayou_lang.specs.Laws.Clocks.{IsLastClock, IsReached, IsReached-more, reached_bound}
 use Rattle.bayou_log.proofs.write_log.WriteLog.clock_among.Goals as goal
 
 pub returns-then-dominates-clause-value : goal.returns-then-dominates-clause-value

@@ -2,9 +2,10 @@ use Rattle.std.proofs.Common.{◌≡◌, ◌<◌, ◌≤◌, length, slice_index
 use Rattle.bayou_base.specs.declared.stamp.Stamp.{Stamp}
 use Rattle.bayou_lang.specs.declared.write.Write.{Write}
 use Rattle.bayou_lang.specs.Writes.{count_of}
-use Rattle.bayou_log.specs.Inner.Index.{place_in, IsLastClock}
+use Rattle.bayou_lang.specs.Laws.Clocks.{IsLastClock, IsLastClock-held}
+use Rattle.bayou_log.specs.Inner.Index.{place_in}
 use Rattle.bayou_log.specs.Log.{Log}
-use Rattle.bayou_log.proofs.Indexed.{place_held, IsLastClock-held}
+use Rattle.bayou_log.proofs.Indexed.{place_held}
 use Rattle.bayou_log.proofs.write_log.WriteLog.last_clock.Goals as goal
 
 pub index-requires : goal.index-requires
@@ -25,7 +26,7 @@ returns c =
     let held = place_held inside.count inside.own.rows writes c.args.server c.args.seq c.self.invariant.0.fitting c.self.invariant.4 some within in
     let at : place_in inside.own.rows c.args.server c.args.seq ≡ c.place.result = sym c.place.ensures in
     let named = subst (λ (w : Write). (w.wid.origin.index ≡ c.args.server) × (w.wid.seq ≡ c.args.seq)) (ap (λ p. slice_index_or writes p here) at ∙ sym c.index.ensures) (held.1 here) in
-    let last = IsLastClock-held inside.count writes c.args.server c.args.seq c.place.result here c.self.invariant.0.fitting
-    (subst (λ p. p < length writes) at held.0) (sym c.index.ensures) named.0 named.1 inside.own.rows c.self.invariant.4 in
+    let last = IsLastClock-held inside.count writes c.args.server c.args.seq here c.self.invariant.0.fitting
+    (c.place.result, subst (λ p. p < length writes) at held.0, sym c.index.ensures) named.0 named.1 in
     subst (λ (log : Log). IsLastClock c.args.server c.args.seq log.receipts c.stamp.result.clock) c.self.view_is
     (subst (IsLastClock c.args.server c.args.seq writes) (ap (λ (stamp : Stamp). stamp.clock) (sym c.stamp.ensures)) last)
