@@ -1,8 +1,7 @@
 -- The Items that came together are taken together.
-use Rattle.std.proofs.Common.{◌≡◌, ◌+◌, ◌<◌, ◌≤◌, ℕ, List, [], ◌∷◌, ◌++◌, None, Some, Err, true, false, nat_lt, get_or, length, refl, sym, ap, subst, ◌∙◌, arith, append_assoc, length-append}
+use Rattle.std.proofs.Common.{◌≡◌, ◌+◌, ℕ, List, [], ◌∷◌, ◌++◌, None, Some, Err, refl, sym, ap, subst, ◌∙◌, arith, append_assoc}
 use Rattle.std.specs.List.{AllByRecursion}
-use Rattle.std.proofs.lemmas.Bool.Decides.{nat_tests}
-use Rattle.std.proofs.lemmas.List.{append-nil, length-map}
+use Rattle.std.proofs.lemmas.List.{append-nil}
 use Rattle.bayou_lang.specs.declared.write.Write.{Write}
 use Rattle.bayou_lang.specs.Ranges.{IsWrite}
 use Rattle.bayou_frames.specs.Spelled.{items_of}
@@ -91,33 +90,3 @@ module _ {S : Type 0} (ways : Ways S) (start old new : S) (read behind : List �
       items_apart (x ∷ xs) ys behind =
           append_assoc (spelling (Item x)) (spellings (items_of (xs ++ ys))) behind ∙ ap (λ l. spelling (Item x) ++ l) (items_apart xs ys behind)
           ∙ sym (append_assoc (spelling (Item x)) (spellings (items_of xs)) (spellings (items_of ys) ++ behind))
-
--- ---- what stands behind the Items
-
-pub below : (a b : ℕ) → true ≡ nat_lt a b → a < b
-below a b is = grind (arith, nat_tests)
-
-not_below : (a b : ℕ) → false ≡ nat_lt a b → b ≤ a
-not_below a b is = grind (arith, nat_tests)
-
--- a frame
-pub some_behind : (writes : List Write) (rest frames : List Frame) (count : ℕ) (frame : Frame) → frames ≡ items_of writes ++ rest → count ≡ length writes → true ≡ nat_lt count (length frames)
-    → frame ≡ get_or frames count frame → (more : List Frame) × (rest ≡ frame ∷ more)
-some_behind writes rest frames count frame split number within is =
-    at writes rest frame (subst (λ n. n < length (items_of writes ++ rest)) number (subst (λ l. count < length l) split (below count (length frames) within)))
-    (is ∙ ap (λ n. get_or frames n frame) number ∙ ap (λ l. get_or l (length writes) frame) split)
-  where
-    at : (writes : List Write) (rest : List Frame) (frame : Frame) → length writes < length (items_of writes ++ rest) → frame ≡ get_or (items_of writes ++ rest) (length writes) frame
-        → (more : List Frame) × (rest ≡ frame ∷ more)
-    at [] [] frame within is = absurd (omega (arith, within))
-    at [] (first ∷ more) frame within is = (more, ap (λ f. f ∷ more) (sym is))
-    at (write ∷ writes) rest frame within is = at writes rest frame (omega (arith, within)) is
-
--- or none
-pub none_behind : (writes : List Write) (rest frames : List Frame) (count : ℕ) → frames ≡ items_of writes ++ rest → count ≡ length writes → false ≡ nat_lt count (length frames) → rest ≡ []
-none_behind writes rest frames count split number past =
-    empty rest (omega (arith, not_below count (length frames) past, number, ap length split, length-append (items_of writes) rest, length-map writes Item))
-  where
-    empty : (rest : List Frame) → length rest ≡ 0 → rest ≡ []
-    empty [] none = refl
-    empty (frame ∷ rest) none = absurd (omega (arith, none))

@@ -7,7 +7,7 @@ ghost use Rattle.bayou_lang.specs.Writes.{count_of};
 ghost use Rattle.bayou_frames.specs.declared.fault.ChannelFault.TheVariants.{BadFrame};
 ghost use Rattle.bayou_peer.specs.declared.fault.PullFault.TheVariants.{Stream};
 ghost use Rattle.bayou_peer.specs.Pulls.{EndsInMemory, EndsOf, HasNoPlace, PullEnds, Received};
-ghost use Rattle.bayou_peer.specs.Inner.Steps.{AreItemsInFront, Goes, GoesOn, IsTakeFault};
+ghost use Rattle.bayou_peer.specs.Inner.Steps.{Goes, GoesOn, IsFrontOf, IsTakeFault};
 ghost use Rattle.bayou_peer.specs.Stopping.{StopsPull};
 ghost use Rattle.bayou_streams.specs.Written.{AppendsFront};
 ghost use Rattle.bayou_wire.specs.declared.frame.Frame.TheVariants.{End, Item, Offer};
@@ -18,7 +18,7 @@ use crate::fault::PullFault;
 use crate::replica::Replica;
 use bayou_base::Vector;
 use bayou_base::limits::{PULL_BYTES, READ_BYTES};
-use bayou_frames::{ChannelFault, feed_piece, read_piece, send};
+use bayou_frames::{Came, ChannelFault, feed_piece, read_piece, send};
 use bayou_lang::RestingWrite;
 use bayou_streams::CountedChannel;
 use bayou_wire::{Frame, Frames, encode_frame};
@@ -34,18 +34,28 @@ pub struct Pulled {
     pub had: u32,
 }
 
-// The Writes of the Items that stand in front of the frames.
-fn items_in_front(alloc: Global, frames: &[Frame]) -> Result<Vec<RestingWrite>, AllocError>
-    ensures items { IfOk result (λ writes. AreItemsInFront frames.now writes.items) }
+// Frames that came: the Writes of the Items that stand in front, and the frame behind them, if one came.
+#[derive(Drop)]
+struct Front {
+    items: Vec<RestingWrite>,
+    next: Option<Frame>,
+}
+
+// The front of the frames. Its Writes are theirs, and no copies.
+fn front_of(alloc: Global, frames: Vec<Frame>) -> Result<Front, AllocError>
+    ensures { IfOk result (λ front. IsFrontOf frames.items front.items.items front.next) }
 {
-    let mut writes = Vec::new(alloc);
+    let mut items = Vec::with_capacity(alloc, frames.len())?;
     for frame in frames {
-        let Frame::Item(write) = frame else {
-            return Ok(writes);
-        };
-        writes.push(write.copy(alloc)?)?;
+        match frame {
+            Frame::Item(write) => items.push(write)?,
+            other => {
+                let next = Some(other);
+                return Ok(Front { items, next });
+            }
+        }
     }
-    Ok(writes)
+    Ok(Front { items, next: None })
 }
 
 // The End ends the pull where it tells the number of the Items.
@@ -77,27 +87,26 @@ fn take_other(frame: &Frame, pulled: &Pulled) -> Result<bool, PullFault>
 fn take_came<P: Replica>(
     alloc: Global,
     replica: &mut P,
-    frames: &[Frame],
+    frames: Vec<Frame>,
     pulled: &mut Pulled,
 ) -> Result<bool, PullFault>
-    requires few { pulled.old.taken + pulled.old.had + length frames.now < 2 ^ 32 }
-    ensures goes { (start : P) (read behind : List ℕ) → AllByRecursion IsFrame frames.now
-        → Received (record { list = P.list; takes = P.takes }) start replica.old read (spellings frames.now ++ behind) pulled.old.taken pulled.old.had
+    requires few { pulled.old.taken + pulled.old.had + length frames.items < 2 ^ 32 }
+    ensures goes { (start : P) (read behind : List ℕ) → AllByRecursion IsFrame frames.items
+        → Received (record { list = P.list; takes = P.takes }) start replica.old read (spellings frames.items ++ behind) pulled.old.taken pulled.old.had
         → Goes (record { list = P.list; takes = P.takes }) start replica.new read behind pulled.new result }
     ensures fault { IfErr result IsTakeFault }
 {
-    let Ok(items) = items_in_front(alloc, frames) else {
+    let Ok(Front { items, next }) = front_of(alloc, frames) else {
         return Err(PullFault::Stream(ChannelFault::OutOfMemory));
     };
-    let count = items.len();
     let told = replica.take_all(alloc, items);
     pulled.taken += told.taken;
     pulled.had += told.had;
     if let Some(fault) = told.fault {
         return Err(PullFault::Refused(fault));
     }
-    match frames.get(count) {
-        Some(frame) => take_other(frame, pulled),
+    match next {
+        Some(frame) => take_other(&frame, pulled),
         None => Ok(false),
     }
 }
@@ -117,11 +126,11 @@ fn take_piece<P: Replica>(
         → GoesOn (record { list = P.list; takes = P.takes }) start replica.new (read ++ piece.now) frames.new pulled.new result }
     ensures fault { IfErr result IsTakeFault }
 {
-    let came = feed_piece(alloc, frames, piece)?;
-    if take_came(alloc, replica, &came.frames, pulled)? {
+    let Came { frames, is_bad } = feed_piece(alloc, frames, piece)?;
+    if take_came(alloc, replica, frames, pulled)? {
         return Ok(true);
     }
-    if came.is_bad {
+    if is_bad {
         return Err(PullFault::Stream(ChannelFault::BadFrame));
     }
     Ok(false)

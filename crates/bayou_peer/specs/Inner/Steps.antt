@@ -1,5 +1,5 @@
 -- What the steps of a pull come to. No public clause cites it.
-use Rattle.std.specs.Prelude.{◌≡◌, ◌≢◌, ℕ, Bool, true, false, List, ◌∷◌, ◌++◌, Option, Some, Result, Ok, Err}
+use Rattle.std.specs.Prelude.{◌≡◌, ◌≢◌, ℕ, Bool, true, false, List, ◌∷◌, ◌++◌, [], Option, None, Some, Result, Ok, Err}
 use Rattle.bayou_lang.specs.declared.write.Write.{Write}
 use Rattle.bayou_frames.specs.declared.fault.ChannelFault.TheVariants as faults
 use Rattle.bayou_frames.specs.Spelled.{items_of}
@@ -11,11 +11,16 @@ use Rattle.bayou_wire.specs.declared.frame.Frame.{Frame}
 use Rattle.bayou_wire.specs.declared.frame.Frame.TheVariants.{Item}
 use Rattle.bayou_wire.specs.Stream.{IsPartial}
 
--- the Writes of the Items that stand in front of the frames: what follows them is no Item
-pub record AreItemsInFront (frames : List Frame) (writes : List Write) : Type 0 where
+-- what stands behind the Items: nothing, or first a frame that is no Item
+abbrev pub FollowsItems : Option Frame → List Frame → Type 0
+FollowsItems None rest = rest ≡ []
+FollowsItems (Some next) rest = (behind : List Frame) × (rest ≡ next ∷ behind) × ((write : Write) → next ≢ Item write)
+
+-- the Writes of the Items that stand in front of the frames, and the frame behind them, if one came
+pub record IsFrontOf (frames : List Frame) (writes : List Write) (next : Option Frame) : Type 0 where
   pub rest : List Frame
   pub split : frames ≡ items_of writes ++ rest
-  pub other : (write : Write) (behind : List Frame) → rest ≢ Item write ∷ behind
+  pub follows : FollowsItems next rest
 
 -- what may end a pull at what came
 abbrev pub IsTakeFault : PullFault → Type 0

@@ -4,24 +4,24 @@ use Rattle.bayou_frames.specs.Framing.{Comes}
 use Rattle.bayou_peer.proofs.Received.{few_frames, received_more, received_rest}
 use Rattle.bayou_peer.proofs.pulling.take_piece.Goals as goal
 
-pub returns-in_err-came-clause-goes : goal.returns-in_err-came-clause-goes
-returns-in_err-came-clause-goes g c start read held partial waits before =
+pub returns-in_err-frames-clause-goes : goal.returns-in_err-frames-clause-goes
+returns-in_err-frames-clause-goes g c start read held partial waits before =
     let piece = c.args.piece.now in
-    let refused = c.in_err-came.ensures.refused in
+    let refused = c.in_err-frames.ensures.refused in
     let p = err_from_is_err_and c.from_residual.result c.from_residual.ensures.1 in
     rw (p.1, p.2, refused.0) (held ++ piece, c.args.pulled.now.taken, c.args.pulled.now.had, received_more _ start _ read held piece _ _ before)
 
 pub take_came-requires : goal.take_came-requires
 take_came-requires g c =
     let (held, partial, waits, few) = c.requires.few in
-    let comes : Comes held c.args.piece.now c.deref.result.now c.in_ok-came.came.is_bad c.feed_piece.new.frames = rw c.deref.ensures.value (c.in_ok-came.ensures.comes held partial waits) in
-    let third = few_frames held c.args.piece.now comes.rest c.deref.result.now c.args.pulled.now.taken c.args.pulled.now.had _ comes.whole few in
+    let comes : Comes held c.args.piece.now c.in_ok-frames.field-0.frames.items c.in_ok-frames.field-0.is_bad c.feed_piece.new.frames = c.in_ok-frames.ensures.comes held partial waits in
+    let third = few_frames held c.args.piece.now comes.rest c.in_ok-frames.field-0.frames.items c.args.pulled.now.taken c.args.pulled.now.had _ comes.whole few in
     record { few = omega (arith, third) }
 
 pub returns-in_err-take_came-clause-goes : goal.returns-in_err-take_came-clause-goes
 returns-in_err-take_came-clause-goes g c start read held partial waits before =
     let piece = c.args.piece.now in
-    let comes : Comes held piece c.deref.result.now c.in_ok-came.came.is_bad c.feed_piece.new.frames = rw c.deref.ensures.value (c.in_ok-came.ensures.comes held partial waits) in
+    let comes : Comes held piece c.in_ok-frames.field-0.frames.items c.in_ok-frames.field-0.is_bad c.feed_piece.new.frames = c.in_ok-frames.ensures.comes held partial waits in
     let stands = received_rest _ start _ _ _ _ _ _ comes.whole (received_more _ start _ read held piece _ _ before) in
     let went = c.in_err-take_came.ensures.goes start (read ++ piece) comes.rest comes.each stands in
     let p = err_from_is_err_and c.from_residual-in_err-take_came.result c.from_residual-in_err-take_came.ensures.1 in
@@ -30,26 +30,26 @@ returns-in_err-take_came-clause-goes g c start read held partial waits before =
 pub returns-then-branch-clause-goes : goal.returns-then-branch-clause-goes
 returns-then-branch-clause-goes g c start read held partial waits before =
     let piece = c.args.piece.now in
-    let comes : Comes held piece c.deref.result.now c.in_ok-came.came.is_bad c.feed_piece.new.frames = rw c.deref.ensures.value (c.in_ok-came.ensures.comes held partial waits) in
+    let comes : Comes held piece c.in_ok-frames.field-0.frames.items c.in_ok-frames.field-0.is_bad c.feed_piece.new.frames = c.in_ok-frames.ensures.comes held partial waits in
     let stands = received_rest _ start _ _ _ _ _ _ comes.whole (received_more _ start _ read held piece _ _ before) in
     let went = c.in_ok-take_came.ensures.goes start (read ++ piece) comes.rest comes.each stands in
     rw c.if-branch.true at went
 
-pub returns-then-came-clause-goes : goal.returns-then-came-clause-goes
-returns-then-came-clause-goes g c start read held partial waits before =
+pub returns-then-is_bad-clause-goes : goal.returns-then-is_bad-clause-goes
+returns-then-is_bad-clause-goes g c start read held partial waits before =
     let piece = c.args.piece.now in
-    let comes : Comes held piece c.deref.result.now c.in_ok-came.came.is_bad c.feed_piece.new.frames = rw c.deref.ensures.value (c.in_ok-came.ensures.comes held partial waits) in
+    let comes : Comes held piece c.in_ok-frames.field-0.frames.items c.in_ok-frames.field-0.is_bad c.feed_piece.new.frames = c.in_ok-frames.ensures.comes held partial waits in
     let stands = received_rest _ start _ _ _ _ _ _ comes.whole (received_more _ start _ read held piece _ _ before) in
     let went = c.in_ok-take_came.ensures.goes start (read ++ piece) comes.rest comes.each stands in
     let received = rw c.if-branch.false at went in
-    (comes.rest, c.take_came.new.pulled.taken, c.take_came.new.pulled.had, inl (comes.bad c.if-came.true), received)
+    (comes.rest, c.take_came.new.pulled.taken, c.take_came.new.pulled.had, inl (comes.bad c.if-is_bad.true), received)
 
 pub returns-clause-goes : goal.returns-clause-goes
 returns-clause-goes g c start read held partial waits before =
     let piece = c.args.piece.now in
-    let comes : Comes held piece c.deref.result.now c.in_ok-came.came.is_bad c.feed_piece.new.frames = rw c.deref.ensures.value (c.in_ok-came.ensures.comes held partial waits) in
+    let comes : Comes held piece c.in_ok-frames.field-0.frames.items c.in_ok-frames.field-0.is_bad c.feed_piece.new.frames = c.in_ok-frames.ensures.comes held partial waits in
     let stands = received_rest _ start _ _ _ _ _ _ comes.whole (received_more _ start _ read held piece _ _ before) in
     let went = c.in_ok-take_came.ensures.goes start (read ++ piece) comes.rest comes.each stands in
     let received = rw c.if-branch.false at went in
-    let (less, now) = comes.waits c.if-came.false in
+    let (less, now) = comes.waits c.if-is_bad.false in
     record { held = comes.rest; partial = less; waits = now; received = received }
