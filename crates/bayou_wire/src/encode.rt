@@ -11,12 +11,15 @@ use crate::put::{put_payload, put_resting_write, put_write};
 use bayou_lang::{RestingWrite, Write};
 use std::alloc::{AllocError, Global};
 
+// How many bytes there is room for at first: most spellings have no more, and never take a second room.
+pub(crate) const USUAL_BYTES: usize = 128;
+
 /// The one spelling of the Write. Want of memory is the only refusal, and leaves nothing behind.
 pub fn encode_write(alloc: Global, write: &Write) -> Result<Vec<u8>, AllocError>
     ensures spelling { IfOk result (λ bytes. SpellsWrite bytes.items write.now) }
     ensures size { IfOk result (λ bytes. (0 < length bytes.items) × (length bytes.items ≤ MAX_WRITE_BYTES)) }
 {
-    let mut bytes = Vec::new(alloc);
+    let mut bytes = Vec::with_capacity(alloc, USUAL_BYTES)?;
     put_write(&mut bytes, write)?;
     Ok(bytes)
 }
@@ -26,7 +29,7 @@ pub fn encode_resting_write(alloc: Global, write: &RestingWrite) -> Result<Vec<u
     ensures spelling { IfOk result (λ bytes. SpellsWrite bytes.items write.now) }
     ensures size { IfOk result (λ bytes. (0 < length bytes.items) × (length bytes.items ≤ MAX_WRITE_BYTES)) }
 {
-    let mut bytes = Vec::new(alloc);
+    let mut bytes = Vec::with_capacity(alloc, USUAL_BYTES)?;
     put_resting_write(&mut bytes, write)?;
     Ok(bytes)
 }
@@ -55,7 +58,7 @@ fn packed_bytes(alloc: Global, kind: u8, payload: &[u8]) -> Result<Vec<u8>, Allo
     ensures { IfOk result (λ bytes. bytes.items ≡ packed kind payload.now) }
 {
     let len = (payload.len() + 1) as u16;
-    let mut bytes = Vec::new(alloc);
+    let mut bytes = Vec::with_capacity(alloc, LENGTH_BYTES + 1 + payload.len())?;
     bytes.extend_from_slice(&len.to_be_bytes())?;
     bytes.push(kind)?;
     bytes.extend_from_slice(payload)?;
@@ -65,7 +68,7 @@ fn packed_bytes(alloc: Global, kind: u8, payload: &[u8]) -> Result<Vec<u8>, Allo
 fn framed(alloc: Global, frame: &Frame) -> Result<Vec<u8>, AllocError>
     ensures { IfOk result (λ bytes. SpellsFrame bytes.items frame.now) }
 {
-    let mut payload = Vec::new(alloc);
+    let mut payload = Vec::with_capacity(alloc, USUAL_BYTES)?;
     put_payload(&mut payload, frame)?;
     packed_bytes(alloc, kind_byte(frame), &payload)
 }
@@ -73,7 +76,7 @@ fn framed(alloc: Global, frame: &Frame) -> Result<Vec<u8>, AllocError>
 fn framed_item(alloc: Global, write: &RestingWrite) -> Result<Vec<u8>, AllocError>
     ensures { IfOk result (λ bytes. SpellsFrame bytes.items (Item write.now)) }
 {
-    let mut payload = Vec::new(alloc);
+    let mut payload = Vec::with_capacity(alloc, USUAL_BYTES)?;
     put_resting_write(&mut payload, write)?;
     packed_bytes(alloc, KIND_ITEM, &payload)
 }

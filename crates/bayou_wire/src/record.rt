@@ -10,6 +10,7 @@ ghost use Rattle.bayou_wire.specs.Inner.Reading.{Gives, head_at, tagged_head_at}
 ghost use Rattle.bayou_wire.specs.Records.{SpellsRecord, record_head};
 ghost use Rattle.bayou_wire.specs.Spelling.{IsTag, SpellsWrite};
 
+use crate::encode::USUAL_BYTES;
 use crate::layout::{RECORD_OTHERS, RECORD_OWN};
 use crate::put::{put_resting_write, put_tag};
 use crate::resting::resting_write_of;
@@ -59,7 +60,7 @@ pub fn encode_record(
     ensures spelling { IfOk result (λ bytes. SpellsRecord Tagged bytes.items (record { write = write.now; tag = tag })) }
     ensures size { IfOk result (λ bytes. (0 < length bytes.items) × (length bytes.items ≤ 1 + TAG_BYTES + MAX_WRITE_BYTES)) }
 {
-    let mut bytes = Vec::new(alloc);
+    let mut bytes = Vec::with_capacity(alloc, USUAL_BYTES)?;
     put_head(&mut bytes, tag)?;
     put_resting_write(&mut bytes, write)?;
     Ok(bytes)

@@ -7,4 +7,4 @@ pub returns-clause-size : goal.returns-clause-size
 returns-clause-size c =
     let write = c.args.write.now in
     let put = c.in_ok-put_resting_write.ensures in
-    written_size c.put_resting_write.new.out.items write put.0 (put.1 ∙ ap (λ s. s ++ write_bytes write) c.new-bytes.ensures.items)
+    written_size c.put_resting_write.new.out.items write put.0 (put.1 ∙ ap (λ s. s ++ write_bytes write) c.in_ok-bytes.ensures.items)

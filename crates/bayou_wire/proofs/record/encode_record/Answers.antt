@@ -11,6 +11,6 @@ returns-clause-size c =
     let tag = c.args.tag in
     let head = c.in_ok-put_head.ensures in
     let put = c.in_ok-put_resting_write.ensures in
-    let whole = put.1 ∙ ap (λ front. front ++ write_bytes write) (head.1 ∙ ap (λ front. front ++ record_head tag) c.new-bytes.ensures.items) in
+    let whole = put.1 ∙ ap (λ front. front ++ write_bytes write) (head.1 ∙ ap (λ front. front ++ record_head tag) c.in_ok-bytes.ensures.items) in
     record_size Tagged c.put_resting_write.new.out.items (record { write = write; tag = tag })
     (head.0, (write_bytes write, whole, record { is = put.0; spelled = refl }))
