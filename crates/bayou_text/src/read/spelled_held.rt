@@ -1,5 +1,5 @@
 //! Writes that stand in the line in a spelling that most lines of an audit file have: their program is an update alone.
-ghost use Rattle.std.specs.Prelude.{◌≡◌, ◌≤◌, [], IfOk, IfSome, IsTrue, IsUtf8, OnOk, length};
+ghost use Rattle.std.specs.Prelude.{◌≡◌, ◌≤◌, IfOk, IfSome, IsTrue, IsUtf8, OnOk, length};
 ghost use Rattle.std.specs.List.{AllByRecursion};
 ghost use Rattle.json.specs.Lex.{tokens};
 ghost use Rattle.bayou_base.specs.Vector.{AreCounts};
@@ -14,7 +14,7 @@ use crate::audit::AuditLine;
 use crate::line::Line;
 use crate::read::glance::guess_held;
 use crate::read::spelled::{is_cut, write_vector};
-use crate::read::spelled_program::write_update;
+use crate::read::spelled_program::{is_update, write_update};
 use bayou_base::ServerId;
 use bayou_lang::RestingWrite;
 use json::Writer;
@@ -79,13 +79,6 @@ fn spelling_of(
     Ok(writer.into_inner())
 }
 
-/// Whether its program is an update alone.
-fn is_update(write: &RestingWrite) -> bool
-    ensures { IsTrue result → (write.now.program.check.items ≡ []) × (write.now.program.merge.items ≡ []) }
-{
-    write.program().check().is_empty() && write.program().merge().is_empty()
-}
-
 /// Whether the bytes are that spelling of the line. Where memory is short they aren't.
 fn is_spelling(
     alloc: Global,
@@ -98,7 +91,7 @@ fn is_spelling(
     requires { length bytes.now ≤ MAX_LINE_BYTES }
     ensures { IsTrue result → Spells bytes.now (held server.index write.now counts) }
 {
-    if !is_update(write) {
+    if !is_update(write.program()) {
         return false;
     }
     if !is_cut(write.deps(), counts) {

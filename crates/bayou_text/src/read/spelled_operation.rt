@@ -1,5 +1,5 @@
 //! What a session tries, in a spelling that most lines of a script have: a read, or a Write whose program is an update alone.
-ghost use Rattle.std.specs.Prelude.{◌≡◌, ◌≤◌, ◌∷◌, [], IfOk, IfSome, IsTrue, IsUtf8, OnOk, length};
+ghost use Rattle.std.specs.Prelude.{◌≡◌, ◌≤◌, ◌∷◌, IfOk, IfSome, IsTrue, IsUtf8, OnOk, length};
 ghost use Rattle.std.specs.List.{AllByRecursion};
 ghost use Rattle.json.specs.Lex.{tokens};
 ghost use Rattle.json.specs.Token.{begin_array};
@@ -13,7 +13,7 @@ ghost use Rattle.bayou_text.specs.Table.{Spells};
 use crate::command::{Attempt, Command, Operation};
 use crate::line::Line;
 use crate::read::glance::guess_operation;
-use crate::read::spelled_program::write_update;
+use crate::read::spelled_program::{is_update, write_update};
 use bayou_base::{Key, ServerId, SessionId};
 use bayou_lang::RestingProgram;
 use json::Writer;
@@ -109,13 +109,6 @@ fn is_read(alloc: Global, bytes: &[u8], session: SessionId, server: ServerId, ke
         Ok(text) => text.as_slice() == bytes,
         Err(_) => false,
     }
-}
-
-/// Whether the program is an update alone.
-fn is_update(program: &RestingProgram) -> bool
-    ensures { IsTrue result → (program.now.check.items ≡ []) × (program.now.merge.items ≡ []) }
-{
-    program.check().is_empty() && program.merge().is_empty()
 }
 
 /// Whether the bytes are that spelling of the line of a Write. Where memory is short they aren't.

@@ -1,5 +1,5 @@
 //! Programs of an update alone, in the spelling that most lines of an audit file have.
-ghost use Rattle.std.specs.Prelude.{◌≡◌, ◌∷◌, [], OnOk, map};
+ghost use Rattle.std.specs.Prelude.{◌≡◌, ◌∷◌, [], IsTrue, OnOk, map};
 ghost use Rattle.std.specs.List.{AllByRecursion};
 ghost use Rattle.serde_json.specs.Data.{string};
 ghost use Rattle.json.specs.Token.{begin_array, end_array, key};
@@ -10,9 +10,16 @@ ghost use Rattle.bayou_text.specs.AtOnce.{Adds, all_tokens, empty_tokens, tokens
 ghost use Rattle.bayou_text.specs.Spelling as spelling;
 
 use bayou_base::{Key, Value as Stored};
-use bayou_lang::{Op, Term};
+use bayou_lang::{Op, RestingProgram, Term};
 use json::Writer;
 use std::alloc::AllocError;
+
+/// Whether the program is an update alone.
+pub(crate) fn is_update(program: &RestingProgram) -> bool
+    ensures { IsTrue result → (program.now.check.items ≡ []) × (program.now.merge.items ≡ []) }
+{
+    program.check().is_empty() && program.merge().is_empty()
+}
 
 /// Writes a word and a key.
 fn write_named(writer: &mut Writer, word: &str, key: &Key) -> Result<(), AllocError>
