@@ -127,6 +127,17 @@ fn replace_all(slots: &mut Slots, mut changes: Changes) -> Changes
     before
 }
 
+/// Makes the changes, the first of them last.
+fn make_all(slots: &mut Slots, mut changes: Changes)
+    requires { All (λ change. IsTrue (has_room (room slots.old.entries) change.key)) changes.items }
+    ensures database { database_of slots.new.entries ≡ after_changes changes.items (database_of slots.old.entries) }
+    ensures room { room slots.new.entries ≡ room slots.old.entries }
+{
+    while let Some(change) = changes.pop() {
+        replace(slots, change);
+    }
+}
+
 impl Db {
     /// The empty database, with room for no key.
     pub fn new(alloc: Global) -> Self
@@ -179,7 +190,7 @@ impl Db {
         ensures database { database_of self.new ≡ after_changes undo (database_of self.old) }
         ensures room { room self.new ≡ room self.old }
     {
-        replace_all(&mut self.slots, undo.before);
+        make_all(&mut self.slots, undo.before);
     }
 }
 
