@@ -39,6 +39,8 @@ mod sessions;
 #[cfg(test)]
 mod streams;
 #[cfg(test)]
+mod tags;
+#[cfg(test)]
 mod taking;
 #[cfg(test)]
 mod vectors;
