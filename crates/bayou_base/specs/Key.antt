@@ -1,5 +1,5 @@
--- Keys: this project's own alphabet.
-use Rattle.std.specs.Prelude.{ℕ, Bool, List, Option, Some, length, nat_lt, nat_le, ◌==◌, ◌&&◌, ◌||◌, not, position, if◌then◌else◌}
+-- Keys, and what keys begin with: this project's own alphabet.
+use Rattle.std.specs.Prelude.{ℕ, Bool, List, Option, None, Some, length, nat_lt, nat_le, ◌==◌, ◌&&◌, ◌||◌, not, position, if◌then◌else◌}
 use Rattle.std.specs.Option.{option_map}
 use Rattle.bayou_base.specs.declared.limits.TheConstants.{MAX_KEY_BYTES}
 use Rattle.bayou_base.specs.declared.key.KeyFault.{KeyFault}
@@ -16,3 +16,7 @@ key_fault bytes =
     if length bytes == 0 then Some Empty
     else (if nat_lt MAX_KEY_BYTES (length bytes) then Some TooLong
     else option_map BadByte (position (λ b. not (is_key_byte b)) bytes))
+
+-- why the bytes are no prefix: as of a key, but a prefix may have no byte
+abbrev pub prefix_fault : List ℕ → Option KeyFault
+prefix_fault bytes = if length bytes == 0 then None else key_fault bytes

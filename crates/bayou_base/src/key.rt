@@ -11,10 +11,10 @@ use std::cmp::Ordering;
 use std::fmt;
 use std::marker::Model;
 
-/// Why a text is no key.
+/// Why a text is no key, or no prefix.
 #[derive(Clone, Copy, Debug, PartialEq, Eq)]
 pub enum KeyFault {
-    /// It has no byte.
+    /// It has no byte. A prefix may be empty.
     Empty,
     /// It has more than [`MAX_KEY_BYTES`] bytes.
     TooLong,
@@ -51,7 +51,7 @@ fn first_bad_byte(bytes: &[u8]) -> Option<usize>
     bytes.iter().position(|byte| !is_key_byte(*byte))
 }
 
-fn fault_of(text: &str) -> Option<KeyFault>
+pub(crate) fn fault_of(text: &str) -> Option<KeyFault>
     ensures { result ≡ key_fault text.now }
 {
     if text.is_empty() {

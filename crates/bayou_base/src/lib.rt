@@ -3,7 +3,8 @@
 //! grows and takes no memory.
 //!
 //! Callers see a [`ServerId`], a [`Wid`], a [`Stamp`] and a [`Tag`] as their numbers, with the ranges kept by the types; a
-//! [`Vector`] as the list of its [`SERVERS`] counts; a [`Key`] and a [`Text`] as the list of their bytes. Constructors
+//! [`Vector`] as the list of its [`SERVERS`] counts; a [`Key`], a [`Prefix`] and a [`Text`] as the
+//! list of their bytes. Constructors
 //! refuse exactly what lies outside the limits, by the first fault. It doesn't promise that a name stands for a Write
 //! that some server holds.
 #![tactic(auto)]
@@ -13,6 +14,7 @@ pub mod asks;
 pub mod entry;
 pub mod key;
 pub mod limits;
+pub mod prefix;
 pub mod server;
 pub mod session;
 pub mod stamp;
@@ -30,6 +32,7 @@ pub use limits::{
     MAX_KEY_BYTES, MAX_LINE_BYTES, MAX_LINES, MAX_NUMBER, MAX_OPS, MAX_PLACES, MAX_TEXT_BYTES,
     MAX_TURNS, MAX_WRITE_BYTES, MAX_WRITES, NET_SERVERS, SERVERS, SESSIONS,
 };
+pub use prefix::Prefix;
 pub use server::ServerId;
 pub use session::SessionId;
 pub use stamp::Stamp;
