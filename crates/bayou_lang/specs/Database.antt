@@ -1,5 +1,6 @@
--- Databases: what they have at each key.
-use Rattle.std.specs.Prelude.{ℕ, Bool, List, Option, None, Some, nat_eq}
+-- Databases: what they have at each key, and how many of their keys begin so.
+use Rattle.std.specs.Prelude.{ℕ, Bool, List, Option, None, Some, length, nat_eq}
+use Rattle.std.specs.List.{filter, starts_with}
 use Rattle.std.specs.FinMap as map
 use Rattle.std.specs.Ordering.{nat_cmp}
 use Rattle.std.specs.Cmp.Lexicographic.{pointwise, slice_cmp}
@@ -25,3 +26,11 @@ same_key = pointwise nat_eq
 abbrev pub changed : List ℕ → Option Value → Database → Database
 changed key None database = map.remove database key
 changed key (Some value) database = map.insert database key value
+
+-- whether the key begins with the prefix
+abbrev pub begins_with : List ℕ → List ℕ → Bool
+begins_with prefix key = starts_with nat_eq key prefix
+
+-- how many keys that are present begin with the prefix
+abbrev pub number_with : List ℕ → Database → ℕ
+number_with prefix database = length (filter (begins_with prefix) (map.keys database))

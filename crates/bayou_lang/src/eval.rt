@@ -1,10 +1,10 @@
-ghost use Rattle.std.specs.Prelude.{◌≡◌, ◌+◌, None, Some, ◌<◌, ◌≤◌, ◌∷◌, IfSome, length, map, not};
+ghost use Rattle.std.specs.Prelude.{◌≡◌, ◌+◌, None, Some, ◌<◌, ◌≤◌, ◌∷◌, IfSome, length, map, min, not};
 ghost use Rattle.std.specs.List.{filter, flat_map};
 ghost use Rattle.std.specs.Option.{option_map};
 ghost use Rattle.arrayvec.specs.ArrayVec.{array_vec_len};
 ghost use Rattle.bayou_base.specs.declared.limits.TheConstants.{MAX_ALTERNATIVES, MAX_OPS};
 ghost use Rattle.bayou_lang.specs.declared.program.Alt.{Alt};
-ghost use Rattle.bayou_lang.specs.Database.{Database, changed, same_key, value_at};
+ghost use Rattle.bayou_lang.specs.Database.{Database, changed, number_with, same_key, value_at};
 ghost use Rattle.bayou_lang.specs.Changes.{ChangeOnly, after_changes, most_changes, most_ops, op_key, program_writes};
 ghost use Rattle.bayou_lang.specs.Meaning as meaning;
 
@@ -12,7 +12,7 @@ use crate::change::{Change, Changes};
 use crate::program::{Alt, Cond, Op, Program, Term};
 use crate::resting::{RestingAlt, RestingProgram};
 use arrayvec::ArrayVec;
-use bayou_base::{Key, Value};
+use bayou_base::{Key, Prefix, Value};
 
 /// How a program was applied.
 #[derive(Clone, Copy, Debug, PartialEq, Eq)]
@@ -32,26 +32,22 @@ pub trait Look {
     /// What the key has, if anything.
     fn look(&self, key: &Key) -> Option<Value>
         ensures { result ≡ value_at (database self.now) key.now };
+
+    /// How many keys that are present begin so, or one more than `most` where those are more: so it may stop counting there.
+    fn number_with(&self, prefix: &Prefix, most: u32) -> usize
+        ensures { result ≡ min (number_with prefix.now (database self.now)) (most + 1) };
 }
 
-/// A database with changes over it, which the next op sees.
-#[derive(Drop)]
-struct Overlay<'a, L> {
-    under: &'a L,
-    changes: &'a Changes,
-}
-
-impl<L: Look> Look for Overlay<'_, L> {
-    ghost database = { λ overlay. after_changes overlay.changes.now.items (L.database overlay.under.now) };
-
-    fn look(&self, key: &Key) -> Option<Value> {
-        for change in self.changes.as_slice() {
-            if change.key == *key {
-                return change.copy_value();
-            }
+/// What the key has, if anything, in a database with these changes.
+fn look_over<L: Look>(look: &L, changes: &Changes, key: &Key) -> Option<Value>
+    ensures { result ≡ value_at (after_changes changes.now.items (L.database look.now)) key.now }
+{
+    for change in changes.as_slice() {
+        if change.key == *key {
+            return change.copy_value();
         }
-        self.under.look(key)
     }
+    look.look(key)
 }
 
 fn holds<L: Look>(condition: &Cond, look: &L) -> bool
@@ -87,13 +83,14 @@ fn sum_with(number: i64, value: &Value) -> Option<Value>
     }
 }
 
-fn term_value<L: Look>(term: &Term, look: &L) -> Option<Value>
-    ensures { result ≡ meaning.term_value term.now (L.database look.now) }
+/// What a term has in a database with these changes.
+fn term_value<L: Look>(term: &Term, look: &L, changes: &Changes) -> Option<Value>
+    ensures { result ≡ meaning.term_value term.now (after_changes changes.now.items (L.database look.now)) }
 {
     match term {
         Term::Lit(value) => Some(value.copy()),
-        Term::Copy(key) => look.look(key),
-        Term::Plus(key, number) => sum_with(*number, &look.look(key)?),
+        Term::Copy(key) => look_over(look, changes, key),
+        Term::Plus(key, number) => sum_with(*number, &look_over(look, changes, key)?),
     }
 }
 
@@ -121,16 +118,16 @@ fn set_change(changes: &mut Changes, change: Change)
     changes.insert(0, change);
 }
 
-/// What an op changes where it is applied to this database, or `None` where it has no value.
-fn op_change<L: Look>(op: &Op, look: &L) -> Option<Change>
-    ensures value { meaning.after_op op.now (L.database look.now)
-        ≡ option_map (λ change. changed change.key change.value (L.database look.now)) result }
+/// What an op changes where it is applied to a database with these changes, or `None` where it has no value.
+fn op_change<L: Look>(op: &Op, look: &L, changes: &Changes) -> Option<Change>
+    ensures value { meaning.after_op op.now (after_changes changes.now.items (L.database look.now))
+        ≡ option_map (λ change. changed change.key change.value (after_changes changes.now.items (L.database look.now))) result }
     ensures key { IfSome result (λ change. change.key ≡ op_key op.now) }
 {
     match op {
         Op::Put(key, term) => Some(Change {
             key: key.copy(),
-            value: Some(term_value(term, look)?),
+            value: Some(term_value(term, look, changes)?),
         }),
         Op::Del(key) => Some(Change {
             key: key.copy(),
@@ -149,11 +146,7 @@ fn ops_changes<L: Look>(ops: &[Op], look: &L) -> Option<Changes>
 {
     let mut changes = Changes::new();
     for op in ops {
-        let overlay = Overlay {
-            under: look,
-            changes: &changes,
-        };
-        let change = op_change(op, &overlay)?;
+        let change = op_change(op, look, &changes)?;
         set_change(&mut changes, change);
     }
     Some(changes)

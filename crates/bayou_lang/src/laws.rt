@@ -1,5 +1,5 @@
 //! What the definitions come to, in the subject's own words: each law is the contract of a function that does nothing.
-ghost use Rattle.std.specs.Prelude.{◌≡◌, ℕ, ◌<◌, ◌==◌, ℤ, ◌+ℤ◌, ◌≤ℤ◌, ◌↔◌, All, AllPairs, Any, List, [], ◌∷◌, ◌++◌, Option, None, Some, true, false, FitsSigned, drop, filter, length, slice_get, slice_index, take, if◌then◌else◌};
+ghost use Rattle.std.specs.Prelude.{◌≡◌, ℕ, ◌<◌, ◌==◌, ◌+◌, ◌&&◌, ℤ, ◌+ℤ◌, ◌≤ℤ◌, ◌↔◌, All, AllPairs, Any, List, [], ◌∷◌, ◌++◌, Option, None, Some, true, false, FitsSigned, drop, filter, is_some, length, slice_get, slice_index, take, if◌then◌else◌};
 ghost use Rattle.std.specs.Int.{w64};
 ghost use Rattle.bayou_base.specs.declared.limits.TheConstants.{SERVERS};
 ghost use Rattle.bayou_base.specs.declared.value.Value.{Value};
@@ -15,7 +15,7 @@ ghost use Rattle.bayou_lang.specs.declared.program.Term.TheVariants.{Plus};
 ghost use Rattle.bayou_lang.specs.declared.write.Write.{Write};
 ghost use Rattle.bayou_lang.specs.Equality.{same_program, same_write};
 ghost use Rattle.bayou_lang.specs.Meaning.{after_alternative, after_ops, all_hold, holds, mean, term_value};
-ghost use Rattle.bayou_lang.specs.Database.{Database, changed, empty, same_key, value_at};
+ghost use Rattle.bayou_lang.specs.Database.{Database, begins_with, changed, empty, number_with, same_key, value_at};
 ghost use Rattle.bayou_lang.specs.Writes.{count_of, counted, in_stamp_order, lacking_of, raised_by, AreFitting, Fits, HaveDistinctStamps, HaveDistinctWids, HaveSameWrites, IsNextWrite, IsPrefixClosed};
 
 /// Two databases that have the same at each key are one.
@@ -32,6 +32,18 @@ pub fn the_empty_database_has_nothing()
 pub fn a_change_is_of_its_key()
     ensures { (key : List ℕ) (value : Option Value) (database : Database) (other : List ℕ)
         → value_at (changed key value database) other ≡ (if same_key key other then value else value_at database other) }
+{}
+
+/// The empty database has no key that begins so.
+pub fn the_empty_database_has_no_keys()
+    ensures { (prefix : List ℕ) → number_with prefix empty ≡ 0 }
+{}
+
+/// A change counts for its key alone: with what the key had before, the number of keys that begin so is the earlier one with what the key has.
+pub fn a_change_counts_for_its_key()
+    ensures { (prefix key : List ℕ) (value : Option Value) (database : Database)
+        → number_with prefix (changed key value database) + (if begins_with prefix key && is_some (value_at database key) then 1 else 0)
+        ≡ number_with prefix database + (if begins_with prefix key && is_some value then 1 else 0) }
 {}
 
 /// Equals holds exactly where the key is present with the value.

@@ -3,12 +3,12 @@ use Rattle.std.proofs.lemmas.List.{drop_all}
 use Rattle.bayou_lang.specs.declared.change.Change.{Change}
 use Rattle.bayou_lang.specs.Database.{value_at}
 use Rattle.bayou_lang.proofs.ChangeLists.{value_after, value_after-at, value_at-after_changes}
-use Rattle.bayou_lang.proofs.eval.OverlayLook.look.Goals as goal
+use Rattle.bayou_lang.proofs.eval.look_over.Goals as goal
 
 pub returns-then-eq : goal.returns-then-eq
 returns-then-eq g c =
-    let changes = c.args.self.now.changes.now.items in
-    let below = g.L.Look.database c.args.self.now.under.now in
+    let changes = c.args.changes.now.items in
+    let below = g.L.Look.database c.args.look.now in
     let key = c.args.key.now in
     let change = c.change-item.result in
     let index = c.loop-change.change-index in
@@ -20,8 +20,8 @@ returns-then-eq g c =
 
 pub returns : goal.returns
 returns g c =
-    let changes = c.args.self.now.changes.now.items in
-    let below = g.L.Look.database c.args.self.now.under.now in
+    let changes = c.args.changes.now.items in
+    let below = g.L.Look.database c.args.look.now in
     let key = c.args.key.now in
     let index = c.loop-change.change-index in
     let none = subst (λ list. length list ≤ index) c.as_slice-change-items.ensures.value (omega (arith, c.loop-change-test.false)) in
