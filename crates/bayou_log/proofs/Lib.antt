@@ -6,5 +6,6 @@ pub mod ListingLaws
 pub mod Merging
 pub mod Missed
 pub mod Picked
+pub mod Prefixed
 pub mod Slots
 pub mod Undone

@@ -1,17 +1,19 @@
-ghost use Rattle.std.specs.Prelude.{◌≡◌, List, ℕ, IsTrue, OnOk, IfOk, All, Contains, map};
+ghost use Rattle.std.specs.Prelude.{◌≡◌, ◌+◌, List, ℕ, IsTrue, OnOk, IfOk, All, Contains, map, min};
 ghost use Rattle.arrayvec.specs.ArrayVec.{array_vec_len};
 ghost use Rattle.std.specs.List.{flat_map};
 ghost use Rattle.bayou_lang.specs.Changes.{after_changes, op_key, ChangeOnly};
 ghost use Rattle.bayou_lang.specs.Meaning.{mean};
-ghost use Rattle.bayou_lang.specs.Database.{changed, empty, value_at};
+ghost use Rattle.bayou_lang.specs.Database.{begins_with as begins, changed, empty, number_with, value_at};
+ghost use Rattle.bayou_log.specs.Inner.Counting.{start_at};
 ghost use Rattle.bayou_log.specs.Db.{database_of, room, has_room, HasRoomAt, HasRoomFor, IsUndo, KeepsRoom};
 
-use bayou_base::{Key, Value};
+use bayou_base::{Key, Prefix, Value};
 use bayou_lang::{Change, Changes, Look, Op, Outcome, RestingAlt, RestingProgram, RestingWrite};
 use std::alloc::{AllocError, Global};
 use std::collections::BTreeMap;
 use std::marker::Model;
 use std::mem;
+use std::ops::Bound;
 
 type Slots = BTreeMap<Key, Option<Value>>;
 
@@ -60,6 +62,24 @@ fn copy_of(slot: &Option<Value>) -> Option<Value>
         Some(value) => Some(value.copy()),
         None => None,
     }
+}
+
+/// Where in the order of keys those stand that begin so.
+fn start_of(prefix: &Prefix) -> Bound<Key>
+    ensures { result ≡ start_at prefix.now }
+{
+    match prefix.first_key() {
+        Some(first) => Bound::Included(first),
+        None => Bound::Unbounded,
+    }
+}
+
+fn begins_with(key: &Key, prefix: &Prefix) -> bool
+    ensures { result ≡ begins prefix.now key.now }
+{
+    key.as_str()
+        .as_bytes()
+        .starts_with(prefix.as_str().as_bytes())
 }
 
 fn make_room(slots: &mut Slots, key: &Key) -> Result<(), AllocError>
@@ -170,6 +190,21 @@ impl Db {
         }
     }
 
+    /// How many keys that are present begin so, or one more than `most` where those are more. It passes over no more slots than
+    /// begin so, in the order of keys: room for a key that has no value is passed over too.
+    pub fn number_with(&self, prefix: &Prefix, most: u32) -> usize
+        ensures { result ≡ min (number_with prefix.now (database_of self.now)) (most + 1) }
+    {
+        let mut number = 0;
+        for (key, slot) in self.slots.range((start_of(prefix), Bound::Unbounded)) {
+            if number > most as usize || !begins_with(key, prefix) {
+                return number;
+            }
+            number += usize::from(slot.is_some());
+        }
+        number
+    }
+
     /// Applies the program, which takes no memory. It gives, beside the outcome, what [`Db::undo`] needs to take that back.
     pub fn apply(&mut self, program: &RestingProgram) -> (Outcome, Undo)
         requires { HasRoomFor (room self.old) program.now }
@@ -211,5 +246,9 @@ impl Look for Db {
 
     fn look(&self, key: &Key) -> Option<Value> {
         self.get(key)
+    }
+
+    fn number_with(&self, prefix: &Prefix, most: u32) -> usize {
+        Db::number_with(self, prefix, most)
     }
 }
