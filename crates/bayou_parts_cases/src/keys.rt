@@ -1,6 +1,6 @@
-//! Keys and texts at their borders.
+//! Keys, prefixes and texts at their borders.
 use crate::fixtures::must_hold;
-use bayou_base::{Key, KeyFault, Value};
+use bayou_base::{Key, KeyFault, Prefix, Value};
 
 /// A name, and why it is no key.
 type Row = (&'static str, Option<KeyFault>);
@@ -32,6 +32,25 @@ static KEYS: [Row; 16] = [
 fn names_of_keys(rt: HostRuntime) {
     for (name, fault) in KEYS.iter() {
         must_hold(&rt, Key::new(name).err() == *fault, name);
+    }
+}
+
+/// Whether the text is a prefix or none for this reason, and begins with the key of its bytes where it has any.
+fn is_prefix(text: &str, fault: Option<KeyFault>) -> bool {
+    match Prefix::new(text) {
+        Ok(prefix) => fault.is_none()
+            && prefix.as_str() == text
+            && prefix.first_key() == Key::new(text).ok(),
+        Err(told) => fault == Some(told),
+    }
+}
+
+/// What is told of a key is told of a prefix, which may be empty.
+#[test]
+fn names_of_prefixes(rt: HostRuntime) {
+    must_hold(&rt, is_prefix("", None), "");
+    for (name, fault) in KEYS.iter().skip(1) {
+        must_hold(&rt, is_prefix(name, *fault), name);
     }
 }
 
