@@ -190,8 +190,8 @@ impl Db {
         }
     }
 
-    /// How many keys that are present begin so, or one more than `most` where those are more. It passes over no more slots than
-    /// begin so, in the order of keys: room for a key that has no value is passed over too.
+    /// How many keys that are present begin so, or one more than `most` where those are more. It goes over the part of the order
+    /// of keys that begins so, also over keys that have room and no value, and stops once the number is greater than `most`.
     pub fn number_with(&self, prefix: &Prefix, most: u32) -> usize
         ensures { result ≡ min (number_with prefix.now (database_of self.now)) (most + 1) }
     {
