@@ -30,6 +30,11 @@ fn numbered(rt: &impl Abort, number: usize) -> Key {
     Key::new(name.as_str()).expect(rt, "no key")
 }
 
+/// The number of the key that is put at this step: each once, and not in their order.
+fn at_step(step: usize) -> usize {
+    step % KEYS * 73 % KEYS
+}
+
 /// Whether the key of this number is taken away again.
 fn is_taken_away(number: usize) -> bool {
     number % 7 == 3
@@ -58,12 +63,12 @@ fn fills(rt: &impl Abort, alloc: Global, db: &mut Db, keys: usize) -> bool {
     let all = Prefix::default();
     let mut is_so = true;
     for step in 0..keys {
-        let number = step * 73 % KEYS;
+        let number = at_step(step);
         is_so &= puts(rt, alloc, db, number).is_ok()
             || (db.number_with(&all, u32::MAX) == step && puts(rt, alloc, db, number).is_ok());
     }
     for step in 0..keys {
-        let number = step * 73 % KEYS;
+        let number = at_step(step);
         if is_taken_away(number) {
             is_so &= takes(rt, alloc, db, number).is_ok() || takes(rt, alloc, db, number).is_ok();
         }
@@ -75,7 +80,7 @@ fn fills(rt: &impl Abort, alloc: Global, db: &mut Db, keys: usize) -> bool {
 fn listed(rt: &impl Abort, keys: usize, beginning: &str) -> usize {
     let mut count: usize = 0;
     for step in 0..keys {
-        let number = step * 73 % KEYS;
+        let number = at_step(step);
         if !is_taken_away(number) && numbered(rt, number).as_str().starts_with(beginning) {
             count = count.saturating_add(1);
         }
