@@ -13,10 +13,7 @@ type Memory = MemoryDevice<OpenGate>;
 type Found = Result<(usize, usize), OpenFault>;
 
 /// The body of an entry: a Write of server 0 that puts 1 at the key `room`. Its entry has 94 bytes.
-static WRITE: [u8; 60] = [
-    0, 0, 0, 0, 1, 0, 0, 0, 1, 0, 0, 0, 0, 0, 0, 0, 0, 0, 0, 0, 0, 0, 0, 0, 0, 0, 0, 0, 0, 0, 0, 0,
-    0, 0, 0, 0, 0, 0, 0, 0, 0, 0, 1, 1, 4, 114, 111, 111, 109, 1, 1, 0, 0, 0, 0, 0, 0, 0, 1, 0,
-];
+const WRITE: &str = "<0:1> <stamp> <none> <put>";
 
 /// The journal of server 0 with that body three times. The digests are those of `sha256sum`.
 const THREE: &str = "4241594f554a4e4c 0100
@@ -95,11 +92,12 @@ fn bodies_are_found_again(rt: HostRuntime) {
         &[b"\x00", b"\x01\x02"],
         EXAMPLE,
     );
+    let write = bytes_of(&rt, rt.alloc(), WRITE);
     let are_three = has_bytes(
         &rt,
         rt.alloc(),
         server_id(&rt, 0),
-        &[&WRITE, &WRITE, &WRITE],
+        &[&write, &write, &write],
         THREE,
     );
     assert!(rt; is_page && are_three);
@@ -349,14 +347,17 @@ fn reopens(alloc: Global, journal: &mut Journal<Memory>, answer: Found) -> bool 
     given == answer && journal.is_down() == answer.is_err()
 }
 
-/// Whether an append answers so, and leaves the journal down where it is refused.
-fn appends(journal: &mut Journal<Memory>, answer: Result<(), AppendFault>) -> bool {
-    let given = journal.append(&WRITE);
+/// Whether an append of the body answers so, and leaves the journal down where it is refused.
+fn appends(journal: &mut Journal<Memory>, body: &[u8], answer: Result<(), AppendFault>) -> bool {
+    if body.is_empty() || body.len() > MAX_BODY_BYTES {
+        return false;
+    }
+    let given = journal.append(body);
     given == answer && journal.is_down() == answer.is_err()
 }
 
-/// Does the step. Whether the journal answers so, and is down where it refused.
-fn goes(alloc: Global, journal: &mut Journal<Memory>, step: Step) -> bool {
+/// Does the step, with this body where it appends. Whether the journal answers so, and is down where it refused.
+fn goes(alloc: Global, journal: &mut Journal<Memory>, body: &[u8], step: Step) -> bool {
     match step {
         Fuse(call, kept) => {
             journal.device().fuse(call.max(1), kept);
@@ -366,7 +367,7 @@ fn goes(alloc: Global, journal: &mut Journal<Memory>, step: Step) -> bool {
             journal.device().lose(count);
             true
         }
-        Append(answer) => appends(journal, answer),
+        Append(answer) => appends(journal, body, answer),
         Reopen(answer) => reopens(alloc, journal, answer),
     }
 }
@@ -382,8 +383,9 @@ fn opened(rt: &impl Abort, alloc: Global, front: &[u8], fuse: u32) -> Option<Jou
 
 /// The steps go so, one after another.
 fn go_in_turn(rt: &impl Abort, alloc: Global, journal: &mut Journal<Memory>, steps: &[Step]) {
+    let body = bytes_of(rt, alloc, WRITE);
     for (at, step) in steps.iter().enumerate() {
-        must_be_so(rt, goes(alloc, journal, *step), at);
+        must_be_so(rt, goes(alloc, journal, &body, *step), at);
     }
 }
 

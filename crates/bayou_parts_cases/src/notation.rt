@@ -3,9 +3,9 @@
 use std::alloc::Global;
 use std::process::Abort;
 
-/// What the marks stand for among bytes: the vector that counts no Write, the one that counts the Write 0:1 alone, the name of that
-/// Write, its clock, and a program that puts 1 at `room`. What is between digits goes.
-static AS_BYTES: [(&str, &str); 7] = [
+/// What the marks stand for among bytes: the vector that counts no Write, those that count the first one and the first two of server 0
+/// alone, the name of the Write 0:1, its clock, and a program that puts 1 at `room`. What is between digits goes.
+static AS_BYTES: [(&str, &str); 8] = [
     (
         "<none>",
         "0000000000000000000000000000000000000000000000000000000000000000",
@@ -13,6 +13,10 @@ static AS_BYTES: [(&str, &str); 7] = [
     (
         "<one>",
         "0000000100000000000000000000000000000000000000000000000000000000",
+    ),
+    (
+        "<two>",
+        "0000000200000000000000000000000000000000000000000000000000000000",
     ),
     ("<0:1>", "0000000001"),
     ("<stamp>", "00000001"),
