@@ -70,7 +70,7 @@ pub fn started<G: Gate>(
     device: MemoryDevice<G>,
 ) -> Result<Box<Server<MemoryDevice<G>>>, NotStarted<MemoryDevice<G>>> {
     let id = ServerId::new(index).expect(rt, "no server");
-    let (count, limit) = (count.min(8), limit.min(MAX_WRITES));
+    let (count, limit) = (count.min(SERVERS as u8), limit.min(MAX_WRITES));
     if index >= count {
         rt.abort();
     }

@@ -1,4 +1,5 @@
 //! Writes that others accepted, as they stand in a stream, and streams of them.
+use bayou_base::SERVERS;
 use bayou_lang::Write;
 use bayou_wire::decode_write;
 use std::alloc::Global;
@@ -8,14 +9,27 @@ use std::process::Abort;
 /// the number.
 pub type Given = (u8, u8, u8, [u8; 2], u8);
 
+/// How many bytes a vector has: four for each server.
+const VECTOR_BYTES: usize = 4 * SERVERS;
+
+/// How many bytes the program has.
+const PROGRAM_BYTES: usize = 16;
+
+/// How many bytes an Item has.
+pub const ITEM_BYTES: usize = 12 + VECTOR_BYTES + PROGRAM_BYTES;
+
 /// The Item of the Write: its length and kind, its name, its clock, its past, and its program.
-pub const fn item(given: Given) -> [u8; 60] {
+pub fn item(given: Given) -> [u8; ITEM_BYTES] {
     let (origin, seq, clock, [first, second], number) = given;
-    [
-        0, 58, 21, origin, 0, 0, 0, seq, 0, 0, 0, clock, 0, 0, 0, first, 0, 0, 0, second, 0, 0, 0,
-        0, 0, 0, 0, 0, 0, 0, 0, 0, 0, 0, 0, 0, 0, 0, 0, 0, 0, 0, 0, 0, 0, 1, 1, 1, b'a', 1, 1, 0,
-        0, 0, 0, 0, 0, 0, number, 0,
-    ]
+    let length = (ITEM_BYTES - 2) as u8;
+    let mut bytes = [0; ITEM_BYTES];
+    bytes[..20].copy_from_slice(&[
+        0, length, 21, origin, 0, 0, 0, seq, 0, 0, 0, clock, 0, 0, 0, first, 0, 0, 0, second,
+    ]);
+    bytes[ITEM_BYTES - PROGRAM_BYTES..].copy_from_slice(&[
+        0, 1, 1, 1, b'a', 1, 1, 0, 0, 0, 0, 0, 0, 0, number, 0,
+    ]);
+    bytes
 }
 
 /// The Write.
@@ -43,8 +57,8 @@ fn word_bytes(alloc: Global, word: &str) -> Option<Vec<u8>> {
         }
     }
     match word {
-        "<none>" => [0; 32].to_vec(alloc).ok(),
-        "<zeros>" => [0; 28].to_vec(alloc).ok(),
+        "<none>" => [0; VECTOR_BYTES].to_vec(alloc).ok(),
+        "<zeros>" => [0; VECTOR_BYTES - 4].to_vec(alloc).ok(),
         _ => hex::decode(alloc, word).ok(),
     }
 }

@@ -2,7 +2,7 @@
 //! reader or a writer failing in turn, and want of memory.
 use crate::fakes::{EndlessReader, FakeReader, FakeWriter};
 use crate::fixtures::{Served, begun, holds, must_be_so, must_hold, vector};
-use crate::items::{Given, item, stream, write};
+use crate::items::{Given, ITEM_BYTES, item, stream, write};
 use crate::takes;
 use bayou_base::Vector;
 use bayou_frames::ChannelFault;
@@ -220,7 +220,7 @@ fn is_taken_so(rt: &impl Abort, alloc: Global, sent: &[u8], most: usize, expecte
 /// Whatever pieces it comes in.
 fn is_taken_in_any_pieces(rt: &impl Abort, alloc: Global, sent: &[u8], expected: &str) -> bool {
     let mut is_so = true;
-    for most in [1, 59, 60, 61, 4096] {
+    for most in [1, ITEM_BYTES - 1, ITEM_BYTES, ITEM_BYTES + 1, 4096] {
         is_so &= is_taken_so(rt, alloc, sent, most, expected);
     }
     is_so
@@ -286,12 +286,8 @@ fn forty_writes_of_two_servers_go_in_stamp_order(rt: HostRuntime) {
 }
 
 /// How many of two Items came whole in a front of so many bytes.
-const fn whole_in(len: usize) -> u32 {
-    match len {
-        0..60 => 0,
-        60..120 => 1,
-        _ => 2,
-    }
+fn whole_in(len: usize) -> u32 {
+    (len / ITEM_BYTES).min(2) as u32
 }
 
 /// Whether the puller takes what the server's answer to it is: so many Writes.
@@ -319,7 +315,7 @@ fn what_is_cut_is_taken_up_to_there(rt: HostRuntime) {
     let mut server = full(&rt, alloc, 2, [2, 0]);
     for cut in 0..whole.len() {
         let is_so = takes_front(&rt, alloc, server.as_mut(), &whole[..cut]);
-        must_be_so(&rt, is_so && whole.len() == 127, cut);
+        must_be_so(&rt, is_so && whole.len() == 2 * ITEM_BYTES + END_BYTES, cut);
     }
 }
 
@@ -328,7 +324,7 @@ fn ends_at_read(rt: &impl Abort, alloc: Global, sent: &[u8], fails_at: u32) -> b
     let mut puller = full(rt, alloc, 3, [0, 0]);
     let reader = FakeReader {
         bytes: sent,
-        most: 60,
+        most: ITEM_BYTES,
         fails_at,
         calls: 0,
     };
@@ -468,15 +464,18 @@ fn a_stream_without_an_end_is_given_up(rt: HostRuntime) {
     assert!(rt; answer == Err(PullFault::Stream(ChannelFault::TooManyTurns)) && is_so);
 }
 
+/// How many bytes the End has.
+const END_BYTES: usize = 7;
+
 /// After how many Items an answer of three is cut, and how many of its bytes are left.
 static CUTS: [(u32, usize); 7] = [
     (0, 0),
-    (1, 60),
-    (2, 120),
-    (3, 180),
-    (4, 187),
-    (5, 187),
-    (u32::MAX, 187),
+    (1, ITEM_BYTES),
+    (2, 2 * ITEM_BYTES),
+    (3, 3 * ITEM_BYTES),
+    (4, 3 * ITEM_BYTES + END_BYTES),
+    (5, 3 * ITEM_BYTES + END_BYTES),
+    (u32::MAX, 3 * ITEM_BYTES + END_BYTES),
 ];
 
 /// Whether so much of it is left.
