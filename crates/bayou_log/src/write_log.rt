@@ -103,6 +103,16 @@ impl WriteLog {
         self.writes.as_slice()
     }
 
+    /// Hands out the Writes held, in order of receipt, and drops the rest: a log that isn't asked any more needn't keep its database, nor
+    /// what takes Writes back. It takes no memory.
+    pub fn into_receipts(self) -> Vec<RestingWrite>
+        ensures value { result.items ≡ self.receipts }
+        ensures fitting { AreFitting self.count result.items }
+        ensures within { length result.items ≤ self.limit }
+    {
+        self.writes
+    }
+
     /// How many servers there are.
     pub fn count(&self) -> u8
         ensures value { result ≡ self.now.count }
