@@ -1,5 +1,6 @@
 pub mod Agrees
 pub mod Became
+pub mod ChangeList
 pub mod CatchingUp
 pub mod Indexed
 pub mod ListingLaws

@@ -1,4 +1,5 @@
 pub mod Beside
+pub mod ChangeList
 pub mod Counting
 pub mod Fields
 pub mod Index

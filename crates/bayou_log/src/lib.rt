@@ -18,6 +18,7 @@
 //! say all that was held before them is for the caller to keep.
 #![tactic(auto)]
 
+mod change_list;
 pub mod db;
 pub mod fitting;
 mod index;

@@ -7,8 +7,9 @@ ghost use Rattle.bayou_log.specs.Inner.Fields.{outcomes_after, picked};
 ghost use Rattle.bayou_log.specs.Inner.Undone.{after_undoing, changes_in, changes_of, AddsUndone};
 ghost use Rattle.bayou_log.specs.Replay.{after_writes};
 
+use crate::change_list::ChangeList;
 use crate::db::{Db, Undo};
-use bayou_lang::{Change, Changes, Outcome, RestingWrite};
+use bayou_lang::{Changes, Outcome, RestingWrite};
 use std::alloc::{AllocError, Global};
 use std::marker::Model;
 
@@ -16,7 +17,7 @@ use std::marker::Model;
 #[derive(Drop)]
 pub(crate) struct UndoStack {
     // Those of the Write applied last are at the end, and of one Write the last is made first.
-    changes: Vec<Change>,
+    changes: ChangeList,
     // How many each Write has.
     sizes: Vec<u8>,
     // For how many changes there is room in any case.
@@ -30,16 +31,16 @@ impl Model for UndoStack {
 
     ghost Value = { Stack };
 
-    ghost view = { λ s. record { undos = undos_of s.sizes.items s.changes.items; promised = s.promised; room = vec_capacity s.changes; places = vec_capacity s.sizes } };
+    ghost view = { λ s. record { undos = undos_of s.sizes.items s.changes.items; promised = s.promised; room = s.changes.room; places = vec_capacity s.sizes } };
 
-    ghost invariant = { λ s. (all_of s.sizes.items ≡ length s.changes.items) × All (λ size. size ≤ MAX_OPS) s.sizes.items × (s.promised ≤ vec_capacity s.changes) };
+    ghost invariant = { λ s. (all_of s.sizes.items ≡ length s.changes.items) × All (λ size. size ≤ MAX_OPS) s.sizes.items × (s.promised ≤ s.changes.room) };
 }
 
 /// Adds the changes behind those of the list, the last one first.
-fn push_turned(list: &mut Vec<Change>, mut changes: Changes)
-    requires { vec_len list.old + array_vec_len changes ≤ vec_capacity list.old }
+fn push_turned(list: &mut ChangeList, mut changes: Changes)
+    requires { length list.old.items + array_vec_len changes ≤ list.old.room }
     ensures items { list.new.items ≡ list.old.items ++ reverse changes.items }
-    ensures capacity { vec_capacity list.new ≡ vec_capacity list.old }
+    ensures room { list.new.room ≡ list.old.room }
 {
     while let Some(change) = changes.pop() {
         list.push_reserved(change);
@@ -47,11 +48,11 @@ fn push_turned(list: &mut Vec<Change>, mut changes: Changes)
 }
 
 /// Takes so many from the end of the list, the last one first.
-fn pop_turned(list: &mut Vec<Change>, count: usize) -> Changes
-    requires { (count ≤ vec_len list.old) × (count ≤ MAX_OPS) }
+fn pop_turned(list: &mut ChangeList, count: usize) -> Changes
+    requires { (count ≤ length list.old.items) × (count ≤ MAX_OPS) }
     ensures items { list.old.items ≡ list.new.items ++ reverse result.items }
     ensures count { array_vec_len result ≡ count }
-    ensures capacity { vec_capacity list.new ≡ vec_capacity list.old }
+    ensures room { list.new.room ≡ list.old.room }
 {
     let mut changes = Changes::new();
     while changes.len() < count {
@@ -68,7 +69,7 @@ impl UndoStack {
         ensures { (result.undos ≡ []) × (result.promised ≡ 0) }
     {
         UndoStack {
-            changes: Vec::new(alloc),
+            changes: ChangeList::new(alloc),
             sizes: Vec::new(alloc),
             promised: 0,
         }
@@ -90,10 +91,8 @@ impl UndoStack {
         ensures kept { (self.old.room ≤ self.new.room) × (self.old.places ≤ self.new.places) }
         ensures ok { OnOk result ((self.new.promised + more ≤ self.new.room) × (held < self.new.places)) }
     {
-        let _ = self.changes.capacity();
-        let wanted = self.promised + more;
-        self.changes
-            .try_reserve(wanted.saturating_sub(self.changes.len()))?;
+        let _ = self.changes.room();
+        self.changes.reserve(self.promised + more)?;
         self.sizes.try_reserve(held + 1 - self.sizes.len())?;
         Ok(())
     }
@@ -103,7 +102,7 @@ impl UndoStack {
         requires { self.old.promised + more ≤ self.old.room }
         ensures { self.new ≡ record self.old { promised = self.old.promised + more } }
     {
-        let _ = self.changes.capacity();
+        let _ = self.changes.room();
         self.promised += more;
     }
 

@@ -1,4 +1,4 @@
-use Rattle.std.proofs.Common.{◌≡◌, ◌++◌, ◌≤◌, ◌+◌, ◌-◌, reverse, vec_capacity, vec_len}
+use Rattle.std.proofs.Common.{◌≡◌, ◌++◌, ◌≤◌, ◌+◌, ◌-◌, length, reverse}
 use Rattle.arrayvec.specs.ArrayVec.{array_vec_len}
 use Rattle.bayou_log.proofs.undo.pop_turned.Given as goal
 
@@ -6,9 +6,9 @@ use Rattle.bayou_log.proofs.undo.pop_turned.Given as goal
 abbrev pub invariant-loop-list : goal.invariant-loop-list
 invariant-loop-list l = record {
   target : l.list.items ++ reverse l.changes.items ≡ l.initial.list.items;
-  same_room : vec_capacity l.list ≡ vec_capacity l.initial.list;
+  same_room : l.list.room ≡ l.initial.list.room;
   number : array_vec_len l.changes ≤ l.count;
-  left : vec_len l.list + array_vec_len l.changes ≡ vec_len l.initial.list;
+  left : length l.list.items + array_vec_len l.changes ≡ length l.initial.list.items;
 }
 
 abbrev pub decreases-loop-list : goal.decreases-loop-list

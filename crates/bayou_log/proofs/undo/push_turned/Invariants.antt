@@ -1,4 +1,4 @@
-use Rattle.std.proofs.Common.{◌≡◌, ◌++◌, ◌≤◌, ◌+◌, reverse, vec_capacity, vec_len}
+use Rattle.std.proofs.Common.{◌≡◌, ◌++◌, ◌≤◌, ◌+◌, length, reverse}
 use Rattle.arrayvec.specs.ArrayVec.{array_vec_len}
 use Rattle.bayou_log.proofs.undo.push_turned.Given as goal
 
@@ -6,8 +6,8 @@ use Rattle.bayou_log.proofs.undo.push_turned.Given as goal
 abbrev pub invariant-loop-change : goal.invariant-loop-change
 invariant-loop-change l = record {
   target : l.list.items ++ reverse l.changes.items ≡ l.initial.list.items ++ reverse l.initial.changes.items;
-  same_room : vec_capacity l.list ≡ vec_capacity l.initial.list;
-  number : vec_len l.list + array_vec_len l.changes ≤ vec_capacity l.list;
+  same_room : l.list.room ≡ l.initial.list.room;
+  number : length l.list.items + array_vec_len l.changes ≤ l.list.room;
 }
 
 abbrev pub decreases-loop-change : goal.decreases-loop-change

@@ -9,7 +9,7 @@ use Rattle.bayou_log.proofs.undo.UndoStack.pop.Goals as goal
 
 pub pop_turned-before-requires : goal.pop_turned-before-requires
 pop_turned-before-requires c = (
-  omega (arith, ap all_of c.in_ok-size.ensures.items, all_of-push c.pop.new.self.items c.in_ok-size.size, c.self.invariant.0, c.self.inside.changes.ok.0, c.from.ensures),
+  omega (arith, ap all_of c.in_ok-size.ensures.items, all_of-push c.pop.new.self.items c.in_ok-size.size, c.self.invariant.0, c.from.ensures),
   omega (arith, (All-pop (λ size. size ≤ MAX_OPS) c.self.inside.sizes.items c.pop.new.self.items (Some c.in_ok-size.size) c.in_ok-size.ensures.items c.self.invariant.1).1, c.from.ensures),
 )
 
@@ -29,7 +29,7 @@ invariant_of-self-2 c =
         c.from.ensures,
       ),
       (All-pop (λ size. size ≤ MAX_OPS) c.self.inside.sizes.items c.pop.new.self.items (Some c.in_ok-size.size) c.in_ok-size.ensures.items c.self.invariant.1).0,
-      omega (arith, c.self.invariant.2, c.pop_turned-before.ensures.capacity),
+      omega (arith, c.self.invariant.2, c.pop_turned-before.ensures.room),
     )
 
 pub returns-clause-undos : goal.returns-clause-undos

@@ -15,7 +15,7 @@ pub push_turned-requires : goal.push_turned-requires
 push_turned-requires c =
     let sizes = c.self.inside.sizes.items in
     let changes = c.self.inside.changes.items in
-    omega (arith, c.requires.room, changes_in-undos_of sizes changes c.self.invariant.0, ap (λ (stack : Stack). changes_in stack.undos) c.self.view_is, ap (λ (stack : Stack). stack.room) c.self.view_is, c.self.inside.changes.ok.0, ap {A = List Change} length c.undo.view_is)
+    omega (arith, c.requires.room, changes_in-undos_of sizes changes c.self.invariant.0, ap (λ (stack : Stack). changes_in stack.undos) c.self.view_is, ap (λ (stack : Stack). stack.room) c.self.view_is, ap {A = List Change} length c.undo.view_is)
 
 pub invariant_of-self : goal.invariant_of-self
 invariant_of-self c =
@@ -34,7 +34,7 @@ invariant_of-self c =
     ) in
     let small = subst (All (λ size. size ≤ MAX_OPS)) (sym c.push_reserved.ensures.items)
     (All-push (λ size. size ≤ MAX_OPS) sizes c.len.result c.self.invariant.1 c.len.ensures.fits) in
-    (as_many, small, omega (arith, c.self.invariant.2, c.push_turned.ensures.capacity))
+    (as_many, small, omega (arith, c.self.invariant.2, c.push_turned.ensures.room))
 
 pub returns : goal.returns
 returns c =
@@ -47,5 +47,5 @@ returns c =
     ∙ undos_of-push sizes changes before c.len.result c.self.invariant.0 c.len.ensures.value
     ∙ ap (λ (stack : Stack). stack.undos ++ before ∷ []) c.self.view_is
     ∙ ap (λ undo. c.args.self.now.undos ++ undo ∷ []) c.undo.view_is in
-    same_stack _ _ _ _ _ _ _ _ pushed (ap (λ (stack : Stack). stack.promised) c.self.view_is) (c.push_turned.ensures.capacity ∙ ap (λ (stack : Stack). stack.room) c.self.view_is)
+    same_stack _ _ _ _ _ _ _ _ pushed (ap (λ (stack : Stack). stack.promised) c.self.view_is) (c.push_turned.ensures.room ∙ ap (λ (stack : Stack). stack.room) c.self.view_is)
     (c.push_reserved.ensures.capacity ∙ ap (λ (stack : Stack). stack.places) c.self.view_is)
