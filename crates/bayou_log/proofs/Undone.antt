@@ -1,6 +1,6 @@
 -- What takes Writes back: lists of it, and what they do to a database.
-use Rattle.std.proofs.Common.{◌≡◌, ℕ, zero, suc, ◌+◌, ◌≤◌, cond, true, false, List, [], ◌∷◌, ◌++◌, length, reverse, take, drop, All, IsTrue, Contains, ap, sym, ◌∙◌, refl, subst, arith}
-use Rattle.std.proofs.lemmas.List.{drop-append-le, length-reverse, length-take-le, nil_from_length, reverse-reverse, take-append-le, take_all, length-drop}
+use Rattle.std.proofs.Common.{◌≡◌, ℕ, zero, suc, ◌+◌, ◌≤◌, cond, true, false, List, [], ◌∷◌, ◌++◌, length, take, drop, All, IsTrue, Contains, ap, sym, ◌∙◌, refl, subst, arith}
+use Rattle.std.proofs.lemmas.List.{drop-append-le, length-take-le, nil_from_length, take-append-drop, take-append-le, take_all, length-drop}
 use Rattle.std.proofs.lemmas.List.Elements.{All-cons, All-head, All-nil, All-tail, All-weaker}
 use Rattle.bayou_lang.specs.declared.change.Change.{Change}
 use Rattle.bayou_lang.specs.declared.write.Write.{Write}
@@ -18,18 +18,17 @@ stack_of undos promised room places = record { undos = undos; promised = promise
 
 -- the list of one more
 pub undos_of-push : (sizes : List ℕ) (changes undo : List Change) (n : ℕ) → all_of sizes ≡ length changes → n ≡ length undo
-    → undos_of (sizes ++ n ∷ []) (changes ++ reverse undo) ≡ undos_of sizes changes ++ undo ∷ []
+    → undos_of (sizes ++ n ∷ []) (changes ++ undo) ≡ undos_of sizes changes ++ undo ∷ []
 undos_of-push [] changes undo n all is =
     let none : changes ≡ [] = nil_from_length changes (sym all) in
-    ap (λ list. reverse (take n (list ++ reverse undo)) ∷ []) none
-    ∙ ap (λ list. reverse list ∷ []) (take_all n (reverse undo) (omega (arith, length-reverse undo, is)))
-    ∙ ap (λ list. list ∷ []) (reverse-reverse undo)
+    ap (λ list. take n (list ++ undo) ∷ []) none
+    ∙ ap (λ list. list ∷ []) (take_all n undo (omega (arith, is)))
 undos_of-push (size ∷ sizes) changes undo n all is =
     let within : size ≤ length changes = omega arith in
     let rest : all_of sizes ≡ length (drop size changes) = omega (arith, length-drop size changes) in
-    ap (λ front. reverse front ∷ undos_of (sizes ++ n ∷ []) (drop size (changes ++ reverse undo))) (take-append-le size changes (reverse undo) within)
-    ∙ ap (λ back. reverse (take size changes) ∷ undos_of (sizes ++ n ∷ []) back) (drop-append-le size changes (reverse undo) within)
-    ∙ ap (λ undos. reverse (take size changes) ∷ undos) (undos_of-push sizes (drop size changes) undo n rest is)
+    ap (λ front. front ∷ undos_of (sizes ++ n ∷ []) (drop size (changes ++ undo))) (take-append-le size changes undo within)
+    ∙ ap (λ back. take size changes ∷ undos_of (sizes ++ n ∷ []) back) (drop-append-le size changes undo within)
+    ∙ ap (λ undos. take size changes ∷ undos) (undos_of-push sizes (drop size changes) undo n rest is)
 
 pub all_of-push : (sizes : List ℕ) (size : ℕ) → all_of (sizes ++ size ∷ []) ≡ all_of sizes + size
 all_of-push [] size = omega arith
@@ -44,7 +43,7 @@ changes_in-undos_of [] changes all = all
 changes_in-undos_of (size ∷ sizes) changes all =
     let within : size ≤ length changes = omega arith in
     let rest : all_of sizes ≡ length (drop size changes) = omega (arith, length-drop size changes) in
-    omega (arith, length-reverse (take size changes), length-take-le size changes within, changes_in-undos_of sizes (drop size changes) rest, length-drop size changes)
+    omega (arith, length-take-le size changes within, changes_in-undos_of sizes (drop size changes) rest, length-drop size changes)
 
 pub after_undoing-push : (undos : List (List Change)) (undo : List Change) (database : Database) → after_undoing (undos ++ undo ∷ []) database ≡ after_undoing undos (after_changes undo database)
 after_undoing-push [] undo database = refl
@@ -129,3 +128,13 @@ same_stack undos others promised promises room more places most same_undos same_
 pub changes_in-push : (undos : List (List Change)) (undo : List Change) → changes_in (undos ++ undo ∷ []) ≡ changes_in undos + length undo
 changes_in-push [] undo = omega arith
 changes_in-push (first ∷ undos) undo = omega (arith, changes_in-push undos undo)
+
+-- the last Write's are those behind the others'
+pub undos_of-last : (sizes rest : List ℕ) (changes : List Change) (size left : ℕ) → sizes ≡ rest ++ size ∷ [] → all_of sizes ≡ length changes → left + size ≡ length changes
+    → undos_of sizes changes ≡ undos_of rest (take left changes) ++ drop left changes ∷ []
+undos_of-last sizes rest changes size left is all whole =
+    let within : left ≤ length changes = omega arith in
+    let front : all_of rest ≡ length (take left changes) = omega (arith, ap all_of is, all_of-push rest size, length-take-le left changes within) in
+    ap (λ list. undos_of list changes) is
+    ∙ ap (undos_of (rest ++ size ∷ [])) (sym (take-append-drop left changes))
+    ∙ undos_of-push rest (take left changes) (drop left changes) size front (omega (arith, length-drop left changes))

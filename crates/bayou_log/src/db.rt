@@ -218,6 +218,15 @@ impl Db {
         (outcome, Undo { before })
     }
 
+    /// Makes the change, which takes no memory.
+    pub(crate) fn change(&mut self, change: Change)
+        requires { IsTrue (has_room (room self.old) change.key) }
+        ensures database { database_of self.new ≡ changed change.key change.value (database_of self.old) }
+        ensures room { room self.new ≡ room self.old }
+    {
+        replace(&mut self.slots, change);
+    }
+
     /// Puts back the values that an undo has, which takes no memory. Where that is of the last program that was applied and not
     /// undone since, the database is what it was before.
     pub fn undo(&mut self, undo: Undo)

@@ -2,21 +2,22 @@
 ghost use Rattle.std.specs.Prelude.{◌≡◌, ℕ, ◌+◌, ◌<◌, ◌≤◌, [], ◌∷◌, ◌++◌, All, IsTrue, MatchOption, OnOk, drop, length, reverse, take, vec_capacity, vec_len};
 ghost use Rattle.arrayvec.specs.ArrayVec.{array_vec_len};
 ghost use Rattle.bayou_base.specs.declared.limits.TheConstants.{MAX_OPS, MAX_WRITES};
+ghost use Rattle.bayou_lang.specs.Changes.{after_changes};
 ghost use Rattle.bayou_log.specs.Db.{database_of, room, has_room, HasRoomFor};
 ghost use Rattle.bayou_log.specs.Inner.Fields.{outcomes_after, picked};
-ghost use Rattle.bayou_log.specs.Inner.Undone.{after_undoing, changes_in, changes_of, AddsUndone};
+ghost use Rattle.bayou_log.specs.Inner.Undone.{after_undoing, changes_in, changes_of, AddsUndone, UndoesLast};
 ghost use Rattle.bayou_log.specs.Replay.{after_writes};
 
 use crate::change_list::ChangeList;
 use crate::db::{Db, Undo};
-use bayou_lang::{Changes, Outcome, RestingWrite};
+use bayou_lang::{Change, Outcome, RestingWrite};
 use std::alloc::{AllocError, Global};
 use std::marker::Model;
 
 /// For each Write that is applied, in stamp order, what takes it back. All lie in one list, at their true size.
 #[derive(Drop)]
 pub(crate) struct UndoStack {
-    // Those of the Write applied last are at the end, and of one Write the last is made first.
+    // Those of the Write applied last are at the end, and the last of them is made first.
     changes: ChangeList,
     // How many each Write has.
     sizes: Vec<u8>,
@@ -36,32 +37,30 @@ impl Model for UndoStack {
     ghost invariant = { λ s. (all_of s.sizes.items ≡ length s.changes.items) × All (λ size. size ≤ MAX_OPS) s.sizes.items × (s.promised ≤ s.changes.room) };
 }
 
-/// Adds the changes behind those of the list, the last one first.
-fn push_turned(list: &mut ChangeList, mut changes: Changes)
-    requires { length list.old.items + array_vec_len changes ≤ list.old.room }
-    ensures items { list.new.items ≡ list.old.items ++ reverse changes.items }
-    ensures room { list.new.room ≡ list.old.room }
+/// Adds copies of the changes behind those of the list, which takes no memory.
+fn push_all(list: &mut ChangeList, changes: &[Change])
+    requires { length list.old.items + length changes.now ≤ list.old.room }
+    ensures { list.new ≡ record list.old { items = list.old.items ++ changes.now } }
 {
-    while let Some(change) = changes.pop() {
-        list.push_reserved(change);
+    for change in changes {
+        list.push_reserved(change.copy());
     }
 }
 
-/// Takes so many from the end of the list, the last one first.
-fn pop_turned(list: &mut ChangeList, count: usize) -> Changes
-    requires { (count ≤ length list.old.items) × (count ≤ MAX_OPS) }
-    ensures items { list.old.items ≡ list.new.items ++ reverse result.items }
-    ensures count { array_vec_len result ≡ count }
-    ensures room { list.new.room ≡ list.old.room }
+/// Makes the changes of the list, the last one first, until so many are left. It takes no memory.
+fn pop_changes(db: &mut Db, list: &mut ChangeList, left: usize)
+    requires within { left ≤ length list.old.items }
+    requires room { All (λ change. IsTrue (has_room (room db.old) change.key)) (drop left list.old.items) }
+    ensures database { database_of db.new ≡ after_changes (drop left list.old.items) (database_of db.old) }
+    ensures room { room db.new ≡ room db.old }
+    ensures list { list.new ≡ record list.old { items = take left list.old.items } }
 {
-    let mut changes = Changes::new();
-    while changes.len() < count {
+    while list.len() > left {
         let Some(change) = list.pop() else {
             unreachable!();
         };
-        changes.push(change);
+        db.change(change);
     }
-    changes
 }
 
 impl UndoStack {
@@ -113,17 +112,20 @@ impl UndoStack {
         ensures { self.new ≡ record self.old { undos = self.old.undos ++ undo ∷ [] } }
     {
         self.sizes.push_reserved(undo.before.len() as u8);
-        push_turned(&mut self.changes, undo.before);
+        push_all(&mut self.changes, undo.before.as_slice());
     }
 
-    /// Hands out what takes back the Write that was applied last.
-    pub(crate) fn pop(&mut self) -> Option<Undo>
-        ensures undos { MatchOption result ((self.old.undos ≡ []) × (self.new.undos ≡ [])) (λ undo. self.old.undos ≡ self.new.undos ++ undo ∷ []) }
-        ensures room { (self.new.promised ≡ self.old.promised) × (self.new.room ≡ self.old.room) × (self.new.places ≡ self.old.places) }
+    /// Takes back the Write that was applied last, which takes no memory.
+    fn undo_last(&mut self, db: &mut Db)
+        requires some { 0 < length self.old.undos }
+        requires room { All (λ undo. All (λ change. IsTrue (has_room (room db.old) change.key)) undo) self.old.undos }
+        ensures { UndoesLast self.old self.new db.old db.new }
     {
-        let size = self.sizes.pop()?;
-        let before = pop_turned(&mut self.changes, usize::from(size));
-        Some(Undo { before })
+        let Some(size) = self.sizes.pop() else {
+            unreachable!();
+        };
+        let left = self.changes.len() - usize::from(size);
+        pop_changes(db, &mut self.changes, left);
     }
 }
 
@@ -136,10 +138,7 @@ pub(crate) fn take_back(db: &mut Db, undone: &mut UndoStack, left: usize)
     ensures undone { undone.new ≡ record undone.old { undos = take left undone.old.undos } }
 {
     while undone.len() > left {
-        let Some(undo) = undone.pop() else {
-            unreachable!();
-        };
-        db.undo(undo);
+        undone.undo_last(db);
     }
 }
 

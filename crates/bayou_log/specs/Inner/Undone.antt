@@ -1,11 +1,11 @@
 -- What takes applied Writes back, one after another.
-use Rattle.std.specs.Prelude.{◌≡◌, ℕ, ◌+◌, List, [], ◌∷◌, ◌++◌, drop, length, reverse, take}
+use Rattle.std.specs.Prelude.{◌≡◌, ℕ, ◌+◌, List, [], ◌∷◌, ◌++◌, drop, length, take}
 use Rattle.bayou_lang.specs.declared.change.Change.{Change}
 use Rattle.bayou_lang.specs.declared.write.Write.{Write}
 use Rattle.bayou_lang.specs.Changes.{after_changes, most_changes}
 use Rattle.bayou_lang.specs.Meaning.{mean}
 use Rattle.bayou_lang.specs.Database.{Database}
-use Rattle.bayou_log.specs.Db.{IsUndo}
+use Rattle.bayou_log.specs.Db.{Slots, database_of, room, IsUndo}
 
 -- what takes back each Write that is applied, the first applied first; for how many changes room is promised; and for how
 -- many changes and for how many Writes there is room in all
@@ -15,10 +15,10 @@ pub record Stack : Type 0 where
   pub room : ℕ
   pub places : ℕ
 
--- those of a list that has so many for each Write, of each the last one first
+-- those of a list that has so many for each Write
 abbrev pub undos_of : List ℕ → List Change → List (List Change)
 undos_of [] changes = []
-undos_of (size ∷ sizes) changes = reverse (take size changes) ∷ undos_of sizes (drop size changes)
+undos_of (size ∷ sizes) changes = take size changes ∷ undos_of sizes (drop size changes)
 
 -- how many they have in all
 abbrev pub all_of : List ℕ → ℕ
@@ -52,3 +52,12 @@ pub record AddsUndone (writes : List Write) (before : Database) (old new : Stack
   pub more : List (List Change)
   pub undo : AreUndos more writes before
   pub only : new ≡ record old { undos = old.undos ++ more }
+
+-- what takes back the last Write is gone from the stack, and its changes are made
+pub record UndoesLast (old new : Stack) (before after : Slots) : Type 0 where
+  pub undos : List (List Change)
+  pub undo : List Change
+  pub last : old.undos ≡ undos ++ undo ∷ []
+  pub only : new ≡ record old { undos = undos }
+  pub database : database_of after ≡ after_changes undo (database_of before)
+  pub same_room : room after ≡ room before
