@@ -7,10 +7,11 @@ use bayou_base::{SERVERS, Wid};
 use std::alloc::{AllocError, Global};
 use std::marker::Model;
 
-/// A row for each sequence number, with the places of the Writes that have it, one for each server.
+/// A row for each sequence number, with the places of the Writes that have it, one for each server. Each place fits two bytes, since a log
+/// holds at most `MAX_WRITES` Writes.
 #[derive(Drop)]
 pub(crate) struct Index {
-    rows: Vec<[u32; SERVERS]>,
+    rows: Vec<[u16; SERVERS]>,
 }
 
 impl Model for Index {
@@ -53,7 +54,7 @@ impl Index {
     }
 
     /// Sets the place of the Write, which takes no memory.
-    pub(crate) fn add(&mut self, wid: Wid, place: u32)
+    pub(crate) fn add(&mut self, wid: Wid, place: u16)
         requires seq { wid.seq ≤ length self.old.rows + 1 }
         requires room { 0 < self.old.room }
         ensures here { place_in self.new.rows wid.origin.index wid.seq ≡ place }

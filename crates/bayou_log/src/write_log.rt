@@ -319,7 +319,7 @@ impl WriteLog {
         requires below_limit { length self.old.receipts < self.old.limit }
         ensures { self.new ≡ record self.old { receipts = self.old.receipts ++ write ∷ []; room = self.new.room; waiting = self.old.waiting + 1 } }
     {
-        self.own.add(write.wid(), self.writes.len() as u32);
+        self.own.add(write.wid(), self.writes.len() as u16);
         self.vector.raise(write.wid());
         self.clock = self.clock.max(write.stamp().clock);
         self.undone.promise(write.program().most_changes());
