@@ -1,4 +1,4 @@
-//! Records, byte for byte, in both forms. Behind `=>` stands the tag as session, run and number, `-` where there is none, and `!` where
+//! Records, byte for byte, in each form. Behind `=>` stands the tag as session, run and number, `-` where there is none, and `!` where
 //! the bytes are of no record.
 use crate::fixtures::{must_be_so, must_hold, session_id};
 use crate::notation::{bytes_of, parts};
@@ -11,6 +11,10 @@ const TAGGED: &str = "00 <0:1> <stamp> <none> <put> => -
 01 00 00000001 00000001 <0:1> <stamp> <none> <put> => 0:1:1
 01 05 00000007 00000102 <0:1> <stamp> <none> <put> => 5:7:258
 01 1f ffffffff ffffffff <0:1> <stamp> <none> <put> => 31:4294967295:4294967295
+00 07 00000001 <stamp> <none> <put> => -
+00 08 00000001 <stamp> <none> <put> => !
+00 <0:1> <stamp> <one> <put> => -
+00 <0:1> <stamp> <none> => !
 01 20 00000001 00000001 <0:1> <stamp> <none> <put> => !
 01 00 00000000 00000001 <0:1> <stamp> <none> <put> => !
 01 00 00000001 00000000 <0:1> <stamp> <none> <put> => !
@@ -27,6 +31,11 @@ const TAGGED: &str = "00 <0:1> <stamp> <none> <put> => -
  => !";
 
 const PLAIN: &str = "<0:1> <stamp> <none> <put> => -
+07 00000001 <stamp> <none> <put> => -
+08 00000001 <stamp> <none> <put> => !
+<0:1> <stamp> <one> <put> => -
+<0:1> <stamp> <none> => !
+<0:1> <stamp> => !
 00 <0:1> <stamp> <none> <put> => !
 01 00 00000001 00000001 <0:1> <stamp> <none> <put> => !
 <0:1> <stamp> <none> <put> 00 => !
@@ -49,7 +58,7 @@ fn told(rt: &impl Abort, alloc: Global, record: &Option<Record>) -> String {
 fn spelled(rt: &impl Abort, alloc: Global, form: Form, record: &Record) -> Vec<u8> {
     match form {
         Form::Plain => encode_resting_write(alloc, &record.write),
-        Form::Tagged => encode_record(alloc, record.tag, &record.write),
+        Form::Tagged | Form::Wide => encode_record(alloc, record.tag, &record.write),
     }
     .expect(rt, "no memory")
 }
@@ -70,6 +79,7 @@ fn is_record(rt: &impl Abort, alloc: Global, form: Form, row: &str) -> bool {
 fn records_byte_for_byte(rt: HostRuntime) {
     for row in TAGGED.lines() {
         must_hold(&rt, is_record(&rt, rt.alloc(), Form::Tagged, row), row);
+        must_hold(&rt, is_record(&rt, rt.alloc(), Form::Wide, row), row);
     }
     for row in PLAIN.lines() {
         must_hold(&rt, is_record(&rt, rt.alloc(), Form::Plain, row), row);
@@ -85,14 +95,16 @@ fn no_front_of_a_record_is_one(rt: HostRuntime) {
     must_be_so(&rt, bytes.len() == 70, 70);
     for count in 0..bytes.len() {
         let (front, _) = bytes.split_at(count);
-        let record = decode_record(rt.alloc(), Form::Tagged, front).expect(&rt, "no memory");
-        must_be_so(&rt, record.is_none(), count);
+        for form in [Form::Plain, Form::Tagged, Form::Wide] {
+            let record = decode_record(rt.alloc(), form, front).expect(&rt, "no memory");
+            must_be_so(&rt, record.is_none(), count);
+        }
     }
 }
 
 /// Whether the record is read, has this tag and is spelled as it was, or `None` where memory was lacking.
-fn is_kept(alloc: Global, bytes: &[u8], tag: Option<Tag>) -> Option<bool> {
-    let Some(record) = decode_record(alloc, Form::Tagged, bytes).ok()? else {
+fn is_kept(alloc: Global, form: Form, bytes: &[u8], tag: Option<Tag>) -> Option<bool> {
+    let Some(record) = decode_record(alloc, form, bytes).ok()? else {
         return Some(false);
     };
     let again = encode_record(alloc, record.tag, &record.write).ok()?;
@@ -107,10 +119,12 @@ fn one_want_of_memory_costs_no_record(rt: HostRuntime) {
     bytes[..10].copy_from_slice(&front);
     bytes[10..].copy_from_slice(WRITE);
     let tag = Tag::new(session_id(&rt, 0), 1, 1);
-    let first = is_kept(rt.alloc(), &bytes, tag);
-    let is_so = first == Some(true)
-        || (first.is_none() && is_kept(rt.alloc(), &bytes, tag) == Some(true));
-    must_be_so(&rt, is_so, 0);
+    for form in [Form::Tagged, Form::Wide] {
+        let first = is_kept(rt.alloc(), form, &bytes, tag);
+        let is_so = first == Some(true)
+            || (first.is_none() && is_kept(rt.alloc(), form, &bytes, tag) == Some(true));
+        must_be_so(&rt, is_so, 0);
+    }
 }
 
 /// A Write that puts 1 at `room`.

@@ -28,6 +28,11 @@ pub fn bytes_are_of_one_record()
     ensures { (form : Form) (bytes : List ℕ) (a b : Record) → SpellsRecord form bytes a → SpellsRecord form bytes b → a ≡ b }
 {}
 
+/// In each form a record has one spelling at the most.
+pub fn a_record_has_one_spelling()
+    ensures { (form : Form) (a b : List ℕ) (given : Record) → SpellsRecord form a given → SpellsRecord form b given → a ≡ b }
+{}
+
 /// The bytes of a record are the body of a journal's entry: they are one at the least, and no more than a body has.
 pub fn a_record_is_spelled_by_a_body()
     ensures { (form : Form) (bytes : List ℕ) (given : Record) → SpellsRecord form bytes given → (0 < length bytes) × (length bytes ≤ MAX_BODY_BYTES) }

@@ -5,7 +5,7 @@
 //! spelling. [`decode_write`] and [`decode_frame`] answer a value exactly where the whole input is its spelling, and else the
 //! one fault that the input has; they take no memory, and what they give has its greatest size. [`decode_resting_write`] gives a Write at rest.
 //! [`encode_record`] and [`decode_record`] are of a [`Record`], a Write with the tag of its asking, by `specs/Records`: bodies of a
-//! journal's entries of a coming version, which no other crate has yet.
+//! journal's entries, in the [`Form`] of the version. Of a form whose vectors have fewer counts a copy with all of them is read.
 //!
 //! [`Frames`] reads a stream in pieces: callers see it as the bytes that it holds back, or as nothing once a fault was told.
 //! `specs/Stream` says what stands in a frame's place, and what one call makes of what was held back and the piece; [`laws`]

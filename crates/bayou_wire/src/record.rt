@@ -4,14 +4,14 @@ ghost use Rattle.std.specs.Option.{IfSome};
 ghost use Rattle.bayou_base.specs.declared.limits.TheConstants.{MAX_WRITE_BYTES};
 ghost use Rattle.bayou_lang.specs.declared.write.Write.{Write as Written};
 ghost use Rattle.bayou_wire.specs.declared.layout.TheConstants.{TAG_BYTES};
-ghost use Rattle.bayou_wire.specs.declared.record.Form.TheVariants.{Tagged};
+ghost use Rattle.bayou_wire.specs.declared.record.Form.TheVariants.{Tagged, Wide};
 ghost use Rattle.bayou_wire.specs.declared.record.Record.{Record as Recorded};
-ghost use Rattle.bayou_wire.specs.Inner.Reading.{Gives, head_at, tagged_head_at};
-ghost use Rattle.bayou_wire.specs.Records.{SpellsRecord, record_head};
+ghost use Rattle.bayou_wire.specs.Inner.Reading.{Gives, SpellsIn, head_at, tagged_head_at};
+ghost use Rattle.bayou_wire.specs.Records.{SpellsOld, SpellsRecord, record_head, widened as widened_bytes};
 ghost use Rattle.bayou_wire.specs.Spelling.{IsTag, SpellsWrite};
 
 use crate::encode::USUAL_BYTES;
-use crate::layout::{RECORD_OTHERS, RECORD_OWN};
+use crate::layout::{OLD_HEAD_BYTES, OLD_LACKED_BYTES, OLD_SERVERS, RECORD_OTHERS, RECORD_OWN};
 use crate::put::{put_resting_write, put_tag};
 use crate::resting::resting_write_of;
 use crate::take::tag_of;
@@ -29,10 +29,12 @@ pub struct Record {
 /// How records are spelled.
 #[derive(Clone, Copy, Debug, PartialEq, Eq)]
 pub enum Form {
-    /// The Write alone, which has no tag.
+    /// The Write alone, which has no tag. Its vector has [`OLD_SERVERS`] counts.
     Plain,
-    /// Whether there is a tag, the tag, and the Write.
+    /// Whether there is a tag, the tag, and the Write. Its vector has [`OLD_SERVERS`] counts.
     Tagged,
+    /// As [`Form::Tagged`], with all counts of the vector.
+    Wide,
 }
 
 fn put_head(out: &mut Vec<u8>, tag: Option<Tag>) -> Result<(), AllocError>
@@ -50,14 +52,16 @@ fn put_head(out: &mut Vec<u8>, tag: Option<Tag>) -> Result<(), AllocError>
     }
 }
 
-/// The one spelling, in the form [`Form::Tagged`], of the record of this Write and this tag. Want of memory is the only refusal, and
+/// The one spelling, in the form [`Form::Wide`], of the record of this Write and this tag. Want of memory is the only refusal, and
 /// leaves nothing behind.
 pub fn encode_record(
     alloc: Global,
     tag: Option<Tag>,
     write: &RestingWrite,
 ) -> Result<Vec<u8>, AllocError>
-    ensures spelling { IfOk result (λ bytes. SpellsRecord Tagged bytes.items (record { write = write.now; tag = tag })) }
+    ensures spelling { IfOk result (λ bytes. SpellsRecord Wide bytes.items (record { write = write.now; tag = tag })) }
+    // And in the form of before, while there are as many servers.
+    ensures tagged { IfOk result (λ bytes. SpellsRecord Tagged bytes.items (record { write = write.now; tag = tag })) }
     ensures size { IfOk result (λ bytes. (0 < length bytes.items) × (length bytes.items ≤ 1 + TAG_BYTES + MAX_WRITE_BYTES)) }
 {
     let mut bytes = Vec::with_capacity(alloc, USUAL_BYTES)?;
@@ -88,7 +92,7 @@ fn head_of(form: Form, bytes: &[u8]) -> Option<(Option<Tag>, &[u8])>
 {
     match form {
         Form::Plain => Some((None, bytes)),
-        Form::Tagged => tagged_head_of(bytes),
+        Form::Tagged | Form::Wide => tagged_head_of(bytes),
     }
 }
 
@@ -103,14 +107,52 @@ fn whole_write(alloc: Global, bytes: &[u8]) -> Result<Option<RestingWrite>, Allo
     }
 }
 
-/// The record that the bytes spell in this form, all of them, if there is one. It takes memory at the size of what the Write says.
+// The bytes with a count of zero for each server that the first two forms know nothing of.
+fn widened(alloc: Global, bytes: &[u8]) -> Result<Vec<u8>, AllocError>
+    ensures { IfOk result (λ wide. wide.items ≡ widened_bytes bytes.now) }
+{
+    let (head, rest) = bytes.split_at(OLD_HEAD_BYTES.min(bytes.len()));
+    let mut wide = Vec::with_capacity(alloc, bytes.len().saturating_add(OLD_LACKED_BYTES))?;
+    wide.extend_from_slice(head)?;
+    wide.extend_from_slice(&[0; OLD_LACKED_BYTES])?;
+    wide.extend_from_slice(rest)?;
+    Ok(wide)
+}
+
+// The Write that the bytes spell with the old counts, all of them, if there is one. The bytes are copied, since counts are put in.
+fn old_write(alloc: Global, bytes: &[u8]) -> Result<Option<RestingWrite>, AllocError>
+    ensures { IfOk result (λ given. MatchOption given ((write : Written) → ¬ (SpellsOld bytes.now write)) (λ write. SpellsOld bytes.now write)) }
+{
+    let wide = widened(alloc, bytes)?;
+    let Some(write) = whole_write(alloc, &wide)? else {
+        return Ok(None);
+    };
+    if usize::from(write.wid().origin.index) < OLD_SERVERS {
+        Ok(Some(write))
+    } else {
+        Ok(None)
+    }
+}
+
+// The Write that the bytes spell behind the head of this form, all of them, if there is one.
+fn write_in(alloc: Global, form: Form, bytes: &[u8]) -> Result<Option<RestingWrite>, AllocError>
+    ensures { IfOk result (λ given. MatchOption given ((write : Written) → ¬ (SpellsIn form bytes.now write)) (λ write. SpellsIn form bytes.now write)) }
+{
+    match form {
+        Form::Plain | Form::Tagged => old_write(alloc, bytes),
+        Form::Wide => whole_write(alloc, bytes),
+    }
+}
+
+/// The record that the bytes spell in this form, all of them, if there is one. It takes memory at the size of what the Write says, and for a
+/// copy of the bytes in a form whose vectors have fewer counts.
 pub fn decode_record(alloc: Global, form: Form, bytes: &[u8]) -> Result<Option<Record>, AllocError>
     ensures { IfOk result (λ given. MatchOption given ((other : Recorded) → ¬ (SpellsRecord form bytes.now other)) (λ given. SpellsRecord form bytes.now given)) }
 {
     let Some((tag, rest)) = head_of(form, bytes) else {
         return Ok(None);
     };
-    let Some(write) = whole_write(alloc, rest)? else {
+    let Some(write) = write_in(alloc, form, rest)? else {
         return Ok(None);
     };
     Ok(Some(Record { write, tag }))

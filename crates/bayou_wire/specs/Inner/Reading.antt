@@ -36,9 +36,10 @@ use Rattle.bayou_wire.specs.declared.stream.FeedFault.{FeedFault}
 use Rattle.bayou_wire.specs.declared.stream.FeedFault.TheVariants as feeds
 use Rattle.bayou_wire.specs.declared.layout.TheConstants as layout
 use Rattle.bayou_wire.specs.declared.record.Form.{Form}
-use Rattle.bayou_wire.specs.declared.record.Form.TheVariants.{Plain, Tagged}
+use Rattle.bayou_wire.specs.declared.record.Form.TheVariants.{Plain, Tagged, Wide}
 use Rattle.bayou_wire.specs.Forms.{frame_of}
-use Rattle.bayou_wire.specs.Spelling.{IsFrame, frame_bytes, kind_of, payload_bytes}
+use Rattle.bayou_wire.specs.Records.{SpellsOld}
+use Rattle.bayou_wire.specs.Spelling.{IsFrame, SpellsWrite, frame_bytes, kind_of, payload_bytes}
 use Rattle.bayou_wire.specs.Stream.{IsFaulty, IsPackedFault, IsPartial, TakesIn, stream_of}
 
 abbrev pub Read : Type 0 → Type 0
@@ -237,6 +238,13 @@ tagged_head_at (first ∷ bytes) =
 abbrev pub head_at : Form → List ℕ → Read (Option Tag)
 head_at Plain bytes = Some (None, bytes)
 head_at Tagged bytes = tagged_head_at bytes
+head_at Wide bytes = tagged_head_at bytes
+
+-- what the bytes behind it spell
+abbrev pub SpellsIn : Form → List ℕ → Write → Type 0
+SpellsIn Plain bytes write = SpellsOld bytes write
+SpellsIn Tagged bytes write = SpellsOld bytes write
+SpellsIn Wide bytes write = SpellsWrite bytes write
 
 unfoldable pub refusal_at : List ℕ → Read Refusal
 refusal_at [] = None

@@ -106,6 +106,18 @@ write_size write is =
     let all = length-append (accepted_bytes write.wid write.stamp write.deps) (program_bytes write.program) in
     omega (arith, head, body, all)
 
+-- its name, its clock, its vector, and a byte for each of three lists
+pub write_size_least : (write : Write) → 9 + 4 * SERVERS + 3 ≤ length (write_bytes write)
+write_size_least write =
+    let head = accepted_size write.wid write.stamp write.deps in
+    let conds = list_bytes cond_bytes write.program.check.items in
+    let ops = list_bytes op_bytes write.program.update.items in
+    let alts = list_bytes alt_bytes write.program.merge.items in
+    let later = length-append ops alts in
+    let body = length-append conds (ops ++ alts) in
+    let all = length-append (accepted_bytes write.wid write.stamp write.deps) (program_bytes write.program) in
+    omega (arith, head, later, body, all)
+
 optional_value_size : (value : Option Value) → IfSome value IsValue → length (optional_value_bytes value) ≤ 34
 optional_value_size None is = omega arith
 optional_value_size (Some value) is = value_size value is
