@@ -19,7 +19,7 @@ use Rattle.bayou_server.specs.declared.fault.WriteFault.{WriteFault}
 use Rattle.bayou_server.specs.declared.fault.WriteFault.TheVariants.{Behind as BehindNeed}
 use Rattle.bayou_server.specs.Reads.{Reads}
 use Rattle.bayou_server.specs.Reopens.{Reopens}
-use Rattle.bayou_server.specs.Server.{ServerState, with_device}
+use Rattle.bayou_server.specs.Server.{Holds, ServerState, holds_of, with_device}
 use Rattle.bayou_server.specs.Starts.{FailsToStart, Starts, StartsOn}
 use Rattle.bayou_server.specs.Stored.{OpensInCalls, ReopensJournal, StoresWrite}
 use Rattle.bayou_server.specs.Writes.{Writes}
@@ -40,18 +40,17 @@ use Rattle.bayou_machine.specs.declared.script_server.ScriptServer.TheVariants.{
 abbrev pub Serving : Type 0
 Serving = ServerState Memory
 
--- the device of a server that runs or is stopped, the Writes that it holds, and the one in doubt
+-- the device of a server that runs or is stopped, what it holds, or held as it was stopped, and the Writes of that
 abbrev pub device_of : ScriptServer → Memory
 device_of (Running server) = server.device
 device_of (Stopped left) = left.device
 
-abbrev pub held_by : ScriptServer → List Write
-held_by (Running server) = server.core.held
-held_by (Stopped left) = left.log.receipts
+abbrev pub held_at_last : ScriptServer → Holds
+held_at_last (Running server) = holds_of server.core
+held_at_last (Stopped left) = left.last
 
-abbrev pub doubt_of : ScriptServer → Option Write
-doubt_of (Running server) = server.core.doubt
-doubt_of (Stopped left) = left.doubt
+abbrev pub held_by : ScriptServer → List Write
+held_by replica = (held_at_last replica).held
 
 -- the server, on another device
 abbrev pub on_device : ScriptServer → Memory → ScriptServer
@@ -187,7 +186,7 @@ abbrev pub IsRestarted : ℕ → ℕ → ServerId → ScriptServer → Recovery 
 IsRestarted count limit id before (Restarted name holds dropped) after = (name ≡ id) × ((new : Serving) × (after ≡ Running new) × (holds ≡ length new.core.held)
     × IsStarted count limit id.index (device_of before) new dropped)
 IsRestarted count limit id before (NotRestarted refusal) after = (left : StoppedServer Memory) × (after ≡ Stopped left)
-    × (held_by after ≡ held_by before) × (doubt_of after ≡ doubt_of before)
+    × (held_at_last after ≡ held_at_last before)
     × IsRefusedStart count limit id.index (device_of before) left.device refusal
 IsRestarted count limit id before (Reopened name adopted) after = ⊥
 IsRestarted count limit id before (NotReopened refusal) after = ⊥

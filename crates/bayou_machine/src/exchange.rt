@@ -53,7 +53,7 @@ impl ScriptServer {
     {
         match self {
             ScriptServer::Running(server) => server.vector(),
-            ScriptServer::Stopped(stopped) => stopped.log.vector(),
+            ScriptServer::Stopped(stopped) => stopped.last.vector(),
         }
     }
 

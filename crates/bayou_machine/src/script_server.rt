@@ -21,7 +21,7 @@ pub enum ScriptServer {
 }
 
 impl ScriptServer {
-    ghost use Rattle.bayou_machine.specs.ScriptServer.{IsBeginFault, IsBegun, IsFused, IsListed, IsRead, IsReopened, IsRestarted, IsShortened, IsWritten, device_of, doubt_of, held_by};
+    ghost use Rattle.bayou_machine.specs.ScriptServer.{IsBeginFault, IsBegun, IsFused, IsListed, IsRead, IsReopened, IsRestarted, IsShortened, IsWritten, device_of, held_at_last, held_by};
 
     /// A server that is started first, on an empty device.
     pub(crate) fn begin(alloc: Global, servers: Servers, id: ServerId) -> Result<Self, BeginFault>
@@ -123,7 +123,7 @@ impl ScriptServer {
     {
         match self {
             ScriptServer::Running(server) => server.receipts(),
-            ScriptServer::Stopped(stopped) => stopped.log.receipts(),
+            ScriptServer::Stopped(stopped) => stopped.last.receipts(),
         }
     }
 
@@ -133,7 +133,7 @@ impl ScriptServer {
     {
         match self {
             ScriptServer::Running(server) => server.dump(alloc),
-            ScriptServer::Stopped(stopped) => stopped.dump(alloc),
+            ScriptServer::Stopped(stopped) => stopped.last.dump(alloc),
         }
     }
 
@@ -176,8 +176,7 @@ impl ScriptServer {
     /// Stops the server, if it runs.
     fn stop(self) -> Stopped<MemoryDevice<OpenGate>>
         ensures device { result.device ≡ device_of self }
-        ensures held { result.log.receipts ≡ held_by self }
-        ensures doubt { result.doubt ≡ doubt_of self }
+        ensures last { result.last ≡ held_at_last self }
     {
         match self {
             ScriptServer::Running(server) => server.stop(),
@@ -190,7 +189,7 @@ impl ScriptServer {
         requires { id.index < servers.count }
         ensures { IsRestarted servers.count servers.limit id self result.1 result.0 }
     {
-        let Stopped { device, log, doubt } = self.stop();
+        let Stopped { device, last } = self.stop();
         match Server::start(alloc, id, servers.count, servers.limit, device) {
             Ok((server, dropped)) => {
                 let holds = server.receipts().len();
@@ -202,7 +201,7 @@ impl ScriptServer {
                 (ScriptServer::Running(server), recovery)
             }
             Err(NotStarted { fault, device }) => {
-                let stopped = Stopped { device, log, doubt };
+                let stopped = Stopped { device, last };
                 (
                     ScriptServer::Stopped(stopped),
                     Recovery::NotRestarted(fault),

@@ -4,7 +4,7 @@ use crate::notation::bytes_of;
 use bayou_base::{MAX_WRITES, ServerId, Value, Vector, Wid};
 use bayou_device::{MemoryDevice, OpenGate};
 use bayou_lang::RestingWrite;
-use bayou_server::{JournalFault, ReopenFault, Server, StartFault, WriteFault};
+use bayou_server::{JournalFault, LastHeld, ReopenFault, Server, StartFault, WriteFault};
 use std::alloc::Global;
 use std::process::Abort;
 
@@ -384,7 +384,7 @@ fn tells_both(rt: &impl Abort, alloc: Global, server: &Served) -> bool {
 /// How many Writes the server gives back, and how many bytes.
 fn given_back(server: Box<Served>) -> (usize, usize) {
     let stopped = Box::into_inner(server).stop();
-    (stopped.log.receipts().len(), stopped.device.bytes().len())
+    (stopped.last.receipts().len(), stopped.device.bytes().len())
 }
 
 /// Whether a server on the device tells so, and gives two Writes back.
@@ -400,6 +400,42 @@ fn a_server_tells_what_it_holds(rt: HostRuntime) {
     let steps = [Has(Some(2), 2), Put(3, Err(WriteFault::LogFull))];
     let device = all_go(&rt, alloc, 2, with_writes(&rt, alloc, 2), &steps);
     assert!(rt; tells_and_stops(&rt, alloc, device));
+}
+
+/// Whether a stopped server tells of two Writes, none of which has a tag, and gives copies of them.
+fn tells_two(rt: &impl Abort, alloc: Global, last: &LastHeld) -> bool {
+    let is_counted = last.vector() == vector(rt, 2, 0) && last.tags() == [None, None].as_slice();
+    match last.dump(alloc) {
+        Ok(dump) => is_counted && are_same(&dump, last.receipts()) && dump.len() == 2,
+        Err(_) => false,
+    }
+}
+
+/// The name of the Write in doubt, where there is one.
+fn name_in_doubt(last: &LastHeld) -> Option<Wid> {
+    last.doubt().map(|write| write.wid())
+}
+
+/// What a server held that has put 1 and 2, and then maybe a third that is in doubt.
+fn last_held(rt: &impl Abort, alloc: Global, has_doubt: bool) -> LastHeld {
+    let device = MemoryDevice::new(alloc, OpenGate);
+    let mut server = start(rt, alloc, 100, device).expect(rt, "no server");
+    put_all(rt, alloc, &mut server, 2);
+    if has_doubt {
+        fuse(&mut server, 1, 0);
+        let refused = puts(rt, alloc, &mut server, 3);
+        must_be_so(rt, refused == Err(WriteFault::Journal), 3);
+    }
+    Box::into_inner(server).stop().last
+}
+
+#[test]
+fn a_stopped_server_keeps_what_it_held(rt: HostRuntime) {
+    let up = last_held(&rt, rt.alloc(), false);
+    let down = last_held(&rt, rt.alloc(), true);
+    assert!(rt; tells_two(&rt, rt.alloc(), &up) && name_in_doubt(&up).is_none());
+    assert!(rt; tells_two(&rt, rt.alloc(), &down));
+    assert!(rt; name_in_doubt(&down) == Some(wid(&rt, 0, 3)));
 }
 
 /// Starts a server on the device, again where that was refused.

@@ -1,7 +1,8 @@
 -- How a Write is added: the entry behind those of the Writes held, and then the Write.
-use Rattle.std.proofs.Common.{◌≡◌, ℕ, ◌≤◌, List, [], ◌∷◌, ◌++◌, Option, None, Some, Result, Ok, Err, true, false, refl, sym, ◌∙◌, ap, subst}
+use Rattle.std.proofs.Common.{◌≡◌, ℕ, ◌≤◌, ◌<◌, List, [], ◌∷◌, ◌++◌, Option, None, Some, Result, Ok, Err, true, false, refl, sym, ◌∙◌, ap, subst}
 use Rattle.std.specs.Prelude.{IsErrOf, OnOk, is_err, is_some}
 use Rattle.bayou_base.specs.declared.limits.TheConstants.{MAX_WRITES}
+use Rattle.bayou_base.specs.declared.tag.Tag.{Tag}
 use Rattle.bayou_device.specs.Device.{Rose}
 use Rattle.bayou_journal.specs.declared.fault.AppendFault.{AppendFault}
 use Rattle.bayou_journal.specs.declared.fault.AppendFault.TheVariants as append
@@ -12,15 +13,17 @@ use Rattle.bayou_journal.specs.Versions.{Body}
 use Rattle.bayou_journal.specs.Opening.{FailsToAdd}
 use Rattle.bayou_lang.specs.declared.write.Write.{Write}
 use Rattle.bayou_log.specs.Log.{Log, IsReserved}
-use Rattle.bayou_wire.specs.Spelling.{write_bytes}
-use Rattle.bayou_server.specs.Inner.Fields.{BelongTogether, Stands, core_of, server_of}
+use Rattle.bayou_tags.specs.Tags.{TagList}
+use Rattle.bayou_server.specs.declared.holding.Holding.{Holding}
 use Rattle.bayou_server.specs.declared.storing.Stored.{Stored}
 use Rattle.bayou_server.specs.declared.storing.Stored.TheVariants.{Held, InDoubt}
-use Rattle.bayou_server.specs.Inner.Storing.{Settles, StaysStored, StoresEntry}
-use Rattle.bayou_server.specs.Server.{Core, IsSoundServer, MayBeInDoubt, ServerState}
-use Rattle.bayou_server.specs.Stored.{HasAdded, IsEntryOf, IsStored, IsBodyOf, Stores}
+use Rattle.bayou_server.specs.Inner.Fields.{BelongTogether, Stands, core_of, server_of}
+use Rattle.bayou_server.specs.Inner.Storing.{IsHeld, Settles, StaysStored, StoresEntry}
+use Rattle.bayou_server.specs.Server.{Core, IsSoundServer, MayBeInDoubt, ServerState, in_doubt, records, records_of}
+use Rattle.bayou_server.specs.Stored.{HasAdded, IsBodyOf, IsStored, Stores}
 use Rattle.bayou_server.proofs.Bodies.{both_more}
-use Rattle.bayou_server.proofs.Steps.{sound_next}
+use Rattle.bayou_server.proofs.Beside.{one_each, records-push}
+use Rattle.bayou_server.proofs.Steps.{no_doubt_tag, no_tag_may, sound_doubting, sound_next}
 use Rattle.bayou_device.specs.declared.device.Device.{Ghosts}
 
 -- an append that fails is the device's fault, unless the journal was down
@@ -34,20 +37,8 @@ none_of None up = refl
 none_of (Some write) up = absurd cc
 
 -- while the server is up its journal is
-pub stands_up : {D : Type 0} (journal : JournalState D) (log : Log) (id : ℕ) (doubt : Option Write) → BelongTogether journal log id doubt → is_some doubt ≡ false → journal.is_down ≡ false
-stands_up journal log id doubt together up = subst (λ (d : Option Write). Stands journal log d) (none_of doubt up) together.stands
-
--- the fields still belong together once the entry and the Write were added
-pub after_adding : {D : Type 0} (journal new : JournalState D) (log after : Log) (id : ℕ) (doubt : Option Write) (made : Write) (bytes : List ℕ)
-    → BelongTogether journal log id doubt → is_some doubt ≡ false → MayBeInDoubt id log.count log.limit log.receipts made
-    → new ≡ record journal { device = new.device; last = link journal.last bytes }
-    → after ≡ record log { receipts = log.receipts ++ made ∷ []; room = after.room; waiting = after.waiting } → BelongTogether new after id doubt
-after_adding {D} journal new log after id doubt made bytes together up may new_is after_is = record {
-  owner = ap (λ (j : JournalState D). j.server) new_is ∙ together.owner;
-  limit = subst (λ (l : Log). l.limit ≤ MAX_WRITES) (sym after_is) together.limit;
-  sound = subst (λ (l : Log). IsSoundServer (core_of l id doubt)) (sym after_is) (sound_next (core_of log id doubt) made together.sound (none_of doubt up) may);
-  stands = subst (λ (d : Option Write). Stands new after d) (sym (none_of doubt up)) (ap (λ (j : JournalState D). j.is_down) new_is ∙ stands_up journal log id doubt together up);
-}
+stands_up : {D : Type 0} (journal : JournalState D) (holding : Holding) (id : ℕ) → BelongTogether journal holding id → holding.doubt ≡ None → journal.is_down ≡ false
+stands_up journal holding id together up = subst (λ (d : Option Write). Stands journal holding d) up together.stands
 
 -- what an append told, and what it left
 pub record Appends {D : Type 0} (d : Ghosts D) (journal new : JournalState D) (bytes : List ℕ) (result : Result (Unit {0}) AppendFault) : Type 0 where
@@ -60,95 +51,106 @@ pub record Appends {D : Type 0} (d : Ghosts D) (journal new : JournalState D) (b
   pub rose : IsErrOf result append.Device → Rose (d.failures journal.device) (d.failures new.device)
   pub left : d.is_modelled → IsErrOf result append.Device → FailsToAdd d.may_leave (entry journal.last bytes) (d.content journal.device) (d.content new.device)
 
--- the server that is up adds a Write that it may hold next, for which the log was given room
-pub record Adds {D : Type 0} (journal : JournalState D) (log reserved : Log) (id : ℕ) (doubt : Option Write) (made : Write) (bytes : List ℕ) : Type 0 where
-  pub together : BelongTogether journal log id doubt
-  pub up : doubt ≡ None
-  pub may : MayBeInDoubt id log.count log.limit log.receipts made
-  pub spelled : bytes ≡ write_bytes made
-  pub same : reserved ≡ record log { room = reserved.room }
-  pub has_room : IsReserved reserved.room made
+-- the server that is up adds a Write that it may hold next and that has no tag, for which room was taken
+pub record Adds {D : Type 0} (journal : JournalState D) (holding reserved : Holding) (id : ℕ) (made : Write) (bytes : List ℕ) : Type 0 where
+  pub together : BelongTogether journal holding id
+  pub up : holding.doubt ≡ None
+  pub may : MayBeInDoubt id holding.log.count holding.log.limit holding.log.receipts made
+  pub stands : IsBodyOf id (added_body bytes) (record { write = made; tag = None })
+  pub same_log : reserved.log ≡ record holding.log { room = reserved.log.room }
+  pub same_tags : reserved.tags ≡ record holding.tags { coming = None; room = reserved.tags.room }
+  pub same_doubt : reserved.doubt ≡ holding.doubt
+  pub has_room : IsReserved reserved.log.room made
+  pub has_place : 0 < reserved.tags.room
+
+core_by : Log → TagList → Option Write → ℕ → Core
+core_by log tags doubt id = core_of (record { log = log; tags = tags; doubt = doubt }) id
 
 -- the core, once the Write is held
-held_core : (log reserved new : Log) (id : ℕ) (doubt left : Option Write) (made : Write) → reserved ≡ record log { room = reserved.room }
-    → new ≡ record reserved { receipts = reserved.receipts ++ made ∷ []; room = new.room; waiting = new.waiting } → left ≡ doubt
-    → core_of new id left ≡ record (core_of log id doubt) { held = log.receipts ++ made ∷ [] }
-held_core log reserved new id doubt left made same is kept =
-    ap (λ (l : Log). core_of l id left) is
-    ∙ ap (λ (l : Log). record (core_of l id left) { held = l.receipts ++ made ∷ [] }) same
-    ∙ ap (λ (d : Option Write). record (core_of log id d) { held = log.receipts ++ made ∷ [] }) kept
+held_core : {D : Type 0} (journal : JournalState D) (holding reserved new : Holding) (id : ℕ) (made : Write) (bytes : List ℕ) → Adds journal holding reserved id made bytes → IsHeld reserved made new
+    → core_of new id ≡ record (core_of holding id) { held = holding.log.receipts ++ made ∷ []; tags = holding.tags.tags ++ None ∷ [] }
+unfolding core_by
+held_core journal holding reserved new id made bytes adds is =
+    let none : holding.tags.coming ≡ None = no_doubt_tag (core_of holding id) adds.together.sound adds.up in
+    ap (λ (l : Log). core_by l new.tags new.doubt id) is.log
+    ∙ ap (λ (l : Log). core_by (record l { receipts = l.receipts ++ made ∷ []; room = new.log.room; waiting = new.log.waiting }) new.tags new.doubt id) adds.same_log
+    ∙ ap (λ (t : TagList). record (core_by holding.log t new.doubt id) { held = holding.log.receipts ++ made ∷ [] }) is.tags
+    ∙ ap (λ (t : TagList). record (core_by holding.log t new.doubt id) { held = holding.log.receipts ++ made ∷ []; tags = t.tags ++ t.coming ∷ []; doubt_tag = None }) adds.same_tags
+    ∙ ap (λ (d : Option Write). record (core_by holding.log holding.tags d id) { held = holding.log.receipts ++ made ∷ []; tags = holding.tags.tags ++ None ∷ []; doubt_tag = None }) (is.doubt ∙ adds.same_doubt)
+    ∙ ap (λ (t : Option Tag). record (core_by holding.log holding.tags holding.doubt id) { held = holding.log.receipts ++ made ∷ []; tags = holding.tags.tags ++ None ∷ []; doubt_tag = t }) (sym none)
 
 -- and once it is in doubt
-doubted_core : (log reserved new : Log) (id : ℕ) (doubt left : Option Write) (made : Write) → reserved ≡ record log { room = reserved.room } → new ≡ reserved → left ≡ Some made
-    → core_of new id left ≡ record (core_of log id doubt) { doubt = Some made }
-doubted_core log reserved new id doubt left made same is in_doubt =
-    ap (λ (l : Log). core_of l id left) (is ∙ same) ∙ ap (λ (d : Option Write). core_of log id d) in_doubt
+doubted_core : {D : Type 0} (journal : JournalState D) (holding reserved new : Holding) (id : ℕ) (made : Write) (bytes : List ℕ) → Adds journal holding reserved id made bytes
+    → new ≡ record reserved { doubt = Some made } → core_of new id ≡ record (core_of holding id) { doubt = Some made; doubt_tag = None }
+unfolding core_by
+doubted_core journal holding reserved new id made bytes adds is =
+    ap (λ (h : Holding). core_of h id) is
+    ∙ ap (λ (l : Log). core_by l reserved.tags (Some made) id) adds.same_log
+    ∙ ap (λ (t : TagList). core_by holding.log t (Some made) id) adds.same_tags
 
 -- an append that failed is the device's fault
-fault_of : {D : Type 0} (d : Ghosts D) (journal new : JournalState D) (log : Log) (id : ℕ) (doubt : Option Write) (bytes : List ℕ) (reason : AppendFault)
-    → BelongTogether journal log id doubt → doubt ≡ None → Appends d journal new bytes (Err reason) → IsErrOf {T = Unit {0}} (Err reason) append.Device
-fault_of d journal new log id doubt bytes reason together up appends =
-    device_fault (Err reason) refl (λ down. absurd (let was = appends.down down in let is = stands_up journal log id doubt together (ap is_some up) in cc))
+fault_of : {D : Type 0} (d : Ghosts D) (journal new : JournalState D) (holding : Holding) (id : ℕ) (bytes : List ℕ) (reason : AppendFault)
+    → BelongTogether journal holding id → holding.doubt ≡ None → Appends d journal new bytes (Err reason) → IsErrOf {T = Unit {0}} (Err reason) append.Device
+fault_of d journal new holding id bytes reason together up appends =
+    device_fault (Err reason) refl (λ down. absurd (let was = appends.down down in let is = stands_up journal holding id together up in cc))
 
-pub settled_stores : {D : Type 0} (d : Ghosts D) (journal new : JournalState D) (log reserved after : Log) (id : ℕ) (doubt left : Option Write) (made : Write) (bytes : List ℕ)
+pub settled_stores : {D : Type 0} (d : Ghosts D) (journal new : JournalState D) (holding reserved after : Holding) (id : ℕ) (made : Write) (bytes : List ℕ)
     (added : Result (Unit {0}) AppendFault) (result : Stored)
-    → Adds journal log reserved id doubt made bytes → Appends d journal new bytes added → Settles reserved doubt made added result after left
-    → StoresEntry d (server_of journal log id doubt) result (server_of new after id left)
-settled_stores {D} d journal new log reserved after id doubt left made bytes (Ok done) Held adds appends settles = record {
-  made = made;
-  held = ap (λ (c : Core). c.held) (held_core log reserved after id doubt left made adds.same settles.0 settles.1);
-  added = entry journal.last bytes;
-  entry_of = record { body = bytes; stands = adds.spelled; is = refl };
-  ends = ap (λ (j : JournalState D). j.last) appends.ends;
-  behind = appends.added;
-  synced = appends.synced;
-  counts = appends.counts;
-}
-settled_stores d journal new log reserved after id doubt left made bytes (Err reason) InDoubt adds appends settles =
-    let fault = fault_of d journal new log id doubt bytes reason adds.together adds.up appends in
+    → Adds journal holding reserved id made bytes → Appends d journal new bytes added → Settles reserved made added result after
+    → StoresEntry d (server_of journal holding id) result (server_of new after id)
+settled_stores {D} d journal new holding reserved after id made bytes (Ok done) Held adds appends settles =
+    let core = held_core journal holding reserved after id made bytes adds settles in
     record {
-      made = made;
-      doubt = settles.1;
+      stored = record { write = made; tag = None };
+      held = ap (λ (c : Core). c.held) core;
+      tags = ap (λ (c : Core). c.tags) core;
       added = entry journal.last bytes;
-      entry_of = record { body = bytes; stands = adds.spelled; is = refl };
+      entry_of = record { body = bytes; stands = adds.stands; is = refl };
+      ends = ap (λ (j : JournalState D). j.last) appends.ends;
+      behind = appends.added;
+      synced = appends.synced;
+      counts = appends.counts;
+    }
+settled_stores d journal new holding reserved after id made bytes (Err reason) InDoubt adds appends settles =
+    let fault = fault_of d journal new holding id bytes reason adds.together adds.up appends in
+    record {
+      stored = record { write = made; tag = None };
+      doubt = ap (λ (c : Core). in_doubt c.doubt c.doubt_tag) (doubted_core journal holding reserved after id made bytes adds settles);
+      added = entry journal.last bytes;
+      entry_of = record { body = bytes; stands = adds.stands; is = refl };
       left = λ modelled. appends.left modelled fault;
       rose = appends.rose fault;
     }
-settled_stores d journal new log reserved after id doubt left made bytes (Ok done) InDoubt adds appends settles = absurd settles
-settled_stores d journal new log reserved after id doubt left made bytes (Err reason) Held adds appends settles = absurd settles
+settled_stores d journal new holding reserved after id made bytes (Ok done) InDoubt adds appends settles = absurd settles
+settled_stores d journal new holding reserved after id made bytes (Err reason) Held adds appends settles = absurd settles
 
--- the fields still belong together once the Write is in doubt
-after_failing : {D : Type 0} (journal new : JournalState D) (log reserved after : Log) (id : ℕ) (doubt left : Option Write) (made : Write) (bytes : List ℕ)
-    → Adds journal log reserved id doubt made bytes → new ≡ record journal { device = new.device; is_down = true } → after ≡ reserved → left ≡ Some made
-    → BelongTogether new after id left
-after_failing {D} journal new log reserved after id doubt left made bytes adds new_is after_is left_is =
-    let together = adds.together in
-    let log_is : after ≡ record log { room = reserved.room } = after_is ∙ adds.same in
-    record {
-      owner = ap (λ (j : JournalState D). j.server) new_is ∙ together.owner;
-      limit = subst (λ (l : Log). l.limit ≤ MAX_WRITES) (sym log_is) together.limit;
-      sound = subst (λ (l : Log). IsSoundServer (core_of l id left)) (sym log_is) (subst (λ (d : Option Write). IsSoundServer (core_of log id d)) (sym left_is) (record {
-        known = together.sound.known;
-        holds = together.sound.holds;
-        spelled = together.sound.spelled;
-        doubted = adds.may;
-      }));
-      stands = subst (λ (d : Option Write). Stands new after d) (sym left_is) (subst (λ (l : Log). IsReserved l.room made) (sym after_is) adds.has_room);
-    }
+-- the limit is as it was
+limit_stays : (holding reserved : Holding) → reserved.log ≡ record holding.log { room = reserved.log.room } → holding.log.limit ≤ MAX_WRITES → reserved.log.limit ≤ MAX_WRITES
+limit_stays holding reserved same within = subst (λ (l : Log). l.limit ≤ MAX_WRITES) (sym same) within
 
-pub settled_together : {D : Type 0} (d : Ghosts D) (journal new : JournalState D) (log reserved after : Log) (id : ℕ) (doubt left : Option Write) (made : Write) (bytes : List ℕ)
+pub settled_together : {D : Type 0} (d : Ghosts D) (journal new : JournalState D) (holding reserved after : Holding) (id : ℕ) (made : Write) (bytes : List ℕ)
     (added : Result (Unit {0}) AppendFault) (result : Stored)
-    → Adds journal log reserved id doubt made bytes → Appends d journal new bytes added → Settles reserved doubt made added result after left
-    → BelongTogether new after id left
-settled_together d journal new log reserved after id doubt left made bytes (Ok done) Held adds appends settles =
-    subst (λ (o : Option Write). BelongTogether new after id o) (sym settles.1)
-    (after_adding journal new log after id doubt made bytes adds.together (ap is_some adds.up) adds.may appends.ends
-    (settles.0 ∙ ap (λ (l : Log). record l { receipts = l.receipts ++ made ∷ []; room = after.room; waiting = after.waiting }) adds.same))
-settled_together d journal new log reserved after id doubt left made bytes (Err reason) InDoubt adds appends settles =
-    after_failing journal new log reserved after id doubt left made bytes adds
-    (appends.fault (fault_of d journal new log id doubt bytes reason adds.together adds.up appends)) settles.0 settles.1
-settled_together d journal new log reserved after id doubt left made bytes (Ok done) InDoubt adds appends settles = absurd settles
-settled_together d journal new log reserved after id doubt left made bytes (Err reason) Held adds appends settles = absurd settles
+    → Adds journal holding reserved id made bytes → Appends d journal new bytes added → Settles reserved made added result after
+    → BelongTogether new after id
+settled_together {D} d journal new holding reserved after id made bytes (Ok done) Held adds appends settles = record {
+  owner = ap (λ (j : JournalState D). j.server) appends.ends ∙ adds.together.owner;
+  limit = subst (λ (l : Log). l.limit ≤ MAX_WRITES) (sym settles.log) (limit_stays holding reserved adds.same_log adds.together.limit);
+  sound = subst IsSoundServer (sym (held_core journal holding reserved after id made bytes adds settles))
+      (sound_next (core_of holding id) made None adds.together.sound adds.up adds.may (no_tag_may (core_of holding id) made));
+  stands = subst (λ (o : Option Write). Stands new after o) (sym (settles.doubt ∙ adds.same_doubt ∙ adds.up))
+      (ap (λ (j : JournalState D). j.is_down) appends.ends ∙ stands_up journal holding id adds.together adds.up);
+}
+settled_together {D} d journal new holding reserved after id made bytes (Err reason) InDoubt adds appends settles =
+    let fault = appends.fault (fault_of d journal new holding id bytes reason adds.together adds.up appends) in
+    record {
+      owner = ap (λ (j : JournalState D). j.server) fault ∙ adds.together.owner;
+      limit = subst (λ (h : Holding). h.log.limit ≤ MAX_WRITES) (sym settles) (limit_stays holding reserved adds.same_log adds.together.limit);
+      sound = subst IsSoundServer (sym (doubted_core journal holding reserved after id made bytes adds settles))
+          (sound_doubting (core_of holding id) made None adds.together.sound adds.may (no_tag_may (core_of holding id) made));
+      stands = subst (λ (h : Holding). Stands new h h.doubt) (sym settles) (adds.has_room, adds.has_place);
+    }
+settled_together d journal new holding reserved after id made bytes (Ok done) InDoubt adds appends settles = absurd settles
+settled_together d journal new holding reserved after id made bytes (Err reason) Held adds appends settles = absurd settles
 
 -- what the journal's law says of one body more
 abbrev pub OneBodyMore : Type 0
@@ -156,29 +158,34 @@ OneBodyMore = (server : ℕ) (bodies : List Body) (last bytes body : List ℕ) �
     → HasJournal server (bodies ++ added_body body ∷ []) (link last body) (bytes ++ entry last body)
 
 -- a device that had the journal of the Writes held has that of those and the new one
-pub stored_after : {D : Type 0} (d : Ghosts D) → OneBodyMore → (old new : ServerState D) → d.is_modelled → new.core.id ≡ old.core.id → (has : HasAdded d old new) → IsBody has.entry_of.body
-    → IsStored d old → IsStored d new
-stored_after {D} d law old new modelled same has is (bodies, stores, journal) =
+pub stored_after : {D : Type 0} (d : Ghosts D) → OneBodyMore → (old new : ServerState D) → d.is_modelled → IsSoundServer old.core → new.core.id ≡ old.core.id → (has : HasAdded d old new)
+    → IsBody has.entry_of.body → IsStored d old → IsStored d new
+stored_after {D} d law old new modelled sound same has is (bodies, stores, journal) =
     let one = has.entry_of in
-    let held : Stores (bodies ++ added_body one.body ∷ []) new.core.held =
-    subst (λ (w : List Write). Stores (bodies ++ added_body one.body ∷ []) w) (sym has.held) (both_more IsBodyOf bodies old.core.held (added_body one.body) has.made stores one.stands) in
-    let more : HasJournal old.core.id (bodies ++ added_body one.body ∷ []) (link old.last one.body) (d.content old.device ++ entry old.last one.body) =
-    law old.core.id bodies old.last (d.content old.device) one.body journal is in
+    let id = old.core.id in
+    let records_are : records_of new.core ≡ records_of old.core ++ has.stored ∷ [] =
+    ap (λ (w : List Write). records w new.core.tags) has.held ∙ ap (λ (t : List (Option Tag)). records (old.core.held ++ has.stored.write ∷ []) t) has.tags
+    ∙ records-push old.core.held old.core.tags has.stored.write has.stored.tag (one_each id old.core.held old.core.tags sound.tagged) in
+    let held : Stores id (bodies ++ added_body one.body ∷ []) (records_of new.core) =
+    subst (Stores id (bodies ++ added_body one.body ∷ [])) (sym records_are) (both_more (IsBodyOf id) bodies (records_of old.core) (added_body one.body) has.stored stores one.stands) in
+    let more : HasJournal id (bodies ++ added_body one.body ∷ []) (link old.last one.body) (d.content old.device ++ entry old.last one.body) =
+    law id bodies old.last (d.content old.device) one.body journal is in
     let content : d.content old.device ++ entry old.last one.body ≡ d.content new.device = sym (has.behind modelled ∙ ap (λ (l : List ℕ). d.content old.device ++ l) one.is) in (
       bodies ++ added_body one.body ∷ [],
-      held,
+      subst (λ (s : ℕ). Stores s (bodies ++ added_body one.body ∷ []) (records_of new.core)) (sym same) held,
       subst (λ (s : ℕ). HasJournal s (bodies ++ added_body one.body ∷ []) new.last (d.content new.device)) (sym same)
-          (subst (λ (l : List ℕ). HasJournal old.core.id (bodies ++ added_body one.body ∷ []) l (d.content new.device)) (sym has.ends)
-          (subst (λ (b : List ℕ). HasJournal old.core.id (bodies ++ added_body one.body ∷ []) (link old.last one.body) b) content more)),
+          (subst (λ (l : List ℕ). HasJournal id (bodies ++ added_body one.body ∷ []) l (d.content new.device)) (sym has.ends)
+          (subst (λ (b : List ℕ). HasJournal id (bodies ++ added_body one.body ∷ []) (link old.last one.body) b) content more)),
     )
 
-pub settled_stored : {D : Type 0} (d : Ghosts D) → OneBodyMore → (journal new : JournalState D) (log reserved after : Log) (id : ℕ) (doubt left : Option Write) (made : Write) (bytes : List ℕ)
+pub settled_stored : {D : Type 0} (d : Ghosts D) → OneBodyMore → (journal new : JournalState D) (holding reserved after : Holding) (id : ℕ) (made : Write) (bytes : List ℕ)
     (added : Result (Unit {0}) AppendFault) (result : Stored)
-    → d.is_modelled → IsBody bytes → Adds journal log reserved id doubt made bytes → Appends d journal new bytes added → Settles reserved doubt made added result after left
-    → StaysStored d (server_of journal log id doubt) result (server_of new after id left)
+    → d.is_modelled → IsBody bytes → Adds journal holding reserved id made bytes → Appends d journal new bytes added → Settles reserved made added result after
+    → StaysStored d (server_of journal holding id) result (server_of new after id)
 unfolding settled_stores
-settled_stored d law journal new log reserved after id doubt left made bytes (Ok done) Held modelled is adds appends settles =
-    stored_after d law (server_of journal log id doubt) (server_of new after id left) modelled refl (settled_stores d journal new log reserved after id doubt left made bytes (Ok done) Held adds appends settles) is
-settled_stored d law journal new log reserved after id doubt left made bytes (Err reason) InDoubt modelled is adds appends settles = tt
-settled_stored d law journal new log reserved after id doubt left made bytes (Ok done) InDoubt modelled is adds appends settles = absurd settles
-settled_stored d law journal new log reserved after id doubt left made bytes (Err reason) Held modelled is adds appends settles = absurd settles
+settled_stored d law journal new holding reserved after id made bytes (Ok done) Held modelled is adds appends settles =
+    stored_after d law (server_of journal holding id) (server_of new after id) modelled adds.together.sound refl
+    (settled_stores d journal new holding reserved after id made bytes (Ok done) Held adds appends settles) is
+settled_stored d law journal new holding reserved after id made bytes (Err reason) InDoubt modelled is adds appends settles = tt
+settled_stored d law journal new holding reserved after id made bytes (Ok done) InDoubt modelled is adds appends settles = absurd settles
+settled_stored d law journal new holding reserved after id made bytes (Err reason) Held modelled is adds appends settles = absurd settles

@@ -1,9 +1,10 @@
 -- Bodies of a journal against the Writes that they stand for, one for one.
 use Rattle.std.proofs.Common.{◌≡◌, ℕ, zero, suc, ◌+◌, ◌<◌, Bool, true, false, List, [], ◌∷◌, ◌++◌, Some, get_or, length, take, drop, refl, sym, ◌∙◌, ap, subst, arith, length-append}
 use Rattle.std.specs.List.{AllZip, slice_get}
-use Rattle.std.specs.Prelude.{IfSome, Option, None}
+use Rattle.std.specs.Prelude.{IfSome, MatchOption, Option}
 use Rattle.std.proofs.lemmas.List.{drop_more, take-append-drop, take_more}
 use Rattle.std.proofs.lemmas.Option.{get_or_from_slice_get, slice_get-get_or, slice_get_within}
+use Rattle.bayou_journal.specs.Versions.{Body, body_in}
 
 -- one more of the list
 pub take_next : {A : Type 0} (xs : List A) (k : ℕ) (x : A) → slice_get xs k ≡ Some x → take (k + 1) xs ≡ take k xs ++ x ∷ []
@@ -23,11 +24,17 @@ read_at xs k x within is = slice_get-get_or xs k x within ∙ ap (λ y. Some y) 
 pub not_both : {b : Bool} → b ≡ true → b ≡ false → ⊥
 not_both is is_not = absurd cc
 
--- what is told of the element at a place
-pub told_at : {A : Type 0} (P : A → Type 0) (xs : List A) (k : ℕ) → k < length xs → IfSome (slice_get xs k) P → (x : A) × (slice_get xs k ≡ Some x) × P x
-told_at P [] k within is = absurd (omega arith)
-told_at P (x ∷ xs) zero within is = (x, refl, is)
-told_at P (x ∷ xs) (suc k) within is = told_at P xs k (omega arith) is
+-- what is told of one that is there
+pub told_some : {X : Type 0} (N : Type 0) (P : X → Type 0) (o : Option X) (x : X) → MatchOption o N P → o ≡ Some x → P x
+told_some {X} N P o x told is = subst (λ (p : Option X). MatchOption p N P) is told
+
+-- the body at a place is what is told of it
+pub told_body : (bodies : List Body) (k version : ℕ) (bytes : List ℕ) → k < length bodies → IfSome (slice_get bodies k) (λ body. version ≡ body.version)
+    → IfSome (slice_get bodies k) (λ body. bytes ≡ body.bytes) → slice_get bodies k ≡ Some (body_in version bytes)
+told_body [] k version bytes within of_version of_bytes = absurd (omega arith)
+told_body (body ∷ bodies) zero version bytes within of_version of_bytes =
+    ap (λ (v : ℕ). Some (body_in v body.bytes)) (sym of_version) ∙ ap (λ (b : List ℕ). Some (body_in version b)) (sym of_bytes)
+told_body (body ∷ bodies) (suc k) version bytes within of_version of_bytes = told_body bodies k version bytes (omega arith) of_version of_bytes
 
 -- how many they are
 pub as_many : {A B : Type 0} (R : A → B → Type 0) (xs : List A) (ys : List B) → AllZip R xs ys → length xs ≡ length ys

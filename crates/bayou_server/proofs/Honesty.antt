@@ -1,8 +1,9 @@
 -- That a server over an honest device stays over one, and is recovered honestly.
-use Rattle.std.proofs.Common.{◌≡◌, inl, inr, ℕ, List, [], ◌∷◌, ◌++◌, Option, None, Some, Result, Ok, Err, All, drop, refl, sym, ◌∙◌, ap, subst}
-use Rattle.std.specs.Prelude.{IfSome, IsSome}
+use Rattle.std.proofs.Common.{◌≡◌, inl, inr, ℕ, List, [], ◌∷◌, ◌++◌, Option, None, Some, Result, Ok, Err, length, refl, sym, ◌∙◌, ap, subst, arith, length-append}
+use Rattle.std.specs.Prelude.{IsSome}
 use Rattle.std.proofs.lemmas.List.{append-nil}
 use Rattle.bayou_base.specs.declared.answer.Accepted.{Accepted}
+use Rattle.bayou_base.specs.declared.tag.Tag.{Tag}
 use Rattle.bayou_base.specs.declared.wid.Wid.{Wid}
 use Rattle.bayou_device.specs.declared.device.Device.{Ghosts}
 use Rattle.bayou_journal.specs.Chain.{IsBody, entry, link}
@@ -15,7 +16,6 @@ use Rattle.bayou_journal.specs.declared.fault.OpenFault.TheVariants as opening
 use Rattle.bayou_journal.specs.Versions.{Body}
 use Rattle.bayou_lang.specs.declared.program.Program.{Program}
 use Rattle.bayou_lang.specs.declared.write.Write.{Write}
-use Rattle.bayou_lang.specs.Ranges.{IsWrite}
 use Rattle.bayou_server.specs.declared.answer.Reopened.{Reopened}
 use Rattle.bayou_server.specs.declared.answer.Took.{Took}
 use Rattle.bayou_server.specs.declared.answer.Took.TheVariants.{New, Had}
@@ -32,15 +32,16 @@ use Rattle.bayou_server.specs.declared.fault.WriteFault.TheVariants as writing
 use Rattle.bayou_server.specs.Faults.{open_fault}
 use Rattle.bayou_server.specs.Honest.{AreHonest, IsHonestAnswer, IsHonestServerDevice, IsHonestRefusal, IsHonestServer, IsLeft, IsWholeDevice, StoresDoubt}
 use Rattle.bayou_server.specs.Reopens.{Recovers, Reopens}
-use Rattle.bayou_server.specs.Server.{Core, IsSoundServer, MayBeInDoubt, MayHold, ServerState}
+use Rattle.bayou_server.specs.Server.{AreTags, Core, IsSoundServer, MayHold, ServerState, in_doubt, record_in_doubt, records, records_of}
 use Rattle.bayou_server.specs.Starts.{FailsToStart, StopsAtEntry}
 use Rattle.bayou_server.specs.Stored.{BeginsWithHeld, HasAdded, HasFailed, HasOther, IsUntouched, OpensWith, ReopensJournal, IsBodyOf, Stores, StoresTaken, StoresWrite}
 use Rattle.bayou_server.specs.Takes.{Takes}
 use Rattle.bayou_server.specs.Writes.{Writes}
-use Rattle.bayou_wire.specs.Spelling.{write_bytes}
+use Rattle.bayou_wire.specs.declared.record.Record.{Record}
 use Rattle.bayou_server.proofs.Bodies.{both_more}
-use Rattle.bayou_server.proofs.Deciding.{BeginsNone, none_refused}
-use Rattle.bayou_server.proofs.Steps.{sound_next}
+use Rattle.bayou_server.proofs.Deciding.{OneRecord, none_refused}
+use Rattle.bayou_server.proofs.Beside.{one_each, one_of_each, records-push}
+use Rattle.bayou_server.proofs.Steps.{sound_adopted}
 
 -- ---- what the journal's laws say
 
@@ -74,13 +75,13 @@ abbrev pub RefusedHonestly : {D : Type 0} → Ghosts D → Type 0
 RefusedHonestly {D} d = (server : ℕ) (bodies : List Body) (doubt : Option Body) (old new : D) (fault : OpenFault) → journals.OnlyTears d
     → journals.IsHonestDevice d server bodies doubt old → HasRefused d server old new fault → KeepsChains (d.kept old) (d.kept new) → journals.IsHonestDevice d server bodies doubt new
 
--- and what a server's law says of the bytes of a Write
-abbrev pub BodyOfWrite : Type 0
-BodyOfWrite = (write : Write) → IsWrite write → IsBody (write_bytes write)
+-- and what a server's law says of what stands for a record
+abbrev pub BodyOfRecord : Type 0
+BodyOfRecord = (id : ℕ) (body : Body) (stored : Record) → IsBodyOf id body stored → IsBody body.bytes
 
 -- ---- servers that are up and down
 
-pub honest_of : {D : Type 0} (d : Ghosts D) → WholeIsHonest d → (id : ℕ) (held : List Write) (doubt : Option Write) (last : List ℕ) (device : D) → IsLeft d id held doubt last device → IsHonestServerDevice d id held doubt device
+pub honest_of : {D : Type 0} (d : Ghosts D) → WholeIsHonest d → (id : ℕ) (held : List Record) (doubt : Option Record) (last : List ℕ) (device : D) → IsLeft d id held doubt last device → IsHonestServerDevice d id held doubt device
 honest_of d law id held None last device left = record {
   bodies = left.bodies;
   body = None;
@@ -90,100 +91,106 @@ honest_of d law id held None last device left = record {
 }
 honest_of d law id held (Some doubt) last device left = left
 
-left_of : {D : Type 0} (d : Ghosts D) (id : ℕ) (held : List Write) (doubt : Option Write) (last : List ℕ) (device : D) → IsSome doubt → IsHonestServerDevice d id held doubt device → IsLeft d id held doubt last device
+left_of : {D : Type 0} (d : Ghosts D) (id : ℕ) (held : List Record) (doubt : Option Record) (last : List ℕ) (device : D) → IsSome doubt → IsHonestServerDevice d id held doubt device → IsLeft d id held doubt last device
 left_of d id held None last device down honest = absurd cc
 left_of d id held (Some doubt) last device down honest = honest
 
-settles : {D : Type 0} (d : Ghosts D) (new : ServerState D) (core : Core) → new.core ≡ core → IsLeft d core.id core.held core.doubt new.last new.device → IsHonestServer d new
-settles d new core is left = subst (λ (c : Core). IsLeft d c.id c.held c.doubt new.last new.device) (sym is) left
+-- what is left is a server's that holds so much
+pub settles : {D : Type 0} (d : Ghosts D) (new : ServerState D) {id : ℕ} {held : List Record} {doubt : Option Record} → new.core.id ≡ id → records_of new.core ≡ held → record_in_doubt new.core ≡ doubt
+    → IsLeft d id held doubt new.last new.device → IsHonestServer d new
+settles d new {id} {held} {doubt} same_id same_held same_doubt left =
+    subst (λ (n : ℕ). IsLeft d n (records_of new.core) (record_in_doubt new.core) new.last new.device) (sym same_id)
+    (subst (λ (l : List Record). IsLeft d id l (record_in_doubt new.core) new.last new.device) (sym same_held)
+    (subst (λ (o : Option Record). IsLeft d id held o new.last new.device) (sym same_doubt) left))
 
 as_it_was : {D : Type 0} (d : Ghosts D) (old new : ServerState D) → new.core ≡ old.core → IsUntouched old new → IsHonestServer d old → IsHonestServer d new
 as_it_was {D} d old new same_core same was =
-    settles d new old.core same_core
-    (subst (λ (l : List ℕ). IsLeft d old.core.id old.core.held old.core.doubt l new.device) (sym same.last)
-    (subst (λ (x : D). IsLeft d old.core.id old.core.held old.core.doubt old.last x) (sym same.device) was))
+    settles d new (ap (λ (c : Core). c.id) same_core) (ap records_of same_core) (ap record_in_doubt same_core)
+    (subst (λ (l : List ℕ). IsLeft d old.core.id (records_of old.core) (record_in_doubt old.core) l new.device) (sym same.last)
+    (subst (λ (x : D). IsLeft d old.core.id (records_of old.core) (record_in_doubt old.core) old.last x) (sym same.device) was))
 
-whole_of : {D : Type 0} (d : Ghosts D) (old : ServerState D) → old.core.doubt ≡ None → IsHonestServer d old → IsWholeDevice d old.core.id old.core.held old.last old.device
-whole_of d old up was = subst (λ (o : Option Write). IsLeft d old.core.id old.core.held o old.last old.device) up was
+-- nothing is in doubt
+pub none_in_doubt : (core : Core) → core.doubt ≡ None → record_in_doubt core ≡ None
+none_in_doubt core up = ap (λ (o : Option Write). in_doubt o core.doubt_tag) up
+
+-- something is
+pub some_in_doubt : (core : Core) → IsSome core.doubt → IsSome (record_in_doubt core)
+some_in_doubt core down = by core.doubt down
+  where
+    by : (doubt : Option Write) → IsSome doubt → IsSome (in_doubt doubt core.doubt_tag)
+    by None some = absurd cc
+    by (Some write) some = refl
+
+whole_of : {D : Type 0} (d : Ghosts D) (old : ServerState D) → old.core.doubt ≡ None → IsHonestServer d old → IsWholeDevice d old.core.id (records_of old.core) old.last old.device
+whole_of d old up was = subst (λ (o : Option Record). IsLeft d old.core.id (records_of old.core) o old.last old.device) (none_in_doubt old.core up) was
 
 -- ---- one Write more, or one in doubt
 
--- the last of the two lists is one
-last_is_one : (held : List Write) (one other : Write) → held ++ one ∷ [] ≡ held ++ other ∷ [] → one ≡ other
-last_is_one [] one other same = let heads : one ≡ other = cc in heads
-last_is_one (first ∷ held) one other same = last_is_one held one other (ap (drop 1) same)
-
-pub added : {D : Type 0} (d : Ghosts D) → AppendAdds d → BodyOfWrite → (old new : ServerState D) (made : Write) → d.is_modelled → old.core.doubt ≡ None → IsWrite made
-    → new.core ≡ record old.core { held = old.core.held ++ made ∷ [] } → HasAdded d old new → IsHonestServer d old → IsHonestServer d new
-added {D} d law laws old new made modelled up spelled is has was =
-    settles d new (record old.core { held = old.core.held ++ made ∷ [] }) is (subst (λ (o : Option Write). IsLeft d old.core.id (old.core.held ++ made ∷ []) o new.last new.device) (sym up) left)
+pub added : {D : Type 0} (d : Ghosts D) → AppendAdds d → BodyOfRecord → (old new : ServerState D) → d.is_modelled → IsSoundServer old.core → old.core.doubt ≡ None
+    → new.core.id ≡ old.core.id → new.core.doubt ≡ None → HasAdded d old new → IsHonestServer d old → IsHonestServer d new
+added {D} d law laws old new modelled sound up same_id still has was =
+    settles d new same_id held_is (none_in_doubt new.core still) left
   where
-    whole : IsWholeDevice d old.core.id old.core.held old.last old.device
+    whole : IsWholeDevice d old.core.id (records_of old.core) old.last old.device
     whole = whole_of d old up was
 
     body : List ℕ
     body = has.entry_of.body
 
-    same : has.made ≡ made
-    same = last_is_one old.core.held has.made made (sym has.held ∙ ap (λ (c : Core). c.held) is)
-
-    stands : IsBodyOf (added_body body) made
-    stands = subst (IsBodyOf (added_body body)) same has.entry_of.stands
+    held_is : records_of new.core ≡ records_of old.core ++ has.stored ∷ []
+    held_is = ap (λ (w : List Write). records w new.core.tags) has.held ∙ ap (λ (t : List (Option Tag)). records (old.core.held ++ has.stored.write ∷ []) t) has.tags
+        ∙ records-push old.core.held old.core.tags has.stored.write has.stored.tag (one_each old.core.id old.core.held old.core.tags sound.tagged)
 
     now : journals.IsWhole d old.core.id (whole.bodies ++ added_body body ∷ []) (link old.last body) new.device
-    now = law old.core.id whole.bodies old.last body old.device new.device whole.whole (subst IsBody (sym stands) (laws made spelled))
+    now = law old.core.id whole.bodies old.last body old.device new.device whole.whole (laws old.core.id (added_body body) has.stored has.entry_of.stands)
         (has.behind modelled ∙ ap (λ (l : List ℕ). d.content old.device ++ l) has.entry_of.is) has.synced
 
-    left : IsWholeDevice d old.core.id (old.core.held ++ made ∷ []) new.last new.device
+    left : IsWholeDevice d old.core.id (records_of old.core ++ has.stored ∷ []) new.last new.device
     left = record {
       bodies = whole.bodies ++ added_body body ∷ [];
-      stores = both_more IsBodyOf whole.bodies old.core.held (added_body body) made whole.stores stands;
+      stores = both_more (IsBodyOf old.core.id) whole.bodies (records_of old.core) (added_body body) has.stored whole.stores has.entry_of.stands;
       whole = subst (λ (l : List ℕ). journals.IsWhole d old.core.id (whole.bodies ++ added_body body ∷ []) l new.device) (sym has.ends) now;
     }
 
-failed : {D : Type 0} (d : Ghosts D) → AppendFails d → BodyOfWrite → (old new : ServerState D) (made : Write) → journals.OnlyTears d → old.core.doubt ≡ None → IsWrite made
-    → new.core ≡ record old.core { doubt = Some made } → HasFailed d old new → KeepsChains (d.kept old.device) (d.kept new.device) → IsHonestServer d old → IsHonestServer d new
-failed {D} d law laws old new made tears up spelled is has keeps was = settles d new (record old.core { doubt = Some made }) is left
+failed : {D : Type 0} (d : Ghosts D) → AppendFails d → BodyOfRecord → (old new : ServerState D) → journals.OnlyTears d → old.core.doubt ≡ None
+    → new.core.id ≡ old.core.id → records_of new.core ≡ records_of old.core → HasFailed d old new → KeepsChains (d.kept old.device) (d.kept new.device) → IsHonestServer d old → IsHonestServer d new
+failed {D} d law laws old new tears up same_id same_held has keeps was = settles d new same_id same_held has.doubt left
   where
-    whole : IsWholeDevice d old.core.id old.core.held old.last old.device
+    whole : IsWholeDevice d old.core.id (records_of old.core) old.last old.device
     whole = whole_of d old up was
 
     body : List ℕ
     body = has.entry_of.body
-
-    same : has.made ≡ made
-    same = let both : Some has.made ≡ Some made = sym has.doubt ∙ ap (λ (c : Core). c.doubt) is in cc
-
-    stands : IsBodyOf (added_body body) made
-    stands = subst (IsBodyOf (added_body body)) same has.entry_of.stands
 
     tears_it : FailsToAdd d.may_leave (entry old.last body) (d.content old.device) (d.content new.device)
     tears_it = subst (λ (p : List ℕ). FailsToAdd d.may_leave p (d.content old.device) (d.content new.device)) has.entry_of.is (has.left tears.modelled)
 
-    left : IsHonestServerDevice d old.core.id old.core.held (Some made) new.device
+    left : IsHonestServerDevice d old.core.id (records_of old.core) (Some has.stored) new.device
     left = record {
       bodies = whole.bodies;
       body = Some (added_body body);
       stores = whole.stores;
-      stores_doubt = stands;
-      honest = law old.core.id whole.bodies old.last body old.device new.device tears (subst IsBody (sym stands) (laws made spelled)) whole.whole tears_it keeps;
+      stores_doubt = has.entry_of.stands;
+      honest = law old.core.id whole.bodies old.last body old.device new.device tears (laws old.core.id (added_body body) has.stored has.entry_of.stands) whole.whole tears_it keeps;
     }
 
-pub written : {D : Type 0} (d : Ghosts D) → AppendAdds d → AppendFails d → BodyOfWrite → (need : List ℕ) (program : Program) (result : Result Accepted WriteFault) (old new : ServerState D) → journals.OnlyTears d
+pub written : {D : Type 0} (d : Ghosts D) → AppendAdds d → AppendFails d → BodyOfRecord → (need : List ℕ) (program : Program) (result : Result Accepted WriteFault) (old new : ServerState D) → journals.OnlyTears d
     → IsSoundServer old.core → IsSoundServer new.core → IsHonestServer d old → Writes old.core need program result new.core → StoresWrite d old result new → KeepsChains (d.kept old.device) (d.kept new.device)
     → IsHonestServer d new
-written d adds law laws need program (Ok accepted) old new tears sound next was writes stores keeps = added d adds laws old new writes.made tears.modelled writes.makes.ready.up writes.makes.spelled writes.is stores was
+written d adds law laws need program (Ok accepted) old new tears sound next was writes stores keeps =
+    added d adds laws old new tears.modelled sound writes.makes.ready.up (ap (λ (c : Core). c.id) writes.is) (ap (λ (c : Core). c.doubt) writes.is ∙ writes.makes.ready.up) stores was
 written d adds law laws need program (Err writing.Down) old new tears sound next was writes stores keeps = as_it_was d old new writes.1 stores was
 written d adds law laws need program (Err (writing.Behind vector)) old new tears sound next was writes stores keeps = as_it_was d old new writes.2 stores was
 written d adds law laws need program (Err writing.LogFull) old new tears sound next was writes stores keeps = as_it_was d old new writes.2 stores was
 written d adds law laws need program (Err writing.OutOfMemory) old new tears sound next was writes stores keeps = as_it_was d old new writes.2 stores was
 written d adds law laws need program (Err writing.Journal) old new tears sound next was writes stores keeps =
-    failed d law laws old new writes.made tears writes.makes.ready.up writes.makes.spelled writes.is stores keeps was
+    failed d law laws old new tears writes.makes.ready.up (ap (λ (c : Core). c.id) writes.is) (ap records_of writes.is) stores keeps was
 
-pub taken : {D : Type 0} (d : Ghosts D) → AppendAdds d → AppendFails d → BodyOfWrite → (given : Write) (result : Result Took TakeFault) (old new : ServerState D) → journals.OnlyTears d
+pub taken : {D : Type 0} (d : Ghosts D) → AppendAdds d → AppendFails d → BodyOfRecord → (given : Write) (result : Result Took TakeFault) (old new : ServerState D) → journals.OnlyTears d
     → IsSoundServer old.core → IsSoundServer new.core → IsHonestServer d old → Takes old.core given result new.core → StoresTaken d old result new → KeepsChains (d.kept old.device) (d.kept new.device)
     → IsHonestServer d new
-taken d adds law laws given (Ok New) old new tears sound next was takes stores keeps = added d adds laws old new given tears.modelled takes.0.fit.foreign.up takes.1 takes.2 stores was
+taken d adds law laws given (Ok New) old new tears sound next was takes stores keeps =
+    added d adds laws old new tears.modelled sound takes.0.fit.foreign.up (ap (λ (c : Core). c.id) takes.2) (ap (λ (c : Core). c.doubt) takes.2 ∙ takes.0.fit.foreign.up) stores was
 taken d adds law laws given (Ok Had) old new tears sound next was takes stores keeps = as_it_was d old new takes.1 stores was
 taken d adds law laws given (Err taking.Conflict) old new tears sound next was takes stores keeps = as_it_was d old new takes.1 stores was
 taken d adds law laws given (Err taking.Down) old new tears sound next was takes stores keeps = as_it_was d old new takes.2 stores was
@@ -193,27 +200,29 @@ taken d adds law laws given (Err taking.BadStamp) old new tears sound next was t
 taken d adds law laws given (Err taking.LogFull) old new tears sound next was takes stores keeps = as_it_was d old new takes.2 stores was
 taken d adds law laws given (Err taking.OutOfMemory) old new tears sound next was takes stores keeps = as_it_was d old new takes.1 stores was
 taken d adds law laws given (Err taking.Journal) old new tears sound next was takes stores keeps =
-    failed d law laws old new given tears takes.0.fit.foreign.up takes.1 takes.2 stores keeps was
+    failed d law laws old new tears takes.0.fit.foreign.up (ap (λ (c : Core). c.id) takes.2) (ap records_of takes.2) stores keeps was
 
 -- ---- a device that is opened again
 
-begins : (bodies : List Body) (body : Option Body) (held : List Write) (found : List Body) → Stores bodies held → IsHonest bodies body found → BeginsWithHeld held found
-begins bodies None held found stores same = record { front = bodies; more = []; stores = stores; split = same ∙ sym (append-nil bodies) }
-begins bodies (Some body) held found stores (inl same) = record { front = bodies; more = []; stores = stores; split = same ∙ sym (append-nil bodies) }
-begins bodies (Some body) held found stores (inr same) = record { front = bodies; more = body ∷ []; stores = stores; split = same }
+begins : (id : ℕ) (bodies : List Body) (body : Option Body) (held : List Record) (found : List Body) → Stores id bodies held → IsHonest bodies body found → BeginsWithHeld id held found
+begins id bodies None held found stores same = record { front = bodies; more = []; stores = stores; split = same ∙ sym (append-nil bodies) }
+begins id bodies (Some body) held found stores (inl same) = record { front = bodies; more = []; stores = stores; split = same ∙ sym (append-nil bodies) }
+begins id bodies (Some body) held found stores (inr same) = record { front = bodies; more = body ∷ []; stores = stores; split = same }
 
-nothing_other : (bodies : List Body) (body : Option Body) (held : List Write) (doubt : Write) (found : List Body) → Stores bodies held → StoresDoubt body (Some doubt)
-    → IsHonest bodies body found → HasOther held doubt found → ⊥
-nothing_other bodies None held doubt found stores both honest other = both
-nothing_other bodies (Some body) held doubt found stores both (inl same) other = other.not_held (subst (λ (b : List Body). Stores b held) (sym same) stores)
-nothing_other bodies (Some body) held doubt found stores both (inr same) other =
-    other.not_adopted (subst (λ (b : List Body). Stores b (held ++ doubt ∷ [])) (sym same) (both_more IsBodyOf bodies held body doubt stores both))
+nothing_other : (core : Core) (bodies : List Body) (body : Option Body) (doubt : Write) (found : List Body) → AreTags core.id core.held core.tags → Stores core.id bodies (records_of core)
+    → StoresDoubt core.id body (Some (record { write = doubt; tag = core.doubt_tag })) → IsHonest bodies body found → HasOther core doubt found → ⊥
+nothing_other core bodies None doubt found tagged stores both honest other = both
+nothing_other core bodies (Some body) doubt found tagged stores both (inl same) other = other.not_held (subst (λ (b : List Body). Stores core.id b (records_of core)) (sym same) stores)
+nothing_other core bodies (Some body) doubt found tagged stores both (inr same) other =
+    other.not_adopted (subst (Stores core.id found) (sym (records-push core.held core.tags doubt core.doubt_tag (one_each core.id core.held core.tags tagged)))
+    (subst (λ (b : List Body). Stores core.id b (records_of core ++ record { write = doubt; tag = core.doubt_tag } ∷ [])) (sym same)
+    (both_more (IsBodyOf core.id) bodies (records_of core) body (record { write = doubt; tag = core.doubt_tag }) stores both)))
 
-found_in : {D : Type 0} (d : Ghosts D) → OpensHonestly d → {id : ℕ} {held : List Write} {doubt : Option Write} (old new : D) (bodies : List Body) (last : List ℕ) → d.is_modelled → (one : IsHonestServerDevice d id held doubt old)
+found_in : {D : Type 0} (d : Ghosts D) → OpensHonestly d → {id : ℕ} {held : List Record} {doubt : Option Record} (old new : D) (bodies : List Body) (last : List ℕ) → d.is_modelled → (one : IsHonestServerDevice d id held doubt old)
     → OpensWith d id old new bodies last → IsHonest one.bodies one.body bodies
 found_in d law {id} old new bodies last modelled one opens = law id one.bodies one.body old new (record { bodies = bodies; dropped = opens.dropped }) last modelled one.honest opens.opened
 
-again : {D : Type 0} (d : Ghosts D) → HonestAgain d → {id : ℕ} {held : List Write} {doubt : Option Write} (old new : D) (bodies : List Body) (last : List ℕ) → d.is_modelled → IsHonestServerDevice d id held doubt old
+again : {D : Type 0} (d : Ghosts D) → HonestAgain d → {id : ℕ} {held : List Record} {doubt : Option Record} (old new : D) (bodies : List Body) (last : List ℕ) → d.is_modelled → IsHonestServerDevice d id held doubt old
     → OpensWith d id old new bodies last → KeepsChains (d.kept old) (d.kept new) → IsHonestServerDevice d id held doubt new
 again d law {id} old new bodies last modelled one opens keeps = record {
   bodies = one.bodies;
@@ -223,7 +232,7 @@ again d law {id} old new bodies last modelled one opens keeps = record {
   honest = law id one.bodies one.body old new (record { bodies = bodies; dropped = opens.dropped }) last modelled one.honest opens.opened keeps;
 }
 
-refused : {D : Type 0} (d : Ghosts D) → RefusedHonestly d → {id : ℕ} {held : List Write} {doubt : Option Write} (old new : D) (fault : OpenFault) → journals.OnlyTears d → IsHonestServerDevice d id held doubt old
+refused : {D : Type 0} (d : Ghosts D) → RefusedHonestly d → {id : ℕ} {held : List Record} {doubt : Option Record} (old new : D) (fault : OpenFault) → journals.OnlyTears d → IsHonestServerDevice d id held doubt old
     → HasRefused d id old new fault → KeepsChains (d.kept old) (d.kept new) → IsHonestServerDevice d id held doubt new
 refused d law {id} old new fault tears one told keeps = record {
   bodies = one.bodies;
@@ -243,12 +252,33 @@ recovers None old new (down, is) = by old.doubt
     by (Some doubt) = inl (ap (λ (core : Core). core.held) is)
 recovers (Some wid) old new (doubt, was, name, is) = subst (λ (o : Option Write). AreHonest old.held o new.held) (sym was) (inr (ap (λ (core : Core). core.held) is))
 
+pub recovers_records : (adopts : Option Wid) (old new : Core) → IsSoundServer old → Recovers old adopts new → AreHonest (records_of old) (record_in_doubt old) (records_of new)
+recovers_records None old new sound (down, is) = by (record_in_doubt old)
+  where
+    by : (doubt : Option Record) → AreHonest (records_of old) doubt (records_of new)
+    by None = ap records_of is
+    by (Some doubt) = inl (ap records_of is)
+recovers_records (Some wid) old new sound (doubt, was, name, is) =
+    subst (λ (o : Option Write). AreHonest (records_of old) (in_doubt o old.doubt_tag) (records_of new)) (sym was) (inr (ap records_of is ∙ records-push old.held old.tags doubt old.doubt_tag (one_each old.id old.held old.tags sound.tagged)))
+
+-- honest records have honest Writes
+pub honest_writes : (old new : Core) → length old.tags ≡ length old.held → length new.tags ≡ length new.held → AreHonest (records_of old) (record_in_doubt old) (records_of new)
+    → AreHonest old.held old.doubt new.held
+honest_writes old new same also honest = by old.doubt honest
+  where
+    by : (doubt : Option Write) → AreHonest (records_of old) (in_doubt doubt old.doubt_tag) (records_of new) → AreHonest old.held doubt new.held
+    by None is = (one_of_each new.held old.held new.tags old.tags also same is).0
+    by (Some write) (inl is) = inl (one_of_each new.held old.held new.tags old.tags also same is).0
+    by (Some write) (inr is) = inr (one_of_each new.held (old.held ++ write ∷ []) new.tags (old.tags ++ old.doubt_tag ∷ []) also
+        (omega (arith, same, length-append old.held (write ∷ []), length-append old.tags (old.doubt_tag ∷ [])))
+        (is ∙ sym (records-push old.held old.tags write old.doubt_tag same))).0
+
 pub answers : {D : Type 0} (d : Ghosts D) → WholeIsHonest d → OpensHonestly d → Passes d → (result : Result Reopened ReopenFault) (old new : ServerState D) → d.is_modelled → IsSoundServer old.core
     → IsHonestServer d old → Reopens old.core result new.core → ReopensJournal d old result new → IsHonestAnswer result
 answers {D} d wholes law passes result old new modelled sound was reopens told = by result told
   where
-    one : IsHonestServerDevice d old.core.id old.core.held old.core.doubt old.device
-    one = honest_of d wholes old.core.id old.core.held old.core.doubt old.last old.device was
+    one : IsHonestServerDevice d old.core.id (records_of old.core) (record_in_doubt old.core) old.device
+    one = honest_of d wholes old.core.id (records_of old.core) (record_in_doubt old.core) old.last old.device was
 
     passing : (fault : OpenFault) → HasRefused d old.core.id old.device new.device fault → IsPassing fault
     passing fault refusal = passes old.core.id one.bodies one.body old.device new.device fault modelled one.honest refusal
@@ -261,13 +291,14 @@ answers {D} d wholes law passes result old new modelled sound was reopens told =
     by (Err (reopening.Journal NotAJournal)) told = passing opening.NotAJournal told
     by (Err (reopening.Journal OtherServer)) told = passing opening.OtherServer told
     by (Err reopening.Lost) (bodies, opens, lost) =
-        lost (begins one.bodies one.body old.core.held bodies one.stores (found_in d law old.device new.device bodies new.last modelled one opens))
+        lost (begins old.core.id one.bodies one.body (records_of old.core) bodies one.stores (found_in d law old.device new.device bodies new.last modelled one opens))
     by (Err (reopening.BadRecord at)) (doubt, is, (bodies, opens, other)) =
-        nothing_other one.bodies one.body old.core.held doubt bodies one.stores (subst (StoresDoubt one.body) is one.stores_doubt)
+        nothing_other old.core one.bodies one.body doubt bodies sound.tagged one.stores
+        (subst (λ (o : Option Write). StoresDoubt old.core.id one.body (in_doubt o old.core.doubt_tag)) is one.stores_doubt)
         (found_in d law old.device new.device bodies new.last modelled one opens) other
 
 -- the device that an opening left
-pub whole_opened : {D : Type 0} (d : Ghosts D) → OpensWhole d → (id : ℕ) (held : List Write) (old new : D) (bodies : List Body) (last : List ℕ) → d.is_modelled → Stores bodies held
+pub whole_opened : {D : Type 0} (d : Ghosts D) → OpensWhole d → (id : ℕ) (held : List Record) (old new : D) (bodies : List Body) (last : List ℕ) → d.is_modelled → Stores id bodies held
     → OpensWith d id old new bodies last → IsWholeDevice d id held last new
 whole_opened d law id held old new bodies last modelled stores opens = record {
   bodies = bodies;
@@ -276,29 +307,29 @@ whole_opened d law id held old new bodies last modelled stores opens = record {
 }
 
 -- the server that is up again
-pub recovered : {D : Type 0} (d : Ghosts D) (old new : ServerState D) (adopted : Option Wid) → Recovers old.core adopted new.core → IsWholeDevice d old.core.id new.core.held new.last new.device → IsHonestServer d new
+pub recovered : {D : Type 0} (d : Ghosts D) (old new : ServerState D) (adopts : Option Wid) → Recovers old.core adopts new.core → IsWholeDevice d old.core.id (records_of new.core) new.last new.device → IsHonestServer d new
 recovered d old new None (down, is) whole =
-    settles d new (record old.core { doubt = None }) is (subst (λ (h : List Write). IsWholeDevice d old.core.id h new.last new.device) (ap (λ (c : Core). c.held) is) whole)
+    settles d new (ap (λ (c : Core). c.id) is) refl (none_in_doubt new.core (ap (λ (c : Core). c.doubt) is)) whole
 recovered d old new (Some wid) (doubt, was, name, is) whole =
-    settles d new (record old.core { held = old.core.held ++ doubt ∷ []; doubt = None }) is
-    (subst (λ (h : List Write). IsWholeDevice d old.core.id h new.last new.device) (ap (λ (c : Core). c.held) is) whole)
+    settles d new (ap (λ (c : Core). c.id) is) refl (none_in_doubt new.core (ap (λ (c : Core). c.doubt) is)) whole
 
 pub reopened_left : {D : Type 0} (d : Ghosts D) → WholeIsHonest d → OpensWhole d → HonestAgain d → RefusedHonestly d → (result : Result Reopened ReopenFault) (old new : ServerState D) → journals.OnlyTears d
     → IsSoundServer old.core → IsHonestServer d old → Reopens old.core result new.core → ReopensJournal d old result new → KeepsChains (d.kept old.device) (d.kept new.device) → IsHonestServer d new
 reopened_left {D} d wholes law agains refuses result old new tears sound was reopens told keeps = by result reopens told
   where
-    one : IsHonestServerDevice d old.core.id old.core.held old.core.doubt old.device
-    one = honest_of d wholes old.core.id old.core.held old.core.doubt old.last old.device was
+    one : IsHonestServerDevice d old.core.id (records_of old.core) (record_in_doubt old.core) old.device
+    one = honest_of d wholes old.core.id (records_of old.core) (record_in_doubt old.core) old.last old.device was
 
-    down_still : IsSome old.core.doubt → new.core ≡ old.core → IsHonestServerDevice d old.core.id old.core.held old.core.doubt new.device → IsHonestServer d new
-    down_still down same honest = settles d new old.core same (left_of d old.core.id old.core.held old.core.doubt new.last new.device down honest)
+    down_still : IsSome old.core.doubt → new.core ≡ old.core → IsHonestServerDevice d old.core.id (records_of old.core) (record_in_doubt old.core) new.device → IsHonestServer d new
+    down_still down same honest = settles d new (ap (λ (c : Core). c.id) same) (ap records_of same) (ap record_in_doubt same)
+        (left_of d old.core.id (records_of old.core) (record_in_doubt old.core) new.last new.device (some_in_doubt old.core down) honest)
 
-    opened : (bodies : List Body) → OpensWith d old.core.id old.device new.device bodies new.last → IsHonestServerDevice d old.core.id old.core.held old.core.doubt new.device
+    opened : (bodies : List Body) → OpensWith d old.core.id old.device new.device bodies new.last → IsHonestServerDevice d old.core.id (records_of old.core) (record_in_doubt old.core) new.device
     opened bodies opens = again d agains old.device new.device bodies new.last tears.modelled one opens keeps
 
     by : (result : Result Reopened ReopenFault) → Reopens old.core result new.core → ReopensJournal d old result new → IsHonestServer d new
     by (Ok reopened) steps (bodies, stores, opens) =
-        recovered d old new reopened.adopted steps (whole_opened d law old.core.id new.core.held old.device new.device bodies new.last tears.modelled stores opens)
+        recovered d old new reopened.adopted steps (whole_opened d law old.core.id (records_of new.core) old.device new.device bodies new.last tears.modelled stores opens)
     by (Err reopening.NotDown) steps told = as_it_was d old new steps.1 told was
     by (Err (reopening.Journal fault)) steps told = down_still steps.0 steps.1 (refused d refuses old.device new.device (open_fault fault) tears one told keeps)
     by (Err reopening.Lost) steps (bodies, opens, lost) = down_still steps.0 steps.1 (opened bodies opens)
@@ -308,51 +339,53 @@ reopened_left {D} d wholes law agains refuses result old new tears sound was reo
 
 -- ---- starts
 
--- what was found are the bodies of Writes that the server may hold, and that are honest
+-- what was found are the bodies of Writes that the server may hold, with their tags, and that are honest
 pub record Whole (core : Core) (found : List Body) : Type 0 where
   pub writes : List Write
-  pub stores : Stores found writes
-  pub spelled : All IsWrite writes
+  pub tags : List (Option Tag)
+  pub stores : Stores core.id found (records writes tags)
   pub holds : MayHold core.id core.count core.limit writes
-  pub honest : AreHonest core.held core.doubt writes
+  pub tagged : AreTags core.id writes tags
+  pub honest : AreHonest (records_of core) (record_in_doubt core) (records writes tags)
 
-whole_list : (core : Core) (bodies : List Body) (body : Option Body) (found : List Body) → IsSoundServer core → Stores bodies core.held → StoresDoubt body core.doubt
+whole_list : (core : Core) (bodies : List Body) (body : Option Body) (found : List Body) → IsSoundServer core → Stores core.id bodies (records_of core) → StoresDoubt core.id body (record_in_doubt core)
     → IsHonest bodies body found → Whole core found
 whole_list core bodies body found sound stores both honest = by body core.doubt refl both honest
   where
-    held : (found ≡ bodies) → AreHonest core.held core.doubt core.held → Whole core found
+    held : (found ≡ bodies) → AreHonest (records_of core) (record_in_doubt core) (records_of core) → Whole core found
     held same are = record {
       writes = core.held;
-      stores = subst (λ (b : List Body). Stores b core.held) (sym same) stores;
-      spelled = sound.spelled;
+      tags = core.tags;
+      stores = subst (λ (b : List Body). Stores core.id b (records_of core)) (sym same) stores;
       holds = sound.holds;
+      tagged = sound.tagged;
       honest = are;
     }
 
-    up : IsSoundServer (record core { doubt = None })
-    up = record { known = sound.known; holds = sound.holds; spelled = sound.spelled; doubted = tt }
-
-    adopted : (b : Body) (doubt : Write) → core.doubt ≡ Some doubt → IsBodyOf b doubt → found ≡ bodies ++ b ∷ [] → Whole core found
-    adopted b doubt is stands same =
-        let may : MayBeInDoubt core.id core.count core.limit core.held doubt = subst (λ (o : Option Write). IfSome o (MayBeInDoubt core.id core.count core.limit core.held)) is sound.doubted in
-        let next = sound_next (record core { doubt = None }) doubt up refl may in
+    adopts : (b : Body) (doubt : Write) → core.doubt ≡ Some doubt → IsBodyOf core.id b (record { write = doubt; tag = core.doubt_tag }) → found ≡ bodies ++ b ∷ [] → Whole core found
+    adopts b doubt is stands same =
+        let next = sound_adopted core doubt sound is in
+        let more = records-push core.held core.tags doubt core.doubt_tag (one_each core.id core.held core.tags sound.tagged) in
         record {
           writes = core.held ++ doubt ∷ [];
-          stores = subst (λ (f : List Body). Stores f (core.held ++ doubt ∷ [])) (sym same) (both_more IsBodyOf bodies core.held b doubt stores stands);
-          spelled = next.spelled;
+          tags = core.tags ++ core.doubt_tag ∷ [];
+          stores = subst (λ (f : List Body). Stores core.id f (records (core.held ++ doubt ∷ []) (core.tags ++ core.doubt_tag ∷ []))) (sym same)
+              (subst (λ (l : List Record). Stores core.id (bodies ++ b ∷ []) l) (sym more)
+              (both_more (IsBodyOf core.id) bodies (records_of core) b (record { write = doubt; tag = core.doubt_tag }) stores stands));
           holds = next.holds;
-          honest = subst (λ (o : Option Write). AreHonest core.held o (core.held ++ doubt ∷ [])) (sym is) (inr refl);
+          tagged = next.tagged;
+          honest = subst (λ (o : Option Write). AreHonest (records_of core) (in_doubt o core.doubt_tag) (records (core.held ++ doubt ∷ []) (core.tags ++ core.doubt_tag ∷ []))) (sym is) (inr more);
         }
 
-    by : (body : Option Body) (doubt : Option Write) → core.doubt ≡ doubt → StoresDoubt body doubt → IsHonest bodies body found → Whole core found
-    by None None is both same = held same (subst (λ (o : Option Write). AreHonest core.held o core.held) (sym is) refl)
-    by (Some b) (Some doubt) is both (inl same) = held same (subst (λ (o : Option Write). AreHonest core.held o core.held) (sym is) (inl refl))
-    by (Some b) (Some doubt) is both (inr same) = adopted b doubt is both same
+    by : (body : Option Body) (doubt : Option Write) → core.doubt ≡ doubt → StoresDoubt core.id body (in_doubt doubt core.doubt_tag) → IsHonest bodies body found → Whole core found
+    by None None is both same = held same (subst (λ (o : Option Write). AreHonest (records_of core) (in_doubt o core.doubt_tag) (records_of core)) (sym is) refl)
+    by (Some b) (Some doubt) is both (inl same) = held same (subst (λ (o : Option Write). AreHonest (records_of core) (in_doubt o core.doubt_tag) (records_of core)) (sym is) (inl refl))
+    by (Some b) (Some doubt) is both (inr same) = adopts b doubt is both same
     by None (Some doubt) is both same = absurd both
     by (Some b) None is both same = absurd both
 
 pub whole_of_device : {D : Type 0} (d : Ghosts D) → OpensHonestly d → (core : Core) (device left : D) (bodies : List Body) (last : List ℕ) → d.is_modelled → IsSoundServer core
-    → IsHonestServerDevice d core.id core.held core.doubt device → OpensWith d core.id device left bodies last → Whole core bodies
+    → IsHonestServerDevice d core.id (records_of core) (record_in_doubt core) device → OpensWith d core.id device left bodies last → Whole core bodies
 whole_of_device d law core device left bodies last modelled sound one opens =
     whole_list core one.bodies one.body bodies sound one.stores one.stores_doubt (found_in d law device left bodies last modelled one opens)
 
@@ -361,14 +394,14 @@ refusal_of Device passing = tt
 refusal_of NotAJournal passing = passing
 refusal_of OtherServer passing = passing
 
-pub start_refused : {D : Type 0} (d : Ghosts D) → OpensHonestly d → Passes d → BeginsNone → (core : Core) (device left : D) (fault : StartFault) → d.is_modelled → IsSoundServer core
-    → IsHonestServerDevice d core.id core.held core.doubt device → FailsToStart d core.id core.count core.limit device left fault → IsHonestRefusal fault
+pub start_refused : {D : Type 0} (d : Ghosts D) → OpensHonestly d → Passes d → OneRecord → (core : Core) (device left : D) (fault : StartFault) → d.is_modelled → IsSoundServer core
+    → IsHonestServerDevice d core.id (records_of core) (record_in_doubt core) device → FailsToStart d core.id core.count core.limit device left fault → IsHonestRefusal fault
 start_refused {D} d law passes none core device left fault modelled sound one told = by fault told
   where
     at_entry : (fault : StartFault) → StopsAtEntry d core.id core.count core.limit device left fault → ⊥
     at_entry fault stops =
         let whole = whole_of_device d law core device left stops.bodies stops.last modelled sound one stops.opened in
-        none_refused none core.id core.count core.limit whole.writes stops.bodies fault whole.spelled whole.holds whole.stores stops.refused
+        none_refused none core.id core.count core.limit whole.writes whole.tags stops.bodies fault whole.holds whole.tagged whole.stores stops.refused
 
     by : (fault : StartFault) → FailsToStart d core.id core.count core.limit device left fault → IsHonestRefusal fault
     by (starting.Journal fault) told = refusal_of fault (passes core.id one.bodies one.body device left (open_fault fault) modelled one.honest told)
@@ -378,14 +411,14 @@ start_refused {D} d law passes none core device left fault modelled sound one to
     by starting.OutOfMemory told = tt
 
 pub start_left : {D : Type 0} (d : Ghosts D) → HonestAgain d → RefusedHonestly d → (core : Core) (device left : D) (fault : StartFault) → journals.OnlyTears d → IsSoundServer core
-    → IsHonestServerDevice d core.id core.held core.doubt device → FailsToStart d core.id core.count core.limit device left fault → KeepsChains (d.kept device) (d.kept left)
-    → IsHonestServerDevice d core.id core.held core.doubt left
+    → IsHonestServerDevice d core.id (records_of core) (record_in_doubt core) device → FailsToStart d core.id core.count core.limit device left fault → KeepsChains (d.kept device) (d.kept left)
+    → IsHonestServerDevice d core.id (records_of core) (record_in_doubt core) left
 start_left {D} d agains refuses core device left fault tears sound one told keeps = by fault told
   where
-    opened : (bodies : List Body) (last : List ℕ) → OpensWith d core.id device left bodies last → IsHonestServerDevice d core.id core.held core.doubt left
+    opened : (bodies : List Body) (last : List ℕ) → OpensWith d core.id device left bodies last → IsHonestServerDevice d core.id (records_of core) (record_in_doubt core) left
     opened bodies last opens = again d agains device left bodies last tears.modelled one opens keeps
 
-    by : (fault : StartFault) → FailsToStart d core.id core.count core.limit device left fault → IsHonestServerDevice d core.id core.held core.doubt left
+    by : (fault : StartFault) → FailsToStart d core.id core.count core.limit device left fault → IsHonestServerDevice d core.id (records_of core) (record_in_doubt core) left
     by (starting.Journal fault) told = refused d refuses device left (open_fault fault) tears one told keeps
     by (starting.BadRecord at) told = opened told.bodies told.last told.opened
     by (starting.Gap at) told = opened told.bodies told.last told.opened

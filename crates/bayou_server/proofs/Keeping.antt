@@ -1,5 +1,5 @@
 -- That what a device keeps is never lost, and that nothing else of a device decides.
-use Rattle.std.proofs.Common.{◌≡◌, ℕ, List, [], ◌∷◌, ◌++◌, Option, None, Some, Result, Ok, Err, All, refl, sym, ◌∙◌, ap, subst}
+use Rattle.std.proofs.Common.{◌≡◌, ℕ, List, [], ◌∷◌, ◌++◌, Option, None, Some, Result, Ok, Err, refl, sym, ◌∙◌, ap, subst}
 use Rattle.bayou_device.specs.declared.device.Device.{Ghosts}
 use Rattle.bayou_journal.specs.Honest as journals
 use Rattle.bayou_journal.specs.Honest.{BeginsWithBodies, HasJournal, IsPassing}
@@ -8,16 +8,15 @@ use Rattle.bayou_journal.specs.Opening.{HasOpened, HasRefused}
 use Rattle.bayou_journal.specs.declared.fault.OpenFault.{OpenFault}
 use Rattle.bayou_journal.specs.declared.fault.OpenFault.TheVariants as opening
 use Rattle.bayou_journal.specs.Versions.{Body}
-use Rattle.bayou_lang.specs.declared.write.Write.{Write}
-use Rattle.bayou_lang.specs.Ranges.{IsWrite}
+use Rattle.bayou_wire.specs.declared.record.Record.{Record}
 use Rattle.bayou_server.specs.declared.answer.Reopened.{Reopened}
 use Rattle.bayou_server.specs.declared.fault.JournalFault.TheVariants.{Device, NotAJournal, OtherServer}
 use Rattle.bayou_server.specs.declared.fault.ReopenFault.{ReopenFault}
 use Rattle.bayou_server.specs.declared.fault.ReopenFault.TheVariants as reopening
 use Rattle.bayou_server.specs.Honest.{IsLeft, LosesNothing}
-use Rattle.bayou_server.specs.Server.{ServerState}
+use Rattle.bayou_server.specs.Server.{ServerState, records_of}
 use Rattle.bayou_server.specs.Stored.{ReopensJournal, Stores}
-use Rattle.bayou_server.proofs.Deciding.{BeginsNone, first_of_all, one_write, rest_of_all}
+use Rattle.bayou_server.proofs.Deciding.{OneRecord, one_record}
 
 abbrev pub SameDevice : {D : Type 0} → Ghosts D → Type 0
 SameDevice {D} d = (server : ℕ) (bodies : List Body) (doubt : Option Body) (device other : D) → d.content other ≡ d.content device → d.kept other ≡ d.kept device
@@ -31,7 +30,7 @@ abbrev pub PassesKept : {D : Type 0} → Ghosts D → Type 0
 PassesKept {D} d = (server : ℕ) (bodies : List Body) (old new : D) (fault : OpenFault) → d.is_modelled
     → BeginsWithBodies server bodies (d.kept old) → HasRefused d server old new fault → IsPassing fault
 
-pub same_left : {D : Type 0} (d : Ghosts D) → SameDevice d → (id : ℕ) (held : List Write) (doubt : Option Write) (last : List ℕ) (device other : D) → d.content other ≡ d.content device → d.kept other ≡ d.kept device
+pub same_left : {D : Type 0} (d : Ghosts D) → SameDevice d → (id : ℕ) (held : List Record) (doubt : Option Record) (last : List ℕ) (device other : D) → d.content other ≡ d.content device → d.kept other ≡ d.kept device
     → IsLeft d id held doubt last device → IsLeft d id held doubt last other
 same_left d law id held None last device other content kept left = record {
   bodies = left.bodies;
@@ -49,20 +48,19 @@ same_left d law id held (Some doubt) last device other content kept left = recor
   honest = law id left.bodies left.body device other content kept left.honest;
 }
 
--- Writes whose bodies begin with those of others begin with them
-pub begins_with : BeginsNone → (front more : List Body) (writes held : List Write) → All IsWrite writes → All IsWrite held → Stores (front ++ more) writes → Stores front held
-    → (rest : List Write) × (writes ≡ held ++ rest)
-begins_with law [] more writes [] all every stores begins = (writes, refl)
-begins_with law [] more writes (other ∷ held) all every stores begins = absurd begins
-begins_with law (body ∷ front) more writes [] all every stores begins = absurd begins
-begins_with law (body ∷ front) more [] (other ∷ held) all every stores begins = absurd stores
-begins_with law (body ∷ front) more (write ∷ writes) (other ∷ held) all every stores begins =
-    let first = one_write law write other (first_of_all write writes all) (first_of_all other held every) (sym stores.0 ∙ begins.0) in
-    let next = begins_with law front more writes held (rest_of_all write writes all) (rest_of_all other held every) stores.1 begins.1 in
-    (next.0, ap (λ (w : Write). w ∷ writes) first ∙ ap (λ (l : List Write). other ∷ l) next.1)
+-- records whose bodies begin with those of others begin with them
+pub begins_with : OneRecord → (id : ℕ) (front more : List Body) (stored held : List Record) → Stores id (front ++ more) stored → Stores id front held
+    → (rest : List Record) × (stored ≡ held ++ rest)
+begins_with law id [] more stored [] stores begins = (stored, refl)
+begins_with law id [] more stored (other ∷ held) stores begins = absurd begins
+begins_with law id (body ∷ front) more stored [] stores begins = absurd begins
+begins_with law id (body ∷ front) more [] (other ∷ held) stores begins = absurd stores
+begins_with law id (body ∷ front) more (one ∷ stored) (other ∷ held) stores begins =
+    let next = begins_with law id front more stored held stores.1 begins.1 in
+    (next.0, ap (λ (r : Record). r ∷ stored) (one_record law id body one other stores.0 begins.0) ∙ ap (λ (l : List Record). other ∷ l) next.1)
 
 pub never_lost : {D : Type 0} (d : Ghosts D) → FindsKept d → PassesKept d → (bodies : List Body) (result : Result Reopened ReopenFault) (old new : ServerState D) → d.is_modelled
-    → Stores bodies old.core.held → BeginsWithBodies old.core.id bodies (d.kept old.device) → ReopensJournal d old result new → LosesNothing result
+    → Stores old.core.id bodies (records_of old.core) → BeginsWithBodies old.core.id bodies (d.kept old.device) → ReopensJournal d old result new → LosesNothing result
 never_lost d law passes bodies (Ok reopened) old new modelled stores begins told = tt
 never_lost d law passes bodies (Err reopening.NotDown) old new modelled stores begins told = tt
 never_lost d law passes bodies (Err (reopening.Journal Device)) old new modelled stores begins told = tt

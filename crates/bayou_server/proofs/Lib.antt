@@ -1,4 +1,5 @@
 pub mod Adding
+pub mod Beside
 pub mod Bodies
 pub mod Comparing
 pub mod Crashing

@@ -1,6 +1,6 @@
 -- What a reopening leaves, by what the journal found.
-use Rattle.std.specs.Prelude.{IfSome, IsSome}
-use Rattle.std.proofs.Common.{◌≡◌, ℕ, ◌≤◌, List, [], ◌∷◌, ◌++◌, Option, None, Some, Err, false, inl, inr, refl, sym, ◌∙◌, ap, subst}
+use Rattle.std.specs.Prelude.{Bool, IfSome, IsSome, is_some, not}
+use Rattle.std.proofs.Common.{◌≡◌, ℕ, ◌≤◌, ◌<◌, List, [], ◌∷◌, ◌++◌, Option, None, Some, Err, false, inl, inr, refl, sym, ◌∙◌, ap, subst}
 use Rattle.bayou_base.specs.declared.limits.TheConstants.{MAX_WRITES}
 use Rattle.bayou_journal.specs.declared.fault.OpenFault.{OpenFault}
 use Rattle.bayou_journal.specs.declared.fault.OpenFault.TheVariants as opening
@@ -10,6 +10,8 @@ use Rattle.bayou_journal.specs.Opening.{HasOpened, HasRefused}
 use Rattle.bayou_journal.specs.Versions.{Body}
 use Rattle.bayou_lang.specs.declared.write.Write.{Write}
 use Rattle.bayou_log.specs.Log.{Log, IsReserved}
+use Rattle.bayou_tags.specs.Tags.{TagList}
+use Rattle.bayou_server.specs.declared.holding.Holding.{Holding}
 use Rattle.bayou_server.specs.declared.fault.ReopenFault.{ReopenFault}
 use Rattle.bayou_server.specs.declared.fault.ReopenFault.TheVariants.{NotDown, Journal, Lost, BadRecord, OutOfMemory}
 use Rattle.bayou_server.specs.Faults.{reopen_fault}
@@ -18,7 +20,6 @@ use Rattle.bayou_server.specs.Reopens.{Reopens}
 use Rattle.bayou_server.specs.Inner.Replaying.{AreOthers}
 use Rattle.bayou_server.specs.Server.{Core, IsDown, IsSoundServer, MayBeInDoubt, ServerState}
 use Rattle.bayou_server.specs.Stored.{OpensWith, ReopensJournal}
-use Rattle.bayou_server.proofs.Steps.{sound_next}
 use Rattle.bayou_device.specs.declared.device.Device.{Ghosts}
 
 -- the journal's refusal
@@ -56,7 +57,7 @@ opens_with d server id old new found last owner has =
     subst (λ (s : ℕ). OpensWith d s old new found.bodies last) owner whole
 
 -- it has other bodies than it may
-pub stays_other : (core : Core) (doubt : Write) (bodies : List Body) (fault : ReopenFault) → core.doubt ≡ Some doubt → AreOthers core.held doubt bodies fault → Reopens core (Err fault) core
+pub stays_other : (core : Core) (doubt : Write) (bodies : List Body) (fault : ReopenFault) → core.doubt ≡ Some doubt → AreOthers core doubt bodies fault → Reopens core (Err fault) core
 stays_other core doubt bodies NotDown down have = absurd have
 stays_other core doubt bodies (Journal fault) down have = absurd have
 stays_other core doubt bodies Lost down have = (subst IsSome (sym down) refl, refl)
@@ -64,44 +65,61 @@ stays_other core doubt bodies (BadRecord at) down have = (subst IsSome (sym down
 stays_other core doubt bodies OutOfMemory down have = (subst IsSome (sym down) refl, refl)
 
 pub others_refused : {D : Type 0} (d : Ghosts D) (old new : ServerState D) (doubt : Write) (bodies : List Body) (fault : ReopenFault) → old.core.doubt ≡ Some doubt
-    → OpensWith d old.core.id old.device new.device bodies new.last → AreOthers old.core.held doubt bodies fault → ReopensJournal d old (Err fault) new
+    → OpensWith d old.core.id old.device new.device bodies new.last → AreOthers old.core doubt bodies fault → ReopensJournal d old (Err fault) new
 others_refused d old new doubt bodies NotDown down opened have = absurd have
 others_refused d old new doubt bodies (Journal fault) down opened have = absurd have
 others_refused d old new doubt bodies Lost down opened have = (bodies, opened, have)
 others_refused d old new doubt bodies (BadRecord at) down opened have = (doubt, down, (bodies, opened, have.1))
 others_refused d old new doubt bodies OutOfMemory down opened have = inr (bodies, opened)
 
--- the Write in doubt may be held next
-pub doubted_may : {D : Type 0} (journal : JournalState D) (log : Log) (id : ℕ) (doubt : Option Write) (write : Write) → BelongTogether journal log id doubt → doubt ≡ Some write
-    → MayBeInDoubt id log.count log.limit log.receipts write
-doubted_may journal log id doubt write together is = subst (λ (d : Option Write). IfSome d (MayBeInDoubt id log.count log.limit log.receipts)) is together.sound.doubted
+-- the Write in doubt, where one is
+pub the_doubt : (doubt : Option Write) (none : Bool) → is_some doubt ≡ not none → none ≡ false → (write : Write) × (doubt ≡ Some write)
+the_doubt None none is down = absurd cc
+the_doubt (Some write) none is down = (write, refl)
 
--- and the log has room for it
-pub doubted_is_reserved : {D : Type 0} (journal : JournalState D) (log : Log) (id : ℕ) (doubt : Option Write) (write : Write) → BelongTogether journal log id doubt → doubt ≡ Some write
-    → IsReserved log.room write
-doubted_is_reserved journal log id doubt write together is = subst (λ (d : Option Write). Stands journal log d) is together.stands
+-- it may be held next
+pub doubted_may : {D : Type 0} (journal : JournalState D) (holding : Holding) (id : ℕ) (write : Write) → BelongTogether journal holding id → holding.doubt ≡ Some write
+    → MayBeInDoubt id holding.log.count holding.log.limit holding.log.receipts write
+doubted_may journal holding id write together is = subst (λ (d : Option Write). IfSome d (MayBeInDoubt id holding.log.count holding.log.limit holding.log.receipts)) is together.sound.doubted
 
--- what is held and applied is held
-pub held_and_applied : (log after : Log) (writes : List Write) → after ≡ record log { receipts = writes; room = after.room; waiting = 0 }
-    → after ≡ record log { receipts = writes; room = after.room; waiting = after.waiting }
-held_and_applied log after writes is = is ∙ ap (λ n. record log { receipts = writes; room = after.room; waiting = n }) (sym (ap (λ (l : Log). l.waiting) is))
+-- and there is room for it, and for its tag
+pub doubted_is_reserved : {D : Type 0} (journal : JournalState D) (holding : Holding) (id : ℕ) (write : Write) → BelongTogether journal holding id → holding.doubt ≡ Some write
+    → IsReserved holding.log.room write × (0 < holding.tags.room)
+doubted_is_reserved journal holding id write together is = subst (λ (d : Option Write). Stands journal holding d) is together.stands
 
--- the fields still belong together once the Write in doubt was adopted
-pub after_adopting : {D : Type 0} (journal new : JournalState D) (log after : Log) (id : ℕ) (doubt left : Option Write) (write : Write)
-    → BelongTogether journal log id doubt → doubt ≡ Some write → left ≡ None
-    → new ≡ record journal { device = new.device; last = new.last; is_down = false }
-    → after ≡ record log { receipts = log.receipts ++ write ∷ []; room = after.room; waiting = after.waiting } → BelongTogether new after id left
-after_adopting {D} journal new log after id doubt left write together is none new_is after_is =
-    let may = doubted_may journal log id doubt write together is in
-    let up : IsSoundServer (core_of log id None) = record { known = together.sound.known; holds = together.sound.holds; spelled = together.sound.spelled; doubted = tt } in
-    let owner : new.server ≡ journal.server = ap (λ (j : JournalState D). j.server) new_is in
-    record {
-      owner = owner ∙ together.owner;
-      limit = subst (λ (l : Log). l.limit ≤ MAX_WRITES) (sym after_is) together.limit;
-      sound = subst (λ (l : Log). IsSoundServer (core_of l id left)) (sym after_is)
-          (subst (λ (d : Option Write). IsSoundServer (record (core_of log id d) { held = log.receipts ++ write ∷ [] })) (sym none) (sound_next (core_of log id None) write up refl may));
-      stands = subst (λ (d : Option Write). Stands new after d) (sym none) (ap (λ (j : JournalState D). j.is_down) new_is);
-    }
+core_by : Log → TagList → Option Write → ℕ → Core
+core_by log tags doubt id = core_of (record { log = log; tags = tags; doubt = doubt }) id
+
+-- the core once the Write in doubt was adopted
+pub adopted_core : (holding after : Holding) (id : ℕ) (write : Write) → after.doubt ≡ None
+    → after.log ≡ record holding.log { receipts = holding.log.receipts ++ write ∷ []; room = after.log.room; waiting = 0 }
+    → after.tags ≡ record holding.tags { tags = holding.tags.tags ++ holding.tags.coming ∷ []; coming = None; room = after.tags.room }
+    → core_of after id ≡ record (core_of holding id) { held = holding.log.receipts ++ write ∷ []; tags = holding.tags.tags ++ holding.tags.coming ∷ []; doubt = None; doubt_tag = None }
+unfolding core_by
+adopted_core holding after id write none log_is tags_is =
+    ap (λ (l : Log). core_by l after.tags after.doubt id) log_is
+    ∙ ap (λ (t : TagList). record (core_by holding.log t after.doubt id) { held = holding.log.receipts ++ write ∷ [] }) tags_is
+    ∙ ap (λ (d : Option Write). record (core_by holding.log holding.tags d id) { held = holding.log.receipts ++ write ∷ []; tags = holding.tags.tags ++ holding.tags.coming ∷ []; doubt_tag = None }) none
+
+-- and once it was forgotten
+pub forgotten_core : (holding after : Holding) (id : ℕ) → after.doubt ≡ None → after.log ≡ holding.log → after.tags ≡ record holding.tags { coming = None }
+    → core_of after id ≡ record (core_of holding id) { doubt = None; doubt_tag = None }
+unfolding core_by
+forgotten_core holding after id none log_is tags_is =
+    ap (λ (l : Log). core_by l after.tags after.doubt id) log_is
+    ∙ ap (λ (t : TagList). core_by holding.log t after.doubt id) tags_is
+    ∙ ap (λ (d : Option Write). record (core_by holding.log holding.tags d id) { doubt_tag = None }) none
+
+-- the fields still belong together once the server is up again
+pub up_again : {D : Type 0} (journal new : JournalState D) (holding after : Holding) (id : ℕ) → BelongTogether journal holding id
+    → new ≡ record journal { device = new.device; last = new.last; is_down = false } → after.log.limit ≡ holding.log.limit → after.doubt ≡ None → IsSoundServer (core_of after id)
+    → BelongTogether new after id
+up_again {D} journal new holding after id together new_is limit none sound = record {
+  owner = ap (λ (j : JournalState D). j.server) new_is ∙ together.owner;
+  limit = subst (λ (n : ℕ). n ≤ MAX_WRITES) (sym limit) together.limit;
+  sound = sound;
+  stands = subst (λ (d : Option Write). Stands new after d) (sym none) (ap (λ (j : JournalState D). j.is_down) new_is);
+}
 
 -- the two that are in doubt are one
 pub same_doubt : (doubt taken : Option Write) (one other : Write) → doubt ≡ Some one → taken ≡ doubt → taken ≡ Some other → one ≡ other

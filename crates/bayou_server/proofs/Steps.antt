@@ -4,6 +4,7 @@ use Rattle.std.specs.Prelude.{IfSome, MatchResult, slice_index, if◌then◌else
 use Rattle.std.proofs.lemmas.Bool.Decides.{Decides-eqb}
 use Rattle.std.proofs.lemmas.List.Elements.{All-push}
 use Rattle.bayou_base.specs.declared.answer.Accepted.{Accepted}
+use Rattle.bayou_base.specs.declared.tag.Tag.{Tag}
 use Rattle.bayou_base.specs.declared.wid.Wid.{Wid}
 use Rattle.bayou_device.specs.declared.device.Device.{Ghosts}
 use Rattle.bayou_lang.specs.declared.program.Program.{Program}
@@ -19,23 +20,65 @@ use Rattle.bayou_server.specs.declared.fault.WriteFault.{WriteFault}
 use Rattle.bayou_server.specs.declared.fault.WriteFault.TheVariants.{Down, Behind, LogFull, OutOfMemory, Journal}
 use Rattle.bayou_server.specs.Reopens.{Recovers, own_adopted}
 use Rattle.bayou_server.specs.Inner.Storing.{MayBeStored}
-use Rattle.bayou_server.specs.Server.{Core, IsSoundServer, IsUp, MayBeInDoubt, ServerState, own_count}
+use Rattle.bayou_server.specs.Server.{Core, IsSoundServer, IsUp, MayBeInDoubt, MayBeItsTag, ServerState, own_count}
 use Rattle.bayou_server.specs.Stored.{StoresTaken}
 use Rattle.bayou_server.specs.Takes.{Takes}
 use Rattle.bayou_server.specs.Writes.{Writes}
+use Rattle.bayou_server.proofs.Beside.{AreTags-push}
 
--- a server that holds the Write that it may hold next too is sound
-pub sound_next : (core : Core) (made : Write) → IsSoundServer core → IsUp core → MayBeInDoubt core.id core.count core.limit core.held made
-    → IsSoundServer (record core { held = core.held ++ made ∷ [] })
-sound_next core made sound up may = record {
+-- a server that is up has no tag in doubt
+pub no_doubt_tag : (core : Core) → IsSoundServer core → IsUp core → core.doubt_tag ≡ None
+no_doubt_tag core sound up = subst (λ (d : Option Write). MayBeItsTag core.id core.tags d core.doubt_tag) up sound.doubt_tagged
+
+-- a server that holds the Write that it may hold next too, with a tag that it may have, is sound
+pub sound_next : (core : Core) (made : Write) (tag : Option Tag) → IsSoundServer core → IsUp core → MayBeInDoubt core.id core.count core.limit core.held made
+    → MayBeItsTag core.id core.tags (Some made) tag → IsSoundServer (record core { held = core.held ++ made ∷ []; tags = core.tags ++ tag ∷ [] })
+sound_next core made tag sound up may tagged = record {
   known = sound.known;
   holds = record {
     sound = IsSound-push core.id core.count core.held made sound.holds.sound may.fits (λ is_own. (may.own is_own).deps);
     within = omega (arith, may.room, length-append core.held (made ∷ []));
   };
   spelled = All-push IsWrite core.held made sound.spelled may.spelled;
+  tagged = AreTags-push core.id core.held core.tags made tag sound.tagged tagged.1 tagged.0;
   doubted = subst (λ (d : Option Write). IfSome d (MayBeInDoubt core.id core.count core.limit (core.held ++ made ∷ []))) (sym up) tt;
+  doubt_tagged = subst (λ (d : Option Write). MayBeItsTag core.id (core.tags ++ tag ∷ []) d core.doubt_tag) (sym up) (no_doubt_tag core sound up);
 }
+
+-- no tag may be any Write's
+pub no_tag_may : (core : Core) (made : Write) → MayBeItsTag core.id core.tags (Some made) None
+no_tag_may core made = (tt, λ some. absurd cc)
+
+-- and so is one that puts it in doubt
+pub sound_doubting : (core : Core) (made : Write) (tag : Option Tag) → IsSoundServer core → MayBeInDoubt core.id core.count core.limit core.held made
+    → MayBeItsTag core.id core.tags (Some made) tag → IsSoundServer (record core { doubt = Some made; doubt_tag = tag })
+sound_doubting core made tag sound may tagged = record {
+  known = sound.known;
+  holds = sound.holds;
+  spelled = sound.spelled;
+  tagged = sound.tagged;
+  doubted = may;
+  doubt_tagged = tagged;
+}
+
+-- and one that forgets the Write in doubt
+pub sound_forgetting : (core : Core) → IsSoundServer core → IsSoundServer (record core { doubt = None; doubt_tag = None })
+sound_forgetting core sound = record {
+  known = sound.known;
+  holds = sound.holds;
+  spelled = sound.spelled;
+  tagged = sound.tagged;
+  doubted = tt;
+  doubt_tagged = refl;
+}
+
+-- and one that adopts it
+pub sound_adopted : (core : Core) (doubt : Write) → IsSoundServer core → core.doubt ≡ Some doubt
+    → IsSoundServer (record core { held = core.held ++ doubt ∷ []; tags = core.tags ++ core.doubt_tag ∷ []; doubt = None; doubt_tag = None })
+sound_adopted core doubt sound is =
+    let may : MayBeInDoubt core.id core.count core.limit core.held doubt = subst (λ (o : Option Write). IfSome o (MayBeInDoubt core.id core.count core.limit core.held)) is sound.doubted in
+    let tagged : MayBeItsTag core.id core.tags (Some doubt) core.doubt_tag = subst (λ (o : Option Write). MayBeItsTag core.id core.tags o core.doubt_tag) is sound.doubt_tagged in
+    sound_next (record core { doubt = None; doubt_tag = None }) doubt core.doubt_tag (sound_forgetting core sound) refl may tagged
 
 -- the next Write is made of its own program
 next_as_itself : (held : List Write) (server : ℕ) (asked : Program) (made : Write) → IsNextWrite held server asked made → IsNextWrite held server made.program made

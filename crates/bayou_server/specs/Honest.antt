@@ -3,72 +3,72 @@ use Rattle.std.specs.Prelude.{◌≡◌, ◌⊎◌, ℕ, List, [], ◌∷◌, �
 use Rattle.bayou_device.specs.declared.device.Device.{Ghosts}
 use Rattle.bayou_journal.specs.Honest as journals
 use Rattle.bayou_journal.specs.Versions.{Body}
-use Rattle.bayou_lang.specs.declared.write.Write.{Write}
+use Rattle.bayou_wire.specs.declared.record.Record.{Record}
 use Rattle.bayou_server.specs.declared.answer.Reopened.{Reopened}
 use Rattle.bayou_server.specs.declared.fault.JournalFault.TheVariants.{Device, NotAJournal, OtherServer}
 use Rattle.bayou_server.specs.declared.fault.ReopenFault.{ReopenFault}
 use Rattle.bayou_server.specs.declared.fault.ReopenFault.TheVariants as reopening
 use Rattle.bayou_server.specs.declared.fault.StartFault.{StartFault}
 use Rattle.bayou_server.specs.declared.fault.StartFault.TheVariants as starting
-use Rattle.bayou_server.specs.Server.{ServerState}
+use Rattle.bayou_server.specs.Server.{ServerState, record_in_doubt, records_of}
 use Rattle.bayou_server.specs.Stored.{IsBodyOf, Stores}
 
--- the body in doubt stands for the Write in doubt, if one is
-abbrev pub StoresDoubt : Option Body → Option Write → Type 0
-StoresDoubt None None = Unit {0}
-StoresDoubt (Some body) (Some doubt) = IsBodyOf body doubt
-StoresDoubt None (Some doubt) = ⊥
-StoresDoubt (Some body) None = ⊥
+-- the body in doubt stands for the record of the Write in doubt, if one is
+abbrev pub StoresDoubt : (id : ℕ) → Option Body → Option Record → Type 0
+StoresDoubt id None None = Unit {0}
+StoresDoubt id (Some body) (Some doubt) = IsBodyOf id body doubt
+StoresDoubt id None (Some doubt) = ⊥
+StoresDoubt id (Some body) None = ⊥
 
--- The device is honest for the server's Writes: the entries of those held are kept, and no other entry goes on from them but that
+-- The device is honest for the server's Writes, with their tags: the entries of those held are kept, and no other entry goes on from them but that
 -- of the Write in doubt, if one is.
-pub record IsHonestServerDevice {D : Type 0} (d : Ghosts D) (id : ℕ) (held : List Write) (doubt : Option Write) (device : D) : Type 0 where
+pub record IsHonestServerDevice {D : Type 0} (d : Ghosts D) (id : ℕ) (held : List Record) (doubt : Option Record) (device : D) : Type 0 where
   pub bodies : List Body
   pub body : Option Body
-  pub stores : Stores bodies held
-  pub stores_doubt : StoresDoubt body doubt
+  pub stores : Stores id bodies held
+  pub stores_doubt : StoresDoubt id body doubt
   pub honest : journals.IsHonestDevice d id bodies body device
 
 -- the device has the server's journal, with the Writes held and nothing else, all of it kept; its next entry stands behind that digest
-pub record IsWholeDevice {D : Type 0} (d : Ghosts D) (id : ℕ) (held : List Write) (last : List ℕ) (device : D) : Type 0 where
+pub record IsWholeDevice {D : Type 0} (d : Ghosts D) (id : ℕ) (held : List Record) (last : List ℕ) (device : D) : Type 0 where
   pub bodies : List Body
-  pub stores : Stores bodies held
+  pub stores : Stores id bodies held
   pub whole : journals.IsWhole d id bodies last device
 
 -- what a server that is up has on its device, and one that is down
-abbrev pub IsLeft : {D : Type 0} → Ghosts D → (id : ℕ) → (held : List Write) → Option Write → (last : List ℕ) → (device : D) → Type 0
+abbrev pub IsLeft : {D : Type 0} → Ghosts D → (id : ℕ) → (held : List Record) → Option Record → (last : List ℕ) → (device : D) → Type 0
 IsLeft d id held None last device = IsWholeDevice d id held last device
 IsLeft d id held (Some doubt) last device = IsHonestServerDevice d id held (Some doubt) device
 
 -- The server is over an honest device: while it is up a whole one.
 abbrev pub IsHonestServer : {D : Type 0} → Ghosts D → ServerState D → Type 0
-IsHonestServer d server = IsLeft d server.core.id server.core.held server.core.doubt server.last server.device
+IsHonestServer d server = IsLeft d server.core.id (records_of server.core) (record_in_doubt server.core) server.last server.device
 
 -- the entries of the Writes held are kept, if any are held
-pub record KeepsWrites {D : Type 0} (d : Ghosts D) (id : ℕ) (held : List Write) (device : D) : Type 0 where
+pub record KeepsWrites {D : Type 0} (d : Ghosts D) (id : ℕ) (held : List Record) (device : D) : Type 0 where
   pub bodies : List Body
-  pub stores : Stores bodies held
+  pub stores : Stores id bodies held
   pub keeps : journals.KeepsBodies d id bodies device
 
 -- what a server that is up keeps on its device, and one that is down, whatever its failed calls left behind that
-abbrev pub IsKept : {D : Type 0} → Ghosts D → (id : ℕ) → (held : List Write) → Option Write → (last : List ℕ) → (device : D) → Type 0
+abbrev pub IsKept : {D : Type 0} → Ghosts D → (id : ℕ) → (held : List Record) → Option Record → (last : List ℕ) → (device : D) → Type 0
 IsKept d id held None last device = IsWholeDevice d id held last device
 IsKept d id held (Some doubt) last device = KeepsWrites d id held device
 
 -- What a server holds is kept: while it is up it has a whole device.
 abbrev pub IsKeptServer : {D : Type 0} → Ghosts D → ServerState D → Type 0
-IsKeptServer d server = IsKept d server.core.id server.core.held server.core.doubt server.last server.device
+IsKeptServer d server = IsKept d server.core.id (records_of server.core) (record_in_doubt server.core) server.last server.device
 
 -- The device of a server crashed, maybe as the entry of the Write in doubt was being stored: it keeps what it kept, and behind that stands
 -- any tail. In what is kept behind the bodies of the Writes held, whatever their versions, and the tail, nothing goes on from them but
 -- a body of the Write in doubt.
-abbrev pub HasCrashed : {D : Type 0} → Ghosts D → (id : ℕ) → (held : List Write) → (doubt : Option Write) → (old new : D) → Type 0
-HasCrashed d id held doubt old new = (bodies : List Body) → Stores bodies held → (body : Option Body) × StoresDoubt body doubt × journals.HasCrashed d id bodies body old new
+abbrev pub HasCrashed : {D : Type 0} → Ghosts D → (id : ℕ) → (held : List Record) → (doubt : Option Record) → (old new : D) → Type 0
+HasCrashed d id held doubt old new = (bodies : List Body) → Stores id bodies held → (body : Option Body) × StoresDoubt id body doubt × journals.HasCrashed d id bodies body old new
 
--- the Writes are those that were held, or those and the one that was in doubt, if one was
-abbrev pub AreHonest : (held : List Write) → (doubt : Option Write) → List Write → Type 0
-AreHonest held None writes = writes ≡ held
-AreHonest held (Some doubt) writes = (writes ≡ held) ⊎ (writes ≡ held ++ doubt ∷ [])
+-- the list is that of what was held, or of that and of what was in doubt, if anything was
+abbrev pub AreHonest : {A : Type 0} → (held : List A) → (doubt : Option A) → List A → Type 0
+AreHonest held None found = found ≡ held
+AreHonest held (Some doubt) found = (found ≡ held) ⊎ (found ≡ held ++ doubt ∷ [])
 
 -- A reopening over an honest device succeeds, or a device call failed, or memory was refused, or the server was up.
 abbrev pub IsHonestAnswer : Result Reopened ReopenFault → Type 0

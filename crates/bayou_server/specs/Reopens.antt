@@ -8,11 +8,11 @@ use Rattle.bayou_server.specs.declared.fault.ReopenFault.TheVariants.{NotDown, J
 use Rattle.bayou_server.specs.Server.{Core, IsDown, IsUp}
 
 -- The server is up again, with an honest list: the Writes that were held, and the Write in doubt is forgotten; or those and the
--- Write in doubt, which is adopted, be it the server's own or another's.
+-- Write in doubt, which is adopted with its tag, be it the server's own or another's.
 abbrev pub Recovers : (old : Core) → Option Wid → (new : Core) → Type 0
-Recovers old None new = IsDown old × (new ≡ record old { doubt = None })
+Recovers old None new = IsDown old × (new ≡ record old { doubt = None; doubt_tag = None })
 Recovers old (Some wid) new = (doubt : Write) × (old.doubt ≡ Some doubt) × (wid ≡ doubt.wid)
-    × (new ≡ record old { held = old.held ++ doubt ∷ []; doubt = None })
+    × (new ≡ record old { held = old.held ++ doubt ∷ []; tags = old.tags ++ old.doubt_tag ∷ []; doubt = None; doubt_tag = None })
 
 -- A reopening and its answer. A refusal leaves the server down, with what it held and the Write in doubt.
 abbrev pub Reopens : (old : Core) → Result Reopened ReopenFault → (new : Core) → Type 0

@@ -1,5 +1,5 @@
--- What a journal stores of the Writes of a server, and how the device stands after each call: this project's own.
-use Rattle.std.specs.Prelude.{◌≡◌, ◌⊎◌, ℕ, List, [], ◌∷◌, ◌++◌, Some, Result, Ok, Err}
+-- What a journal stores of the Writes of a server and of their tags, and how the device stands after each call: this project's own.
+use Rattle.std.specs.Prelude.{◌≡◌, ◌==◌, ◌⊎◌, ◌↔◌, ℕ, List, [], ◌∷◌, ◌++◌, Some, IsSome, Result, Ok, Err, if◌then◌else◌}
 use Rattle.std.specs.List.{AllZip}
 use Rattle.bayou_base.specs.declared.answer.Accepted.{Accepted}
 use Rattle.bayou_device.specs.Device.{Rose}
@@ -9,9 +9,13 @@ use Rattle.bayou_journal.specs.Honest.{HasJournal, added_body}
 use Rattle.bayou_journal.specs.Opening.{FailsToAdd, HasOpened, HasRefused}
 use Rattle.bayou_journal.specs.Opening as journals
 use Rattle.bayou_journal.specs.Versions.{Body}
+use Rattle.bayou_journal.specs.declared.format.TheConstants.{FIRST_VERSION}
 use Rattle.bayou_journal.specs.declared.fault.OpenFault.TheVariants as opening
 use Rattle.bayou_lang.specs.declared.write.Write.{Write}
-use Rattle.bayou_wire.specs.Spelling.{write_bytes}
+use Rattle.bayou_wire.specs.Records.{SpellsRecord}
+use Rattle.bayou_wire.specs.declared.record.Form.{Form}
+use Rattle.bayou_wire.specs.declared.record.Form.TheVariants.{Plain, Tagged, Wide}
+use Rattle.bayou_wire.specs.declared.record.Record.{Record}
 use Rattle.bayou_server.specs.declared.answer.Reopened.{Reopened}
 use Rattle.bayou_server.specs.declared.answer.Took.{Took}
 use Rattle.bayou_server.specs.declared.answer.Took.TheVariants.{New, Had}
@@ -22,26 +26,37 @@ use Rattle.bayou_server.specs.declared.fault.TakeFault.TheVariants as taking
 use Rattle.bayou_server.specs.declared.fault.WriteFault.{WriteFault}
 use Rattle.bayou_server.specs.declared.fault.WriteFault.TheVariants.{Down, Behind, LogFull, OutOfMemory, Journal}
 use Rattle.bayou_server.specs.Faults.{open_fault}
-use Rattle.bayou_server.specs.Server.{ServerState}
+use Rattle.bayou_server.specs.Server.{Core, ServerState, record_in_doubt, records, records_of}
 
--- the body of a journal stands for the Write: it is its one spelling
-abbrev pub IsBodyOf : Body → Write → Type 0
-IsBodyOf body write = body.bytes ≡ write_bytes write
+-- The form of the records in a journal of this version: in the first they have no tags. The wide form is of no version yet.
+abbrev pub form_of : (version : ℕ) → Form
+form_of version = if version == FIRST_VERSION then Plain else Tagged
 
--- the bodies of a journal stand for these Writes, each for the one at its place
-abbrev pub Stores : List Body → List Write → Type 0
-Stores bodies writes = AllZip IsBodyOf bodies writes
+-- in a form that has tags a Write has one exactly where it is the server's own
+abbrev pub IsTagged : (server : ℕ) → Form → Record → Type 0
+IsTagged server Plain stored = Unit {0}
+IsTagged server Tagged stored = IsSome stored.tag ↔ (stored.write.wid.origin.index ≡ server)
+IsTagged server Wide stored = IsSome stored.tag ↔ (stored.write.wid.origin.index ≡ server)
 
--- the device has the server's journal, with the Writes held and nothing else
+-- the body of the server's journal stands for the record: it is its one spelling, in the form of its version
+pub record IsBodyOf (server : ℕ) (body : Body) (stored : Record) : Type 0 where
+  pub spelled : SpellsRecord (form_of body.version) body.bytes stored
+  pub tagged : IsTagged server (form_of body.version) stored
+
+-- the bodies of its journal stand for these records, each for the one at its place
+abbrev pub Stores : (server : ℕ) → List Body → List Record → Type 0
+Stores server bodies stored = AllZip (IsBodyOf server) bodies stored
+
+-- the device has the server's journal, with the Writes held, with their tags, and nothing else
 abbrev pub IsStored : {D : Type 0} → Ghosts D → ServerState D → Type 0
-IsStored d server = (bodies : List Body) × Stores bodies server.core.held × HasJournal server.core.id bodies server.last (d.content server.device)
+IsStored d server = (bodies : List Body) × Stores server.core.id bodies (records_of server.core) × HasJournal server.core.id bodies server.last (d.content server.device)
 
 -- ---- a Write
 
--- the bytes are the entry, behind that digest, of a body that stands for the Write
-pub record IsEntryOf (last : List ℕ) (made : Write) (added : List ℕ) : Type 0 where
+-- the bytes are the entry, behind that digest, of a body that stands for the record
+pub record IsEntryOf (server : ℕ) (last : List ℕ) (stored : Record) (added : List ℕ) : Type 0 where
   pub body : List ℕ
-  pub stands : IsBodyOf (added_body body) made
+  pub stands : IsBodyOf server (added_body body) stored
   pub is : added ≡ entry last body
 
 -- neither the device nor the digest has changed
@@ -49,23 +64,24 @@ pub record IsUntouched {D : Type 0} (old new : ServerState D) : Type 0 where
   pub device : new.device ≡ old.device
   pub last : new.last ≡ old.last
 
--- the entry of the Write that is held now was added, and all was synced
+-- the entry of the Write that is held now, with its tag, was added, and all was synced
 pub record HasAdded {D : Type 0} (d : Ghosts D) (old new : ServerState D) : Type 0 where
-  pub made : Write
-  pub held : new.core.held ≡ old.core.held ++ made ∷ []
+  pub stored : Record
+  pub held : new.core.held ≡ old.core.held ++ stored.write ∷ []
+  pub tags : new.core.tags ≡ old.core.tags ++ stored.tag ∷ []
   pub added : List ℕ
-  pub entry_of : IsEntryOf old.last made added
+  pub entry_of : IsEntryOf old.core.id old.last stored added
   pub ends : new.last ≡ link old.last entry_of.body
   pub behind : d.is_modelled → d.content new.device ≡ d.content old.device ++ added
   pub synced : d.kept new.device ≡ d.content new.device
   pub counts : d.failures new.device ≡ d.failures old.device
 
--- the entry of the Write that is in doubt now was to be added and synced, and a device call failed
+-- the entry of the Write that is in doubt now, with its tag, was to be added and synced, and a device call failed
 pub record HasFailed {D : Type 0} (d : Ghosts D) (old new : ServerState D) : Type 0 where
-  pub made : Write
-  pub doubt : new.core.doubt ≡ Some made
+  pub stored : Record
+  pub doubt : record_in_doubt new.core ≡ Some stored
   pub added : List ℕ
-  pub entry_of : IsEntryOf old.last made added
+  pub entry_of : IsEntryOf old.core.id old.last stored added
   pub left : d.is_modelled → FailsToAdd d.may_leave added (d.content old.device) (d.content new.device)
   pub rose : Rose (d.failures old.device) (d.failures new.device)
 
@@ -102,34 +118,38 @@ pub record OpensWith {D : Type 0} (d : Ghosts D) (id : ℕ) (old new : D) (bodie
   pub dropped : ℕ
   pub opened : HasOpened d id old new (record { bodies = bodies; dropped = dropped }) last
 
--- the journal was opened, and these Writes are what it stores
-abbrev pub OpensWithWrites : {D : Type 0} → Ghosts D → (id : ℕ) → (old new : D) → List Write → (last : List ℕ) → Type 0
-OpensWithWrites d id old new writes last = (bodies : List Body) × Stores bodies writes × OpensWith d id old new bodies last
+-- the journal was opened, and these records are what it stores
+abbrev pub OpensWithRecords : {D : Type 0} → Ghosts D → (id : ℕ) → (old new : D) → List Record → (last : List ℕ) → Type 0
+OpensWithRecords d id old new stored last = (bodies : List Body) × Stores id bodies stored × OpensWith d id old new bodies last
 
--- the bodies begin with those of the Writes held, in their order
-pub record BeginsWithHeld (held : List Write) (bodies : List Body) : Type 0 where
+-- the bodies begin with those of the Writes held, with their tags, in their order
+pub record BeginsWithHeld (server : ℕ) (held : List Record) (bodies : List Body) : Type 0 where
   pub front : List Body
   pub more : List Body
-  pub stores : Stores front held
+  pub stores : Stores server front held
   pub split : bodies ≡ front ++ more
 
--- they do, and are neither of the Writes held alone, nor of those and the Write in doubt
-pub record HasOther (held : List Write) (doubt : Write) (bodies : List Body) : Type 0 where
-  pub begins : BeginsWithHeld held bodies
-  pub not_held : ¬ Stores bodies held
-  pub not_adopted : ¬ Stores bodies (held ++ doubt ∷ [])
+-- what is held once the Write in doubt is adopted, with its tag
+abbrev pub records_with_doubt : Core → (doubt : Write) → List Record
+records_with_doubt core doubt = records (core.held ++ doubt ∷ []) (core.tags ++ core.doubt_tag ∷ [])
+
+-- they do, and are neither of what is held alone, nor of that and of the Write in doubt
+pub record HasOther (core : Core) (doubt : Write) (bodies : List Body) : Type 0 where
+  pub begins : BeginsWithHeld core.id (records_of core) bodies
+  pub not_held : ¬ Stores core.id bodies (records_of core)
+  pub not_adopted : ¬ Stores core.id bodies (records_with_doubt core doubt)
 
 -- How the device stands after a reopening was answered, and what of its journal the answer comes from. The refusals stand in
 -- their order; want of memory may come anywhere behind the first.
 abbrev pub ReopensJournal : {D : Type 0} → Ghosts D → (old : ServerState D) → Result Reopened ReopenFault → (new : ServerState D) → Type 0
-ReopensJournal d old (Ok reopened) new = OpensWithWrites d old.core.id old.device new.device new.core.held new.last
+ReopensJournal d old (Ok reopened) new = OpensWithRecords d old.core.id old.device new.device (records_of new.core) new.last
 ReopensJournal d old (Err reopening.NotDown) new = IsUntouched old new
 ReopensJournal d old (Err (reopening.Journal fault)) new = HasRefused d old.core.id old.device new.device (open_fault fault)
 ReopensJournal d old (Err reopening.Lost) new =
-    (bodies : List Body) × OpensWith d old.core.id old.device new.device bodies new.last × (¬ BeginsWithHeld old.core.held bodies)
+    (bodies : List Body) × OpensWith d old.core.id old.device new.device bodies new.last × (¬ BeginsWithHeld old.core.id (records_of old.core) bodies)
 ReopensJournal d old (Err (reopening.BadRecord at)) new =
     (doubt : Write) × (old.core.doubt ≡ Some doubt)
-    × ((bodies : List Body) × OpensWith d old.core.id old.device new.device bodies new.last × HasOther old.core.held doubt bodies)
+    × ((bodies : List Body) × OpensWith d old.core.id old.device new.device bodies new.last × HasOther old.core doubt bodies)
 ReopensJournal d old (Err reopening.OutOfMemory) new =
     HasRefused d old.core.id old.device new.device opening.OutOfMemory
     ⊎ ((bodies : List Body) × OpensWith d old.core.id old.device new.device bodies new.last)

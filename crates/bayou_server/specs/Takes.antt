@@ -1,5 +1,5 @@
 -- What a server answers to a Write that another server accepted (anti-entropy, Petersen et al. 1997), and what it then holds.
-use Rattle.std.specs.Prelude.{◌≡◌, ◌≢◌, ◌<◌, List, [], ◌∷◌, ◌++◌, Some, Result, Ok, Err, All, Contains, length}
+use Rattle.std.specs.Prelude.{◌≡◌, ◌≢◌, ◌<◌, List, [], ◌∷◌, ◌++◌, None, Some, Result, Ok, Err, All, Contains, length}
 use Rattle.bayou_lang.specs.declared.write.Write.{Write}
 use Rattle.bayou_lang.specs.Writes.{Fits, HasNoGap, IsWellStamped}
 use Rattle.bayou_lang.specs.Ranges.{IsWrite}
@@ -37,7 +37,7 @@ pub record IsTakable (core : Core) (given : Write) : Type 0 where
   pub room : length core.held < core.limit
 
 -- A given Write, the answer and what it leaves. The answers stand in their order: each says that those before it don't hold. A Write
--- that is taken is held behind the others. Where a device call failed, the server is down with that Write in doubt, and holds what it
+-- that is taken is held behind the others, with no tag. Where a device call failed, the server is down with that Write in doubt, and holds what it
 -- held. After every other answer it is as it was.
 abbrev pub Takes : (old : Core) → (given : Write) → Result Took TakeFault → (new : Core) → Type 0
 Takes old given (Ok Had) new = Contains old.held given × (new ≡ old)
@@ -48,5 +48,5 @@ Takes old given (Err Gap) new = ComesFromAnother old given × (¬ HasNoGap old.c
 Takes old given (Err BadStamp) new = ComesFromAnother old given × HasNoGap old.count old.held given × (¬ IsWellStamped old.held given) × (new ≡ old)
 Takes old given (Err LogFull) new = IsFit old given × (length old.held ≡ old.limit) × (new ≡ old)
 Takes old given (Err OutOfMemory) new = IsTakable old given × (new ≡ old)
-Takes old given (Err Journal) new = IsTakable old given × IsWrite given × (new ≡ record old { doubt = Some given })
-Takes old given (Ok New) new = IsTakable old given × IsWrite given × (new ≡ record old { held = old.held ++ given ∷ [] })
+Takes old given (Err Journal) new = IsTakable old given × IsWrite given × (new ≡ record old { doubt = Some given; doubt_tag = None })
+Takes old given (Ok New) new = IsTakable old given × IsWrite given × (new ≡ record old { held = old.held ++ given ∷ []; tags = old.tags ++ None ∷ [] })

@@ -1,11 +1,13 @@
-ghost use Rattle.std.specs.Prelude.{◌≡◌, IfOk};
+ghost use Rattle.std.specs.Prelude.{◌≡◌, IfOk, MatchOption, None, Some};
+ghost use Rattle.bayou_lang.specs.Writes.{count_of};
 
 use crate::fault::TakeFault;
+use crate::holding::Holding;
 use crate::server::copies;
-use bayou_base::Wid;
+use bayou_base::{Tag, Vector, Wid};
 use bayou_lang::RestingWrite;
-use bayou_log::WriteLog;
 use std::alloc::{AllocError, Global};
+use std::marker::Model;
 
 /// What a server that was given a Write did with it.
 #[derive(Clone, Copy, Debug, PartialEq, Eq)]
@@ -34,21 +36,86 @@ pub struct Reopened {
     pub adopted: Option<Wid>,
 }
 
+/// What a server held as it was stopped.
+#[derive(Drop)]
+pub struct LastHeld {
+    writes: Vec<RestingWrite>,
+    vector: Vector,
+    tags: Vec<Option<Tag>>,
+    doubt: Option<RestingWrite>,
+    doubt_tag: Option<Tag>,
+}
+
+impl Model for LastHeld {
+    ghost use Rattle.std.specs.Prelude.{◌≡◌};
+    ghost use Rattle.bayou_lang.specs.Writes.{count_of};
+    ghost use Rattle.bayou_server.specs.Server.{Holds};
+
+    ghost Value = { Holds };
+
+    ghost view = { λ h. record { held = h.writes.items; tags = h.tags.items; doubt = h.doubt; doubt_tag = h.doubt_tag } };
+
+    ghost invariant = { λ h. h.vector ≡ count_of h.writes.items };
+}
+
+impl LastHeld {
+    // What the server holds: no database, and nothing that takes Writes back.
+    pub(crate) fn new(holding: Holding) -> Self
+        ensures held { result.held ≡ holding.log.receipts }
+        ensures tags { result.tags ≡ holding.tags.tags }
+        ensures doubt { result.doubt ≡ holding.doubt }
+        ensures doubt_tag { result.doubt_tag ≡ holding.tags.coming }
+    {
+        let Holding { log, tags, doubt } = holding;
+        LastHeld {
+            vector: log.vector(),
+            writes: log.into_receipts(),
+            doubt,
+            doubt_tag: tags.coming(),
+            tags: tags.into_tags(),
+        }
+    }
+
+    /// The Writes, in order of receipt.
+    pub fn receipts(&self) -> &[RestingWrite]
+        ensures { result.now ≡ self.now.held }
+    {
+        self.writes.as_slice()
+    }
+
+    /// For each server the number of its Writes.
+    pub fn vector(&self) -> Vector
+        ensures { result ≡ count_of self.now.held }
+    {
+        self.vector
+    }
+
+    /// The tag of each Write, or none, in order of receipt.
+    pub fn tags(&self) -> &[Option<Tag>]
+        ensures { result.now ≡ self.now.tags }
+    {
+        self.tags.as_slice()
+    }
+
+    /// The Write in doubt, where the server was down.
+    pub fn doubt(&self) -> Option<&RestingWrite>
+        ensures { MatchOption result (self.now.doubt ≡ None) (λ write. self.now.doubt ≡ Some write.now) }
+    {
+        self.doubt.as_ref()
+    }
+
+    /// Copies of the Writes, in order of receipt.
+    pub fn dump(&self, alloc: Global) -> Result<Vec<RestingWrite>, AllocError>
+        ensures { IfOk result (λ writes. writes.items ≡ self.now.held) }
+    {
+        copies(alloc, &self.writes)
+    }
+}
+
 /// A server that was stopped.
 #[derive(Drop)]
 pub struct Stopped<D> {
     pub device: D,
-    /// The Writes that it held.
-    pub log: WriteLog,
-    /// The Write in doubt, where it was down.
-    pub doubt: Option<RestingWrite>,
-}
-
-impl<D> Stopped<D> {
-    /// Copies of the Writes that it held, in order of receipt.
-    pub fn dump(&self, alloc: Global) -> Result<Vec<RestingWrite>, AllocError>
-        ensures { IfOk result (λ writes. writes.items ≡ self.now.log.receipts) }
-    {
-        copies(alloc, self.log.receipts())
-    }
+    /// What it held.
+    pub last: LastHeld,
 }

@@ -12,8 +12,7 @@ ghost use Rattle.bayou_journal.specs.Chain.{IsBody};
 ghost use Rattle.bayou_journal.specs.Honest.{BeginsWithBodies, OnlyTears};
 ghost use Rattle.bayou_journal.specs.Opening.{KeepsChains};
 ghost use Rattle.bayou_journal.specs.Versions.{Body};
-ghost use Rattle.bayou_lang.specs.Ranges.{IsWrite};
-ghost use Rattle.bayou_wire.specs.Spelling.{write_bytes};
+ghost use Rattle.bayou_wire.specs.declared.record.Record.{Record};
 ghost use Rattle.bayou_server.specs.declared.answer.Reopened.{Reopened};
 ghost use Rattle.bayou_server.specs.declared.fault.ReopenFault.{ReopenFault};
 ghost use Rattle.bayou_server.specs.declared.answer.Took.{Took};
@@ -21,9 +20,9 @@ ghost use Rattle.bayou_server.specs.declared.fault.TakeFault.{TakeFault};
 ghost use Rattle.bayou_server.specs.declared.fault.WriteFault.{WriteFault};
 ghost use Rattle.bayou_server.specs.Honest.{AreHonest, HasCrashed, IsHonestAnswer, IsHonestServerDevice, IsHonestRefusal, IsHonestServer, IsKept, IsKeptServer, KeepsWrites, LosesNothing};
 ghost use Rattle.bayou_server.specs.Reopens.{Recovers, Reopens};
-ghost use Rattle.bayou_server.specs.Server.{Core, IsSoundServer, ServerState, with_device};
+ghost use Rattle.bayou_server.specs.Server.{Core, IsSoundServer, ServerState, record_in_doubt, records_of, with_device};
 ghost use Rattle.bayou_server.specs.Starts.{FailsToStart, Starts, StartsOn, StopsAtEntry};
-ghost use Rattle.bayou_server.specs.Stored.{BeginsWithHeld, HasOther, IsStored, OpensWith, OpensWithWrites, ReopensJournal, Stores, StoresTaken, StoresWrite};
+ghost use Rattle.bayou_server.specs.Stored.{BeginsWithHeld, HasOther, IsBodyOf, IsStored, OpensWith, OpensWithRecords, ReopensJournal, Stores, StoresTaken, StoresWrite};
 ghost use Rattle.bayou_server.specs.Takes.{Takes};
 ghost use Rattle.bayou_server.specs.Writes.{Writes};
 
@@ -33,17 +32,17 @@ use bayou_journal::laws::{
     an_honest_device_opens_honestly, what_is_kept_is_found, what_is_opened_is_one,
     what_stands_behind_the_kept_decides,
 };
-use bayou_wire::laws::{a_write_is_spelled_by_a_body, no_write_begins_another};
+use bayou_wire::laws::{a_record_is_spelled_by_a_body, bytes_are_of_one_record};
 
-/// What a start holds, and how much it drops, is one.
+/// What a start holds, with which tags, and how much it drops, is one.
 pub fn a_start_is_one<D: Device>()
     ensures { (id count limit dropped more : ℕ) (device : D) (one other : ServerState D) → D.is_modelled
         → Starts id count limit one.core → StartsOn D.Device device one dropped
         → Starts id count limit other.core → StartsOn D.Device device other more
-        → (one.core.held ≡ other.core.held) × (dropped ≡ more) }
+        → (one.core.held ≡ other.core.held) × (one.core.tags ≡ other.core.tags) × (dropped ≡ more) }
 {
     what_is_opened_is_one::<D>();
-    no_write_begins_another();
+    bytes_are_of_one_record();
 }
 
 /// A journal with which a server starts has no entry that it doesn't take.
@@ -53,15 +52,15 @@ pub fn what_starts_is_not_refused<D: Device>()
         → StopsAtEntry D.Device id count limit device left fault → ⊥ }
 {
     what_is_opened_is_one::<D>();
-    no_write_begins_another();
+    bytes_are_of_one_record();
 }
 
-/// What a reopening adopts, and what is held then, is one.
+/// What a reopening adopts, and what is held then, with which tags, is one.
 pub fn a_reopening_is_one<D: Device>()
     ensures { (adopted other : Option Wid) (old new next : ServerState D) → D.is_modelled
-        → Recovers old.core adopted new.core → OpensWithWrites D.Device old.core.id old.device new.device new.core.held new.last
-        → Recovers old.core other next.core → OpensWithWrites D.Device old.core.id old.device next.device next.core.held next.last
-        → (adopted ≡ other) × (new.core.held ≡ next.core.held) }
+        → Recovers old.core adopted new.core → OpensWithRecords D.Device old.core.id old.device new.device (records_of new.core) new.last
+        → Recovers old.core other next.core → OpensWithRecords D.Device old.core.id old.device next.device (records_of next.core) next.last
+        → (adopted ≡ other) × (new.core.held ≡ next.core.held) × (new.core.tags ≡ next.core.tags) }
 {
     what_is_opened_is_one::<D>();
 }
@@ -70,9 +69,9 @@ pub fn a_reopening_is_one<D: Device>()
 /// doubt.
 pub fn what_reopens_is_not_refused<D: Device>()
     ensures { (adopted : Option Wid) (old new : ServerState D) (left : D) (bodies : List Body) (last : List ℕ) (doubt : Write) → D.is_modelled
-        → Recovers old.core adopted new.core → OpensWithWrites D.Device old.core.id old.device new.device new.core.held new.last
+        → Recovers old.core adopted new.core → OpensWithRecords D.Device old.core.id old.device new.device (records_of new.core) new.last
         → OpensWith D.Device old.core.id old.device left bodies last → old.core.doubt ≡ Some doubt
-        → BeginsWithHeld old.core.held bodies × (¬ HasOther old.core.held doubt bodies) }
+        → BeginsWithHeld old.core.id (records_of old.core) bodies × (¬ HasOther old.core doubt bodies) }
 {
     what_is_opened_is_one::<D>();
 }
@@ -81,17 +80,17 @@ pub fn what_reopens_is_not_refused<D: Device>()
 pub fn a_start_on_an_empty_device_holds_nothing<D: Device>()
     ensures { (id count limit dropped : ℕ) (device : D) (server : ServerState D) → D.is_modelled → D.content device ≡ []
         → Starts id count limit server.core → StartsOn D.Device device server dropped
-        → (server.core.held ≡ []) × (dropped ≡ 0) }
+        → (server.core.held ≡ []) × (server.core.tags ≡ []) × (dropped ≡ 0) }
 {
     what_is_opened_is_one::<D>();
 }
 
-/// The bytes of a Write that has a spelling are a body of a journal, and so is each that stands for such a Write.
-pub fn a_write_is_a_body()
-    ensures one { (write : Write) → IsWrite write → IsBody (write_bytes write) }
-    ensures each { (bodies : List Body) (writes : List Write) → All IsWrite writes → Stores bodies writes → All (λ body. IsBody body.bytes) bodies }
+/// What stands for a record is a body of a journal, and so is each that stands for one of several.
+pub fn a_record_is_a_body()
+    ensures one { (id : ℕ) (body : Body) (stored : Record) → IsBodyOf id body stored → IsBody body.bytes }
+    ensures each { (id : ℕ) (bodies : List Body) (stored : List Record) → Stores id bodies stored → All (λ body. IsBody body.bytes) bodies }
 {
-    a_write_is_spelled_by_a_body();
+    a_record_is_spelled_by_a_body();
 }
 
 /// Over a device whose failed calls do no more than to tear, a program and a given Write leave an honest server honest, whatever is
@@ -105,7 +104,7 @@ pub fn an_honest_server_stays_honest<D: Device>()
         → IsHonestServer D.Device new }
 {
     an_append_leaves_an_honest_device::<D>();
-    a_write_is_a_body();
+    a_record_is_a_body();
 }
 
 /// A reopening of an honest server is honest: it gives what was held, or that and the Write in doubt. It is refused for a device call
@@ -115,6 +114,7 @@ pub fn an_honest_server_is_reopened_honestly<D: Device>()
     ensures answer { (result : Result Reopened ReopenFault) (old new : ServerState D) → D.is_modelled → IsSoundServer old.core → IsHonestServer D.Device old
         → Reopens old.core result new.core → ReopensJournal D.Device old result new → IsHonestAnswer result }
     ensures held { (adopted : Option Wid) (old new : Core) → Recovers old adopted new → AreHonest old.held old.doubt new.held }
+    ensures records { (adopted : Option Wid) (old new : Core) → IsSoundServer old → Recovers old adopted new → AreHonest (records_of old) (record_in_doubt old) (records_of new) }
     ensures left { (result : Result Reopened ReopenFault) (old new : ServerState D) → OnlyTears D.Device → IsSoundServer old.core → IsHonestServer D.Device old
         → Reopens old.core result new.core → ReopensJournal D.Device old result new → KeepsChains (D.kept old.device) (D.kept new.device) → IsHonestServer D.Device new }
 {
@@ -126,18 +126,20 @@ pub fn an_honest_server_is_reopened_honestly<D: Device>()
 /// refused for a device call or for memory alone: its journal is no other server's and none that isn't one, and has no bad record, no
 /// gap, and no Write too many. Over a device whose failed calls do no more than to tear, the device is honest then as it was before.
 pub fn a_start_on_an_honest_device_is_honest<D: Device>()
-    ensures held { (old : Core) (dropped : ℕ) (device : D) (server : ServerState D) → D.is_modelled → IsSoundServer old → IsHonestServerDevice D.Device old.id old.held old.doubt device
+    ensures held { (old : Core) (dropped : ℕ) (device : D) (server : ServerState D) → D.is_modelled → IsSoundServer old → IsHonestServerDevice D.Device old.id (records_of old) (record_in_doubt old) device
         → Starts old.id old.count old.limit server.core → StartsOn D.Device device server dropped → AreHonest old.held old.doubt server.core.held }
+    ensures records { (old : Core) (dropped : ℕ) (device : D) (server : ServerState D) → D.is_modelled → IsSoundServer old → IsHonestServerDevice D.Device old.id (records_of old) (record_in_doubt old) device
+        → Starts old.id old.count old.limit server.core → StartsOn D.Device device server dropped → AreHonest (records_of old) (record_in_doubt old) (records_of server.core) }
     ensures whole { (id count limit dropped : ℕ) (device : D) (server : ServerState D) → D.is_modelled
         → Starts id count limit server.core → StartsOn D.Device device server dropped → IsHonestServer D.Device server }
-    ensures refusal { (old : Core) (device left : D) (fault : StartFault) → D.is_modelled → IsSoundServer old → IsHonestServerDevice D.Device old.id old.held old.doubt device
+    ensures refusal { (old : Core) (device left : D) (fault : StartFault) → D.is_modelled → IsSoundServer old → IsHonestServerDevice D.Device old.id (records_of old) (record_in_doubt old) device
         → FailsToStart D.Device old.id old.count old.limit device left fault → IsHonestRefusal fault }
-    ensures left { (old : Core) (device left : D) (fault : StartFault) → OnlyTears D.Device → IsSoundServer old → IsHonestServerDevice D.Device old.id old.held old.doubt device
+    ensures left { (old : Core) (device left : D) (fault : StartFault) → OnlyTears D.Device → IsSoundServer old → IsHonestServerDevice D.Device old.id (records_of old) (record_in_doubt old) device
         → FailsToStart D.Device old.id old.count old.limit device left fault → KeepsChains (D.kept device) (D.kept left)
-        → IsHonestServerDevice D.Device old.id old.held old.doubt left }
+        → IsHonestServerDevice D.Device old.id (records_of old) (record_in_doubt old) left }
 {
     an_honest_device_opens_honestly::<D>();
-    no_write_begins_another();
+    bytes_are_of_one_record();
 }
 
 /// What a server holds is kept, over each device that the clauses model, whatever its failed calls leave: an honest server's is, and each
@@ -153,14 +155,14 @@ pub fn what_is_held_is_kept<D: Device>()
     ensures reopened { (result : Result Reopened ReopenFault) (old new : ServerState D) → D.is_modelled → IsSoundServer old.core
         → IsKeptServer D.Device old → Reopens old.core result new.core → ReopensJournal D.Device old result new → KeepsChains (D.kept old.device) (D.kept new.device)
         → IsKeptServer D.Device new }
-    ensures device { (id : ℕ) (held : List Write) (doubt : Option Write) (last : List ℕ) (device : D) → IsKept D.Device id held doubt last device → KeepsWrites D.Device id held device }
-    ensures honest_device { (id : ℕ) (held : List Write) (doubt : Option Write) (device : D) → IsHonestServerDevice D.Device id held doubt device → KeepsWrites D.Device id held device }
-    ensures again { (id : ℕ) (held : List Write) (old new : D) → KeepsWrites D.Device id held old → KeepsChains (D.kept old) (D.kept new) → KeepsWrites D.Device id held new }
+    ensures device { (id : ℕ) (held : List Record) (doubt : Option Record) (last : List ℕ) (device : D) → IsKept D.Device id held doubt last device → KeepsWrites D.Device id held device }
+    ensures honest_device { (id : ℕ) (held : List Record) (doubt : Option Record) (device : D) → IsHonestServerDevice D.Device id held doubt device → KeepsWrites D.Device id held device }
+    ensures again { (id : ℕ) (held : List Record) (old new : D) → KeepsWrites D.Device id held old → KeepsChains (D.kept old) (D.kept new) → KeepsWrites D.Device id held new }
 {
     an_append_leaves_an_honest_device::<D>();
     an_honest_device_opens_honestly::<D>();
     what_is_kept_is_found::<D>();
-    a_write_is_a_body();
+    a_record_is_a_body();
 }
 
 /// A server whose device crashed is started again honestly. Where the Writes held were kept, the device is honest, whatever a failed call
@@ -168,13 +170,13 @@ pub fn what_is_held_is_kept<D: Device>()
 /// whole device. It is refused for a device call or for memory alone. A crash within a call is one behind a call whose next device call
 /// failed, or one at the call's begin, with the Write that comes in doubt.
 pub fn a_crash_leaves_an_honest_device<D: Device>()
-    ensures honest { (id : ℕ) (held : List Write) (doubt : Option Write) (before device : D) → KeepsWrites D.Device id held before → HasCrashed D.Device id held doubt before device
+    ensures honest { (id : ℕ) (held : List Record) (doubt : Option Record) (before device : D) → KeepsWrites D.Device id held before → HasCrashed D.Device id held doubt before device
         → IsHonestServerDevice D.Device id held doubt device }
-    ensures started { (old : Core) (dropped : ℕ) (before device : D) (server : ServerState D) → D.is_modelled → IsSoundServer old → KeepsWrites D.Device old.id old.held before
-        → HasCrashed D.Device old.id old.held old.doubt before device → Starts old.id old.count old.limit server.core → StartsOn D.Device device server dropped
-        → AreHonest old.held old.doubt server.core.held × IsHonestServer D.Device server }
-    ensures refused { (old : Core) (before device left : D) (fault : StartFault) → D.is_modelled → IsSoundServer old → KeepsWrites D.Device old.id old.held before
-        → HasCrashed D.Device old.id old.held old.doubt before device → FailsToStart D.Device old.id old.count old.limit device left fault → IsHonestRefusal fault }
+    ensures started { (old : Core) (dropped : ℕ) (before device : D) (server : ServerState D) → D.is_modelled → IsSoundServer old → KeepsWrites D.Device old.id (records_of old) before
+        → HasCrashed D.Device old.id (records_of old) (record_in_doubt old) before device → Starts old.id old.count old.limit server.core → StartsOn D.Device device server dropped
+        → AreHonest old.held old.doubt server.core.held × AreHonest (records_of old) (record_in_doubt old) (records_of server.core) × IsHonestServer D.Device server }
+    ensures refused { (old : Core) (before device left : D) (fault : StartFault) → D.is_modelled → IsSoundServer old → KeepsWrites D.Device old.id (records_of old) before
+        → HasCrashed D.Device old.id (records_of old) (record_in_doubt old) before device → FailsToStart D.Device old.id old.count old.limit device left fault → IsHonestRefusal fault }
 {
     a_crash_of_a_journal::<D>();
     a_start_on_an_honest_device_is_honest::<D>();
@@ -182,7 +184,7 @@ pub fn a_crash_leaves_an_honest_device<D: Device>()
 
 /// The device of an honest server is honest, be the server up or down.
 pub fn an_honest_server_has_an_honest_device<D: Device>()
-    ensures { (server : ServerState D) → IsHonestServer D.Device server → IsHonestServerDevice D.Device server.core.id server.core.held server.core.doubt server.device }
+    ensures { (server : ServerState D) → IsHonestServer D.Device server → IsHonestServerDevice D.Device server.core.id (records_of server.core) (record_in_doubt server.core) server.device }
 {
     an_append_leaves_an_honest_device::<D>();
 }
@@ -199,22 +201,22 @@ pub fn what_its_device_holds_decides<D: Device>()
 /// one is lost, and a start holds them, before all others; neither says that the journal is another server's, or none.
 pub fn what_is_kept_is_never_lost<D: Device>()
     ensures reopened { (bodies : List Body) (result : Result Reopened ReopenFault) (old new : ServerState D) → D.is_modelled → IsSoundServer old.core
-        → Stores bodies old.core.held → BeginsWithBodies old.core.id bodies (D.kept old.device)
+        → Stores old.core.id bodies (records_of old.core) → BeginsWithBodies old.core.id bodies (D.kept old.device)
         → ReopensJournal D.Device old result new → LosesNothing result }
-    ensures started { (bodies : List Body) (held : List Write) (id count limit dropped : ℕ) (device : D) (server : ServerState D) → D.is_modelled → All IsWrite held
-        → Stores bodies held → BeginsWithBodies id bodies (D.kept device)
-        → Starts id count limit server.core → StartsOn D.Device device server dropped → (more : List Write) × (server.core.held ≡ held ++ more) }
+    ensures started { (bodies : List Body) (held : List Record) (id count limit dropped : ℕ) (device : D) (server : ServerState D) → D.is_modelled
+        → Stores id bodies held → BeginsWithBodies id bodies (D.kept device)
+        → Starts id count limit server.core → StartsOn D.Device device server dropped → (more : List Record) × (records_of server.core ≡ held ++ more) }
     ensures refused { (bodies : List Body) (id count limit : ℕ) (device left : D) (fault : JournalFault) → D.is_modelled
         → BeginsWithBodies id bodies (D.kept device)
         → FailsToStart D.Device id count limit device left (Journal fault) → IsHonestRefusal (Journal fault) }
 {
     what_is_kept_is_found::<D>();
-    no_write_begins_another();
+    bytes_are_of_one_record();
 }
 
-/// What a journal stores is of one list of Writes.
+/// What a journal stores is of one list of Writes, with their tags.
 pub fn what_is_stored_is_one()
-    ensures { (bodies : List Body) (writes others : List Write) → All IsWrite writes → All IsWrite others → Stores bodies writes → Stores bodies others → writes ≡ others }
+    ensures { (id : ℕ) (bodies : List Body) (stored others : List Record) → Stores id bodies stored → Stores id bodies others → stored ≡ others }
 {
-    no_write_begins_another();
+    bytes_are_of_one_record();
 }

@@ -32,14 +32,16 @@
 
 pub mod answer;
 pub mod fault;
+mod holding;
 pub mod laws;
 mod making;
+mod records;
 mod reopen;
 pub mod server;
 mod start;
 mod storing;
 mod taking;
 
-pub use answer::{Reopened, Stopped, Took, TookAll};
+pub use answer::{LastHeld, Reopened, Stopped, Took, TookAll};
 pub use fault::{Behind, JournalFault, NotStarted, ReopenFault, StartFault, TakeFault, WriteFault};
 pub use server::Server;

@@ -3,22 +3,22 @@ ghost use Rattle.std.specs.Prelude.{◌≡◌};
 ghost use Rattle.bayou_server.specs.Inner.Making.{IsRefusal};
 
 use crate::fault::WriteFault;
+use crate::holding::Holding;
 use bayou_base::{Accepted, Vector};
 use bayou_lang::RestingWrite;
-use bayou_log::WriteLog;
 
 // Why no Write is made, if none may be.
-pub fn refusal(log: &WriteLog, doubt: &Option<RestingWrite>, need: &Vector) -> Option<WriteFault>
-    ensures { IsRefusal log.now doubt.now need.now result }
+pub fn refusal(holding: &Holding, need: &Vector) -> Option<WriteFault>
+    ensures { IsRefusal holding.now.log holding.now.doubt need.now result }
 {
-    if doubt.is_some() {
+    if holding.doubt.is_some() {
         return Some(WriteFault::Down);
     }
-    let vector = log.vector();
+    let vector = holding.log.vector();
     if !vector.dominates(need) {
         return Some(WriteFault::Behind(vector));
     }
-    if log.is_full() {
+    if holding.log.is_full() {
         return Some(WriteFault::LogFull);
     }
     None

@@ -1,54 +1,97 @@
-ghost use Rattle.std.specs.Prelude.{◌≡◌, ◌≤◌, ◌↔◌, IsTrue, IfOk, MatchResult, length};
+ghost use Rattle.std.specs.Prelude.{◌≡◌, ◌<◌, ◌≤◌, ◌↔◌, IsTrue, IfOk, IsSome, MatchResult, Some, length};
+ghost use Rattle.bayou_journal.specs.Versions.{body_in};
+ghost use Rattle.bayou_lang.specs.declared.write.Write.{Write};
 ghost use Rattle.bayou_base.specs.declared.limits.TheConstants.{MAX_WRITES};
-ghost use Rattle.bayou_wire.specs.Spelling.{write_bytes};
-ghost use Rattle.bayou_server.specs.Stored.{BeginsWithHeld};
+ghost use Rattle.bayou_server.specs.Inner.Fields.{core_of};
+ghost use Rattle.bayou_server.specs.Server.{records_of};
+ghost use Rattle.bayou_server.specs.Stored.{BeginsWithHeld, IsBodyOf};
 ghost use Rattle.bayou_server.specs.Inner.Replaying.{AreHeldAnd, AreOthers};
 
 use crate::fault::ReopenFault;
+use crate::holding::Holding;
+use crate::records::record_of;
+use bayou_base::{ServerId, Tag};
 use bayou_journal::Opened;
 use bayou_lang::RestingWrite;
-use bayou_wire::encode_resting_write;
+use bayou_wire::Record;
+use bayou_wire::laws::bytes_are_of_one_record;
 use std::alloc::{AllocError, Global};
 
-// Whether the bytes are the Write's.
-fn is_spelled(alloc: Global, bytes: &[u8], write: &RestingWrite) -> Result<bool, AllocError>
-    ensures { IfOk result (λ is. IsTrue is ↔ (bytes.now ≡ write_bytes write.now)) }
+// Whether the record is of the Write with this tag, or with none.
+fn is_of(stored: &Record, write: &RestingWrite, tag: Option<Tag>) -> bool
+    ensures { IsTrue result ↔ (stored.now ≡ record { write = write.now; tag = tag }) }
 {
-    let spelling = encode_resting_write(alloc, write)?;
-    Ok(bytes == spelling.as_slice())
+    stored.write == *write && stored.tag == tag
 }
 
-// Whether the bodies begin with the Writes, in their order.
-fn begins_with(alloc: Global, opened: &Opened, held: &[RestingWrite]) -> Result<bool, AllocError>
-    ensures { IfOk result (λ begins. IsTrue begins ↔ BeginsWithHeld held.now opened.now.bodies) }
+// Whether the body stands for the Write with this tag, or with none.
+fn stands_for(
+    alloc: Global,
+    id: ServerId,
+    version: u8,
+    body: &[u8],
+    write: &RestingWrite,
+    tag: Option<Tag>,
+) -> Result<bool, AllocError>
+    ensures { IfOk result (λ is. IsTrue is ↔ IsBodyOf id.index (body_in version body.now) (record { write = write.now; tag = tag })) }
 {
+    bytes_are_of_one_record();
+    match record_of(alloc, id, version, body)? {
+        Some(stored) => Ok(is_of(&stored, write, tag)),
+        None => Ok(false),
+    }
+}
+
+// Whether the bodies begin with what is held, in its order.
+fn begins_with(
+    alloc: Global,
+    id: ServerId,
+    opened: &Opened,
+    holding: &Holding,
+) -> Result<bool, AllocError>
+    requires { length holding.now.tags.tags ≡ length holding.now.log.receipts }
+    ensures { IfOk result (λ begins. IsTrue begins ↔ BeginsWithHeld id.index (records_of (core_of holding.now id.index)) opened.now.bodies) }
+{
+    let held = holding.log.receipts();
     if opened.len() < held.len() {
         return Ok(false);
     }
     for (at, write) in held.iter().enumerate() {
-        if !is_spelled(alloc, opened.body(at), write)? {
+        if !stands_for(
+            alloc,
+            id,
+            opened.version(at),
+            opened.body(at),
+            write,
+            holding.tags.tag_at(at),
+        )? {
             return Ok(false);
         }
     }
     Ok(true)
 }
 
-// Whether the bodies are the Writes held and the one in doubt, or else the Writes held alone.
+// Whether the bodies are those of what is held and of the Write in doubt, which there is, or else those of what is held alone.
 pub fn has_doubt(
     alloc: Global,
+    id: ServerId,
     opened: &Opened,
-    held: &[RestingWrite],
-    doubt: &RestingWrite,
+    holding: &Holding,
 ) -> Result<bool, ReopenFault>
-    requires { length held.now ≤ MAX_WRITES }
-    ensures { MatchResult result
-        (AreHeldAnd held.now doubt.now opened.now.bodies)
-        (AreOthers held.now doubt.now opened.now.bodies) }
+    requires doubt { IsSome holding.now.doubt }
+    requires tags { length holding.now.tags.tags ≡ length holding.now.log.receipts }
+    requires limit { length holding.now.log.receipts ≤ MAX_WRITES }
+    ensures { (doubt : Write) → holding.now.doubt ≡ Some doubt → MatchResult result
+        (AreHeldAnd (core_of holding.now id.index) doubt opened.now.bodies)
+        (AreOthers (core_of holding.now id.index) doubt opened.now.bodies) }
 {
-    if !begins_with(alloc, opened, held)? {
+    let Some(doubt) = &holding.doubt else {
+        unreachable!();
+    };
+    if !begins_with(alloc, id, opened, holding)? {
         return Err(ReopenFault::Lost);
     }
-    let place = held.len();
+    let place = holding.log.receipts().len();
     if opened.len() == place {
         return Ok(false);
     }
@@ -56,7 +99,14 @@ pub fn has_doubt(
     if opened.len() > place + 1 {
         return Err(other);
     }
-    if !is_spelled(alloc, opened.body(place), doubt)? {
+    if !stands_for(
+        alloc,
+        id,
+        opened.version(place),
+        opened.body(place),
+        doubt,
+        holding.tags.coming(),
+    )? {
         return Err(other);
     }
     Ok(true)

@@ -9,18 +9,19 @@ ghost use Rattle.bayou_log.specs.Listing.{listing_of};
 ghost use Rattle.bayou_server.specs.contracts.server.Server.{the_row};
 ghost use Rattle.bayou_server.specs.Reads.{Reads};
 ghost use Rattle.bayou_server.specs.Reopens.{Reopens, own_adopted};
-ghost use Rattle.bayou_server.specs.Server.{IsSoundServer, own_count, with_device};
+ghost use Rattle.bayou_server.specs.Server.{IsSoundServer, holds_of, own_count, with_device};
 ghost use Rattle.bayou_server.specs.Starts.{FailsToStart, Starts, StartsOn};
 ghost use Rattle.bayou_server.specs.Stored.{IsStored, OpensInCalls, ReopensJournal, StoresTaken, StoresWrite};
 ghost use Rattle.bayou_server.specs.Takes.{Takes};
 ghost use Rattle.bayou_server.specs.TakesAll.{TakesAll, TakesAt};
 ghost use Rattle.bayou_server.specs.Writes.{Writes};
 
-use crate::answer::{Reopened, Stopped, Took, TookAll};
+use crate::answer::{LastHeld, Reopened, Stopped, Took, TookAll};
 use crate::fault::{Behind, NotStarted, ReopenFault, StartFault, TakeFault, WriteFault};
+use crate::holding::Holding;
 use crate::making::{accepted, refusal};
 use crate::reopen::has_doubt;
-use crate::start::log_of;
+use crate::start::holding_of;
 use crate::storing::{Stored, store};
 use crate::taking::{take_one, take_several};
 use bayou_base::{Accepted, Key, Seen, ServerId, Vector, Wid};
@@ -28,7 +29,7 @@ use bayou_device::Device;
 use bayou_journal::Journal;
 use bayou_journal::laws::an_honest_device_opens_honestly;
 use bayou_lang::{RestingProgram, RestingWrite};
-use bayou_log::{Listed, WriteLog};
+use bayou_log::Listed;
 use std::alloc::{AllocError, Global};
 use std::marker::Model;
 use std::vec::IntoIter;
@@ -37,9 +38,8 @@ use std::vec::IntoIter;
 #[derive(Drop)]
 pub struct Server<D> {
     journal: Journal<D>,
-    log: WriteLog,
+    holding: Holding,
     id: ServerId,
-    doubt: Option<RestingWrite>,
 }
 
 impl<D> Model for Server<D> {
@@ -49,10 +49,10 @@ impl<D> Model for Server<D> {
 
     ghost Value = { ServerState D };
 
-    ghost view = { λ s. record { core = core_of s.log s.id.index s.doubt; device = s.journal.device; last = s.journal.last } };
+    ghost view = { λ s. record { core = core_of s.holding s.id.index; device = s.journal.device; last = s.journal.last } };
 
     // None of the Writes held waits to be applied.
-    ghost invariant = { λ s. BelongTogether s.journal s.log s.id.index s.doubt × (s.log.waiting ≡ 0) };
+    ghost invariant = { λ s. BelongTogether s.journal s.holding s.id.index × (s.holding.log.waiting ≡ 0) };
 }
 
 impl<D: Device> Server<D> {
@@ -91,17 +91,16 @@ impl<D: Device> Server<D> {
                 });
             }
         };
-        match log_of(alloc, id, count, limit, &opened) {
+        match holding_of(alloc, id, count, limit, &opened) {
             Err(fault) => Err(NotStarted {
                 fault,
                 device: journal.close(),
             }),
-            Ok(log) => {
+            Ok(holding) => {
                 let server = Server {
                     journal,
-                    log,
+                    holding,
                     id,
-                    doubt: None,
                 };
                 Ok((server, opened.dropped()))
             }
@@ -113,9 +112,9 @@ impl<D: Device> Server<D> {
     pub fn read(&self, need: &Vector, key: &Key) -> Result<Seen, Behind>
         ensures { Reads self.now.core need.now key.now result }
     {
-        let vector = self.log.vector();
+        let vector = self.holding.log.vector();
         if vector.dominates(need) {
-            let value = self.log.get(key);
+            let value = self.holding.log.get(key);
             Ok(Seen { value, vector })
         } else {
             Err(Behind { vector })
@@ -139,20 +138,13 @@ impl<D: Device> Server<D> {
         ensures safe { D.is_modelled → KeepsChains (D.kept self.old.device) (D.kept self.new.device) }
         ensures calls { D.leads_to 2 self.old.device self.new.device }
     {
-        if let Some(fault) = refusal(&self.log, &self.doubt, need) {
+        if let Some(fault) = refusal(&self.holding, need) {
             return Err(fault);
         }
-        let write = self.log.next_write(self.id, program);
+        let write = self.holding.log.next_write(self.id, program);
         let accepted = accepted(&write);
-        let stored = store(
-            alloc,
-            &mut self.journal,
-            &mut self.log,
-            self.id,
-            &mut self.doubt,
-            write,
-        );
-        self.log.catch_up();
+        let stored = store(alloc, &mut self.journal, &mut self.holding, self.id, write);
+        self.holding.log.catch_up();
         match stored? {
             Stored::Held => Ok(accepted),
             Stored::InDoubt => Err(WriteFault::Journal),
@@ -165,7 +157,7 @@ impl<D: Device> Server<D> {
         ensures stores { StoresWrite D.Device self.now (Err result) self.now }
         ensures sound { IsSoundServer self.now.core }
     {
-        match refusal(&self.log, &self.doubt, need) {
+        match refusal(&self.holding, need) {
             Some(fault) => fault,
             None => WriteFault::OutOfMemory,
         }
@@ -183,15 +175,8 @@ impl<D: Device> Server<D> {
         ensures safe { D.is_modelled → KeepsChains (D.kept self.old.device) (D.kept self.new.device) }
         ensures calls { D.leads_to 2 self.old.device self.new.device }
     {
-        let answer = take_one(
-            alloc,
-            &mut self.journal,
-            &mut self.log,
-            self.id,
-            &mut self.doubt,
-            write,
-        );
-        self.log.catch_up();
+        let answer = take_one(alloc, &mut self.journal, &mut self.holding, self.id, write);
+        self.holding.log.catch_up();
         answer
     }
 
@@ -209,13 +194,12 @@ impl<D: Device> Server<D> {
         let told = take_several(
             alloc,
             &mut self.journal,
-            &mut self.log,
+            &mut self.holding,
             self.id,
-            &mut self.doubt,
             writes,
             most,
         );
-        self.log.catch_up();
+        self.holding.log.catch_up();
         told
     }
 
@@ -232,19 +216,21 @@ impl<D: Device> Server<D> {
         ensures calls { OpensInCalls D.Device self.old.core.id self.old.device self.new.device }
     {
         an_honest_device_opens_honestly::<D>();
-        let Some(doubt) = &self.doubt else {
+        if self.holding.doubt.is_none() {
             return Err(ReopenFault::NotDown);
-        };
+        }
         let opened = self.journal.reopen(alloc)?;
-        let adopts = has_doubt(alloc, &opened, self.log.receipts(), doubt)?;
-        let Some(write) = self.doubt.take() else {
+        let adopts = has_doubt(alloc, self.id, &opened, &self.holding)?;
+        let Some(write) = self.holding.doubt.take() else {
             unreachable!();
         };
         if !adopts {
+            self.holding.tags.forget();
             return Ok(Reopened { adopted: None });
         }
         let wid = write.wid();
-        self.log.insert(write);
+        self.holding.log.insert(write);
+        self.holding.tags.settle();
         Ok(Reopened { adopted: Some(wid) })
     }
 
@@ -252,14 +238,14 @@ impl<D: Device> Server<D> {
     pub fn vector(&self) -> Vector
         ensures { result ≡ count_of self.now.core.held }
     {
-        self.log.vector()
+        self.holding.log.vector()
     }
 
     /// Whether a Write is in doubt.
     pub fn is_down(&self) -> bool
         ensures { IsTrue result ↔ IsSome self.now.core.doubt }
     {
-        self.doubt.is_some()
+        self.holding.doubt.is_some()
     }
 
     /// Which server it is.
@@ -275,7 +261,7 @@ impl<D: Device> Server<D> {
         ensures value { result ≡ self.now.core.count }
         ensures in_range { result ≤ SERVERS }
     {
-        self.log.count()
+        self.holding.log.count()
     }
 
     /// How many Writes it may hold.
@@ -283,14 +269,14 @@ impl<D: Device> Server<D> {
         ensures value { result ≡ self.now.core.limit }
         ensures in_range { result ≤ MAX_WRITES }
     {
-        self.log.limit()
+        self.holding.log.limit()
     }
 
     /// The Write of this name, if it is held.
     pub fn find(&self, wid: Wid) -> Option<&RestingWrite>
         ensures { MatchOption result (All (λ write. write.wid ≢ wid) self.now.core.held) (λ write. Contains self.now.core.held write.now × (write.now.wid ≡ wid)) }
     {
-        self.log.find(wid)
+        self.holding.log.find(wid)
     }
 
     /// The Writes held, in order of receipt.
@@ -298,14 +284,14 @@ impl<D: Device> Server<D> {
         ensures value { result.now ≡ self.now.core.held }
         ensures sound { IsSoundServer self.now.core }
     {
-        self.log.receipts()
+        self.holding.log.receipts()
     }
 
     /// The Writes held, in stamp order, each with the outcome that it has in the replay.
     pub fn listing(&self, alloc: Global) -> Result<Vec<Listed>, AllocError>
         ensures { IfOk result (λ list. list.items ≡ listing_of self.now.core.held) }
     {
-        self.log.listing(alloc)
+        self.holding.log.listing(alloc)
     }
 
     /// Copies of the first `max` of the Writes held, in stamp order, that the vector doesn't count: what a server with these
@@ -319,36 +305,30 @@ impl<D: Device> Server<D> {
         ensures value { IfOk result (λ writes. writes.items ≡ take max (lacking_of counts.now self.now.core.held)) }
         ensures sound { IsSoundServer self.now.core }
     {
-        self.log.lacking(alloc, counts, max)
+        self.holding.log.lacking(alloc, counts, max)
     }
 
     /// Copies of the Writes held, in order of receipt.
     pub fn dump(&self, alloc: Global) -> Result<Vec<RestingWrite>, AllocError>
         ensures { IfOk result (λ writes. writes.items ≡ self.now.core.held) }
     {
-        copies(alloc, self.log.receipts())
+        copies(alloc, self.holding.log.receipts())
     }
 
-    /// Ends the server, which takes no memory and makes no device call.
+    /// Ends the server, which takes no memory and makes no device call. Its database is gone then.
     pub fn stop(self) -> Stopped<D>
         ensures device { result.device ≡ self.device }
-        ensures held { result.log.receipts ≡ self.core.held }
-        ensures caught_up { result.log.waiting ≡ 0 }
-        ensures count { result.log.count ≡ self.core.count }
-        ensures limit { result.log.limit ≡ self.core.limit }
-        ensures doubt { result.doubt ≡ self.core.doubt }
+        ensures last { result.last ≡ holds_of self.core }
         ensures sound { IsSoundServer self.core }
     {
         let Server {
             journal,
-            log,
+            holding,
             id: _,
-            doubt,
         } = self;
         Stopped {
             device: journal.close(),
-            log,
-            doubt,
+            last: LastHeld::new(holding),
         }
     }
 

@@ -1,19 +1,23 @@
-ghost use Rattle.std.specs.Prelude.{◌≡◌, ◌<◌, ◌≤◌, ◌⊎◌, ◌↔◌, IsTrue, MatchResult};
+ghost use Rattle.std.specs.Prelude.{◌≡◌, ◌<◌, ◌≤◌, ◌⊎◌, ◌↔◌, IfOk, IsTrue, MatchOption, MatchResult, None};
 ghost use Rattle.bayou_base.specs.declared.limits.TheConstants.{SERVERS, MAX_WRITES};
-ghost use Rattle.bayou_server.specs.declared.fault.StartFault.TheVariants.{BadRecord, OutOfMemory};
-ghost use Rattle.bayou_server.specs.Server.{MayFollow};
+ghost use Rattle.bayou_journal.specs.Versions.{body_in};
+ghost use Rattle.bayou_server.specs.declared.fault.StartFault.TheVariants.{OutOfMemory};
+ghost use Rattle.bayou_server.specs.Server.{IsNewTag, MayFollow};
 ghost use Rattle.bayou_server.specs.Inner.Replaying.{IsAdded, IsAdmitted, Replays};
-ghost use Rattle.bayou_lang.specs.declared.write.Write.{Write as Written};
-ghost use Rattle.bayou_wire.specs.Spelling.{SpellsWrite};
-ghost use Rattle.bayou_server.specs.Starts.{RefusesBody, RefusesEntry};
+ghost use Rattle.bayou_wire.specs.declared.record.Record.{Record as Recorded};
+ghost use Rattle.bayou_server.specs.Starts.{IsNewRecord, RefusesBody, RefusesEntry};
 
 use crate::fault::StartFault;
+use crate::holding::Holding;
+use crate::records::record_of;
 use bayou_base::ServerId;
 use bayou_journal::Opened;
 use bayou_lang::RestingWrite;
 use bayou_log::WriteLog;
-use bayou_wire::{RestingFault, decode_resting_write};
-use std::alloc::Global;
+use bayou_tags::Tags;
+use bayou_wire::Record;
+use bayou_wire::laws::bytes_are_of_one_record;
+use std::alloc::{AllocError, Global};
 
 // Whether the Write may be added to those of the log of the server `id`.
 fn may_follow(log: &WriteLog, id: ServerId, write: &RestingWrite) -> bool
@@ -25,63 +29,94 @@ fn may_follow(log: &WriteLog, id: ServerId, write: &RestingWrite) -> bool
     write.wid().origin != id || *write.deps() == log.vector()
 }
 
-// The Write that the body of the entry at this place spells.
-fn spelled_by(alloc: Global, body: &[u8], at: u32) -> Result<RestingWrite, StartFault>
-    ensures { MatchResult result
-        (SpellsWrite body.now)
-        (λ fault. (fault ≡ OutOfMemory) ⊎ ((fault ≡ BadRecord at) × ((write : Written) → ¬ (SpellsWrite body.now write)))) }
+// Whether none of the tags is the record's.
+fn is_new(tags: &Tags, stored: &Record) -> bool
+    ensures { IsTrue result ↔ IsNewTag tags.now.tags stored.now.tag }
 {
-    match decode_resting_write(alloc, body) {
-        Ok(write) => Ok(write),
-        Err(RestingFault::Fault(_)) => Err(StartFault::BadRecord(at)),
-        Err(RestingFault::OutOfMemory) => Err(StartFault::OutOfMemory),
+    match stored.tag {
+        Some(tag) => tags.find(tag).is_none(),
+        None => true,
     }
 }
 
-// The Write that the body of the next entry spells, if the log of the server `id` takes it.
+// The record that the body stands for, if there is one, and its tag is new.
+fn new_record(
+    alloc: Global,
+    id: ServerId,
+    tags: &Tags,
+    version: u8,
+    body: &[u8],
+) -> Result<Option<Record>, AllocError>
+    ensures { IfOk result (λ given. MatchOption given
+        ((stored : Recorded) → ¬ (IsNewRecord id.index tags.now.tags (body_in version body.now) stored))
+        (λ stored. IsNewRecord id.index tags.now.tags (body_in version body.now) stored)) }
+{
+    bytes_are_of_one_record();
+    let Some(stored) = record_of(alloc, id, version, body)? else {
+        return Ok(None);
+    };
+    if !is_new(tags, &stored) {
+        return Ok(None);
+    }
+    Ok(Some(stored))
+}
+
+// The record that the body stands for, if it may be added to what is held.
 fn next_of(
     alloc: Global,
-    log: &WriteLog,
     id: ServerId,
+    holding: &Holding,
+    version: u8,
     body: &[u8],
-) -> Result<RestingWrite, StartFault>
-    requires { log.now.limit ≤ MAX_WRITES }
+) -> Result<Record, StartFault>
+    requires { holding.now.log.limit ≤ MAX_WRITES }
     ensures { MatchResult result
-        (IsAdmitted id.index log.now body.now)
-        (λ fault. (fault ≡ OutOfMemory) ⊎ RefusesBody id.index log.now.count log.now.limit log.now.receipts body.now fault) }
+        (IsAdmitted id.index holding.now.log holding.now.tags (body_in version body.now))
+        (λ fault. (fault ≡ OutOfMemory) ⊎ RefusesBody id.index holding.now.log.count holding.now.log.limit holding.now.log.receipts holding.now.tags.tags (body_in version body.now) fault) }
 {
-    let at = log.receipts().len() as u32;
-    let write = spelled_by(alloc, body, at)?;
-    if !may_follow(log, id, &write) {
+    let at = holding.log.receipts().len() as u32;
+    let Some(stored) = new_record(alloc, id, &holding.tags, version, body)? else {
+        return Err(StartFault::BadRecord(at));
+    };
+    if !may_follow(&holding.log, id, &stored.write) {
         return Err(StartFault::Gap(at));
     }
-    if log.is_full() {
+    if holding.log.is_full() {
         return Err(StartFault::LogFull);
     }
-    Ok(write)
+    Ok(stored)
 }
 
-// Adds the Write that the body of the next entry spells to the log of the server `id`, where it waits.
-fn add_next(alloc: Global, log: &mut WriteLog, id: ServerId, body: &[u8]) -> Result<(), StartFault>
-    requires { log.old.limit ≤ MAX_WRITES }
+// Adds what the body of the next entry stands for to what is held, where the Write waits.
+fn add_next(
+    alloc: Global,
+    id: ServerId,
+    holding: &mut Holding,
+    version: u8,
+    body: &[u8],
+) -> Result<(), StartFault>
+    requires limit { holding.old.log.limit ≤ MAX_WRITES }
+    requires nothing_comes { holding.old.tags.coming ≡ None }
     ensures { MatchResult result
-        (λ _. IsAdded id.index log.old body.now log.new)
-        (λ fault. (fault ≡ OutOfMemory) ⊎ RefusesBody id.index log.old.count log.old.limit log.old.receipts body.now fault) }
+        (λ _. IsAdded id.index holding.old (body_in version body.now) holding.new)
+        (λ fault. (fault ≡ OutOfMemory) ⊎ RefusesBody id.index holding.old.log.count holding.old.log.limit holding.old.log.receipts holding.old.tags.tags (body_in version body.now) fault) }
 {
-    let write = next_of(alloc, log, id, body)?;
-    log.reserve(&write)?;
-    log.place(write);
+    let Record { write, tag } = next_of(alloc, id, holding, version, body)?;
+    holding.log.reserve(&write)?;
+    holding.tags.reserve(tag)?;
+    holding.log.place(write);
+    holding.tags.settle();
     Ok(())
 }
 
-// The log of the Writes that the bodies spell, in their order. They are applied once all are added.
-pub fn log_of(
+// What the bodies stand for, in their order. The Writes are applied once all are added.
+pub fn holding_of(
     alloc: Global,
     id: ServerId,
     count: u8,
     limit: u32,
     opened: &Opened,
-) -> Result<WriteLog, StartFault>
+) -> Result<Holding, StartFault>
     requires known { id.index < count }
     requires count { count ≤ SERVERS }
     requires limit { limit ≤ MAX_WRITES }
@@ -89,10 +124,14 @@ pub fn log_of(
         (Replays id.index count limit opened.now.bodies)
         (λ fault. (fault ≡ OutOfMemory) ⊎ RefusesEntry id.index count limit opened.now.bodies fault) }
 {
-    let mut log = WriteLog::new(alloc, count, limit);
+    let mut holding = Holding {
+        log: WriteLog::new(alloc, count, limit),
+        tags: Tags::new(alloc),
+        doubt: None,
+    };
     for at in 0..opened.len() {
-        add_next(alloc, &mut log, id, opened.body(at))?;
+        add_next(alloc, id, &mut holding, opened.version(at), opened.body(at))?;
     }
-    log.catch_up();
-    Ok(log)
+    holding.log.catch_up();
+    Ok(holding)
 }

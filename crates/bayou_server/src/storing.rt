@@ -8,12 +8,12 @@ ghost use Rattle.bayou_server.specs.Inner.Fields.{BelongTogether, core_of, serve
 ghost use Rattle.bayou_server.specs.Inner.Storing.{Keeps, MayBeStored, Settles, StaysStored, StoresEntry};
 ghost use Rattle.bayou_server.specs.Stored.{IsUntouched};
 
+use crate::holding::Holding;
 use bayou_base::ServerId;
 use bayou_device::Device;
 use bayou_journal::laws::an_append_leaves_an_honest_device;
 use bayou_journal::{AppendFault, Journal};
 use bayou_lang::RestingWrite;
-use bayou_log::WriteLog;
 use bayou_wire::encode_resting_write;
 use std::alloc::{AllocError, Global};
 
@@ -26,54 +26,51 @@ pub enum Stored {
 }
 
 // Holds the Write, where its entry was added, and else puts it in doubt. It waits to be applied.
-fn settle(
-    log: &mut WriteLog,
-    doubt: &mut Option<RestingWrite>,
-    write: RestingWrite,
-    added: Result<(), AppendFault>,
-) -> Stored
-    requires fits { Fits log.old.count log.old.receipts write }
-    requires reserved { IsReserved log.old.room write }
-    requires below_limit { length log.old.receipts < log.old.limit }
-    ensures { Settles log.old doubt.old write added result log.new doubt.new }
+fn settle(holding: &mut Holding, write: RestingWrite, added: Result<(), AppendFault>) -> Stored
+    requires fits { Fits holding.old.log.count holding.old.log.receipts write }
+    requires reserved { IsReserved holding.old.log.room write }
+    requires below_limit { length holding.old.log.receipts < holding.old.log.limit }
+    requires tag_reserved { 0 < holding.old.tags.room }
+    ensures { Settles holding.old write added result holding.new }
 {
     match added {
         Ok(()) => {
-            log.place(write);
+            holding.log.place(write);
+            holding.tags.settle();
             Stored::Held
         }
         Err(_) => {
-            *doubt = Some(write);
+            holding.doubt = Some(write);
             Stored::InDoubt
         }
     }
 }
 
-// Stores the entry of the Write, which may be held next, and then holds it, or puts it in doubt.
+// Stores the entry of the Write, which may be held next and has no tag, and then holds it, or puts it in doubt.
 pub fn store<D: Device>(
     alloc: Global,
     journal: &mut Journal<D>,
-    log: &mut WriteLog,
+    holding: &mut Holding,
     id: ServerId,
-    doubt: &mut Option<RestingWrite>,
     write: RestingWrite,
 ) -> Result<Stored, AllocError>
-    requires together { BelongTogether journal.old log.old id.index doubt.old }
-    requires may { MayBeStored (core_of log.old id.index doubt.old) write }
-    ensures together { BelongTogether journal.new log.new id.index doubt.new }
+    requires together { BelongTogether journal.old holding.old id.index }
+    requires may { MayBeStored (core_of holding.old id.index) write }
+    ensures together { BelongTogether journal.new holding.new id.index }
     ensures keeps { MatchResult result
-        (λ stored. Keeps (core_of log.old id.index doubt.old) write stored (core_of log.new id.index doubt.new))
-        (λ _. core_of log.new id.index doubt.new ≡ core_of log.old id.index doubt.old) }
+        (λ stored. Keeps (core_of holding.old id.index) write stored (core_of holding.new id.index))
+        (λ _. core_of holding.new id.index ≡ core_of holding.old id.index) }
     ensures stores { MatchResult result
-        (λ stored. StoresEntry D.Device (server_of journal.old log.old id.index doubt.old) stored (server_of journal.new log.new id.index doubt.new))
-        (λ _. IsUntouched (server_of journal.old log.old id.index doubt.old) (server_of journal.new log.new id.index doubt.new)) }
-    ensures stored { D.is_modelled → IfOk result (λ stored. StaysStored D.Device (server_of journal.old log.old id.index doubt.old) stored (server_of journal.new log.new id.index doubt.new)) }
+        (λ stored. StoresEntry D.Device (server_of journal.old holding.old id.index) stored (server_of journal.new holding.new id.index))
+        (λ _. IsUntouched (server_of journal.old holding.old id.index) (server_of journal.new holding.new id.index)) }
+    ensures stored { D.is_modelled → IfOk result (λ stored. StaysStored D.Device (server_of journal.old holding.old id.index) stored (server_of journal.new holding.new id.index)) }
     ensures safe { D.is_modelled → KeepsChains (D.kept journal.old.device) (D.kept journal.new.device) }
     ensures calls { D.leads_to 2 journal.old.device journal.new.device }
 {
     an_append_leaves_an_honest_device::<D>();
-    log.reserve(&write)?;
+    holding.log.reserve(&write)?;
     let body = encode_resting_write(alloc, &write)?;
+    holding.tags.reserve(None)?;
     let added = journal.append(&body);
-    Ok(settle(log, doubt, write, added))
+    Ok(settle(holding, write, added))
 }

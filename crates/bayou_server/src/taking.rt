@@ -8,55 +8,46 @@ ghost use Rattle.bayou_server.specs.TakesAll.{TakesAll, TakesAt};
 
 use crate::answer::{Took, TookAll};
 use crate::fault::TakeFault;
+use crate::holding::Holding;
 use crate::storing::{Stored, store};
 use bayou_base::ServerId;
 use bayou_device::Device;
 use bayou_journal::Journal;
 use bayou_lang::RestingWrite;
-use bayou_log::{Misfit, WriteLog};
+use bayou_log::Misfit;
 use std::alloc::Global;
 use std::vec::IntoIter;
 
 // Why the Write, of whose name none is held, isn't added, if it may not be.
-fn refusal(
-    log: &WriteLog,
-    id: ServerId,
-    doubt: &Option<RestingWrite>,
-    given: &RestingWrite,
-) -> Option<TakeFault>
-    requires { IsMissing log.now.receipts given.now }
-    ensures { IsRefused (core_of log.now id.index doubt.now) given.now result }
+fn refusal(holding: &Holding, id: ServerId, given: &RestingWrite) -> Option<TakeFault>
+    requires { IsMissing holding.now.log.receipts given.now }
+    ensures { IsRefused (core_of holding.now id.index) given.now result }
 {
-    if doubt.is_some() {
+    if holding.doubt.is_some() {
         return Some(TakeFault::Down);
     }
     if given.wid().origin == id {
         return Some(TakeFault::OwnLost);
     }
-    match log.fits(given) {
+    match holding.log.fits(given) {
         Err(Misfit::Gap) => Some(TakeFault::Gap),
         Err(Misfit::BadStamp) => Some(TakeFault::BadStamp),
-        Ok(()) if log.is_full() => Some(TakeFault::LogFull),
+        Ok(()) if holding.log.is_full() => Some(TakeFault::LogFull),
         Ok(()) => None,
     }
 }
 
 // The answer, where it follows from what is held and in doubt. Else the Write may be added.
-fn decided(
-    log: &WriteLog,
-    id: ServerId,
-    doubt: &Option<RestingWrite>,
-    given: &RestingWrite,
-) -> Option<Result<Took, TakeFault>>
-    ensures { IsDecided (core_of log.now id.index doubt.now) given.now result }
+fn decided(holding: &Holding, id: ServerId, given: &RestingWrite) -> Option<Result<Took, TakeFault>>
+    ensures { IsDecided (core_of holding.now id.index) given.now result }
 {
-    if let Some(held) = log.find(given.wid()) {
+    if let Some(held) = holding.log.find(given.wid()) {
         if held == given {
             return Some(Ok(Took::Had));
         }
         return Some(Err(TakeFault::Conflict));
     }
-    match refusal(log, id, doubt, given) {
+    match refusal(holding, id, given) {
         Some(fault) => Some(Err(fault)),
         None => None,
     }
@@ -66,19 +57,18 @@ fn decided(
 pub fn take_one<D: Device>(
     alloc: Global,
     journal: &mut Journal<D>,
-    log: &mut WriteLog,
+    holding: &mut Holding,
     id: ServerId,
-    doubt: &mut Option<RestingWrite>,
     write: RestingWrite,
 ) -> Result<Took, TakeFault>
-    requires { BelongTogether journal.old log.old id.index doubt.old }
-    ensures together { BelongTogether journal.new log.new id.index doubt.new }
-    ensures takes { TakesAt D.Device (server_of journal.old log.old id.index doubt.old) write result (server_of journal.new log.new id.index doubt.new) }
+    requires { BelongTogether journal.old holding.old id.index }
+    ensures together { BelongTogether journal.new holding.new id.index }
+    ensures takes { TakesAt D.Device (server_of journal.old holding.old id.index) write result (server_of journal.new holding.new id.index) }
 {
-    if let Some(answer) = decided(log, id, doubt, &write) {
+    if let Some(answer) = decided(holding, id, &write) {
         return answer;
     }
-    match store(alloc, journal, log, id, doubt, write)? {
+    match store(alloc, journal, holding, id, write)? {
         Stored::Held => Ok(Took::New),
         Stored::InDoubt => Err(TakeFault::Journal),
     }
@@ -88,15 +78,14 @@ pub fn take_one<D: Device>(
 pub fn take_several<D: Device>(
     alloc: Global,
     journal: &mut Journal<D>,
-    log: &mut WriteLog,
+    holding: &mut Holding,
     id: ServerId,
-    doubt: &mut Option<RestingWrite>,
     writes: &mut IntoIter<RestingWrite>,
     most: u32,
 ) -> TookAll
-    requires { BelongTogether journal.old log.old id.index doubt.old }
-    ensures together { BelongTogether journal.new log.new id.index doubt.new }
-    ensures takes { TakesAll (TakesAt D.Device) (server_of journal.old log.old id.index doubt.old) (into_iter_items writes.old) (into_iter_items writes.new) result (server_of journal.new log.new id.index doubt.new) }
+    requires { BelongTogether journal.old holding.old id.index }
+    ensures together { BelongTogether journal.new holding.new id.index }
+    ensures takes { TakesAll (TakesAt D.Device) (server_of journal.old holding.old id.index) (into_iter_items writes.old) (into_iter_items writes.new) result (server_of journal.new holding.new id.index) }
     ensures whole { result.fault ≡ None → (into_iter_items writes.new ≡ []) ⊎ (result.taken + result.had ≡ most) }
 {
     let mut told = TookAll {
@@ -108,7 +97,7 @@ pub fn take_several<D: Device>(
         let Some(write) = writes.next() else {
             return told;
         };
-        match take_one(alloc, journal, log, id, doubt, write) {
+        match take_one(alloc, journal, holding, id, write) {
             Ok(Took::New) => told.taken += 1,
             Ok(Took::Had) => told.had += 1,
             Err(fault) => {

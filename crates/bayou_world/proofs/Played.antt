@@ -21,17 +21,18 @@ use Rattle.bayou_world.specs.declared.state.State.{State}
 use Rattle.bayou_world.specs.Inner.Beginning.{AreFirstSeats, AreStarted, IsFirstSeat, IsFirstState, IsLeft, Leaves, SoFar}
 use Rattle.bayou_world.specs.Inner.WorldBooks.{Booking, FollowsInBook, IsBookOf}
 use Rattle.bayou_world.specs.Inner.Good.{IsGoodMachine}
-use Rattle.bayou_world.specs.Inner.WorldServers.{held_by}
+use Rattle.bayou_world.specs.Inner.WorldServers.{core_of, held_by}
 use Rattle.bayou_world.specs.Inner.Tie.{Follows, IsFlightOf, IsOf, IsSeatOf, IsTied, seat}
 use Rattle.bayou_world.specs.Invariant.{IsVectorOf}
 use Rattle.bayou_world.specs.Machine.{Machine, writes}
-use Rattle.bayou_world.specs.Runs.{Run, asks_of, first_machine, new_session, capacity_for}
+use Rattle.bayou_world.specs.Runs.{Run, asks_of, first_machine, new_server, new_session, capacity_for}
 use Rattle.bayou_world.specs.RunHistories.{Begun, IsRunHistory}
 use Rattle.bayou_world.specs.declared.run_history.RunHistory.{RunHistory}
 use Rattle.bayou_audit.specs.declared.totals.Totals.{Totals}
 use Rattle.bayou_audit.specs.Totals.{is_read, is_refusal, is_write, number_of, totals_of}
 use Rattle.std.specs.Global.{Vec}
 use Rattle.bayou_world.specs.Steps.{CollectStep, DeliverStep, FileStep, FuseStep, LoseStep, OfferStep, ReadStep, ReopenStep, RestartStep, Step, TakeStep, WriteStep}
+use Rattle.bayou_world.proofs.TiedWrites.{is_server}
 use Rattle.bayou_world.proofs.Starting.{first_good}
 use Rattle.bayou_world.proofs.Stepping.{step_good}
 use Rattle.bayou_world.proofs.Vectors.{IsVectorOf-none}
@@ -215,7 +216,12 @@ pub begins_tied : (servers : List WorldServer) (world_sessions : List (Option Wo
 begins_tied servers world_sessions count limit capacity list started seated = record {
   many = started.many;
   servers_are = λ place d inside.
-      let fresh = started.fresh place d inside in record { stopped = sym fresh.runs; core = record { is = fresh.core }; kept = fresh.kept };
+      let fresh = started.fresh place d inside in record {
+        stopped = sym fresh.runs;
+        core = is_server count limit place (core_of (get_or servers place d)) new_server (ap (λ (c : Core). c.id) fresh.core) (ap (λ (c : Core). c.count) fresh.core)
+            (ap (λ (c : Core). c.limit) fresh.core) (ap (λ (c : Core). c.held) fresh.core) (ap (λ (c : Core). c.doubt) fresh.core);
+        kept = fresh.kept;
+      };
   seats = seated.many;
   sessions_are = λ who inside. new_world_session who (asks_of list who) (seat world_sessions who) (seated.each who inside);
   offers_are = refl;

@@ -1,9 +1,8 @@
 -- Servers as they are started: first, and again.
-use Rattle.std.proofs.Common.{◌≡◌, inl, inr, ℕ, ◌+◌, List, [], ◌∷◌, ◌++◌, Option, get_or, ap, sym, ◌∙◌, subst, arith, length-append, length, take, refl, ◌≤◌, zero, suc}
+use Rattle.std.proofs.Common.{◌≡◌, inl, inr, ℕ, ◌+◌, List, [], ◌∷◌, ◌++◌, get_or, ap, sym, ◌∙◌, subst, arith, length-append, length, take, refl, ◌≤◌, zero, suc}
 use Rattle.std.proofs.lemmas.Bool.{cases_lt}
 use Rattle.std.proofs.lemmas.List.{get_or_append_left, get_or_push}
-use Rattle.bayou_lang.specs.declared.write.Write.{Write}
-use Rattle.bayou_server.specs.Server.{Core}
+use Rattle.bayou_server.specs.Server.{Core, Holds, holds_of}
 use Rattle.bayou_world.specs.declared.world_server.WorldServer.{WorldServer}
 use Rattle.bayou_world.specs.declared.role.Role.{Role}
 use Rattle.bayou_world.specs.Faults.{number_at, tells_fault, tells_fuse}
@@ -17,14 +16,13 @@ of_role P role core id count limit is =
     subst (λ n. P core.id core.count n) limit (subst (λ n. P core.id n role.limit) count (subst (λ n. P n role.count role.limit) id is))
 
 -- a server is its parts
-pub same_parts : (id count limit : ℕ) (held : List Write) (doubt : Option Write) (core : Core) → id ≡ core.id → count ≡ core.count → limit ≡ core.limit → held ≡ core.held → doubt ≡ core.doubt
-    → record { id = id; count = count; limit = limit; held = held; doubt = doubt } ≡ core
-same_parts id count limit held doubt core same_id same_count same_limit same_held same_doubt =
-    ap (λ n. record { id = n; count = count; limit = limit; held = held; doubt = doubt }) same_id
-    ∙ ap (λ n. record { id = core.id; count = n; limit = limit; held = held; doubt = doubt }) same_count
-    ∙ ap (λ n. record { id = core.id; count = core.count; limit = n; held = held; doubt = doubt }) same_limit
-    ∙ ap (λ h. record { id = core.id; count = core.count; limit = core.limit; held = h; doubt = doubt }) same_held
-    ∙ ap (λ d. record { id = core.id; count = core.count; limit = core.limit; held = core.held; doubt = d }) same_doubt
+pub same_parts : (id count limit : ℕ) (last : Holds) (core : Core) → id ≡ core.id → count ≡ core.count → limit ≡ core.limit → last ≡ holds_of core
+    → record { id = id; count = count; limit = limit; held = last.held; tags = last.tags; doubt = last.doubt; doubt_tag = last.doubt_tag } ≡ core
+same_parts id count limit last core same_id same_count same_limit same =
+    ap (λ n. record { id = n; count = count; limit = limit; held = last.held; tags = last.tags; doubt = last.doubt; doubt_tag = last.doubt_tag }) same_id
+    ∙ ap (λ n. record core { count = n; limit = limit; held = last.held; tags = last.tags; doubt = last.doubt; doubt_tag = last.doubt_tag }) same_count
+    ∙ ap (λ n. record core { limit = n; held = last.held; tags = last.tags; doubt = last.doubt; doubt_tag = last.doubt_tag }) same_limit
+    ∙ ap (λ (h : Holds). record core { held = h.held; tags = h.tags; doubt = h.doubt; doubt_tag = h.doubt_tag }) same
 
 -- one server more is started
 pub started_more : (done count limit : ℕ) (servers : List WorldServer) (world_server : WorldServer) → AreStarted done count limit servers → IsFresh count limit done world_server → IsUnused (device_of world_server)

@@ -165,8 +165,7 @@ took machine good place item made given home core new (Err taking.Journal) at (t
     with_doubt (machine.servers place) made,
     refl,
     refl,
-    subst (λ (c : Core). IsServerOf machine.count machine.limit place c (with_doubt (machine.servers place) made)) (sym same)
-        (doubted_there machine.count machine.limit place core (machine.servers place) made at),
+    doubted_there machine.count machine.limit place core new (machine.servers place) made at same,
   ),
 )
 took machine good place item made given home core new (Ok New) at (takable, spelled, same) = (
@@ -176,8 +175,7 @@ took machine good place item made given home core new (Ok New) at (takable, spel
     with_write (machine.servers place) made,
     refl,
     refl,
-    subst (λ (c : Core). IsServerOf machine.count machine.limit place c (with_write (machine.servers place) made)) (sym same)
-        (held_more machine.count machine.limit place core (machine.servers place) made at),
+    held_more machine.count machine.limit place core new (machine.servers place) made at same,
   ),
 )
 

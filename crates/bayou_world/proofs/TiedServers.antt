@@ -25,7 +25,7 @@ use Rattle.bayou_world.specs.Inner.Tie.{IsWorldServerOf, IsServerOf, IsTied, wri
 use Rattle.bayou_world.specs.Machine.{Machine, Made, ServerSets, with_server, writes}
 use Rattle.bayou_world.specs.Steps.{FuseStep, Recovers, RefusesReopening, ReopenStep, RestartStep, stopped_now, up_again, wid_of, with_write}
 use Rattle.bayou_world.proofs.Tied.{IsRunningServer, running_server, runs_at, same_place, with_place}
-use Rattle.bayou_world.proofs.TiedWrites.{no_doubt, some_doubt}
+use Rattle.bayou_world.proofs.TiedWrites.{is_server, no_doubt, some_doubt}
 
 -- what is taken out of its place and put back there, changed
 pub put_back : (servers : List WorldServer) (place : ℕ) (world_server : WorldServer) → place < length servers → insert (remove servers place) place world_server ≡ set servers place world_server
@@ -40,21 +40,23 @@ some_made (Some made) write is = let both : Some made.write ≡ Some write = is 
 
 -- the servers are what they hold
 same_core : (count limit place : ℕ) (core new : Core) (server : ServerSets) → IsServerOf count limit place core server → new ≡ core → IsServerOf count limit place new server
-same_core count limit place core new server at same = record { is = same ∙ at.is }
+same_core count limit place core new server at same = subst (λ (c : Core). IsServerOf count limit place c server) (sym same) at
 
-forgotten_there : (count limit place : ℕ) (core new : Core) (server : ServerSets) → IsServerOf count limit place core server → new ≡ record core { held = new.held; doubt = None } → new.held ≡ writes server.held
-    → IsServerOf count limit place new (up_again server)
-forgotten_there count limit place core new server at is held = record {
-  is = is ∙ ap (λ (c : Core). record c { held = new.held; doubt = None }) at.is
-      ∙ ap (λ h. record { id = place; count = count; limit = limit; held = h; doubt = None }) held;
-}
+-- a server that is up again, with what it holds
+up_there : (count limit place : ℕ) (core new : Core) (server after : ServerSets) → IsServerOf count limit place core server → new ≡ record core { held = new.held; tags = new.tags; doubt = None; doubt_tag = None }
+    → new.held ≡ writes after.held → option_map write_of after.doubt ≡ None → IsServerOf count limit place new after
+up_there count limit place core new server after at is held none =
+    is_server count limit place new after (ap (λ (c : Core). c.id) is ∙ ap (λ (c : Core). c.id) at.is) (ap (λ (c : Core). c.count) is ∙ ap (λ (c : Core). c.count) at.is)
+    (ap (λ (c : Core). c.limit) is ∙ ap (λ (c : Core). c.limit) at.is) held (ap (λ (c : Core). c.doubt) is ∙ sym none)
 
-adopted_there : (count limit place : ℕ) (core new : Core) (server : ServerSets) (made : Made) → IsServerOf count limit place core server → new ≡ record core { held = new.held; doubt = None }
-    → new.held ≡ writes server.held ++ made.write ∷ [] → IsServerOf count limit place new (with_write (up_again server) made)
-adopted_there count limit place core new server made at is held = record {
-  is = is ∙ ap (λ (c : Core). record c { held = new.held; doubt = None }) at.is
-      ∙ ap (λ h. record { id = place; count = count; limit = limit; held = h; doubt = None }) (held ∙ sym (map-append write_of server.held (made ∷ [])));
-}
+forgotten_there : (count limit place : ℕ) (core new : Core) (server : ServerSets) → IsServerOf count limit place core server → new ≡ record core { held = new.held; tags = new.tags; doubt = None; doubt_tag = None }
+    → new.held ≡ writes server.held → IsServerOf count limit place new (up_again server)
+forgotten_there count limit place core new server at is held = up_there count limit place core new server (up_again server) at is held refl
+
+adopted_there : (count limit place : ℕ) (core new : Core) (server : ServerSets) (made : Made) → IsServerOf count limit place core server
+    → new ≡ record core { held = new.held; tags = new.tags; doubt = None; doubt_tag = None } → new.held ≡ writes server.held ++ made.write ∷ [] → IsServerOf count limit place new (with_write (up_again server) made)
+adopted_there count limit place core new server made at is held =
+    up_there count limit place core new server (with_write (up_again server) made) at is (held ∙ sym (map-append write_of server.held (made ∷ []))) refl
 
 -- ---- a fuse
 
@@ -96,7 +98,7 @@ up_again_there machine place old new None here honest (down, is) =
       name = refl;
       world_server = running_server machine.count machine.limit place new (up_again server) refl
           (forgotten_there machine.count machine.limit place old.core new.core server here.core
-          (is ∙ ap (λ (c : Core). record old.core { held = c.held; doubt = None }) (sym is)) (ap (λ (c : Core). c.held) is ∙ ap (λ (c : Core). c.held) here.core.is)) honest;
+          (is ∙ ap (λ (c : Core). record old.core { held = c.held; tags = c.tags; doubt = None; doubt_tag = None }) (sym is)) (ap (λ (c : Core). c.held) is ∙ ap (λ (c : Core). c.held) here.core.is)) honest;
     }
 up_again_there machine place old new (Some wid) here honest (doubt, doubted, name, is) =
     let server = machine.servers place in
@@ -110,7 +112,7 @@ up_again_there machine place old new (Some wid) here honest (doubt, doubted, nam
       name = ap Some (name ∙ ap (λ (w : Write). w.wid) (sym there.2));
       world_server = running_server machine.count machine.limit place new (with_write (up_again server) there.0) refl
           (adopted_there machine.count machine.limit place old.core new.core server there.0 here.core
-          (is ∙ ap (λ (c : Core). record old.core { held = c.held; doubt = None }) (sym is)) held) honest;
+          (is ∙ ap (λ (c : Core). record old.core { held = c.held; tags = c.tags; doubt = None; doubt_tag = None }) (sym is)) held) honest;
     }
 
 -- why it isn't
@@ -196,7 +198,7 @@ restart_tied servers world_sessions offers items told machine tied place old new
       RestartStep.refused fault in_count both.0.1 refl refl,
       with_place servers world_sessions offers items told machine tied place new (stopped_now server) in_count (record {
         stopped = sym both.0.0;
-        core = record { is = both.0.2 ∙ was.core.is };
+        core = record { is = (same_core machine.count machine.limit place (core_of old) (core_of new) server was.core both.0.2).is };
         kept = both.1;
       }),
     )

@@ -108,16 +108,30 @@ makes_there law machine good who place world_session session is counts program c
       tag = record { session_is = is.name; run_is = refl; number_is = refl };
     }
 
-pub held_more : (count limit place : ℕ) (core : Core) (server : ServerSets) (made : Made) → IsServerOf count limit place core server
-    → IsServerOf count limit place (record core { held = core.held ++ made.write ∷ [] }) (with_write server made)
-held_more count limit place core server made at = record {
-  is = ap (λ (c : Core). record c { held = c.held ++ made.write ∷ [] }) at.is
-      ∙ ap (λ h. record { id = place; count = count; limit = limit; held = h; doubt = option_map write_of server.doubt }) (sym (map-append write_of server.held (made ∷ [])));
+-- a server that has all this is the one
+pub is_server : (count limit place : ℕ) (core : Core) (server : ServerSets) → core.id ≡ place → core.count ≡ count → core.limit ≡ limit → core.held ≡ writes server.held
+    → core.doubt ≡ option_map write_of server.doubt → IsServerOf count limit place core server
+is_server count limit place core server same_id same_count same_limit same_held same_doubt = record {
+  is = ap (λ n. record core { id = n }) same_id
+      ∙ ap (λ n. record core { id = place; count = n }) same_count
+      ∙ ap (λ n. record core { id = place; count = count; limit = n }) same_limit
+      ∙ ap (λ h. record core { id = place; count = count; limit = limit; held = h }) same_held
+      ∙ ap (λ d. record core { id = place; count = count; limit = limit; held = writes server.held; doubt = d }) same_doubt;
 }
 
-pub doubted_there : (count limit place : ℕ) (core : Core) (server : ServerSets) (made : Made) → IsServerOf count limit place core server
-    → IsServerOf count limit place (record core { doubt = Some made.write }) (with_doubt server made)
-doubted_there count limit place core server made at = record { is = ap (λ (c : Core). record c { doubt = Some made.write }) at.is }
+pub held_more : (count limit place : ℕ) (core new : Core) (server : ServerSets) (made : Made) → IsServerOf count limit place core server
+    → new ≡ record core { held = core.held ++ made.write ∷ []; tags = core.tags ++ None ∷ [] } → IsServerOf count limit place new (with_write server made)
+held_more count limit place core new server made at is =
+    is_server count limit place new (with_write server made) (ap (λ (c : Core). c.id) is ∙ ap (λ (c : Core). c.id) at.is) (ap (λ (c : Core). c.count) is ∙ ap (λ (c : Core). c.count) at.is)
+    (ap (λ (c : Core). c.limit) is ∙ ap (λ (c : Core). c.limit) at.is)
+    (ap (λ (c : Core). c.held) is ∙ ap (λ (c : Core). c.held ++ made.write ∷ []) at.is ∙ sym (map-append write_of server.held (made ∷ [])))
+    (ap (λ (c : Core). c.doubt) is ∙ ap (λ (c : Core). c.doubt) at.is)
+
+pub doubted_there : (count limit place : ℕ) (core new : Core) (server : ServerSets) (made : Made) → IsServerOf count limit place core server
+    → new ≡ record core { doubt = Some made.write; doubt_tag = None } → IsServerOf count limit place new (with_doubt server made)
+doubted_there count limit place core new server made at is =
+    is_server count limit place new (with_doubt server made) (ap (λ (c : Core). c.id) is ∙ ap (λ (c : Core). c.id) at.is) (ap (λ (c : Core). c.count) is ∙ ap (λ (c : Core). c.count) at.is)
+    (ap (λ (c : Core). c.limit) is ∙ ap (λ (c : Core). c.limit) at.is) (ap (λ (c : Core). c.held) is ∙ ap (λ (c : Core). c.held) at.is) (ap (λ (c : Core). c.doubt) is)
 
 refused_entry : (servers : List WorldServer) (world_sessions : List (Option WorldSession)) (offers : List (List ℕ)) (items : List Write) (told : List Entry) → WriteLaw → (machine : Machine) → IsGoodMachine machine
     → IsTied servers world_sessions offers items told machine → (who place : ℕ) (program : Program) (world_session new : WorldSession) (old_server new_server : ServerState Memory) (fault : WriteFault) → who < SESSIONS → seat world_sessions who ≡ Some world_session
@@ -158,8 +172,7 @@ write_tied law servers world_sessions offers items told machine good tied who pl
     let made : Made = record { write = accepts_it.made; past = writes (machine.servers place).held; tag = tag_there world_session session } in
     let makes = makes_there law machine good who place world_session session is counts program old_server.core accepts_it.made core accepts_it.makes in
     let answered : Answered = record { entry = begins_at.entry; database = made.past; made = Some made } in
-    let server_is = subst (λ (c : Core). IsServerOf machine.count machine.limit place c (with_write (machine.servers place) made)) (sym accepts_it.is)
-    (held_more machine.count machine.limit place old_server.core (machine.servers place) made core) in
+    let server_is = held_more machine.count machine.limit place old_server.core new_server.core (machine.servers place) made core accepts_it.is in
     let machine_then = with_server machine place (with_write (machine.servers place) made) in (
       with_answer machine_then who session (Some (first_asking place session program)) answered,
       WriteStep.accepted session begins_at.entry made accepted may makes (record { wid = accepts_it.wid; stamp = accepts_it.stamp; deps = accepts_it.deps ∙ makes.next.deps }) refl
@@ -180,8 +193,7 @@ write_tied law servers world_sessions offers items told machine good tied who pl
     let may = may_begin machine who place world_session session seat_is.1 is none left here.running in
     let made : Made = record { write = doubts.made; past = writes (machine.servers place).held; tag = tag_there world_session session } in
     let makes = makes_there law machine good who place world_session session is counts program old_server.core doubts.made core doubts.makes in
-    let server_is = subst (λ (c : Core). IsServerOf machine.count machine.limit place c (with_doubt (machine.servers place) made)) (sym doubts.is)
-    (doubted_there machine.count machine.limit place old_server.core (machine.servers place) made core) in
+    let server_is = doubted_there machine.count machine.limit place old_server.core new_server.core (machine.servers place) made core doubts.is in
     let machine_then = with_server machine place (with_doubt (machine.servers place) made) in (
       with_answer machine_then who session (Some (first_asking place session program)) (refusal begins_at.entry),
       WriteStep.doubted session begins_at.entry made may makes refl (entry_of who place world_session new session (Some (world_session.session.begun + 1)) whats.Refused None is begins_at) refl,

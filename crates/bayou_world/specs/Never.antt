@@ -1,5 +1,5 @@
 -- What a server that keeps to its own rules (bayou_server), which have a case for each answer, never answers in a run.
-use Rattle.std.specs.Prelude.{ℕ, List, Result, Ok, Err}
+use Rattle.std.specs.Prelude.{◌≡◌, ◌⊎◌, ℕ, List, None, Some, Result, Ok, Err, map}
 use Rattle.std.specs.Option.{option_map}
 use Rattle.bayou_device.specs.declared.device.Device.{Ghosts}
 use Rattle.bayou_journal.specs.Versions.{Body}
@@ -7,25 +7,27 @@ use Rattle.bayou_lang.specs.declared.write.Write.{Write}
 use Rattle.bayou_server.specs.declared.answer.Reopened.{Reopened}
 use Rattle.bayou_server.specs.declared.fault.ReopenFault.{ReopenFault}
 use Rattle.bayou_server.specs.declared.fault.ReopenFault.TheVariants.{BadRecord, Journal, Lost, NotDown, OutOfMemory}
-use Rattle.bayou_server.specs.Honest.{AreHonest}
-use Rattle.bayou_server.specs.Server.{Core, ServerState}
-use Rattle.bayou_server.specs.Stored.{OpensWith, Stores}
+use Rattle.bayou_server.specs.Server.{Core, ServerState, records_of}
+use Rattle.bayou_server.specs.Stored.{OpensWith, Stores, records_with_doubt}
 use Rattle.bayou_world.specs.Machine.{Machine, Made, writes}
 
--- the server, as its own rules see it
+-- the server, as its own rules see it: no Write has a tag there
 abbrev pub core_at : Machine → (place : ℕ) → Core
 core_at machine place = record {
   id = place;
   count = machine.count;
   limit = machine.limit;
   held = writes (machine.servers place).held;
+  tags = map (λ made. None) (machine.servers place).held;
   doubt = option_map (λ (made : Made). made.write) (machine.servers place).doubt;
+  doubt_tag = None;
 }
 
--- Whatever an opening of the server's journal finds, those are the Writes that it held, or those and the Write in doubt.
+-- Whatever an opening of the server's journal finds, that stands for what the server held, or for that and the Write in doubt.
 abbrev pub OpensHonestly : {D : Type 0} → Ghosts D → ServerState D → Type 0
 OpensHonestly {D} d server = (left : D) (bodies : List Body) (last : List ℕ) → OpensWith d server.core.id server.device left bodies last
-    → (found : List Write) × Stores bodies found × AreHonest server.core.held server.core.doubt found
+    → Stores server.core.id bodies (records_of server.core)
+    ⊎ ((doubt : Write) × (server.core.doubt ≡ Some doubt) × Stores server.core.id bodies (records_with_doubt server.core doubt))
 
 -- the journal has lost a Write that was held, or has another than those that may be there
 abbrev pub FindsOthers : Result Reopened ReopenFault → Type 0

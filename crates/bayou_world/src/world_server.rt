@@ -7,6 +7,7 @@ ghost use Rattle.bayou_device.specs.Memory.{with_fuse};
 ghost use Rattle.bayou_device.specs.MemoryDevice.{memory_device};
 ghost use Rattle.bayou_server.specs.Honest.{IsHonestAnswer, IsHonestServer};
 ghost use Rattle.bayou_server.specs.Reopens.{Reopens};
+ghost use Rattle.bayou_server.specs.Server.{holds_of};
 ghost use Rattle.bayou_server.specs.Takes.{Takes};
 ghost use Rattle.bayou_world.specs.declared.reply.Reply.TheVariants.{Reopened as WasReopened, Restarted as WasRestarted, Took as WasTaken};
 ghost use Rattle.bayou_world.specs.Faults.{tells_fault};
@@ -104,7 +105,7 @@ impl WorldServer {
     {
         match self {
             WorldServer::Running(server) => server.dump(alloc),
-            WorldServer::Stopped(_, stopped) => stopped.dump(alloc),
+            WorldServer::Stopped(_, stopped) => stopped.last.dump(alloc),
         }
     }
 
@@ -153,8 +154,7 @@ impl WorldServer {
     /// Stops the server, if it runs.
     fn stop(self) -> Stopped<MemoryDevice<OpenGate>>
         ensures device { result.device ≡ device_of self }
-        ensures held { result.log.receipts ≡ (core_of self).held }
-        ensures doubt { result.doubt ≡ (core_of self).doubt }
+        ensures last { result.last ≡ holds_of (core_of self) }
         ensures honest { IsKept self → IsLeftOf (core_of self) (device_of self) }
     {
         an_honest_server_has_an_honest_device::<MemoryDevice<OpenGate>>();
@@ -173,14 +173,14 @@ impl WorldServer {
         a_start_on_an_honest_device_is_honest::<MemoryDevice<OpenGate>>();
         a_device_in_memory_only_tears();
         let role = self.role();
-        let Stopped { device, log, doubt } = self.stop();
+        let Stopped { device, last } = self.stop();
         match Server::start(alloc, role.id, role.count, role.limit, device) {
             Ok((server, _)) => {
                 let holds = server.receipts().len();
                 (WorldServer::Running(server), Ok(holds))
             }
             Err(NotStarted { fault, device }) => {
-                let stopped = Stopped { device, log, doubt };
+                let stopped = Stopped { device, last };
                 (WorldServer::Stopped(role, stopped), Err(fault))
             }
         }

@@ -1,11 +1,11 @@
 -- How a server stores one Write more, which its callers don't see.
-use Rattle.std.specs.Prelude.{◌≡◌, ◌<◌, [], ◌∷◌, ◌++◌, Option, Some, Result, Ok, Err, length}
+use Rattle.std.specs.Prelude.{◌≡◌, ◌<◌, [], ◌∷◌, ◌++◌, None, Some, Result, Ok, Err, length}
 use Rattle.bayou_device.specs.declared.device.Device.{Ghosts}
 use Rattle.bayou_journal.specs.declared.fault.AppendFault.{AppendFault}
 use Rattle.bayou_lang.specs.declared.write.Write.{Write}
 use Rattle.bayou_lang.specs.Writes.{Fits, IsNextWrite}
 use Rattle.bayou_lang.specs.Ranges.{IsWrite}
-use Rattle.bayou_log.specs.Log.{Log}
+use Rattle.bayou_server.specs.declared.holding.Holding.{Holding}
 use Rattle.bayou_server.specs.declared.storing.Stored.{Stored}
 use Rattle.bayou_server.specs.declared.storing.Stored.TheVariants.{Held, InDoubt}
 use Rattle.bayou_server.specs.Server.{Core, IsUp, ServerState}
@@ -18,10 +18,10 @@ pub record MayBeStored (core : Core) (write : Write) : Type 0 where
   pub fits : Fits core.count core.held write
   pub own : write.wid.origin.index ≡ core.id → IsNextWrite core.held core.id write.program write
 
--- what comes of a Write that has a spelling, and what the server then holds
+-- what comes of a Write that has a spelling, and has no tag, and what the server then holds
 abbrev pub Keeps : (old : Core) → Write → Stored → (new : Core) → Type 0
-Keeps old write Held new = IsWrite write × (new ≡ record old { held = old.held ++ write ∷ [] })
-Keeps old write InDoubt new = IsWrite write × (new ≡ record old { doubt = Some write })
+Keeps old write Held new = IsWrite write × (new ≡ record old { held = old.held ++ write ∷ []; tags = old.tags ++ None ∷ [] })
+Keeps old write InDoubt new = IsWrite write × (new ≡ record old { doubt = Some write; doubt_tag = None })
 
 -- and how the device stands then
 abbrev pub StoresEntry : {D : Type 0} → Ghosts D → (old : ServerState D) → Stored → (new : ServerState D) → Type 0
@@ -33,9 +33,15 @@ abbrev pub StaysStored : {D : Type 0} → Ghosts D → (old : ServerState D) →
 StaysStored d old Held new = IsStored d old → IsStored d new
 StaysStored d old InDoubt new = Unit {0}
 
--- what comes of a Write in the log once its entry was to be added: it is held behind the others, or is in doubt
-abbrev pub Settles : Log → Option Write → Write → Result (Unit {0}) AppendFault → Stored → (new : Log) → (left : Option Write) → Type 0
-Settles log doubt write (Ok done) Held new left = (new ≡ record log { receipts = log.receipts ++ write ∷ []; room = new.room; waiting = new.waiting }) × (left ≡ doubt)
-Settles log doubt write (Err reason) InDoubt new left = (new ≡ log) × (left ≡ Some write)
-Settles log doubt write (Ok done) InDoubt new left = ⊥
-Settles log doubt write (Err reason) Held new left = ⊥
+-- The Write is held behind the others, with the tag that came.
+pub record IsHeld (old : Holding) (write : Write) (new : Holding) : Type 0 where
+  pub log : new.log ≡ record old.log { receipts = old.log.receipts ++ write ∷ []; room = new.log.room; waiting = new.log.waiting }
+  pub tags : new.tags ≡ record old.tags { tags = old.tags.tags ++ old.tags.coming ∷ []; coming = None; room = new.tags.room }
+  pub doubt : new.doubt ≡ old.doubt
+
+-- what comes of a Write once its entry was to be added: it is held behind the others, or is in doubt
+abbrev pub Settles : Holding → Write → Result (Unit {0}) AppendFault → Stored → (new : Holding) → Type 0
+Settles old write (Ok done) Held new = IsHeld old write new
+Settles old write (Err reason) InDoubt new = new ≡ record old { doubt = Some write }
+Settles old write (Ok done) InDoubt new = ⊥
+Settles old write (Err reason) Held new = ⊥

@@ -24,9 +24,9 @@ use Rattle.bayou_world.specs.Machine.{Answered, Asking, Machine, Made, Offered, 
 abbrev pub write_of : Made → Write
 write_of made = made.write
 
--- the server that holds this
+-- the server that holds this, with whatever tags beside it
 pub record IsServerOf (count limit place : ℕ) (core : Core) (server : ServerSets) : Type 0 where
-  pub is : core ≡ record { id = place; count = count; limit = limit; held = writes server.held; doubt = option_map write_of server.doubt }
+  pub is : core ≡ record { id = place; count = count; limit = limit; held = writes server.held; tags = core.tags; doubt = option_map write_of server.doubt; doubt_tag = core.doubt_tag }
 
 -- the same server, running or stopped, over an honest device
 pub record IsWorldServerOf (count limit place : ℕ) (world_server : WorldServer) (server : ServerSets) : Type 0 where

@@ -5,7 +5,7 @@ use Rattle.bayou_device.specs.MemoryDevice.{memory_device}
 use Rattle.bayou_lang.specs.declared.write.Write.{Write}
 use Rattle.bayou_server.specs.declared.fault.StartFault.{StartFault}
 use Rattle.bayou_server.specs.Honest.{AreHonest, IsHonestServerDevice, IsHonestRefusal, IsHonestServer}
-use Rattle.bayou_server.specs.Server.{Core, IsSoundServer, ServerState}
+use Rattle.bayou_server.specs.Server.{Core, IsSoundServer, ServerState, record_in_doubt, records_of}
 use Rattle.bayou_world.specs.declared.world_server.WorldServer.{WorldServer}
 use Rattle.bayou_world.specs.declared.world_server.WorldServer.TheVariants.{Running, Stopped}
 
@@ -21,7 +21,15 @@ device_of (Stopped role left) = left.device
 -- which server it is, what it holds, and what is in doubt
 abbrev pub core_of : WorldServer → Core
 core_of (Running server) = server.core
-core_of (Stopped role left) = record { id = role.id.index; count = role.count; limit = role.limit; held = left.log.receipts; doubt = left.doubt }
+core_of (Stopped role left) = record {
+  id = role.id.index;
+  count = role.count;
+  limit = role.limit;
+  held = left.last.held;
+  tags = left.last.tags;
+  doubt = left.last.doubt;
+  doubt_tag = left.last.doubt_tag;
+}
 
 abbrev pub held_by : WorldServer → List Write
 held_by world_server = (core_of world_server).held
@@ -33,7 +41,7 @@ StaysHonest old new = IsHonestServer memory_device old → IsHonestServer memory
 -- what is left of a server: what it held is sound, and the device is honest for that
 pub record IsLeftOf (core : Core) (device : Memory) : Type 0 where
   pub sound : IsSoundServer core
-  pub honest : IsHonestServerDevice memory_device core.id core.held core.doubt device
+  pub honest : IsHonestServerDevice memory_device core.id (records_of core) (record_in_doubt core) device
 
 -- a server that runs is over an honest device, a whole one while it is up
 abbrev pub IsKept : WorldServer → Type 0
@@ -43,11 +51,11 @@ IsKept (Stopped role left) = IsLeftOf (core_of (Stopped role left)) left.device
 -- it runs, is up, and holds no Write
 pub record IsFresh (count limit place : ℕ) (world_server : WorldServer) : Type 0 where
   pub runs : is_stopped world_server ≡ false
-  pub core : core_of world_server ≡ record { id = place; count = count; limit = limit; held = []; doubt = None }
+  pub core : core_of world_server ≡ record { id = place; count = count; limit = limit; held = []; tags = []; doubt = None; doubt_tag = None }
   pub kept : IsKept world_server
 
 -- what comes of a start on the device of a server
 abbrev pub Starts : (old : WorldServer) → Result ℕ StartFault → (new : WorldServer) → Type 0
-Starts old (Ok holds) new = (is_stopped new ≡ false) × (holds ≡ length (core_of new).held) × (core_of new ≡ record (core_of old) { held = (core_of new).held; doubt = None })
+Starts old (Ok holds) new = (is_stopped new ≡ false) × (holds ≡ length (core_of new).held) × (core_of new ≡ record (core_of old) { held = (core_of new).held; tags = (core_of new).tags; doubt = None; doubt_tag = None })
     × AreHonest (core_of old).held (core_of old).doubt (core_of new).held
 Starts old (Err fault) new = (is_stopped new ≡ true) × IsHonestRefusal fault × (core_of new ≡ core_of old)

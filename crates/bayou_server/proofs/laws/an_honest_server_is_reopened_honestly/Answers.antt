@@ -1,4 +1,4 @@
-use Rattle.bayou_server.proofs.Honesty.{answers, recovers, reopened_left}
+use Rattle.bayou_server.proofs.Honesty.{answers, recovers, recovers_records, reopened_left}
 use Rattle.bayou_server.proofs.laws.an_honest_server_is_reopened_honestly.Goals as goal
 
 pub returns-clause-answer : goal.returns-clause-answer
@@ -7,6 +7,9 @@ returns-clause-answer g c =
 
 pub returns-clause-held : goal.returns-clause-held
 returns-clause-held g c = recovers
+
+pub returns-clause-records : goal.returns-clause-records
+returns-clause-records g c = recovers_records
 
 pub returns-clause-left : goal.returns-clause-left
 returns-clause-left g c =

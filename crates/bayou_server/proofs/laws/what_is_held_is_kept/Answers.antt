@@ -6,11 +6,11 @@ returns-clause-honest g c = honest_keeps g.D.Device
 
 pub returns-clause-written : goal.returns-clause-written
 returns-clause-written g c =
-    written g.D.Device c.an_append_leaves_an_honest_device.ensures.whole c.an_append_leaves_an_honest_device.ensures.added c.a_write_is_a_body.ensures.one c.what_is_kept_is_found.ensures.again
+    written g.D.Device c.an_append_leaves_an_honest_device.ensures.whole c.an_append_leaves_an_honest_device.ensures.added c.a_record_is_a_body.ensures.one c.what_is_kept_is_found.ensures.again
 
 pub returns-clause-taken : goal.returns-clause-taken
 returns-clause-taken g c =
-    taken g.D.Device c.an_append_leaves_an_honest_device.ensures.whole c.an_append_leaves_an_honest_device.ensures.added c.a_write_is_a_body.ensures.one c.what_is_kept_is_found.ensures.again
+    taken g.D.Device c.an_append_leaves_an_honest_device.ensures.whole c.an_append_leaves_an_honest_device.ensures.added c.a_record_is_a_body.ensures.one c.what_is_kept_is_found.ensures.again
 
 pub returns-clause-reopened : goal.returns-clause-reopened
 returns-clause-reopened g c = reopened g.D.Device c.an_append_leaves_an_honest_device.ensures.whole c.an_honest_device_opens_honestly.ensures.whole c.what_is_kept_is_found.ensures.again

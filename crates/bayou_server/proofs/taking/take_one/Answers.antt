@@ -10,8 +10,8 @@ use Rattle.bayou_server.proofs.taking.take_one.Goals as goal
 
 pub returns-in-Held-clause-takes : goal.returns-in-Held-clause-takes
 returns-in-Held-clause-takes g c =
-    let old = server_of c.args.journal.now c.args.log.now c.args.id.index c.args.doubt.now in
-    let new = server_of c.store.new.journal c.store.new.log c.args.id.index c.store.new.doubt in
+    let old = server_of c.args.journal.now c.args.holding.now c.args.id.index in
+    let new = server_of c.store.new.journal c.store.new.holding c.args.id.index in
     let kept : Keeps old.core c.args.write Held new.core = subst (λ (s : Stored). Keeps old.core c.args.write s new.core) c.in-Held.is c.in_ok-store.ensures.keeps in
     let takes : Takes old.core c.args.write (Ok New) new.core = (c.in_default.ensures, kept.0, kept.1) in
     let stores : StoresEntry g.D.Device old Held new = subst (λ (s : Stored). StoresEntry g.D.Device old s new) c.in-Held.is c.in_ok-store.ensures.stores in

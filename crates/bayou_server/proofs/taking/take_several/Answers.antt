@@ -9,7 +9,7 @@ use Rattle.bayou_server.proofs.taking.take_several.Goals as goal
 pub returns-in_default-clause-takes : goal.returns-in_default-clause-takes
 returns-in_default-clause-takes g c =
     let (front, tooks, split, each, taken, had) = c.loop-told.invariant.took in
-    let mid = server_of c.loop-told.journal c.loop-told.log c.args.id.index c.loop-told.doubt in
+    let mid = server_of c.loop-told.journal c.loop-told.holding c.args.id.index in
     record {
       front = front;
       tooks = tooks;
@@ -26,9 +26,9 @@ loop-told-preserved-in-Ok-New g c =
     let (front, tooks, split, each, taken, had) = c.loop-told.invariant.took in
     let write = c.in-Some.write in
     let took = c.in-Ok-New.field-0 in
-    let old = server_of c.args.journal.now c.args.log.now c.args.id.index c.args.doubt.now in
-    let mid = server_of c.loop-told.journal c.loop-told.log c.args.id.index c.loop-told.doubt in
-    let new = server_of c.take_one.new.journal c.take_one.new.log c.args.id.index c.take_one.new.doubt in
+    let old = server_of c.args.journal.now c.args.holding.now c.args.id.index in
+    let mid = server_of c.loop-told.journal c.loop-told.holding c.args.id.index in
+    let new = server_of c.take_one.new.journal c.take_one.new.holding c.args.id.index in
     let last : TakesAt g.D.Device mid write (Ok took) new = c.in-Ok-New.ensures.takes in
     let more = news_push tooks took in
     let others = hads_push tooks took in
@@ -53,9 +53,9 @@ loop-told-preserved g c =
     let (front, tooks, split, each, taken, had) = c.loop-told.invariant.took in
     let write = c.in-Some.write in
     let took = c.in-Ok-Had.field-0 in
-    let old = server_of c.args.journal.now c.args.log.now c.args.id.index c.args.doubt.now in
-    let mid = server_of c.loop-told.journal c.loop-told.log c.args.id.index c.loop-told.doubt in
-    let new = server_of c.take_one.new.journal c.take_one.new.log c.args.id.index c.take_one.new.doubt in
+    let old = server_of c.args.journal.now c.args.holding.now c.args.id.index in
+    let mid = server_of c.loop-told.journal c.loop-told.holding c.args.id.index in
+    let new = server_of c.take_one.new.journal c.take_one.new.holding c.args.id.index in
     let last : TakesAt g.D.Device mid write (Ok took) new = c.in-Ok-Had.ensures.takes in
     let more = news_push tooks took in
     let others = hads_push tooks took in
@@ -81,7 +81,7 @@ returns-in-Err-clause-takes g c =
     record {
       front = front;
       tooks = tooks;
-      mid = server_of c.loop-told.journal c.loop-told.log c.args.id.index c.loop-told.doubt;
+      mid = server_of c.loop-told.journal c.loop-told.holding c.args.id.index;
       each = each;
       taken = taken;
       had = had;
@@ -91,7 +91,7 @@ returns-in-Err-clause-takes g c =
 pub returns-clause-takes : goal.returns-clause-takes
 returns-clause-takes g c =
     let (front, tooks, split, each, taken, had) = c.loop-told.invariant.took in
-    let mid = server_of c.loop-told.journal c.loop-told.log c.args.id.index c.loop-told.doubt in
+    let mid = server_of c.loop-told.journal c.loop-told.holding c.args.id.index in
     record {
       front = front;
       tooks = tooks;

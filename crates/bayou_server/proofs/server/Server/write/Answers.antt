@@ -15,16 +15,16 @@ use Rattle.bayou_server.proofs.server.Server.write.Goals.{in-Held, in-InDoubt}
 pub store-stored-requires-clause-may : goal.store-stored-requires-clause-may
 store-stored-requires-clause-may g c =
     let inside = c.self.inside in
-    next_may_be_stored (core_of inside.log inside.id.index inside.doubt) c.args.program c.next_write-write.result c.self.invariant.0.sound c.in_default.ensures.0.0 c.in_default.ensures.1 c.next_write-write.ensures
+    next_may_be_stored (core_of inside.holding inside.id.index) c.args.program c.next_write-write.result c.self.invariant.0.sound c.in_default.ensures.0.0 c.in_default.ensures.1 c.next_write-write.ensures
 
 pub returns-clause-writes : goal.returns-clause-writes
 returns-clause-writes g c =
     let inside = c.self.inside in
     let made = c.next_write-write.result in
-    let old = core_of inside.log inside.id.index inside.doubt in
-    let new = core_of c.store-stored.new.log inside.id.index c.store-stored.new.doubt in
-    let same : core_of c.catch_up.new.self inside.id.index c.store-stored.new.doubt ≡ new =
-    ap (λ (log : Log). core_of log inside.id.index c.store-stored.new.doubt) c.catch_up.ensures in
+    let old = core_of inside.holding inside.id.index in
+    let new = core_of c.store-stored.new.holding inside.id.index in
+    let same : core_of (record c.store-stored.new.holding { log = c.catch_up.new.self }) inside.id.index ≡ new =
+    ap (λ (log : Log). core_of (record c.store-stored.new.holding { log = log }) inside.id.index) c.catch_up.ensures in
     rw (← c.self.view_is)
     (subst (λ (core : Core). Writes old c.args.need.now c.args.program c.match-branch-2.result core) (sym same)
     (elim c.match-branch-2.branch [
@@ -65,10 +65,10 @@ returns-clause-own g c = own_of_write c.args.self.now.core c.args.need.now c.arg
 pub returns-clause-stored : goal.returns-clause-stored
 returns-clause-stored g c = λ modelled.
     let inside = c.self.inside in
-    let old = server_of inside.journal inside.log inside.id.index inside.doubt in
-    let new = server_of c.store-stored.new.journal c.store-stored.new.log inside.id.index c.store-stored.new.doubt in
-    let same : core_of c.catch_up.new.self inside.id.index c.store-stored.new.doubt ≡ new.core =
-    ap (λ (log : Log). core_of log inside.id.index c.store-stored.new.doubt) c.catch_up.ensures in
+    let old = server_of inside.journal inside.holding inside.id.index in
+    let new = server_of c.store-stored.new.journal c.store-stored.new.holding inside.id.index in
+    let same : core_of (record c.store-stored.new.holding { log = c.catch_up.new.self }) inside.id.index ≡ new.core =
+    ap (λ (log : Log). core_of (record c.store-stored.new.holding { log = log }) inside.id.index) c.catch_up.ensures in
     rw (← c.self.view_is)
     (subst (λ (core : Core). OnOk c.match-branch-2.result (IsStored g.D.Device old → IsStored g.D.Device (record { core = core; device = new.device; last = new.last }))) (sym same)
     (elim c.match-branch-2.branch [

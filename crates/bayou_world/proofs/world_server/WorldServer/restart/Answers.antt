@@ -28,8 +28,8 @@ returns-in-Err-clause-starts c kept =
     let old = core_of c.args.self in
     let left = c.stop-device.ensures.honest kept in
     let refused = c.in-Err.field-0 in
-    let parts = same_parts c.role-role.result.id.index c.role-role.result.count c.role-role.result.limit c.stop-device.result.log.receipts c.stop-device.result.doubt old
-    c.role-role.ensures.id c.role-role.ensures.count c.role-role.ensures.limit c.stop-device.ensures.held c.stop-device.ensures.doubt in
+    let parts = same_parts c.role-role.result.id.index c.role-role.result.count c.role-role.result.limit c.stop-device.result.last old
+    c.role-role.ensures.id c.role-role.ensures.count c.role-role.ensures.limit c.stop-device.ensures.last in
     let fails = of_role (λ id count limit. FailsToStart memory_device id count limit c.stop-device.result.device refused.device refused.fault)
     c.role-role.result old c.role-role.ensures.id c.role-role.ensures.count c.role-role.ensures.limit c.in-Err.ensures.opens in
     let honest = subst (λ (d : Memory). IsLeftOf old d) (sym c.stop-device.ensures.device) left in
