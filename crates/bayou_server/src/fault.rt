@@ -17,7 +17,7 @@ pub enum JournalFault {
 #[derive(Clone, Copy, Debug, PartialEq, Eq)]
 pub enum StartFault {
     Journal(JournalFault),
-    /// The body of this entry is not the bytes of one Write.
+    /// The body of this entry is no record of the server's journal, or one whose tag an earlier Write has.
     BadRecord(u32),
     /// This entry's Write may not follow those before it.
     Gap(u32),

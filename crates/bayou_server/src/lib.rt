@@ -1,9 +1,10 @@
 //! One server of a Bayou store (Terry et al. 1995): a log of Writes behind a journal.
 //!
 //! Callers see a [`Server`] as its core and its device. The core is which server it is and among how many, how many Writes
-//! it may hold, the Writes that it holds, in order of receipt, and the Write in doubt, if any: while there is one the
-//! server is down, and else up. The Writes held are sound: each fits those before it, and the server's own say all that was
-//! held; and each has a spelling. The Write in doubt, the server's own or one that it was given, may be held next as it is.
+//! it may hold, the Writes that it holds, in order of receipt, the tag beside each, or none, and the Write in doubt with its
+//! tag, if any: while there is one the server is down, and else up. The Writes held are sound: each fits those before it, and
+//! the server's own say all that was held; and each has a spelling. No tag is twice, and none is beside another server's
+//! Write. The Write in doubt, the server's own or one that it was given, may be held next as it is.
 //! `specs/` has two relations for each call that changes something or may be refused. `Starts`, `Reads`, `Writes`, `Takes`
 //! and `Reopens` say of each answer when it comes and what core it leaves: they are the steps of the store, and no device
 //! stands in them. `StartsOn`, `FailsToStart`, `StoresWrite`, `StoresTaken` and `ReopensJournal` say how the device stands
