@@ -11,6 +11,9 @@ SESSIONS = 32
 MAX_COUNT = 65536
 MAX_FRAME = 8192
 MAX_NUMBER = 2**32 - 1
+# The version of new journals, and how many bytes a header has.
+NEWEST_VERSION = 2
+HEADER = 10
 ZERO = (0,) * SERVERS
 READ, REOPEN, DUMP, OFFER, WRITE = 0x01, 0x03, 0x04, 0x05, 0x06
 SEEN, ACCEPTED, REFUSED, REOPENED, ITEM, END = 0x11, 0x12, 0x13, 0x14, 0x15, 0x16
@@ -276,12 +279,37 @@ def frames_of(data):
 
 # Journals.
 
-def journal(server, bodies):
+def own_record(tag, body):
+    """What a journal keeps of a Write of its own server, which was asked for under this tag."""
+    return b"\x01" + tag_bytes(tag) + body
+
+
+def record(server, body):
+    """What the server's journal keeps of the Write; of its own, each was asked for by session 0 in run 1, at the place of its number."""
+    origin, seq = struct.unpack_from(">BI", body)
+    return own_record((0, 1, seq), body) if origin == server else b"\x00" + body
+
+
+def journal_of(server, writes):
+    """The bytes of a journal of these Writes, as bytes, asked for so."""
+    return journal(server, [record(server, body) for body in writes])
+
+
+def journal(server, bodies, version=NEWEST_VERSION):
     """The bytes of a journal of these bodies."""
-    header = b"BAYOUJNL\x01" + bytes([server])
-    parts, digest = [header], hashlib.sha256(header).digest()
+    header = b"BAYOUJNL" + bytes([version, server])
+    parts = [header]
     for body in bodies:
-        length = struct.pack(">H", len(body))
-        digest = hashlib.sha256(digest + length + body).digest()
-        parts.append(length + body + digest)
+        parts.append(entry(last_digest(parts[-1]), body))
     return b"".join(parts)
+
+
+def last_digest(whole):
+    """The digest that a whole journal's next entry stands behind."""
+    return hashlib.sha256(whole).digest() if len(whole) == HEADER else whole[-32:]
+
+
+def entry(digest, body):
+    """The entry of this body behind that digest."""
+    length = struct.pack(">H", len(body))
+    return length + body + hashlib.sha256(digest + length + body).digest()

@@ -144,7 +144,7 @@ def goes_on(checks, program, room):
 def groups_of(folder, number):
     """Each group of checks by its name."""
     groups = [meets, helps, goes_on]
-    groups += [net_faults.folders, net_faults.journals, net_faults.torn, net_faults.held, net_faults.at_once, net_faults.places, net_faults.files]
+    groups += [net_faults.folders, net_faults.journals, net_faults.torn, net_faults.old, net_faults.held, net_faults.at_once, net_faults.places, net_faults.files]
     groups += [net_verdicts.of_journals, net_verdicts.of_replies, net_verdicts.surveys, net_waits.phases, net_waits.short, net_waits.down]
     groups += [net_output.bytes_told, net_calls.connections, net_calls.batches, net_calls.all_sessions]
     groups += [net_device.reads, net_device.starts, net_device.writes, net_device.power, net_memory.memory, net_long.long_phase]

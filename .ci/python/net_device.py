@@ -21,7 +21,7 @@ def reads(checks, program, room):
     """A journal of which a part can't be read: nothing is run, and it stays as it is."""
     meddled, look = Meddled(program, room), script(["servers", 1], ["log", 0])
     folder = fresh(room, "reads")
-    good = frames.journal(0, [own(0, seq, seq, [seq - 1], 1) for seq in range(1, 201)])
+    good = frames.journal_of(0, [own(0, seq, seq, [seq - 1], 1) for seq in range(1, 201)])
     with open(journal(folder, 0), "wb") as it:
         it.write(good)
     checks.that("a journal that is read", meddled.run(folder, look)[0], 0)
@@ -39,7 +39,7 @@ def starts(checks, program, room):
     for call in ("cut 1", "sync 2"):
         folder = fresh(room, "torn " + call)
         with open(journal(folder, 0), "wb") as it:
-            it.write(frames.journal(0, [own(0, 1, 1, [], 1)])[:-1])
+            it.write(frames.journal_of(0, [own(0, 1, 1, [], 1)])[:-1])
         checks.that("a torn journal whose call '%s' fails" % call, meddled.run(folder, look, call + " fail"), DEVICE)
 
 

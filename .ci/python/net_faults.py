@@ -4,7 +4,9 @@ import shutil
 import stat
 import threading
 
+import frames
 import net_runs
+import old_journals
 from net_runs import content, contents, fresh, journal, put, run, script
 
 DEVICE = (3, "", "bayou: device\n")
@@ -13,6 +15,7 @@ HEADER = 10
 
 ONE = script(["servers", 1], ["session", 0, []], ["write", 0, 0, put("a", 1)])
 TWO = script(["servers", 2], ["session", 0, []], ["write", 0, 0, put("a", 1)], ["write", 0, 1, put("a", 2)])
+LOG = script(["servers", 1], ["log", 0])
 LOGS = script(["servers", 2], ["log", 0], ["log", 1])
 NOTHING = "totals reads 0 writes 0 refusals 0 slips 0\n"
 
@@ -66,7 +69,7 @@ def journals(checks, program, room):
     checks.that("a Write at each of two servers", run(program, folder, TWO)[0], 0)
     good = [content(journal(folder, server)) for server in (0, 1)]
     files = [("the journal of another server", good[0]), ("a file that is no journal", b"This is no journal.\n"), ("a short file", b"BAYOUS"),
-             ("a journal of another version", b"BAYOUJNL\x02\x01"), ("a header of another server", good[0][:HEADER])]
+             ("a journal of another version", b"BAYOUJNL\x03\x01"), ("a header of another server", good[0][:HEADER])]
     for name, bad in files:
         with open(journal(folder, 1), "wb") as it:
             it.write(bad)
@@ -85,24 +88,52 @@ def torn(checks, program, room):
     checks.that("three Writes", run(program, folder, text)[0], 0)
     good = content(journal(folder, 0))
     size = (len(good) - HEADER) // 3
-    look = script(["servers", 1], ["log", 0])
     for left in [0, 1, HEADER - 1, HEADER, HEADER + 1, HEADER + size - 1, HEADER + size, HEADER + 2 * size - 32, len(good) - 1, len(good)]:
         with open(journal(folder, 0), "wb") as it:
             it.write(good[:left])
         held = max(left - HEADER, 0) // size
-        checks.that("a journal cut to %d bytes" % left, run(program, folder, look), (0, logs(1, [held]), ""))
+        checks.that("a journal cut to %d bytes" % left, run(program, folder, LOG), (0, logs(1, [held]), ""))
         checks.that("what it is then", content(journal(folder, 0)), good[:HEADER + held * size])
     changed = bytearray(good)
     changed[HEADER + size + 5] ^= 1
     with open(journal(folder, 0), "wb") as it:
         it.write(changed)
-    checks.that("a byte that was changed", run(program, folder, look), (0, logs(1, [1]), ""))
+    checks.that("a byte that was changed", run(program, folder, LOG), (0, logs(1, [1]), ""))
     again = script(["servers", 1], ["session", 0, []], ["write", 0, 0, put("b", 7)], ["phase"], ["log", 0])
     told = "0 wrote 0:2 clock 2 deps 1\nlog 0 0:1 clock 1 updated\nlog 0 0:2 clock 2 updated\nlog 0 at 2\n"
     told += "totals reads 0 writes 1 refusals 0 slips 0\nsettled 0 accepted 1 adopted 0\nclean\n"
     checks.that("a Write behind it", run(program, folder, again), (0, told, ""))
     small = script(["servers", 1, 1], ["log", 0])
     checks.that("a journal of more Writes than a server may hold", run(program, folder, small), DEVICE)
+
+
+def old(checks, program, room):
+    """Journals of the first version: what is held, their raising, behind each front of its mark, and a Write behind it."""
+    told, wrote = old_logs([]), "0 wrote 0:3 clock 3 deps 2,1\n"
+    for name, source, look, held_then in (("three", old_journals.THREE, LOG, [3]), ("empty", old_journals.EMPTY, LOGS, [0, 0])):
+        folder, then = old_journals.copied(room, name, 0, source), old_journals.copied(room, name + "-raised", old_journals.MARK_BYTES, source)
+        checks.that("old journals: " + name, run(program, folder, look), (0, logs(len(held_then), held_then), ""))
+        checks.that("what they are then: " + name, contents(folder), contents(then))
+    before = contents(old_journals.BOTH)
+    raised = {name: old_journals.raised(bytes_then) for name, bytes_then in before.items()}
+    for kept in range(old_journals.MARK_BYTES + 1):
+        folder = old_journals.copied(room, "old-%d" % kept, kept)
+        checks.that("old journals with %d bytes of a mark" % kept, run(program, folder, LOGS), (0, told, ""))
+        checks.that("what they are then", contents(folder), raised)
+    text = script(["servers", 2], ["session", 0, []], ["write", 0, 0, put("a", 7)], ["phase"], ["log", 0], ["log", 1])
+    checks.that("a Write behind them", run(program, folder, text), (0, wrote + old_logs(["log 0 0:3 clock 3 updated\n"]), ""))
+    body = frames.write_bytes((0, 3, 3, frames.counts(2, 1), ([], [("put", "a", ("lit", 7))], [])))
+    added = dict(raised)
+    added["server-0.journal"] += frames.entry(added["server-0.journal"][-32:], frames.own_record((0, 1, 1), body))
+    checks.that("what it adds", contents(folder), added)
+
+
+def old_logs(more):
+    """What a run of a log of each server prints behind its Writes, of the old journals, with so much more at the first one."""
+    told = "log 0 0:1 clock 1 updated\nlog 0 1:1 clock 1 updated\nlog 0 0:2 clock 2 updated\n" + "".join(more)
+    told += "log 0 at %d,1\nlog 1 0:1 clock 1 updated\nlog 1 1:1 clock 1 updated\nlog 1 at 1,1\n" % (2 + len(more))
+    told += "totals reads 0 writes %d refusals 0 slips 0\n" % len(more)
+    return told + "settled 0 accepted %d adopted 0\nsettled 1 accepted 0 adopted 0\nclean\n" % len(more)
 
 
 def held(checks, program, room):

@@ -1,10 +1,12 @@
-"""Runs that are killed at random moments: the next run in the folder has each Write that was told as accepted."""
+"""Runs that are killed at random moments: the next run in the folder has each Write that was told as accepted, and those of the journals with
+which the folder began."""
 import os
 import random
 import re
 import time
 
 import net_runs
+import old_journals
 from net_runs import fresh, put, script
 
 # A run that isn't killed has so many phases, each with a Write at each of two servers.
@@ -77,6 +79,13 @@ def whole_run(checks, program, room, path):
     return first, time.monotonic() - begin - first
 
 
+def begun(room, name, is_old):
+    """A new folder, maybe with journals of the first version; and what each server holds by them."""
+    if not is_old:
+        return fresh(room, name), ({}, {})
+    return old_journals.copied(room, name), tuple(dict(held) for held in old_journals.HELD)
+
+
 def kills(checks, program, room, number):
     """Most runs are killed behind a Write that they told of, and before their end; each fourth at any moment of its begin."""
     path = os.path.join(room, "killed.jsonl")
@@ -87,7 +96,9 @@ def kills(checks, program, room, number):
     folder, before, told = None, None, 0
     for kill in range(number):
         if kill % KILLS_A_FOLDER == 0:
-            folder, before = fresh(room, "killed-%d" % kill), ({}, {})
+            # (each other folder begins with journals of the first version)
+            is_old = kill // KILLS_A_FOLDER % 2 == 0
+            folder, before = begun(room, "killed-%d" % kill, is_old)
         is_told = kill % 4 != 3
         # (the run that was measured may have been a slow one)
         for part in (1, 1 / 4, 1 / 16):
@@ -98,6 +109,7 @@ def kills(checks, program, room, number):
         number_told = output.count(" wrote ")
         told += number_told
         checks.that("kill %d" % kill, (wrong, was_running, number_told > 0 or not is_told), (None, True, True))
+        checks.that("the journals behind it begin as they did", not is_old or old_journals.are_kept(folder), True)
         if wrong:
-            folder, before = fresh(room, "killed-behind-%d" % kill), ({}, {})
+            folder, before = begun(room, "killed-behind-%d" % kill, is_old)
     print("net: %d runs were killed before their end; %d Writes that they told of are held" % (number, told))

@@ -23,7 +23,7 @@ def writes_by(end):
 
 def left(number):
     """A journal with the first so many Writes."""
-    return frames.journal(0, [own(0, seq, seq, [seq - 1], seq) for seq in range(1, number + 1)])
+    return frames.journal_of(0, [own(0, seq, seq, [seq - 1], seq) for seq in range(1, number + 1)])
 
 
 def bytes_told(checks, program, room):

@@ -20,7 +20,7 @@ def left(room, name, *dumps):
     folder = fresh(room, name)
     for server, bodies in enumerate(dumps):
         with open(journal(folder, server), "wb") as it:
-            it.write(frames.journal(server, bodies))
+            it.write(frames.journal_of(server, bodies))
     return folder
 
 

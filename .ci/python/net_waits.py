@@ -92,7 +92,9 @@ def down(checks, program, room):
     # Each reading of the journal is two calls of its file, but that of the start is one.
     with Running(program, folder, path, meddled.variables("append 3 fail read 2 wait read 4 wait read 6 wait read 8 wait")) as running:
         finds(checks, meddled, running, folder, one, two, other)
-    checks.that("the journal then", content(journal(folder, 0)), frames.journal(0, [one, two, own(0, 3, 3, [2], 4)]))
+    # (the last Write is asked for at the fifth place)
+    bodies = [frames.record(0, one), frames.record(0, two), frames.own_record((0, 1, 5), own(0, 3, 3, [2], 4))]
+    checks.that("the journal then", content(journal(folder, 0)), frames.journal(0, bodies))
 
 
 def finds(checks, meddled, running, folder, one, two, other):
@@ -101,10 +103,10 @@ def finds(checks, meddled, running, folder, one, two, other):
     checks.that("a server that is down", came, ["0 wrote 0:1 clock 1 deps 0\n", "0 refused journal\n", "0 refused down\n", "0 read a num 1 at 1\n"])
     for name, bodies, told in (("less than was there", [], "lost"), ("another Write", [one, other], "record"), ("no journal", None, "journal")):
         with meddled.held(running), open(journal(folder, 0), "wb") as it:
-            it.write(b"none" if bodies is None else frames.journal(0, bodies))
+            it.write(b"none" if bodies is None else frames.journal_of(0, bodies))
         checks.that("a reopening that finds " + name, running.line(), "reopen refused %s\n" % told)
     with meddled.held(running), open(journal(folder, 0), "wb") as it:
-        it.write(frames.journal(0, [one, two]))
+        it.write(frames.journal_of(0, [one, two]))
     told = "reopened 0 adopted 0:2\n0 wrote 0:3 clock 3 deps 2\n"
     told += "totals reads 1 writes 2 refusals 2 slips 0\nsettled 0 accepted 2 adopted 1\nclean\n"
     checks.that("one that finds the Write in doubt", running.rest(), (0, told))

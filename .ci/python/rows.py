@@ -63,8 +63,9 @@ ROWS = [(said(asked), said(told)) for asked, told in [
     ("0001 03", "0002 13 05"),
 ]]
 
-# What the journal then has in its entries.
+# The Writes that the journal then has, and its entries.
 BODIES = [said("00 00000001 00000001 0*32 P"), said("00 00000002 00000002 V Q"), said("00 00000003 00000003 V2 R")]
+RECORDS = [said("01 T1") + BODIES[0], said("01 T4") + BODIES[1], said("01 T5") + BODIES[2]]
 
 # What is no request: streams that end the connection without a reply.
 NO_REQUESTS = [said(text) for text in [

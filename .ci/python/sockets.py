@@ -56,8 +56,8 @@ def spelled(checks):
     checks.that("a read request", READ_ROOM, rows.said("0026 01 0*32 04 726f6f6d"))
     checks.that("an Offer", frames.offer_request(frames.counts(1)), rows.said("0021 05 V"))
     checks.that("a Write", frames.write_bytes(own_writes(1)[0]), rows.BODIES[0])
-    page = bytes.fromhex("4241594f554a4e4c 01 02 0001 00 2432200c76e1709bf136d13a0e3efba4badf25ef5cbf57bfde035e5133e4add8"
-                         "0002 0102 87c24bdde946702e24e4afd51a1645c3d102f10fb4ce17b65b7651c504e5df97")
+    page = bytes.fromhex("4241594f554a4e4c 02 02 0001 00 bb0e46ca9ab5826b166f0d4ff3113b2644bc40db3732e4855a937ca9c81d9be7"
+                         "0002 0102 5dd3bbb139f414f3c8f15e231d76b234f0016336627cb3061e7a94267683e9df")
     checks.that("a journal", frames.journal(2, [b"\x00", b"\x01\x02"]), page)
 
 
@@ -94,7 +94,7 @@ def answered(checks, program, folder):
                 checks.that("%s: %s" % (sending.__name__, request.hex()), told.hex(), reply.hex())
             checks.that(sending.__name__ + ": the end", behind, b"")
             settles(checks, sending.__name__, host, len(rows.BODIES), 0, len(rows.BODIES))
-        checks.that(sending.__name__ + ": the journal", has(path), frames.journal(0, rows.BODIES))
+        checks.that(sending.__name__ + ": the journal", has(path), frames.journal(0, rows.RECORDS))
     path = os.path.join(folder, "anew")
     with Host(program, path, len(rows.ROWS)) as host:
         for request, reply in rows.ROWS:
@@ -120,13 +120,13 @@ def refuses_streams(checks, program, folder):
 def starts(checks, program, folder):
     """Words and files with which nothing is served, and journals that are cut."""
     writes = own_writes(3)
-    good = frames.journal(0, bodies_of(writes))
-    gap = frames.journal(0, bodies_of(writes[:1] + writes[2:]))
+    good = frames.journal_of(0, bodies_of(writes))
+    gap = frames.journal_of(0, bodies_of(writes[:1] + writes[2:]))
     usage = "bayou_socket_host: the words are a journal's file and how many connections are served, 1 to 65536\n"
     path = os.path.join(folder, "starts")
     for words in [(None, None), (path, None), (path, "0"), (path, "65537"), (path, "-1"), (path, "many")]:
         checks.that("the words %s, %s" % words, begin(program, *words), (2, "", usage))
-    files = [(b"BAYOUJNM\x01\x00", "not a journal"), (b"BAYOUJNL\x02\x00", "not a journal"), (b"B\x00", "not a journal"),
+    files = [(b"BAYOUJNM\x01\x00", "not a journal"), (b"BAYOUJNL\x03\x00", "not a journal"), (b"B\x00", "not a journal"),
              (frames.journal(1, []), "the journal of another server"), (gap, "a bad entry in the journal"),
              (frames.journal(0, [b"\x00"]), "a bad entry in the journal")]
     for content, word in files:
@@ -144,7 +144,7 @@ def starts(checks, program, folder):
                 dump += frames.frame(frames.END, held.to_bytes(4, "big"))
                 checks.that("what a cut journal has", connection.ask(frames.frame(frames.DUMP)), dump)
             settles(checks, "a cut journal", host, 0, 0, held)
-        checks.that("a cut journal", has(path), frames.journal(0, bodies_of(writes[:held])))
+        checks.that("a cut journal", has(path), frames.journal_of(0, bodies_of(writes[:held])))
 
 
 def limit(host, size):
@@ -164,46 +164,81 @@ def fails(checks, program, folder):
 
         none_adopted = frames.frame(frames.REOPENED, b"\x00")
         reopen = frames.frame(frames.REOPEN)
-        one = frames.journal(0, writes[:1])
-        asks("a Write", write_p(), accepted(1))
+        one = frames.journal_of(0, writes[:1])
+        asks("a Write", write_p(1), accepted(1))
         limit(host, len(one) + 20)
-        asks("a Write that fails", write_p(), frames.refused(frames.JOURNAL))
-        checks.that("what it leaves", has(path), frames.journal(0, writes[:2])[:len(one) + 20])
-        asks("a Write behind it", write_p(), frames.refused(frames.DOWN))
+        asks("a Write that fails", write_p(2), frames.refused(frames.JOURNAL))
+        checks.that("what it leaves", has(path), frames.journal_of(0, writes[:2])[:len(one) + 20])
+        asks("a Write behind it", write_p(3), frames.refused(frames.DOWN))
         asks("a read", READ_ROOM, seen(1, frames.counts(1)))
         asks("a dump", frames.frame(frames.DUMP), frames.frame(frames.ITEM, writes[0]) + frames.frame(frames.END, b"\x00\x00\x00\x01"))
         asks("a reopening", reopen, none_adopted)
         checks.that("what a reopening leaves", has(path), one)
         asks("a second one", reopen, frames.refused(frames.NOT_DOWN))
-        asks("another Write that fails", write_p(), frames.refused(frames.JOURNAL))
-        put(path, frames.journal(0, writes[:1] + [writes[2]]))
+        asks("another Write that fails", write_p(2), frames.refused(frames.JOURNAL))
+        put(path, frames.journal_of(0, writes[:1] + [writes[2]]))
         asks("a reopening with another entry", reopen, frames.refused(frames.BAD_RECORD, (1).to_bytes(4, "big")))
         put(path, frames.journal(0, []))
         asks("a reopening with less", reopen, frames.refused(frames.LOST))
         put(path, b"BAYOUJNM")
         asks("a reopening with no journal", reopen, frames.refused(frames.JOURNAL))
-        asks("a Write, once more", write_p(), frames.refused(frames.DOWN))
-        put(path, frames.journal(0, writes[:2]))
+        asks("a Write, once more", write_p(3), frames.refused(frames.DOWN))
+        put(path, frames.journal_of(0, writes[:2]))
         asks("a reopening with the Write in doubt", reopen, frames.frame(frames.REOPENED, b"\x01" + writes[1][:5]))
         limit(host, resource.RLIM_INFINITY)
-        asks("a Write, at last", write_p(), accepted(3))
+        asks("a Write, at last", write_p(3), accepted(3))
         connection.close()
         settles(checks, "a journal that fails", host, 2, 1, 3)
-    checks.that("a journal that failed", has(path), frames.journal(0, writes))
+    checks.that("a journal that failed", has(path), frames.journal_of(0, writes))
 
 
 def fills(checks, program, folder):
     """A log that holds as many Writes as it may, but for one."""
     path = os.path.join(folder, "fills")
     writes = own_writes(frames.MAX_COUNT)
-    put(path, frames.journal(0, bodies_of(writes[:-1])))
+    put(path, frames.journal_of(0, bodies_of(writes[:-1])))
     with Host(program, path, 1) as host:
         with host.connect() as connection:
-            checks.that("the last Write", connection.ask(write_p()), accepted(frames.MAX_COUNT))
-            checks.that("one more", connection.ask(write_p()), frames.refused(frames.LOG_FULL))
+            checks.that("the last Write", connection.ask(write_p(frames.MAX_COUNT)), accepted(frames.MAX_COUNT))
+            checks.that("one more", connection.ask(write_p(frames.MAX_COUNT + 1)), frames.refused(frames.LOG_FULL))
             full = frames.counts(frames.MAX_COUNT)
             checks.that("a read", connection.ask(READ_ROOM), seen(1, full))
         settles(checks, "a full log", host, 1, 0, frames.MAX_COUNT)
+
+
+def asks_again(checks, program, folder):
+    """A Write that is asked again acts once, also behind a connection that is lost and a server that is killed, and its tag is used up."""
+    path = os.path.join(folder, "again")
+    tag, other, third = (3, 1, 7), (4, 1, 7), (3, 2, 1)
+    used = frames.refused(frames.TAG_USED)
+
+    def asks(name, connection, tag, reply, need=frames.ZERO, program=P):
+        checks.that("asked again: " + name, connection.ask(frames.write_request(tag, need, program)).hex(), reply.hex())
+
+    with Host(program, path, 1) as host:
+        with host.connect() as connection:
+            asks("the first time", connection, tag, accepted(1))
+            asks("once more", connection, tag, accepted(1))
+            asks("another program", connection, tag, used, program=([], [("put", "room", ("lit", 2))], []))
+            asks("a need that it hasn't", connection, tag, used, need=frames.counts(1))
+            asks("another session", connection, other, accepted(2))
+            asks("the first one, behind another", connection, tag, accepted(1))
+        settles(checks, "asked again", host, 2, 0, 2)
+    with Host(program, path, 2) as host:
+        lost = host.connect()
+        lost.send(frames.write_request(third, frames.ZERO, P))
+        lost.reset()
+        with host.connect() as connection:
+            asks("behind a connection that was lost", connection, third, accepted(3))
+        host.kill()
+    with Host(program, path, 1) as host:
+        with host.connect() as connection:
+            asks("behind a kill", connection, third, accepted(3))
+            asks("the first one, behind a kill", connection, tag, accepted(1))
+            asks("another program, behind a kill", connection, other, used, program=([], [], []))
+        settles(checks, "asked again behind a kill", host, 0, 0, 3)
+    bodies = [frames.own_record(tag, body) for tag, body in zip((tag, other, third), bodies_of(own_writes(3)))]
+    checks.that("asked again: the journal", has(path), frames.journal(0, bodies))
 
 
 def main():
@@ -211,7 +246,7 @@ def main():
     checks = Checks()
     spelled(checks)
     with tempfile.TemporaryDirectory() as folder:
-        for group in (answered, refuses_streams, starts, fails, fills, crowd.together, streams.at_random):
+        for group in (answered, refuses_streams, starts, fails, fills, asks_again, crowd.together, streams.at_random):
             try:
                 group(checks, program, folder)
             except Exception:

@@ -185,7 +185,7 @@ class Books:
 
     def __init__(self, dumped):
         self.dumped = dumped
-        self.accepted = {}
+        self.accepted, self.tags = {}, {}
         self.databases = [{}]
         for write in dumped:
             self.databases.append(meaning.behind(write[4], self.databases[-1]))
@@ -201,14 +201,14 @@ class Books:
     def is_held(self, vector):
         return vector == frames.counts(vector[0]) and vector[0] <= len(self.dumped)
 
-    def is_write(self, need, program, reply):
+    def is_write(self, tag, need, program, reply):
         if reply[0] == frames.REFUSED:
             return reply[1][0] == frames.BEHIND and self.is_held(reply[1][1]) and not frames.dominates(reply[1][1], need)
         if reply[0] != frames.ACCEPTED or not frames.dominates(reply[3], need):
             return False
         seq = reply[1][1]
         is_new = seq not in self.accepted
-        self.accepted[seq] = program
+        self.accepted[seq], self.tags[seq] = program, tag
         return is_new and reply == (frames.ACCEPTED, (0, seq), seq, frames.counts(seq - 1))
 
     def is_sent(self, first, reply):
@@ -227,7 +227,7 @@ class Books:
         if kind == frames.READ:
             return self.is_read(asked[1], asked[2], reply[0])
         if kind == frames.WRITE:
-            return self.is_write(asked[2], asked[3], reply[0])
+            return self.is_write(asked[1], asked[2], asked[3], reply[0])
         return reply[0] == (frames.REFUSED, (frames.NOT_DOWN,))
 
     def is_answered(self, stream):
@@ -260,7 +260,8 @@ def at_random(checks, program, folder):
         checks.that("the Writes are those accepted", books.accepted, {write[1]: write[4] for write in books.dumped})
         settled = ("settled 0 accepted %d adopted 0" % len(books.accepted), "log 0 at %d,0" % held, 0, "")
         checks.that("the books of all streams", host.settle(), settled)
-    checks.that("the journal of all streams", has(path), frames.journal(0, [frames.write_bytes(write) for write in books.dumped]))
+    bodies = [frames.own_record(books.tags.get(write[1], (0, 0, 0)), frames.write_bytes(write)) for write in books.dumped]
+    checks.that("the journal of all streams", has(path), frames.journal(0, bodies))
     with Host(program, path, 1) as host:
         checks.that("what a second start holds", dump(host), books.dumped)
         checks.that("the books of a second start", host.settle(), ("settled 0 accepted 0 adopted 0", "log 0 at %d,0" % held, 0, ""))

@@ -2,7 +2,8 @@
 
 use crate::sha256::{digest_of, Digest};
 
-const START: [u8; 9] = *b"BAYOUJNL\x01";
+// The version is the newest: a device in memory has no older journal.
+const START: [u8; 9] = *b"BAYOUJNL\x02";
 const HEADER_BYTES: usize = START.len() + 1;
 const LENGTH_BYTES: usize = 2;
 const DIGEST_BYTES: usize = 32;
@@ -214,9 +215,9 @@ mod tests {
     use super::*;
 
     /// The journal of docs/FORMATS.md: that of server 2 with the bodies `00` and `0102`.
-    const JOURNAL: &str = "4241594f554a4e4c0102\
-        0001002432200c76e1709bf136d13a0e3efba4badf25ef5cbf57bfde035e5133e4add8\
-        0002010287c24bdde946702e24e4afd51a1645c3d102f10fb4ce17b65b7651c504e5df97";
+    const JOURNAL: &str = "4241594f554a4e4c0202\
+        000100bb0e46ca9ab5826b166f0d4ff3113b2644bc40db3732e4855a937ca9c81d9be7\
+        000201025dd3bbb139f414f3c8f15e231d76b234f0016336627cb3061e7a94267683e9df";
 
     fn hexadecimal(bytes: &[u8]) -> String {
         bytes.iter().map(|byte| format!("{byte:02x}")).collect()

@@ -5,7 +5,7 @@ use crate::line::{Asks, Command, Entry, What, SESSIONS};
 use crate::print::{self, List, Status, Text, DONE};
 use crate::program::{Key, Program, Value};
 use crate::script::Script;
-use crate::server::{Server, WriteRefusal};
+use crate::server::{Server, Tag, WriteRefusal};
 use crate::write::{dominates, join, Vector, Write, SERVERS};
 use std::io;
 
@@ -140,7 +140,11 @@ impl<W: io::Write> Machine<'_, W> {
         }
         let state = &mut self.sessions[usize::from(session)];
         let need = state.need_of_write();
-        let write = match self.servers[usize::from(server)].write(&need, program) {
+        let tag = Tag {
+            session,
+            place: state.tried,
+        };
+        let write = match self.servers[usize::from(server)].write(tag, &need, program) {
             Ok(write) => write,
             Err(refusal) => return self.refuse(session, server, refusal),
         };

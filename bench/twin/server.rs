@@ -152,15 +152,48 @@ pub struct Pulled {
     pub had: u32,
 }
 
+/// The tag under which a session asks for a Write: the session, and at which of its places it does. There is one run.
+#[derive(Clone, Copy)]
+pub struct Tag {
+    pub session: u8,
+    pub place: u32,
+}
+
+// What a record of a journal begins with: of another server's Write, and of an own one, behind which comes the tag.
+const OTHERS: u8 = 0;
+const OWN: u8 = 1;
+const TAG_BYTES: usize = 9;
+const RUN: u32 = 1;
+
+impl Tag {
+    fn encode(self, bytes: &mut Vec<u8>) {
+        bytes.push(self.session);
+        bytes.extend(RUN.to_be_bytes());
+        bytes.extend(self.place.to_be_bytes());
+    }
+}
+
+/// The Write of a record in the journal of this server.
+fn write_of(record: &[u8], id: u8) -> Option<Write> {
+    let (word, rest) = record.split_first()?;
+    let body = match *word {
+        OTHERS => rest,
+        OWN => rest.get(TAG_BYTES..)?,
+        _ => return None,
+    };
+    let write = Write::decode(body)?;
+    ((*word == OWN) == (write.wid.origin == id)).then_some(write)
+}
+
 pub struct Server {
     id: u8,
     plan: Plan,
     pub device: Device,
     journal: Journal,
     pub replica: Replica,
-    // The Write whose entry may be in the journal, or not.
-    doubt: Option<Write>,
-    // Where a Write is encoded.
+    // The Write whose entry may be in the journal, or not, and its record.
+    doubt: Option<(Write, Vec<u8>)>,
+    // Where a record is encoded.
     buffer: Vec<u8>,
     /// Whether its last start was refused. It has what it held before.
     pub is_stopped: bool,
@@ -170,7 +203,7 @@ pub struct Server {
 fn replay(opened: &Opened, id: u8, plan: Plan) -> Result<Replica, &'static str> {
     let mut replica = Replica::default();
     for body in opened.bodies() {
-        let write = Write::decode(body).ok_or("record")?;
+        let write = write_of(body, id).ok_or("record")?;
         let is_own_past = write.wid.origin != id || write.deps == replica.vector;
         if replica.misfit(&write, plan.count).is_some() || !is_own_past {
             return Err("gap");
@@ -206,16 +239,21 @@ impl Server {
     }
 
     /// Adds the Write to the journal, and then to what is held; or it is in doubt.
-    fn store(&mut self, write: Write, body: &[u8]) -> bool {
-        if self.journal.append(&mut self.device, body).is_err() {
-            self.doubt = Some(write);
+    fn store(&mut self, write: Write, record: &[u8]) -> bool {
+        if self.journal.append(&mut self.device, record).is_err() {
+            self.doubt = Some((write, record.to_vec()));
             return false;
         }
         self.replica.add(write);
         true
     }
 
-    pub fn write(&mut self, need: &Vector, program: Program) -> Result<&Write, WriteRefusal> {
+    pub fn write(
+        &mut self,
+        tag: Tag,
+        need: &Vector,
+        program: Program,
+    ) -> Result<&Write, WriteRefusal> {
         if self.doubt.is_some() {
             return Err(WriteRefusal::Down);
         }
@@ -234,11 +272,13 @@ impl Server {
             deps: self.replica.vector,
             program,
         };
-        let mut body = std::mem::take(&mut self.buffer);
-        body.clear();
-        write.encode(&mut body);
-        let is_stored = self.store(write, &body);
-        self.buffer = body;
+        let mut record = std::mem::take(&mut self.buffer);
+        record.clear();
+        record.push(OWN);
+        tag.encode(&mut record);
+        write.encode(&mut record);
+        let is_stored = self.store(write, &record);
+        self.buffer = record;
         if !is_stored {
             return Err(WriteRefusal::Journal);
         }
@@ -277,7 +317,13 @@ impl Server {
         if self.is_full() {
             return Err("full");
         }
-        if !self.store(write, body) {
+        let mut record = std::mem::take(&mut self.buffer);
+        record.clear();
+        record.push(OTHERS);
+        record.extend_from_slice(body);
+        let is_stored = self.store(write, &record);
+        self.buffer = record;
+        if !is_stored {
             return Err("journal");
         }
         Ok(true)
@@ -306,7 +352,7 @@ impl Server {
 
     /// Opens the journal of a server that is down, and gives the Write in doubt that it adopted.
     pub fn reopen(&mut self) -> Result<Option<Wid>, &'static str> {
-        let Some(doubt) = &self.doubt else {
+        let Some((_, record)) = &self.doubt else {
             return Err("notdown");
         };
         let opened = journal::open(&mut self.device, self.id).map_err(|_| "journal")?;
@@ -314,16 +360,14 @@ impl Server {
         if !opened.begins_with(&self.journal, held) {
             return Err("lost");
         }
-        let mut body = Vec::new();
-        doubt.encode(&mut body);
         let behind: Vec<&[u8]> = opened.bodies().skip(held).collect();
-        if behind.len() > 1 || behind.iter().any(|other| *other != body) {
+        if behind.len() > 1 || behind.iter().any(|other| *other != record.as_slice()) {
             return Err("record");
         }
         self.journal = opened.journal();
         let doubt = self.doubt.take().filter(|_| !behind.is_empty());
-        let adopted = doubt.as_ref().map(|write| write.wid);
-        if let Some(write) = doubt {
+        let adopted = doubt.as_ref().map(|(write, _)| write.wid);
+        if let Some((write, _)) = doubt {
             self.replica.add(write);
             self.replica.apply_added();
         }

@@ -250,7 +250,7 @@ survey 0 ryw broken 1 2 1 0:1 mr ok wfr ok mw ok
         script: r#"["servers",1,100]
 ["session",0,["ryw"]]
 ["write",0,0,{"update":[["put","a",1]]}]
-["lose",0,101]
+["lose",0,111]
 ["fuse",0,2,5]
 ["restart",0]
 ["read",0,0,"a"]
@@ -298,7 +298,7 @@ totals reads 0 writes 1 refusals 1 slips 0
 ["reopen",0]
 ["judge"]
 "#,
-        output: "0 wrote 0:1 clock 1 deps 0\nrestarted 0 holds 0 dropped 77\njudge refused forged 0\n1 refused journal\nreopened 0 adopted 0:1\nclean\n",
+        output: "0 wrote 0:1 clock 1 deps 0\nrestarted 0 holds 0 dropped 87\njudge refused forged 0\n1 refused journal\nreopened 0 adopted 0:1\nclean\n",
         fault: "",
         status: 2,
     },

@@ -50,7 +50,7 @@ static CASES: [Case; 13] = [
 ["lose",0,10]
 ["restart",0]
 "#,
-        output: "0 wrote 0:1 clock 1 deps 0\n0 wrote 0:2 clock 2 deps 1\n0 wrote 0:3 clock 3 deps 2\nrestarted 0 holds 2 dropped 93\nrestarted 0 holds 0 dropped 7\nrestarted 0 holds 0 dropped 0\n",
+        output: "0 wrote 0:1 clock 1 deps 0\n0 wrote 0:2 clock 2 deps 1\n0 wrote 0:3 clock 3 deps 2\nrestarted 0 holds 2 dropped 103\nrestarted 0 holds 0 dropped 17\nrestarted 0 holds 0 dropped 0\n",
         fault: "",
         status: 0,
     },

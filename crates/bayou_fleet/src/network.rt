@@ -19,10 +19,13 @@ pub struct Network<F: Fleet, K: Ledgers> {
     pub fleet: F,
     pub book: AuditBook<K>,
     pub(crate) count: u8,
+    /// The run of the program that its sessions belong to.
+    pub(crate) run: u32,
     listeners: Vec<TcpListener>,
     pub(crate) addresses: Vec<SocketAddr>,
     stop: AtomicBool,
     pub ghost count_in_range: { (0 < count) × (count ≤ SERVERS) },
+    pub ghost run_in_range: { 0 < run },
     ghost one_each: { vec_len addresses ≡ count },
 }
 
@@ -43,16 +46,19 @@ impl<F: Fleet> Host for At<'_, F> {
 }
 
 impl<F: Fleet, K: Ledgers> Network<F, K> {
-    /// The fleet of so many servers, each with a socket of the loopback address, at a port that the system picks.
+    /// The fleet of so many servers, each with a socket of the loopback address, at a port that the system picks. Its sessions belong to this run of
+    /// the program, of which no server holds a tag yet.
     pub fn bind<T: Sockets>(
         rt: &T,
         alloc: Global,
         fleet: F,
         count: u8,
+        run: u32,
         book: AuditBook<K>,
     ) -> Result<Self, FleetFault>
-        requires { (0 < count) × (count ≤ SERVERS) }
-        ensures { IfOk result (λ network. (network.count ≡ count) × (network.fleet ≡ fleet) × (network.book ≡ book)) }
+        requires count { (0 < count) × (count ≤ SERVERS) }
+        requires run { 0 < run }
+        ensures { IfOk result (λ network. (network.count ≡ count) × (network.run ≡ run) × (network.fleet ≡ fleet) × (network.book ≡ book)) }
     {
         let mut listeners = Vec::new(alloc);
         let mut addresses = Vec::new(alloc);
@@ -65,6 +71,7 @@ impl<F: Fleet, K: Ledgers> Network<F, K> {
             fleet,
             book,
             count,
+            run,
             listeners,
             addresses,
             stop: AtomicBool::new(false),

@@ -1,8 +1,9 @@
 //! Sessions that reach the servers of a run over links.
-ghost use Rattle.std.specs.Prelude.{◌≡◌, ◌+◌, ◌≤◌, IfOk, length, vec_capacity, vec_len};
+ghost use Rattle.std.specs.Prelude.{◌≡◌, ◌+◌, ◌<◌, ◌≤◌, IfOk, length, vec_capacity, vec_len};
 ghost use Rattle.bayou_fleet.specs.Operating.{AnswersAttempt, AnswersRead, AnswersWrite, IsAnswerTo, IsUnserved};
 ghost use Rattle.std.specs.List.{AllZip};
 ghost use Rattle.bayou_fleet.specs.Refusals.{RefusedAs, UnservedAs};
+ghost use Rattle.bayou_session.specs.Needs.{new_session};
 
 use crate::fault::FleetFault;
 use crate::links::{SocketLink, links_to};
@@ -13,7 +14,7 @@ use bayou_client::{Client, ClientFault, LinkFault};
 use bayou_lang::RestingProgram;
 use bayou_net::{Sockets, write_fault_of};
 use bayou_server::WriteFault;
-use bayou_session::{FIRST_RUN, Session};
+use bayou_session::Session;
 use bayou_text::{Attempt, Operation};
 use bayou_wire::Refusal;
 use std::alloc::{AllocError, Global};
@@ -69,16 +70,20 @@ fn unserved(who: SessionId, fault: ClientFault) -> Answer
 }
 
 impl<K: Ledgers> OpenSession<K> {
-    // Opens the session whose share this is.
+    // Opens the session whose share this is, in this run of the program.
     fn open<T: Sockets>(
         rt: &T,
         alloc: Global,
         share: Share<K>,
+        run: u32,
         asks: Asks,
         addresses: &[SocketAddr],
-    ) -> Result<Self, FleetFault> {
+    ) -> Result<Self, FleetFault>
+        requires { 0 < run }
+        ensures { IfOk result (λ opened. opened.client.session ≡ new_session share.session run asks) }
+    {
         let who = share.session();
-        let client = Client::new(Session::new(who, FIRST_RUN, asks), share);
+        let client = Client::new(Session::new(who, run, asks), share);
         let links = links_to(rt, alloc, addresses)?;
         Ok(OpenSession { client, who, links })
     }
@@ -173,17 +178,20 @@ impl<K: Ledgers> OpenSession<K> {
 }
 
 impl<K: Ledgers> RunSession<K> {
-    /// Opens the session, where it wasn't yet.
+    /// Opens the session, in this run of the program, where it wasn't yet.
     pub(crate) fn open<T: Sockets>(
         self,
         rt: &T,
         alloc: Global,
+        run: u32,
         asks: Asks,
         addresses: &[SocketAddr],
-    ) -> Result<Self, FleetFault> {
+    ) -> Result<Self, FleetFault>
+        requires { 0 < run }
+    {
         match self {
             RunSession::Unopened(share) => Ok(RunSession::Open(OpenSession::open(
-                rt, alloc, share, asks, addresses,
+                rt, alloc, share, run, asks, addresses,
             )?)),
             RunSession::Open(session) => Ok(RunSession::Open(session)),
         }

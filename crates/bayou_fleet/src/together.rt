@@ -214,7 +214,13 @@ fn open_one<F: Fleet, K: Ledgers, T: Sockets>(
         return Ok(sessions);
     }
     let session = sessions.swap_remove(at);
-    let opened = session.open(rt, alloc, opening.asks, network.addresses.as_slice())?;
+    let opened = session.open(
+        rt,
+        alloc,
+        network.run,
+        opening.asks,
+        network.addresses.as_slice(),
+    )?;
     sessions.push(opened)?;
     let last = sessions.len() - 1;
     sessions.swap(at, last);

@@ -14,7 +14,7 @@ pub const FIRST_VERSION: u8 = 1;
 
 /// The version of new journals, and the one that bodies are added in. A journal of an earlier one is raised to it in place, behind a
 /// mark.
-pub const NEWEST_VERSION: u8 = 1;
+pub const NEWEST_VERSION: u8 = 2;
 
 /// How many bytes stand before the version: the magic bytes.
 pub const MAGIC_BYTES: usize = 8;

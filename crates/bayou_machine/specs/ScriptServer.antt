@@ -1,10 +1,11 @@
 -- What a server of a script makes of each command, and what a session is told of it.
-use Rattle.std.specs.Prelude.{◌≡◌, ◌≢◌, ℕ, ◌<◌, ◌⊎◌, List, Option, Result, Ok, Err, length}
+use Rattle.std.specs.Prelude.{◌≡◌, ◌≢◌, ℕ, ◌+◌, ◌<◌, ◌⊎◌, List, Option, Result, Ok, Err, length}
 use Rattle.bayou_base.specs.declared.answer.Accepted.{Accepted}
 use Rattle.bayou_base.specs.declared.answer.Seen.{Seen}
 use Rattle.bayou_base.specs.declared.limits.TheConstants.{MAX_PLACES}
 use Rattle.bayou_base.specs.declared.server.ServerId.{ServerId}
 use Rattle.bayou_base.specs.declared.session.SessionId.{SessionId}
+use Rattle.bayou_base.specs.declared.tag.Tag.{Tag}
 use Rattle.bayou_device.specs.Memory.{Memory, LeadsTo, empty_device, shortened, with_fuse}
 use Rattle.bayou_device.specs.MemoryDevice.{memory_device}
 use Rattle.bayou_lang.specs.declared.program.Program.{Program}
@@ -12,6 +13,8 @@ use Rattle.bayou_lang.specs.declared.write.Write.{Write}
 use Rattle.bayou_lang.specs.Writes.{count_of}
 use Rattle.bayou_log.specs.Listing.{listing_of}
 use Rattle.bayou_server.specs.declared.answer.Stopped.{Stopped as StoppedServer}
+use Rattle.bayou_server.specs.declared.answer.Written.{Written}
+use Rattle.bayou_server.specs.declared.answer.Written.TheVariants.{New, Known}
 use Rattle.bayou_server.specs.declared.fault.Behind.{Behind}
 use Rattle.bayou_server.specs.declared.fault.StartFault.{StartFault}
 use Rattle.bayou_server.specs.declared.fault.StartFault.TheVariants.{OutOfMemory}
@@ -23,7 +26,7 @@ use Rattle.bayou_server.specs.Server.{Holds, ServerState, holds_of, with_device}
 use Rattle.bayou_server.specs.Starts.{FailsToStart, Starts, StartsOn}
 use Rattle.bayou_server.specs.Stored.{OpensInCalls, ReopensJournal, StoresWrite}
 use Rattle.bayou_server.specs.Writes.{Writes}
-use Rattle.bayou_session.specs.Needs.{Told, after_read, after_write, asks_first, one_place_more, read_need, write_need}
+use Rattle.bayou_session.specs.Needs.{IsTagOf, Told, after_read, after_write, asks_first, one_place_more, read_need, write_need}
 use Rattle.bayou_answers.specs.declared.answer.Answer.{Answer}
 use Rattle.bayou_answers.specs.declared.answer.Answer.TheVariants.{Done, Wrote, Read, Refused, Lost, Logged, Recovered, Exchanged, Counted, Judged, Surveyed, Booked}
 use Rattle.bayou_answers.specs.declared.answer.Answer.TheVariants as answers
@@ -59,9 +62,14 @@ on_device (Stopped left) device = Stopped (record left { device = device })
 
 -- ---- operations of sessions
 
+-- what the Write was given, be it made now or known from before
+abbrev pub given_of : Written → Accepted
+given_of (New accepted) = accepted
+given_of (Known accepted) = accepted
+
 -- what a session is told of what its Write was answered, once it has asked at its place: nothing of a refusal
-abbrev pub told_of_write : Told → Result Accepted WriteFault → Told
-told_of_write told (Ok accepted) = after_write (asks_first told) accepted
+abbrev pub told_of_write : Told → Result Written WriteFault → Told
+told_of_write told (Ok written) = after_write (asks_first told) (given_of written)
 told_of_write told (Err refusal) = asks_first told
 
 -- and of what its read was answered, once it has begun its place
@@ -69,8 +77,8 @@ abbrev pub told_of_read : Told → Result Seen Behind → Told
 told_of_read told (Ok seen) = after_read (one_place_more told) seen
 told_of_read told (Err behind) = one_place_more told
 
-abbrev pub write_answer : SessionId → Result Accepted WriteFault → Answer
-write_answer who (Ok accepted) = Wrote who accepted
+abbrev pub write_answer : SessionId → Result Written WriteFault → Answer
+write_answer who (Ok written) = Wrote who (given_of written)
 write_answer who (Err refusal) = Refused who refusal
 
 abbrev pub read_answer : SessionId → List ℕ → Result Seen Behind → Answer
@@ -83,14 +91,16 @@ pub data GetsNoReply (who : SessionId) (begins : Told → Told) (replica : Scrip
   stopped : (left : StoppedServer Memory) → replica ≡ Stopped left → told.begun < MAX_PLACES → answer ≡ Lost who → now ≡ begins told
       → GetsNoReply who begins replica told answer now
 
--- The server answers the session's Write, by what the session needs of it.
+-- The server answers the session's Write, which has the tag of the place begun now, by what the session needs of it.
 pub record AnswersWrite (who : SessionId) (program : Program) (before : ScriptServer) (told : Told) (answer : Answer) (after : ScriptServer) (now : Told) : Type 0 where
   pub old : Serving
   pub new : Serving
-  pub result : Result Accepted WriteFault
+  pub tag : Tag
+  pub result : Result Written WriteFault
   pub was : before ≡ Running old
   pub left : told.begun < MAX_PLACES
-  pub writes : Writes old.core (write_need told) program result new.core
+  pub asked : IsTagOf told (told.begun + 1) tag
+  pub writes : Writes old.core tag (write_need told) program result new.core
   pub stores : StoresWrite memory_device old result new
   pub calls : LeadsTo 2 old.device new.device
   pub answered : answer ≡ write_answer who result

@@ -1,12 +1,13 @@
 //! A server of a script, and what it makes of each command.
 ghost use Rattle.std.specs.Prelude.{◌≡◌, ◌<◌, IfOk, IfErr};
+ghost use Rattle.bayou_machine.specs.ScriptServer.{given_of};
 
 use bayou_answers::{Answer, BeginFault, Recovery};
-use bayou_base::{Key, ServerId, SessionId};
+use bayou_base::{Accepted, Key, ServerId, SessionId};
 use bayou_device::{MemoryDevice, OpenGate};
 use bayou_lang::{RestingProgram, RestingWrite};
 use bayou_script::Servers;
-use bayou_server::{NotStarted, Server, StartFault, Stopped, WriteFault};
+use bayou_server::{NotStarted, Server, StartFault, Stopped, WriteFault, Written};
 use bayou_session::Session;
 use bayou_text::PlannedFailure;
 use std::alloc::{AllocError, Global};
@@ -18,6 +19,15 @@ pub enum ScriptServer {
     Running(Server<MemoryDevice<OpenGate>>),
     /// Its last start was refused: its device, and what it held before.
     Stopped(Stopped<MemoryDevice<OpenGate>>),
+}
+
+// What the Write was given, be it made now or known from before.
+fn given(written: Written) -> Accepted
+    ensures { result ≡ given_of written }
+{
+    match written {
+        Written::New(accepted) | Written::Known(accepted) => accepted,
+    }
 }
 
 impl ScriptServer {
@@ -42,7 +52,7 @@ impl ScriptServer {
         }
     }
 
-    /// The session tries a Write. It is told nothing of a refusal.
+    /// The session tries a Write, under a tag of its own. It is told nothing of a refusal.
     pub(crate) fn write(
         &mut self,
         alloc: Global,
@@ -55,12 +65,13 @@ impl ScriptServer {
         if session.left() == 0 {
             return Answer::Lost { session: who };
         }
-        session.ask();
+        let tag = session.ask();
         let ScriptServer::Running(server) = self else {
             return Answer::Lost { session: who };
         };
-        match server.write(alloc, &session.need_write(), program) {
-            Ok(accepted) => {
+        match server.write(alloc, tag, &session.need_write(), program) {
+            Ok(written) => {
+                let accepted = given(written);
                 session.wrote(&accepted);
                 Answer::Wrote {
                     session: who,

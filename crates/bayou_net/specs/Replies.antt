@@ -1,8 +1,9 @@
 -- What a server's answers look like on a stream: this project's own frames.
 use Rattle.std.specs.Prelude.{Result, Ok, Err}
-use Rattle.bayou_base.specs.declared.answer.Accepted.{Accepted}
 use Rattle.bayou_base.specs.declared.answer.Seen.{Seen}
 use Rattle.bayou_server.specs.declared.answer.Reopened.{Reopened}
+use Rattle.bayou_server.specs.declared.answer.Written.{Written}
+use Rattle.bayou_server.specs.declared.answer.Written.TheVariants as written
 use Rattle.bayou_server.specs.declared.fault.Behind.{Behind}
 use Rattle.bayou_server.specs.declared.fault.ReopenFault.{ReopenFault}
 use Rattle.bayou_server.specs.declared.fault.ReopenFault.TheVariants as reopening
@@ -18,14 +19,17 @@ read_reply (Ok seen) = frames.Seen seen
 read_reply (Err behind) = frames.Refused (refusals.Behind behind.vector)
 
 abbrev pub write_refusal : WriteFault → Refusal
+write_refusal writing.TagUsed = refusals.TagUsed
 write_refusal writing.Down = refusals.Down
 write_refusal (writing.Behind vector) = refusals.Behind vector
 write_refusal writing.LogFull = refusals.LogFull
 write_refusal writing.OutOfMemory = refusals.OutOfMemory
 write_refusal writing.Journal = refusals.Journal
 
-abbrev pub write_reply : Result Accepted WriteFault → Frame
-write_reply (Ok accepted) = frames.Accepted accepted
+-- of a Write that was made before its first answer is told again
+abbrev pub write_reply : Result Written WriteFault → Frame
+write_reply (Ok (written.New accepted)) = frames.Accepted accepted
+write_reply (Ok (written.Known accepted)) = frames.Accepted accepted
 write_reply (Err fault) = frames.Refused (write_refusal fault)
 
 -- whatever fault the journal has, it is told as one

@@ -2,8 +2,8 @@
 use Rattle.std.specs.Prelude.{◌≡◌, ◌≢◌, ◌⊎◌, ℕ, List, [], ◌∷◌, ◌++◌, Option, Result, Ok, Err, IfSome, length}
 use Rattle.std.specs.Io.KnownBytes.{Appends}
 use Rattle.std.specs.List.{AllByRecursion}
-use Rattle.bayou_base.specs.declared.answer.Accepted.{Accepted}
 use Rattle.bayou_base.specs.declared.answer.Seen.{Seen}
+use Rattle.bayou_base.specs.declared.tag.Tag.{Tag}
 use Rattle.bayou_lang.specs.declared.program.Program.{Program}
 use Rattle.bayou_lang.specs.declared.write.Write.{Write}
 use Rattle.bayou_lang.specs.Writes.{lacking_of}
@@ -12,6 +12,7 @@ use Rattle.bayou_frames.specs.declared.fault.ChannelFault.{ChannelFault}
 use Rattle.bayou_frames.specs.declared.fault.ChannelFault.TheVariants as faults
 use Rattle.bayou_frames.specs.Spelled.{answer_bytes}
 use Rattle.bayou_server.specs.declared.answer.Reopened.{Reopened}
+use Rattle.bayou_server.specs.declared.answer.Written.{Written}
 use Rattle.bayou_server.specs.declared.fault.Behind.{Behind}
 use Rattle.bayou_server.specs.declared.fault.ReopenFault.{ReopenFault}
 use Rattle.bayou_server.specs.declared.fault.WriteFault.{WriteFault}
@@ -23,11 +24,11 @@ use Rattle.bayou_wire.specs.declared.frame.Refusal.TheVariants as refusals
 use Rattle.bayou_wire.specs.Spelling.{IsFrame}
 use Rattle.bayou_wire.specs.Stream.{IsFaulty, IsPartial, spelling, spellings}
 
--- how something serves: the Writes that it holds, where it tells them, and how it answers a read, a program and a reopening
+-- how something serves: the Writes that it holds, where it tells them, and how it answers a read, a program with the tag of its asking, and a reopening
 pub record Steps (S : Type 0) : Type 1 where
   pub list : S → Option (List Write)
   pub reads : S → (need key : List ℕ) → Result Seen Behind → Type 0
-  pub writes : S → (need : List ℕ) → Program → Result Accepted WriteFault → S → Type 0
+  pub writes : S → Tag → (need : List ℕ) → Program → Result Written WriteFault → S → Type 0
   pub reopens : S → Result Reopened ReopenFault → S → Type 0
 
 -- the frame asks for something
@@ -49,12 +50,12 @@ abbrev pub IsWanting : {S : Type 0} → S → (reply : List ℕ) → S → Type 
 IsWanting old reply new = (reply ≡ spelling (frames.Refused refusals.OutOfMemory)) × (new ≡ old)
 
 -- A request is done, and this is its reply: the one frame of the answer; of a Dump an Item of each Write held, in order of receipt, and
--- an End of their number; and of an Offer the same of those that it lacks, in stamp order. The tag of a Write isn't looked at.
+-- an End of their number; and of an Offer the same of those that it lacks, in stamp order.
 abbrev pub Serves : {S : Type 0} → Steps S → S → Frame → (reply : List ℕ) → S → Type 0
 Serves steps old (frames.Read need key) reply new =
     (answer : Result Seen Behind) × steps.reads old need key answer × (reply ≡ spelling (read_reply answer)) × (new ≡ old)
 Serves steps old (frames.Write tag need program) reply new =
-    (answer : Result Accepted WriteFault) × steps.writes old need program answer new × (reply ≡ spelling (write_reply answer))
+    (answer : Result Written WriteFault) × steps.writes old tag need program answer new × (reply ≡ spelling (write_reply answer))
 Serves steps old frames.Reopen reply new =
     (answer : Result Reopened ReopenFault) × steps.reopens old answer new × (reply ≡ spelling (reopen_reply answer))
 Serves steps old frames.Dump reply new =

@@ -12,12 +12,12 @@ use crate::at_node::AtNode;
 use crate::gate::RequestGate;
 use crate::served::Served;
 use crate::serving::serve_on;
-use bayou_base::{Accepted, Key, Seen, Vector};
+use bayou_base::{Key, Seen, Tag, Vector};
 use bayou_device::Device;
 use bayou_frames::ChannelFault;
 use bayou_lang::{RestingProgram, RestingWrite};
 use bayou_node::{Desk, Desks, Node};
-use bayou_server::{Behind, ReopenFault, Reopened, WriteFault};
+use bayou_server::{Behind, ReopenFault, Reopened, WriteFault, Written};
 use bayou_streams::CountedChannel;
 use std::alloc::{AllocError, Global};
 use std::io::{Read, Write};
@@ -40,15 +40,21 @@ impl<D: Device, L: Desks, T: Wait> Served for AtNode<'_, D, L, Desk<L>, T> {
     fn write(
         &mut self,
         alloc: Global,
+        tag: Tag,
         need: &Vector,
         program: RestingProgram,
-    ) -> Result<Accepted, WriteFault> {
+    ) -> Result<Written, WriteFault> {
         self.node
-            .write(self.rt, alloc, &mut self.desk, need, program)
+            .write(self.rt, alloc, &mut self.desk, tag, need, program)
     }
 
-    fn refusal_for_memory(&mut self, need: &Vector) -> WriteFault {
-        self.node.refusal_for_memory(self.rt, need)
+    fn answer_without_memory(
+        &mut self,
+        tag: Tag,
+        need: &Vector,
+        program: &RestingProgram,
+    ) -> Result<Written, WriteFault> {
+        self.node.answer_without_memory(self.rt, tag, need, program)
     }
 
     fn reopen(&mut self, alloc: Global) -> Result<Reopened, ReopenFault> {
@@ -64,7 +70,7 @@ impl<D: Device, L: Desks, T: Wait> Served for AtNode<'_, D, L, Desk<L>, T> {
     }
 }
 
-/// As [`serve_on`], at a node: the desk comes back, paid for each program that was accepted.
+/// As [`serve_on`], at a node: the desk comes back, paid for each program of which a new Write was made.
 pub fn serve<D: Device, L: Desks, G: RequestGate, R: Read, W: Write, T: Wait>(
     rt: &T,
     alloc: Global,

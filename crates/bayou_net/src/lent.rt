@@ -4,16 +4,16 @@ ghost use Rattle.bayou_net.specs.Lent.{ReopensAt, WritesAt};
 ghost use Rattle.bayou_server.specs.Reads.{Reads};
 
 use crate::served::Served;
-use bayou_base::{Accepted, Key, Seen, Vector};
+use bayou_base::{Key, Seen, Tag, Vector};
 use bayou_device::Device;
 use bayou_lang::{RestingProgram, RestingWrite};
-use bayou_server::{Behind, ReopenFault, Reopened, Server, WriteFault};
+use bayou_server::{Behind, ReopenFault, Reopened, Server, WriteFault, Written};
 use std::alloc::{AllocError, Global};
 
 impl<D: Device> Served for Server<D> {
     ghost reads = { λ server need key answer. Reads server.core need key answer };
 
-    ghost writes = { λ old need program answer new. WritesAt D.Device old need program answer new };
+    ghost writes = { λ old tag need program answer new. WritesAt D.Device old tag need program answer new };
 
     ghost reopens = { λ old answer new. ReopensAt D.Device old answer new };
 
@@ -24,14 +24,20 @@ impl<D: Device> Served for Server<D> {
     fn write(
         &mut self,
         alloc: Global,
+        tag: Tag,
         need: &Vector,
         program: RestingProgram,
-    ) -> Result<Accepted, WriteFault> {
-        Server::write(self, alloc, need, program)
+    ) -> Result<Written, WriteFault> {
+        Server::write(self, alloc, tag, need, program)
     }
 
-    fn refusal_for_memory(&mut self, need: &Vector) -> WriteFault {
-        Server::refusal_for_memory(self, need)
+    fn answer_without_memory(
+        &mut self,
+        tag: Tag,
+        need: &Vector,
+        program: &RestingProgram,
+    ) -> Result<Written, WriteFault> {
+        Server::answer_without_memory(self, tag, need, program)
     }
 
     fn reopen(&mut self, alloc: Global) -> Result<Reopened, ReopenFault> {

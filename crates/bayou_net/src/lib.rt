@@ -7,8 +7,8 @@
 //! batches that it sends and between a few Writes that it takes, so that others are served meanwhile; of what it holds no more is told than that it may be behind its lock.
 //!
 //! Callers owe nothing: strangers may send any bytes, and what is no request ends the connection without a reply. Want of memory is an
-//! answer, or a reply, only where a growth was refused. The tag of a Write isn't looked at: what is asked twice under one tag is two Writes.
-//! It isn't promised that a stream gives or takes anything.
+//! answer, or a reply, only where a growth was refused. A program that is asked again under its tag is answered as it was, by the same reply: it
+//! is no second Write. It isn't promised that a stream gives or takes anything.
 #![tactic(auto)]
 
 pub mod at_desk;

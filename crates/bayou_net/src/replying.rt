@@ -1,10 +1,10 @@
 //! What is done of one request, and the bytes of its reply.
 ghost use Rattle.std.specs.Prelude.{◌≡◌, ◌≢◌, ◌≤◌, ◌↔◌, ℕ, List, Result, Err, IfOk, IfSome, IsTrue, None, Some, length};
-ghost use Rattle.bayou_base.specs.declared.answer.Accepted.{Accepted as WriteAccepted};
 ghost use Rattle.bayou_base.specs.declared.limits.TheConstants.{MAX_WRITES};
 ghost use Rattle.bayou_net.specs.Replies.{read_reply, reopen_refusal, reopen_reply, write_refusal, write_reply};
 ghost use Rattle.bayou_net.specs.Serving.{IsRequest, Serves};
 ghost use Rattle.bayou_frames.specs.Spelled.{answer_bytes};
+ghost use Rattle.bayou_server.specs.declared.answer.Written.{Written as WriteMade};
 ghost use Rattle.bayou_server.specs.declared.fault.ReopenFault.{ReopenFault as ReopenRefused};
 ghost use Rattle.bayou_server.specs.declared.fault.WriteFault.{WriteFault as WriteRefused};
 ghost use Rattle.bayou_wire.specs.declared.frame.Frame.TheVariants as frames;
@@ -12,10 +12,10 @@ ghost use Rattle.bayou_wire.specs.declared.frame.Refusal.TheVariants as refusals
 ghost use Rattle.bayou_wire.specs.Stream.{spelling};
 
 use crate::served::Served;
-use bayou_base::{Accepted, Key, Seen, Vector};
+use bayou_base::{Key, Seen, Tag, Vector};
 use bayou_lang::{RestingProgram, RestingWrite};
 use bayou_peer::gather;
-use bayou_server::{Behind, JournalFault, ReopenFault, Reopened, WriteFault};
+use bayou_server::{Behind, JournalFault, ReopenFault, Reopened, WriteFault, Written};
 use bayou_wire::{Frame, Refusal, encode_frame};
 use std::alloc::{AllocError, Global};
 
@@ -47,6 +47,7 @@ fn write_refused(fault: WriteFault) -> Frame
     ensures { result ≡ write_reply (Err fault) }
 {
     let refusal = match fault {
+        WriteFault::TagUsed => Refusal::TagUsed,
         WriteFault::Down => Refusal::Down,
         WriteFault::Behind(vector) => Refusal::Behind(vector),
         WriteFault::LogFull => Refusal::LogFull,
@@ -62,20 +63,21 @@ pub fn write_fault_of(refusal: Refusal) -> Option<WriteFault>
     ensures is { IfSome result (λ fault. refusal ≡ write_refusal fault) }
 {
     match refusal {
+        Refusal::TagUsed => Some(WriteFault::TagUsed),
         Refusal::Down => Some(WriteFault::Down),
         Refusal::Behind(vector) => Some(WriteFault::Behind(vector)),
         Refusal::LogFull => Some(WriteFault::LogFull),
         Refusal::OutOfMemory => Some(WriteFault::OutOfMemory),
         Refusal::Journal => Some(WriteFault::Journal),
-        Refusal::NotDown | Refusal::Lost | Refusal::BadRecord(_) | Refusal::TagUsed => None,
+        Refusal::NotDown | Refusal::Lost | Refusal::BadRecord(_) => None,
     }
 }
 
-fn told_write(answer: Result<Accepted, WriteFault>) -> Frame
+fn told_write(answer: Result<Written, WriteFault>) -> Frame
     ensures { result ≡ write_reply answer }
 {
     match answer {
-        Ok(accepted) => Frame::Accepted(accepted),
+        Ok(Written::New(accepted) | Written::Known(accepted)) => Frame::Accepted(accepted),
         Err(fault) => write_refused(fault),
     }
 }
@@ -156,32 +158,33 @@ fn of_read<S: Served>(
     encoded(alloc, &frame)
 }
 
-// Has the program made a Write. Where there is no memory for it, no refusal that comes before that is passed over.
+// Has the program made a Write. Where there is no memory for it, no answer that comes before that is passed over.
 fn write_at<S: Served>(
     alloc: Global,
     served: &mut S,
+    tag: Tag,
     need: &Vector,
     program: &RestingProgram,
-) -> Result<Accepted, WriteFault>
-    ensures { S.writes served.old need.now program.now result served.new }
+) -> Result<Written, WriteFault>
+    ensures { S.writes served.old tag need.now program.now result served.new }
 {
     match program.copy(alloc) {
-        Ok(copy) => served.write(alloc, need, copy),
-        Err(_) => Err(served.refusal_for_memory(need)),
+        Ok(copy) => served.write(alloc, tag, need, copy),
+        Err(_) => served.answer_without_memory(tag, need, program),
     }
 }
 
-// The tag of the request isn't looked at yet: each is a Write of its own.
 fn of_write<S: Served>(
     alloc: Global,
     served: &mut S,
+    tag: Tag,
     need: &Vector,
     program: &RestingProgram,
 ) -> Result<Vec<u8>, AllocError>
-    ensures { (answer : Result WriteAccepted WriteRefused) × S.writes served.old need.now program.now answer served.new
+    ensures { (answer : Result WriteMade WriteRefused) × S.writes served.old tag need.now program.now answer served.new
         × IfOk result (λ text. text.items ≡ spelling (write_reply answer)) }
 {
-    let frame = told_write(write_at(alloc, served, need, program));
+    let frame = told_write(write_at(alloc, served, tag, need, program));
     encoded(alloc, &frame)
 }
 
@@ -219,7 +222,7 @@ pub(crate) fn reply_to<S: Served>(
 {
     match request {
         Frame::Read(need, key) => of_read(alloc, served, need, key),
-        Frame::Write(_, need, program) => of_write(alloc, served, need, program),
+        Frame::Write(tag, need, program) => of_write(alloc, served, *tag, need, program),
         Frame::Reopen => of_reopen(alloc, served),
         Frame::Dump => of_dump(alloc, served),
         _ => unreachable!(),

@@ -1,17 +1,18 @@
-ghost use Rattle.std.specs.Prelude.{◌≡◌, ◌≤◌, ℕ, List, Result, Err, IfOk, IfSome, length};
-ghost use Rattle.bayou_base.specs.declared.answer.Accepted.{Accepted as Taken};
+ghost use Rattle.std.specs.Prelude.{◌≡◌, ◌≤◌, ℕ, List, Result, IfOk, IfSome, length};
 ghost use Rattle.bayou_base.specs.declared.answer.Seen.{Seen as Told};
+ghost use Rattle.bayou_base.specs.declared.tag.Tag.{Tag as Name};
 ghost use Rattle.bayou_base.specs.declared.limits.TheConstants.{MAX_WRITES};
 ghost use Rattle.bayou_lang.specs.declared.program.Program.{Program as Asked};
 ghost use Rattle.bayou_server.specs.declared.answer.Reopened.{Reopened as Up};
+ghost use Rattle.bayou_server.specs.declared.answer.Written.{Written as Made};
 ghost use Rattle.bayou_server.specs.declared.fault.Behind.{Behind as Less};
 ghost use Rattle.bayou_server.specs.declared.fault.ReopenFault.{ReopenFault as StaysDown};
 ghost use Rattle.bayou_server.specs.declared.fault.WriteFault.{WriteFault as Refusal};
 
-use bayou_base::{Accepted, Key, Seen, Vector};
+use bayou_base::{Key, Seen, Tag, Vector};
 use bayou_lang::{RestingProgram, RestingWrite};
 use bayou_peer::Replica;
-use bayou_server::{Behind, ReopenFault, Reopened, WriteFault};
+use bayou_server::{Behind, ReopenFault, Reopened, WriteFault, Written};
 use std::alloc::{AllocError, Global};
 
 /// What does requests: a replica that serves sessions too.
@@ -19,8 +20,8 @@ pub trait Served: Replica {
     /// What it answers to a read, with this need, of this key.
     ghost reads: { Self → List ℕ → List ℕ → Result Told Less → Type 0 };
 
-    /// What it makes of a program, with this need, and what it answers.
-    ghost writes: { Self → List ℕ → Asked → Result Taken Refusal → Self → Type 0 };
+    /// What it makes of a program, with this tag and this need, and what it answers.
+    ghost writes: { Self → Name → List ℕ → Asked → Result Made Refusal → Self → Type 0 };
 
     /// What becomes of it as its journal is opened again, and what it answers.
     ghost reopens: { Self → Result Up StaysDown → Self → Type 0 };
@@ -32,14 +33,20 @@ pub trait Served: Replica {
     fn write(
         &mut self,
         alloc: Global,
+        tag: Tag,
         need: &Vector,
         program: RestingProgram,
-    ) -> Result<Accepted, WriteFault>
-        ensures { writes self.old need.now program result self.new };
+    ) -> Result<Written, WriteFault>
+        ensures { writes self.old tag need.now program result self.new };
 
-    /// What a program is answered for which there is no memory: what is refused before that is missed, or the want of it.
-    fn refusal_for_memory(&mut self, need: &Vector) -> WriteFault
-        ensures { (program : Asked) → writes self.old need.now program (Err result) self.new };
+    /// What a program is answered for which there is no memory: what is told, or refused, before that is missed, or the want of it.
+    fn answer_without_memory(
+        &mut self,
+        tag: Tag,
+        need: &Vector,
+        program: &RestingProgram,
+    ) -> Result<Written, WriteFault>
+        ensures { writes self.old tag need.now program.now result self.new };
 
     fn reopen(&mut self, alloc: Global) -> Result<Reopened, ReopenFault>
         ensures { reopens self.old result self.new };

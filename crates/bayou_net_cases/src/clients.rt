@@ -87,7 +87,8 @@ pub fn reader<K: Ledgers>(rt: &impl Abort, shares: Vec<Share<K>>) -> Client<K> {
     Client::new(reader_before(rt, share.session()), share)
 }
 
-fn word_of(fault: ClientFault) -> &'static str {
+/// The word for why it wasn't served.
+pub fn word_of(fault: ClientFault) -> &'static str {
     match fault {
         ClientFault::AuditFull => "AuditFull",
         ClientFault::Link(LinkFault::Lost) => "Lost",
@@ -268,7 +269,7 @@ fn is_tried(
 ) -> bool {
     let is_served = expected.starts_with("served");
     let is_answered = is_served || expected.starts_with("Refused");
-    is_worded(rt, alloc, &tried.first, expected)
+    is_worded(rt, alloc, tried.first.word, &tried.first.totals, expected)
         && tried.first.is_closed != is_answered
         && is_over(&tried.second, &tried.first.totals)
         && is_sent(rt, alloc, sent, is_read, is_answered)
@@ -277,11 +278,16 @@ fn is_tried(
 }
 
 /// Whether this is what was told, and what stands in the book.
-fn is_worded(rt: &impl Abort, alloc: Global, told: &Told, expected: &str) -> bool {
-    let totals = &told.totals;
+pub fn is_worded(
+    rt: &impl Abort,
+    alloc: Global,
+    word: &str,
+    totals: &Totals,
+    expected: &str,
+) -> bool {
     let said = format!(in alloc;
         "{} {} {} {}",
-        told.word, totals.reads, totals.writes, totals.refusals
+        word, totals.reads, totals.writes, totals.refusals
     );
     said.expect(rt, "no memory").as_str() == expected
 }

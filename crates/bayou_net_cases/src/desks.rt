@@ -45,8 +45,11 @@ impl<C: Clock> RequestGate for HoldingGate<'_, C> {
     }
 }
 
-/// A Write of 1 to `a`, at a server that needn't hold anything.
-const WRITE: &str = "003a 06 <tag-1> <none> <put-1>";
+/// Writes of 1 to `a`, at a server that needn't hold anything: two askings.
+const WRITES: [&str; 2] = [
+    "003a 06 <tag-1> <none> <put-1>",
+    "003a 06 <tag-2> <none> <put-1>",
+];
 
 /// The desk, once a connection has sent the Write, if one of the two that came was accepted.
 fn writes<L: Desks, G: RequestGate, R: Wait + Abort>(
@@ -55,8 +58,9 @@ fn writes<L: Desks, G: RequestGate, R: Wait + Abort>(
     node: &Node<Memory, L>,
     desk: Desk<L>,
     gate: &G,
+    request: &str,
 ) -> Option<Desk<L>> {
-    let sent = bytes(rt, alloc, WRITE);
+    let sent = bytes(rt, alloc, request);
     let mut channel = CountedChannel::new(sent.as_slice(), Vec::new(alloc));
     let (answer, desk) = serve(rt, alloc, node, desk, gate, &mut channel);
     let (_, written) = channel.into_parts();
@@ -81,7 +85,7 @@ fn writes_and_opens<L: Desks, R: Wait + Abort>(
     desk: Desk<L>,
     state: &AtomicU64,
 ) -> Option<Desk<L>> {
-    let desk = writes(rt, alloc, node, desk, &NoGate);
+    let desk = writes(rt, alloc, node, desk, &NoGate, WRITES[1]);
     let was_held = state.load(Ordering::SeqCst) == SHUT;
     state.store(OPEN, Ordering::SeqCst);
     if was_held { desk } else { None }
@@ -103,7 +107,7 @@ where
     let held_by = &gate;
     let (first, second) = thread::join(
         rt,
-        move || writes(rt, alloc, node, first, held_by),
+        move || writes(rt, alloc, node, first, held_by, WRITES[0]),
         move || writes_and_opens(rt, alloc, node, second, state),
     );
     let (Some(first), Some(second)) = (first, second) else {

@@ -1,8 +1,8 @@
 //! Journals in files.
-use crate::fixtures::{boxed, key, put, server_id};
+use crate::fixtures::{boxed, key, put, server_id, tag_behind};
 use bayou_base::{Value, Vector};
 use bayou_device::{Device, FileDevice};
-use bayou_server::Server;
+use bayou_server::{Server, Written};
 use std::alloc::Global;
 use std::fs;
 use std::fs::{File, Files};
@@ -66,7 +66,9 @@ fn started<R: Files<File = File> + Abort>(
 /// Whether the server puts the number at `a`.
 fn puts<D: Device>(rt: &impl Abort, alloc: Global, server: &mut Server<D>, number: i64) -> bool {
     let program = put(rt, number).rest(alloc).expect(rt, "no memory");
-    server.write(alloc, &Vector::zero(), program).is_ok()
+    let tag = tag_behind(rt, server.receipts().len());
+    let answer = server.write(alloc, tag, &Vector::zero(), program);
+    matches!(answer, Ok(Written::New(_)))
 }
 
 /// Whether it has the number at `a`, and so many Writes.

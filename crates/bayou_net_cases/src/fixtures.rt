@@ -3,7 +3,7 @@ ghost use Rattle.std.specs.Prelude.{◌≡◌};
 ghost use Rattle.bayou_node.specs.Books.{IsBlankOf, begun_of};
 
 use bayou_audit::Blanks;
-use bayou_base::{Key, MAX_WRITES, ServerId, Value};
+use bayou_base::{Key, MAX_WRITES, ServerId, SessionId, Tag, Value};
 use bayou_device::{MemoryDevice, OpenGate};
 use bayou_lang::{Op, Program, RestingProgram, Term};
 use bayou_node::{Desk, Desks, Node};
@@ -29,6 +29,14 @@ pub fn server_id(rt: &impl Abort) -> ServerId
     ensures { result.index ≡ 0 }
 {
     ServerId::new(0).expect(rt, "no server")
+}
+
+/// The tag of the first session's place behind so many, in the first run: a fresh one for a server that holds so many Writes, where those before
+/// it were given theirs so.
+pub fn tag_behind(rt: &impl Abort, count: usize) -> Tag {
+    let session = SessionId::new(0).expect(rt, "no session");
+    let count = u32::try_from(count).ok().expect(rt, "too many Writes");
+    Tag::new(session, 1, count.saturating_add(1)).expect(rt, "no tag")
 }
 
 /// The key `a`.

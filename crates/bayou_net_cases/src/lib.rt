@@ -3,6 +3,7 @@
 #![tactic(auto)]
 
 #[cfg(test)]
+#[cfg(test)]
 mod breaks;
 #[cfg(test)]
 mod clients;

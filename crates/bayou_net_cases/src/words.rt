@@ -3,8 +3,8 @@ use std::alloc::Global;
 use std::process::Abort;
 
 /// The tags of the first three places of the first session, in the first run; vectors that count nothing, the first server's first Write,
-/// and its first two; the second of these without its last byte; and the programs that put 1 at `a` and at `room`.
-static WORDS: [(&str, &str); 9] = [
+/// and its first two; the second of these without its last byte; and the programs that put 1 and 2 at `a`, and 1 at `room`.
+static WORDS: [(&str, &str); 10] = [
     ("<tag-1>", "000000000100000001"),
     ("<tag-2>", "000000000100000002"),
     ("<tag-3>", "000000000100000003"),
@@ -25,6 +25,7 @@ static WORDS: [(&str, &str); 9] = [
         "00000001000000000000000000000000000000000000000000000000000000",
     ),
     ("<put-1>", "00010101610101000000000000000100"),
+    ("<put-2>", "00010101610101000000000000000200"),
     ("<put-room>", "00010104726f6f6d0101000000000000000100"),
 ];
 

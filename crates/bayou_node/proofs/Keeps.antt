@@ -1,6 +1,6 @@
 -- No step of a server takes away a Write that it held.
 use Rattle.std.proofs.Common.{◌≡◌, ℕ, List, [], ◌∷◌, Option, None, Some, Result, Ok, Err, ap, sym, ◌∙◌, append-nil}
-use Rattle.bayou_base.specs.declared.answer.Accepted.{Accepted}
+use Rattle.bayou_base.specs.declared.tag.Tag.{Tag}
 use Rattle.bayou_base.specs.declared.wid.Wid.{Wid}
 use Rattle.bayou_lang.specs.declared.program.Program.{Program}
 use Rattle.bayou_lang.specs.declared.write.Write.{Write}
@@ -8,12 +8,14 @@ use Rattle.bayou_node.specs.Books.{StillHolds}
 use Rattle.bayou_server.specs.declared.answer.Reopened.{Reopened}
 use Rattle.bayou_server.specs.declared.answer.Took.{Took}
 use Rattle.bayou_server.specs.declared.answer.Took.TheVariants.{New, Had}
+use Rattle.bayou_server.specs.declared.answer.Written.{Written}
+use Rattle.bayou_server.specs.declared.answer.Written.TheVariants as written
 use Rattle.bayou_server.specs.declared.fault.ReopenFault.{ReopenFault}
 use Rattle.bayou_server.specs.declared.fault.ReopenFault.TheVariants as reopening
 use Rattle.bayou_server.specs.declared.fault.TakeFault.{TakeFault}
 use Rattle.bayou_server.specs.declared.fault.TakeFault.TheVariants as taking
 use Rattle.bayou_server.specs.declared.fault.WriteFault.{WriteFault}
-use Rattle.bayou_server.specs.declared.fault.WriteFault.TheVariants.{Down, Behind, LogFull, OutOfMemory, Journal}
+use Rattle.bayou_server.specs.declared.fault.WriteFault.TheVariants.{TagUsed, Down, Behind, LogFull, OutOfMemory, Journal}
 use Rattle.bayou_server.specs.Reopens.{Reopens}
 use Rattle.bayou_server.specs.Server.{Core}
 use Rattle.bayou_server.specs.Takes.{Takes}
@@ -26,14 +28,16 @@ same old new is = ([], is ∙ sym (append-nil old.held))
 unchanged : (old new : Core) → new ≡ old → StillHolds old new
 unchanged old new is = same old new (ap (λ (core : Core). core.held) is)
 
-pub writing_keeps : (old : Core) (need : List ℕ) (program : Program) (result : Result Accepted WriteFault) (new : Core)
-    → Writes old need program result new → StillHolds old new
-writing_keeps old need program (Ok accepted) new accepts = (accepts.made ∷ [], ap (λ (core : Core). core.held) accepts.is)
-writing_keeps old need program (Err Down) new is = unchanged old new is.1
-writing_keeps old need program (Err (Behind vector)) new is = unchanged old new is.2
-writing_keeps old need program (Err LogFull) new is = unchanged old new is.2
-writing_keeps old need program (Err OutOfMemory) new is = unchanged old new is.2
-writing_keeps old need program (Err Journal) new doubts = same old new (ap (λ (core : Core). core.held) doubts.is)
+pub writing_keeps : (old : Core) (tag : Tag) (need : List ℕ) (program : Program) (result : Result Written WriteFault) (new : Core)
+    → Writes old tag need program result new → StillHolds old new
+writing_keeps old tag need program (Ok (written.New accepted)) new (fresh, accepts) = (accepts.made ∷ [], ap (λ (core : Core). core.held) accepts.is)
+writing_keeps old tag need program (Ok (written.Known accepted)) new (repeats, is) = unchanged old new is
+writing_keeps old tag need program (Err TagUsed) new (used, is) = unchanged old new is
+writing_keeps old tag need program (Err Down) new (fresh, down, is) = unchanged old new is
+writing_keeps old tag need program (Err (Behind vector)) new (fresh, up, behind, is) = unchanged old new is
+writing_keeps old tag need program (Err LogFull) new (fresh, ready, full, is) = unchanged old new is
+writing_keeps old tag need program (Err OutOfMemory) new (fresh, ready, room, is) = unchanged old new is
+writing_keeps old tag need program (Err Journal) new (fresh, doubts) = same old new (ap (λ (core : Core). core.held) doubts.is)
 
 pub taking_keeps : (old : Core) (given : Write) (result : Result Took TakeFault) (new : Core)
     → Takes old given result new → StillHolds old new

@@ -1,2 +1,3 @@
 mod Keeps
 pub mod Several
+mod Written

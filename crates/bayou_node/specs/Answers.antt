@@ -7,6 +7,8 @@ use Rattle.bayou_lang.specs.declared.write.Write.{Write}
 use Rattle.bayou_node.specs.Books.{Begun, IsServerOf}
 use Rattle.bayou_server.specs.declared.answer.Took.{Took}
 use Rattle.bayou_server.specs.declared.answer.TookAll.{TookAll}
+use Rattle.bayou_server.specs.declared.answer.Written.{Written}
+use Rattle.bayou_server.specs.declared.answer.Written.TheVariants.{New, Known}
 use Rattle.bayou_server.specs.declared.fault.TakeFault.{TakeFault}
 use Rattle.bayou_server.specs.declared.fault.WriteFault.{WriteFault}
 use Rattle.bayou_server.specs.Server.{Core, IsSoundServer, own_count}
@@ -28,17 +30,22 @@ InSome begun IsSo = (core : Core) × MayBeKept begun core × IsSo core
 abbrev pub BySome : Begun → (Core → Core → Type 0) → Type 0
 BySome begun Steps = (old new : Core) × MayBeKept begun old × MayBeKept begun new × Steps old new
 
--- The accepted Write is the server's own, it is the next behind all that its server held, which has all that the session needs (Terry et
--- al. 1994), and its seq is above the number of those that were accepted for the desk before.
-pub record IsAccepted (server : ℕ) (need : List ℕ) (paid : ℕ) (accepted : Accepted) : Type 0 where
+-- What is told is of a Write of the server's own: it is the next behind all that its server held as it was made, which had all that the
+-- session needs (Terry et al. 1994).
+pub record IsOwnAnswer (server : ℕ) (need : List ℕ) (accepted : Accepted) : Type 0 where
   pub own : accepted.wid.origin.index ≡ server
   pub covered : Dominates accepted.deps need
   pub next : accepted.wid.seq ≡ slice_index accepted.deps server + 1
-  pub above : paid < accepted.wid.seq
 
--- what is paid to a desk: one for an accepted Write, and nothing for a refusal
-abbrev pub Pays : (old : ℕ) → Result Accepted WriteFault → (new : ℕ) → Type 0
-Pays old (Ok accepted) new = new ≡ old + 1
+-- So it is of a Write that was known, and of a new one, whose seq is above the number of those that were accepted for the desk before.
+abbrev pub IsWritten : (server : ℕ) → (need : List ℕ) → (paid : ℕ) → Written → Type 0
+IsWritten server need paid (New accepted) = IsOwnAnswer server need accepted × (paid < accepted.wid.seq)
+IsWritten server need paid (Known accepted) = IsOwnAnswer server need accepted
+
+-- what is paid to a desk: one for a new Write, and nothing for one that was known, or for a refusal
+abbrev pub Pays : (old : ℕ) → Result Written WriteFault → (new : ℕ) → Type 0
+Pays old (Ok (New accepted)) new = new ≡ old + 1
+Pays old (Ok (Known accepted)) new = new ≡ old
 Pays old (Err fault) new = new ≡ old
 
 -- A Write is given to what may be behind the lock (anti-entropy, Petersen et al. 1997). Of what stands beside the node no call changes

@@ -1,10 +1,9 @@
-ghost use Rattle.std.specs.Prelude.{◌≡◌, ◌≤◌, ◌<◌, ◌+◌, ◌⊎◌, [], None, Err, IfOk, MatchResult, length, slice_index, sum, take};
+ghost use Rattle.std.specs.Prelude.{◌≡◌, ◌≤◌, ◌<◌, ◌+◌, ◌⊎◌, ℕ, [], None, Err, IfOk, MatchResult, length, slice_index, sum, take};
 ghost use Rattle.std.specs.Vec.Iter.{into_iter_items};
 ghost use Rattle.bayou_base.specs.declared.limits.TheConstants.{MAX_WRITES};
-ghost use Rattle.bayou_lang.specs.declared.program.Program.{Program as Asked};
 ghost use Rattle.bayou_lang.specs.Writes.{count_of, lacking_of};
 ghost use Rattle.bayou_log.specs.Listing.{listing_of};
-ghost use Rattle.bayou_node.specs.Answers.{IsAccepted, Pays};
+ghost use Rattle.bayou_node.specs.Answers.{IsWritten, Pays};
 ghost use Rattle.bayou_node.specs.Books.{AreNewDesks, IsBlankOf, IsExact, StillHolds, begun_of, opened};
 ghost use Rattle.bayou_node.specs.Settles.{IsSettled};
 ghost use Rattle.bayou_server.specs.Reads.{Reads};
@@ -13,15 +12,17 @@ ghost use Rattle.bayou_server.specs.Server.{own_count};
 ghost use Rattle.bayou_server.specs.Stored.{ReopensJournal, StoresTaken, StoresWrite};
 ghost use Rattle.bayou_server.specs.Takes.{Takes};
 ghost use Rattle.bayou_server.specs.TakesAll.{TakesAll, TakesAt};
-ghost use Rattle.bayou_server.specs.Writes.{Writes};
+ghost use Rattle.bayou_server.specs.Writes.{Writes, own_made};
 
 use crate::desk::{Desk, Desks};
 use crate::node_settled::{DeskMissing, NodeSettled, NotMade};
-use bayou_base::{Accepted, Key, Seen, Vector};
+use bayou_base::{Key, Seen, Tag, Vector};
 use bayou_device::Device;
 use bayou_lang::{RestingProgram, RestingWrite};
 use bayou_log::Listed;
-use bayou_server::{Behind, ReopenFault, Reopened, Server, TakeFault, Took, TookAll, WriteFault};
+use bayou_server::{
+    Behind, ReopenFault, Reopened, Server, TakeFault, Took, TookAll, WriteFault, Written,
+};
 use std::alloc::{AllocError, Global};
 use std::marker::Model;
 use std::sync::ledger::{Blank, Book, Share};
@@ -133,36 +134,45 @@ impl<D: Device, L: Desks> Held<D, L> {
         self.server.read(need, key)
     }
 
-    /// As [`Server::write`]. The desk is paid where, and only where, the program is accepted.
+    /// As [`Server::write`]. The desk is paid where, and only where, a new Write is made of the program.
     pub fn write(
         &mut self,
         alloc: Global,
         desk: &mut Desk<L>,
+        tag: Tag,
         need: &Vector,
         program: RestingProgram,
-    ) -> Result<Accepted, WriteFault>
-        ensures writes { Writes self.old.server.core need.now program result self.new.server.core }
+    ) -> Result<Written, WriteFault>
+        ensures writes { Writes self.old.server.core tag need.now program result self.new.server.core }
         ensures stores { StoresWrite D.Device self.old.server result self.new.server }
         ensures pays { Pays desk.old result desk.new }
-        ensures counts { MatchResult result
-            (λ accepted. (self.new.accepted ≡ self.old.accepted + 1) × IsAccepted L.begun.server need.now desk.old accepted)
-            (λ _. self.new.accepted ≡ self.old.accepted) }
+        ensures counts { self.new.accepted ≡ self.old.accepted + own_made result }
+        ensures written { IfOk result (IsWritten L.begun.server need.now desk.old) }
         ensures others { (self.new.stored ≡ self.old.stored) × (self.new.adopted ≡ self.old.adopted) }
         ensures keeps { StillHolds self.old.server.core self.new.server.core }
         ensures exact { IsExact L.begun self.old × IsExact L.begun self.new }
     {
         self.accepted.audit(&mut desk.share);
-        let accepted = self.server.write(alloc, need, program)?;
+        let written = self.server.write(alloc, tag, need, program)?;
+        let Written::New(_) = written else {
+            return Ok(written);
+        };
         self.accepted.add(&mut desk.share, 1);
-        Ok(accepted)
+        Ok(written)
     }
 
-    /// As [`Server::refusal_for_memory`].
-    pub fn refusal_for_memory(&self, need: &Vector) -> WriteFault
-        ensures writes { (program : Asked) → Writes self.now.server.core need.now program (Err result) self.now.server.core }
+    /// As [`Server::answer_without_memory`]. No desk is paid.
+    pub fn answer_without_memory(
+        &self,
+        tag: Tag,
+        need: &Vector,
+        program: &RestingProgram,
+    ) -> Result<Written, WriteFault>
+        ensures writes { Writes self.now.server.core tag need.now program.now result self.now.server.core }
+        ensures unpaid { (paid : ℕ) → IfOk result (IsWritten L.begun.server need.now paid) × Pays paid result paid }
         ensures exact { IsExact L.begun self.now }
     {
-        self.server.refusal_for_memory(need)
+        self.server.answer_without_memory(tag, need, program)
     }
 
     /// As [`Server::take`].

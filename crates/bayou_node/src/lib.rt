@@ -4,8 +4,8 @@
 //! many Writes the server had made itself as the node was made, how many programs of the node's desks were accepted since, and how
 //! many of the server's own Writes were adopted since. Whenever the lock is free these books are exact: the server is sound, and
 //! its own Writes are those that it began with, those accepted and those adopted, and no others. A [`Desk`] is seen as the number of
-//! Writes that were accepted for it; [`Node::write`] needs one, and pays it where, and only where, it answers Accepted. A
-//! [`Ledger`](std::sync::ledger::Ledger) carries this across threads.
+//! Writes that were accepted for it; [`Node::write`] needs one, and pays it where, and only where, it answers with a new Write: one that
+//! was made before and is asked again is told, and not paid again. A [`Ledger`](std::sync::ledger::Ledger) carries this across threads.
 //!
 //! The steps are those of [`Held`], which are lent the value: each is the server's step, and leaves every Write that was held. Each
 //! call of [`Node`] takes the lock once, and holds none other; so it may wait for the lock. Its clauses say that its answer is one

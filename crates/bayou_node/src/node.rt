@@ -1,11 +1,10 @@
 ghost use Rattle.std.specs.Prelude.{◌≡◌, ◌≤◌, ◌<◌, ◌^◌, ℕ, List, [], None, Err, IfOk, MatchResult, length, take};
 ghost use Rattle.bayou_base.specs.Vector.{Dominates};
 ghost use Rattle.bayou_base.specs.declared.limits.TheConstants.{MAX_WRITES};
-ghost use Rattle.bayou_lang.specs.declared.program.Program.{Program as Asked};
 ghost use Rattle.bayou_lang.specs.declared.write.Write.{Write};
 ghost use Rattle.bayou_lang.specs.Writes.{count_of, lacking_of};
 ghost use Rattle.bayou_log.specs.Listing.{listing_of};
-ghost use Rattle.bayou_node.specs.Answers.{BySome, InSome, IsAccepted, Pays, TakesAllAtNode};
+ghost use Rattle.bayou_node.specs.Answers.{BySome, InSome, IsWritten, Pays, TakesAllAtNode};
 ghost use Rattle.bayou_node.specs.Books.{AreNewDesks, IsBlankOf, begun_of};
 ghost use Rattle.bayou_node.specs.Settles.{IsNodeSettled};
 ghost use Rattle.bayou_server.specs.Reads.{Reads};
@@ -17,11 +16,13 @@ use crate::desk::{Desk, Desks};
 use crate::held::Held;
 use crate::node_settled::{DeskMissing, NodeSettled, NotMade};
 use bayou_base::limits::TAKES_AT_ONCE;
-use bayou_base::{Accepted, Key, Seen, ServerId, Vector};
+use bayou_base::{Key, Seen, ServerId, Tag, Vector};
 use bayou_device::Device;
 use bayou_lang::{RestingProgram, RestingWrite};
 use bayou_log::Listed;
-use bayou_server::{Behind, ReopenFault, Reopened, Server, TakeFault, Took, TookAll, WriteFault};
+use bayou_server::{
+    Behind, ReopenFault, Reopened, Server, TakeFault, Took, TookAll, WriteFault, Written,
+};
 use std::alloc::{AllocError, Global};
 use std::marker::Model;
 use std::sync::ledger::Blank;
@@ -91,21 +92,29 @@ impl<D: Device, L: Desks> Node<D, L> {
         rt: &R,
         alloc: Global,
         desk: &mut Desk<L>,
+        tag: Tag,
         need: &Vector,
         program: RestingProgram,
-    ) -> Result<Accepted, WriteFault>
-        ensures writes { BySome L.begun (λ old new. Writes old need.now program result new) }
-        ensures accepted { IfOk result (IsAccepted L.begun.server need.now desk.old) }
+    ) -> Result<Written, WriteFault>
+        ensures writes { BySome L.begun (λ old new. Writes old tag need.now program result new) }
+        ensures written { IfOk result (IsWritten L.begun.server need.now desk.old) }
         ensures pays { Pays desk.old result desk.new }
     {
-        self.held.lock(rt).write(alloc, desk, need, program)
+        self.held.lock(rt).write(alloc, desk, tag, need, program)
     }
 
-    /// As [`Held::refusal_for_memory`].
-    pub fn refusal_for_memory<R: Wait>(&self, rt: &R, need: &Vector) -> WriteFault
-        ensures { (program : Asked) → BySome L.begun (λ old new. Writes old need.now program (Err result) new) }
+    /// As [`Held::answer_without_memory`].
+    pub fn answer_without_memory<R: Wait>(
+        &self,
+        rt: &R,
+        tag: Tag,
+        need: &Vector,
+        program: &RestingProgram,
+    ) -> Result<Written, WriteFault>
+        ensures writes { InSome L.begun (λ core. Writes core tag need.now program.now result core) }
+        ensures unpaid { (paid : ℕ) → IfOk result (IsWritten L.begun.server need.now paid) × Pays paid result paid }
     {
-        self.held.lock(rt).refusal_for_memory(need)
+        self.held.lock(rt).answer_without_memory(tag, need, program)
     }
 
     /// What its server holds, at some time during the call.

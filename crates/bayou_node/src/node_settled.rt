@@ -5,7 +5,7 @@ use bayou_server::Server;
 /// What a node comes to once all its desks are back.
 #[derive(Clone, Copy, Debug, PartialEq, Eq)]
 pub struct NodeSettled {
-    /// How many programs were accepted.
+    /// How many programs were accepted, each as a new Write.
     pub accepted: u32,
     /// How many of the server's own Writes a reopening adopted.
     pub adopted: u32,

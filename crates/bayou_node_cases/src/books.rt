@@ -3,13 +3,13 @@ ghost use Rattle.std.specs.Prelude.{◌≡◌};
 ghost use Rattle.bayou_node.specs.Books.{IsBlankOf, begun_of};
 
 use crate::fixtures::{
-    Memory, Served, Site, begun, dumped, fuse, have_programs, key, new_site, plus, put, reopened,
-    resting, settled, vector, written,
+    Memory, Served, Site, begun, dumped, fuse, have_programs, key, new_site, next_tag, plus, put,
+    reopened, resting, settled, tag_behind, vector, written,
 };
 use bayou_base::{Value, Vector};
 use bayou_lang::Program;
 use bayou_node::{DeskMissing, Desks, Node, NodeSettled};
-use bayou_server::{ReopenFault, WriteFault};
+use bayou_server::{ReopenFault, WriteFault, Written};
 use std::alloc::Global;
 use std::marker::Brand;
 use std::process::Abort;
@@ -25,7 +25,8 @@ fn writes<L: Desks, R: Wait + Abort>(
     program: &Program,
 ) -> Result<u32, WriteFault> {
     let desk = site.desks.get_mut(at).expect(rt, "no desk");
-    written(rt, alloc, &site.node, desk, program)
+    let tag = next_tag(rt, &site.node);
+    written(rt, alloc, &site.node, desk, tag, program)
 }
 
 /// What a node comes to with both desks, which isn't settled with one kept back.
@@ -136,9 +137,10 @@ fn one_of_each<L: Desks, R: Wait + Abort>(
 /// Whether the server makes a Write of its own. The second Write's two calls succeed then; the third one's entry is added, and not synced.
 fn puts(rt: &impl Abort, alloc: Global, server: &mut Served) -> bool {
     let program = resting(rt, alloc, &put(rt, 1));
-    let was_put = server.write(alloc, &Vector::zero(), program).is_ok();
+    let tag = tag_behind(rt, server.receipts().len());
+    let answer = server.write(alloc, tag, &Vector::zero(), program);
     fuse(server, 4, 0);
-    was_put
+    matches!(answer, Ok(Written::New(_)))
 }
 
 #[test]

@@ -2,11 +2,11 @@
 ghost use Rattle.std.specs.Prelude.{◌≡◌};
 ghost use Rattle.bayou_node.specs.Books.{IsBlankOf, begun_of};
 
-use bayou_base::{Key, MAX_WRITES, SERVERS, ServerId, Value, Vector};
+use bayou_base::{Key, MAX_WRITES, SERVERS, ServerId, SessionId, Tag, Value, Vector};
 use bayou_device::{Device, Gate, MemoryDevice, OpenGate};
 use bayou_lang::{Op, Program, RestingProgram, RestingWrite, Term};
 use bayou_node::{Desk, Desks, Node, NodeSettled};
-use bayou_server::{NotStarted, ReopenFault, Server, StartFault, WriteFault};
+use bayou_server::{NotStarted, ReopenFault, Server, StartFault, WriteFault, Written};
 use std::alloc::Global;
 use std::process::Abort;
 use std::sync::Wait;
@@ -18,6 +18,23 @@ pub type Served = Server<Memory>;
 
 pub fn key(rt: &impl Abort, name: &str) -> Key {
     Key::new(name).expect(rt, "no key")
+}
+
+/// The tag that this place of the first session has in the first run: each number has its own.
+pub fn tag(rt: &impl Abort, number: u32) -> Tag {
+    let session = SessionId::new(0).expect(rt, "no session");
+    Tag::new(session, 1, number).expect(rt, "no tag")
+}
+
+/// The tag of the place behind so many: a fresh one for a server that holds so many Writes, where those before it were given theirs so.
+pub fn tag_behind(rt: &impl Abort, count: usize) -> Tag {
+    let count = u32::try_from(count).ok().expect(rt, "too many Writes");
+    tag(rt, count.saturating_add(1))
+}
+
+/// The tag of the place behind those of the node's own Writes: a fresh one, where these were given theirs so, and no other thread is at work.
+pub fn next_tag<D: Device, L: Desks, R: Wait + Abort>(rt: &R, node: &Node<D, L>) -> Tag {
+    tag(rt, node.offer(rt).get(node.id()).saturating_add(1))
 }
 
 /// Stops the test where it isn't so, and says at which number: the one assert of all loops over numbers, since each costs.
@@ -153,16 +170,20 @@ pub fn settled<L: Desks>(node: Node<Memory, L>, desks: Vec<Desk<L>>) -> Option<N
     node.settle(desks).ok()
 }
 
-/// The seq of the Write that is accepted for the desk.
-pub fn written<D: Device, L: Desks, R: Wait>(
+/// The seq of the Write that is accepted for the desk under this tag.
+pub fn written<D: Device, L: Desks, R: Wait + Abort>(
     rt: &R,
     alloc: Global,
     node: &Node<D, L>,
     desk: &mut Desk<L>,
+    tag: Tag,
     program: &Program,
 ) -> Result<u32, WriteFault> {
-    let accepted = node.write(rt, alloc, desk, &Vector::zero(), program.rest(alloc)?)?;
-    Ok(accepted.wid.seq)
+    let program = program.rest(alloc)?;
+    match node.write(rt, alloc, desk, tag, &Vector::zero(), program)? {
+        Written::New(accepted) => Ok(accepted.wid.seq),
+        Written::Known(_) => rt.abort(),
+    }
 }
 
 /// The seq of the Write that a reopening adopts, if any.

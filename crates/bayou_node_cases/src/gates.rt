@@ -2,7 +2,7 @@
 ghost use Rattle.std.specs.Prelude.{◌≡◌};
 ghost use Rattle.bayou_node.specs.Books.{IsBlankOf, begun_of};
 
-use crate::fixtures::{Memory, Served, Site, begun, key, new_site, on_device, put, written};
+use crate::fixtures::{Memory, Served, Site, begun, key, new_site, on_device, put, tag, written};
 use bayou_base::Vector;
 use bayou_device::{Device, Gate, MemoryDevice};
 use bayou_node::{Desk, Desks, Node};
@@ -51,7 +51,7 @@ fn is_written<D: Device, L: Desks, R: Wait + Abort>(
     node: &Node<D, L>,
     desk: &mut Desk<L>,
 ) -> bool {
-    written(rt, alloc, node, desk, &put(rt, 1)).is_ok()
+    written(rt, alloc, node, desk, tag(rt, 1), &put(rt, 1)).is_ok()
 }
 
 /// Whether a read is answered, before anybody was given up. Then the gate is opened.

@@ -2,6 +2,7 @@
 use crate::dice::Dice;
 use crate::fixtures::{Memory, key, put, reopened, written};
 use crate::meetings::meets;
+use bayou_base::{SessionId, Tag};
 use bayou_node::{Desk, Desks, Node};
 use bayou_server::{ReopenFault, WriteFault};
 use std::alloc::Global;
@@ -25,6 +26,8 @@ pub struct Hand<L: Desks, M: Desks, N: Desks> {
     pub first: Desk<L>,
     pub second: Desk<M>,
     pub third: Desk<N>,
+    /// The session in whose name the thread asks: each has its own.
+    pub session: SessionId,
     /// How many programs were accepted for each.
     pub accepted: [u32; 3],
     /// How many operations were done.
@@ -49,9 +52,9 @@ fn writes<L: Desks, R: Wait + Abort>(
     alloc: Global,
     node: &Node<Memory, L>,
     desk: &mut Desk<L>,
-    number: u32,
+    (tag, number): (Tag, u32),
 ) -> Option<bool> {
-    match written(rt, alloc, node, desk, &put(rt, i64::from(number))) {
+    match written(rt, alloc, node, desk, tag, &put(rt, i64::from(number))) {
         Ok(_) => None,
         Err(fault) => Some(fault == WriteFault::Down || fault == WriteFault::Journal),
     }
@@ -71,11 +74,11 @@ fn works_at<L: Desks, M: Desks, R: Wait + Abort>(
     alloc: Global,
     (node, beside): (&Node<Memory, L>, &Node<Memory, M>),
     desk: &mut Desk<L>,
-    number: u32,
+    (tag, number): (Tag, u32),
 ) -> (bool, u32) {
     match number % 8 {
         0 | 1 | 2 => (reads(rt, node), 0),
-        3 | 4 => match writes(rt, alloc, node, desk, number) {
+        3 | 4 => match writes(rt, alloc, node, desk, (tag, number)) {
             None => (true, 1),
             Some(may_be) => (may_be, 0),
         },
@@ -97,7 +100,9 @@ fn works_once<L: Desks, M: Desks, N: Desks, R: Wait + Abort>(
         second,
         third,
     } = three;
-    let (at, which) = ((number % 3) as usize, number / 3);
+    let at = (number % 3) as usize;
+    let tag = Tag::new(hand.session, 1, hand.done.saturating_add(1)).expect(rt, "no tag");
+    let which = (tag, number / 3);
     let (is_so, accepted) = match at {
         0 => works_at(rt, alloc, (first, second), &mut hand.first, which),
         1 => works_at(rt, alloc, (second, third), &mut hand.second, which),

@@ -5,12 +5,12 @@ ghost use Rattle.bayou_node.specs.Books.{IsBlankOf, begun_of};
 use crate::dice::Dice;
 use crate::fixtures::{
     Memory, Served, Site, are_same, begun, dumped, fuse, key, must_be_so, must_go_so, new_site,
-    plus, put, resting, settled, vector,
+    plus, put, resting, settled, tag, vector,
 };
-use bayou_base::{Accepted, ServerId, Stamp, Vector, Wid};
+use bayou_base::{ServerId, Stamp, Tag, Vector, Wid};
 use bayou_lang::{Program, RestingProgram, RestingWrite, Write};
 use bayou_node::{Desks, Node};
-use bayou_server::WriteFault;
+use bayou_server::{WriteFault, Written};
 use std::alloc::Global;
 use std::marker::Brand;
 use std::process::Abort;
@@ -22,11 +22,19 @@ const LISTS: u32 = 100;
 
 const CALLS: u32 = 60;
 
+/// A Write that is asked for.
+#[derive(Drop)]
+struct Asked {
+    tag: Tag,
+    need: Vector,
+    program: Program,
+}
+
 /// One call.
 #[derive(Drop)]
 enum Call {
     Read(Vector),
-    Write(Vector, Program),
+    Write(Asked),
     Take(Write),
     Reopen,
     Offer,
@@ -53,19 +61,25 @@ fn need(rt: &impl Abort, dice: &mut Dice) -> Vector {
     vector(rt, dice.throw(4), dice.throw(2))
 }
 
-/// A program that puts a number, or adds one.
-fn program(rt: &impl Abort, dice: &mut Dice) -> Program {
-    let number = i64::from(dice.throw(1000));
-    match dice.throw(2) {
+/// A Write that is asked for: maybe one that was asked for before, or another one of its tag. The program puts a number, or adds one.
+fn any_asking(rt: &impl Abort, dice: &mut Dice) -> Asked {
+    let place = dice.throw(30);
+    let number = i64::from(place) + i64::from(dice.throw(8) / 7);
+    let program = match place % 2 {
         0 => put(rt, number),
         _ => plus(rt, number),
+    };
+    Asked {
+        tag: tag(rt, place.saturating_add(1)),
+        need: need(rt, dice),
+        program,
     }
 }
 
 fn any_call(rt: &impl Abort, dice: &mut Dice) -> Call {
     match dice.throw(14) {
         0 | 1 => Call::Read(need(rt, dice)),
-        2..=5 => Call::Write(need(rt, dice), program(rt, dice)),
+        2..=5 => Call::Write(any_asking(rt, dice)),
         6..=8 => Call::Take(foreign(rt, dice)),
         9 => Call::Reopen,
         10 => Call::Offer,
@@ -90,24 +104,25 @@ fn written<L: Desks, R: Wait + Abort>(
     rt: &R,
     alloc: Global,
     site: &mut Site<Memory, L>,
-    need: &Vector,
+    (tag, need): (Tag, &Vector),
     program: RestingProgram,
-) -> Result<Accepted, WriteFault> {
+) -> Result<Written, WriteFault> {
     let desk = site.desks.first_mut().expect(rt, "no desk");
-    site.node.write(rt, alloc, desk, need, program)
+    site.node.write(rt, alloc, desk, tag, need, program)
 }
 
-/// Whether both answer alike, and how many Writes are accepted.
+/// Whether both answer alike, and how many Writes are made.
 fn writes_alike<L: Desks, R: Wait + Abort>(
     rt: &R,
     alloc: Global,
     site: &mut Site<Memory, L>,
     server: &mut Served,
-    (need, program): (&Vector, &Program),
+    asked: &Asked,
 ) -> (bool, u32) {
-    let answer = server.write(alloc, need, resting(rt, alloc, program));
-    let is_same = answer == written(rt, alloc, site, need, resting(rt, alloc, program));
-    (is_same, u32::from(answer.is_ok()))
+    let Asked { tag, need, program } = asked;
+    let answer = server.write(alloc, *tag, need, resting(rt, alloc, program));
+    let is_same = answer == written(rt, alloc, site, (*tag, need), resting(rt, alloc, program));
+    (is_same, u32::from(matches!(answer, Ok(Written::New(_)))))
 }
 
 /// The Write as it rests.
@@ -179,13 +194,13 @@ fn answers_alike<L: Desks, R: Wait + Abort>(
     server: &mut Served,
     call: &Call,
 ) -> (bool, u32) {
-    if let Call::Write(need, program) = call {
-        return writes_alike(rt, alloc, site, server, (need, program));
+    if let Call::Write(asked) = call {
+        return writes_alike(rt, alloc, site, server, asked);
     }
     let node = &site.node;
     let is_so = match call {
         Call::Read(need) => reads_alike(rt, node, server, need),
-        Call::Write(_, _) => false,
+        Call::Write(_) => false,
         Call::Take(write) => takes_alike(rt, alloc, node, server, write),
         Call::Reopen => reopens_alike(rt, alloc, node, server),
         Call::Offer => server.vector() == node.offer(rt),

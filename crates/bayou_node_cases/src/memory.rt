@@ -3,7 +3,7 @@ ghost use Rattle.std.specs.Prelude.{◌≡◌};
 ghost use Rattle.bayou_node.specs.Books.{IsBlankOf, begun_of};
 
 use crate::fixtures::{
-    Memory, Served, Site, begun, boxed, fuse, put, reopened, settled, vector, written,
+    Memory, Served, Site, begun, boxed, fuse, next_tag, put, reopened, settled, vector, written,
 };
 use bayou_base::{ServerId, Stamp, Vector, Wid};
 use bayou_lang::Write;
@@ -39,7 +39,7 @@ fn writes_once<L: Desks, R: Wait + Abort>(
     node: &Node<Memory, L>,
     desk: &mut Desk<L>,
 ) -> Option<Made> {
-    match written(rt, alloc, node, desk, &put(rt, 1)) {
+    match written(rt, alloc, node, desk, next_tag(rt, node), &put(rt, 1)) {
         Ok(_) => Some(Made {
             accepted: 1,
             adopted: 0,

@@ -2,13 +2,13 @@
 //! failing in turn, every order of receipt, and want of memory.
 use crate::fixtures::{
     Memory, Served, begun, fuse, holds, key, must_be_so, must_go_so, on_device, plus, started,
-    vector,
+    tag_behind, vector,
 };
 use crate::items::{Given, write};
 use bayou_base::{Value, Vector};
 use bayou_device::{MemoryDevice, OpenGate};
 use bayou_lang::{Outcome, Write};
-use bayou_server::{ReopenFault, TakeFault, Took, WriteFault};
+use bayou_server::{ReopenFault, TakeFault, Took, WriteFault, Written};
 use std::alloc::Global;
 use std::process::Abort;
 
@@ -58,8 +58,11 @@ fn puts(
     number: u8,
 ) -> Result<u32, WriteFault> {
     let Write { program, .. } = write(rt, (1, 1, 1, [0, 0], number));
-    let accepted = server.write(alloc, &Vector::zero(), program.rest(alloc)?)?;
-    Ok(accepted.wid.seq)
+    let tag = tag_behind(rt, server.receipts().len());
+    match server.write(alloc, tag, &Vector::zero(), program.rest(alloc)?)? {
+        Written::New(accepted) => Ok(accepted.wid.seq),
+        Written::Known(_) => rt.abort(),
+    }
 }
 
 /// Reopens the server: origin and seq of the Write that is adopted, if any.
@@ -166,17 +169,18 @@ fn a_write_is_taken_or_refused(rt: HostRuntime) {
     goes_anew(&rt, rt.alloc(), &TWO_STAND, 1);
 }
 
-/// The device call under a taken Write that fails, how much of its entry of 91 bytes is added, the Write that a reopening adopts, if
+/// The device call under a taken Write that fails, how much of its entry of 92 bytes is added, the Write that a reopening adopts, if
 /// any, and what `a` has then, and how many of the first server's Writes are held.
 type Failing = (u32, usize, Option<(u8, u32)>, i64, u32);
 
-static FAILING: [Failing; 6] = [
+static FAILING: [Failing; 7] = [
     (1, 0, None, 1, 1),
     (1, 50, None, 1, 1),
-    (1, 91, Some((0, 2)), 2, 2),
+    (1, 91, None, 1, 1),
+    (1, 92, Some((0, 2)), 2, 2),
     (1, 200, Some((0, 2)), 2, 2),
     (2, 0, Some((0, 2)), 2, 2),
-    (2, 91, Some((0, 2)), 2, 2),
+    (2, 92, Some((0, 2)), 2, 2),
 ];
 
 /// Takes a Write, and one more at which the device fails, as the row of this number says. The Write in doubt is another server's; adopted

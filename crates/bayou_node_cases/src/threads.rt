@@ -6,7 +6,7 @@ use crate::dice::Dice;
 use crate::fixtures::{Memory, Served, Site, fuse, new_site, on_device, settled};
 use crate::hands::{Hand, Three, reopens, works};
 use crate::meetings::meets;
-use bayou_base::ServerId;
+use bayou_base::{ServerId, SessionId};
 use bayou_device::{MemoryDevice, OpenGate};
 use bayou_node::{Desk, Desks, Node, NodeSettled};
 use std::alloc::Global;
@@ -48,6 +48,7 @@ fn next_hand<L: Desks, M: Desks, N: Desks>(
         first: next(rt, firsts),
         second: next(rt, seconds),
         third: next(rt, thirds),
+        session: SessionId::new((state % 32) as u8).expect(rt, "no session"),
         accepted: [0; 3],
         done: 0,
         is_so: true,

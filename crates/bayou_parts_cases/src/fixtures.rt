@@ -1,5 +1,5 @@
 //! What the tests are made of.
-use bayou_base::{Key, SERVERS, ServerId, SessionId, Stamp, Value, Vector, Wid};
+use bayou_base::{Key, SERVERS, ServerId, SessionId, Stamp, Tag, Value, Vector, Wid};
 use bayou_lang::{Op, Program, Term, Write};
 use std::process::Abort;
 
@@ -19,6 +19,17 @@ pub fn server_id(rt: &impl Abort, index: u8) -> ServerId {
 
 pub fn session_id(rt: &impl Abort, index: u8) -> SessionId {
     SessionId::new(index).expect(rt, "no session")
+}
+
+/// The tag that this place of the first session has in the first run: each number has its own.
+pub fn tag(rt: &impl Abort, number: u32) -> Tag {
+    Tag::new(session_id(rt, 0), 1, number).expect(rt, "no tag")
+}
+
+/// The tag of the place behind so many: a fresh one for a server that holds so many Writes, where those before it were given theirs so.
+pub fn tag_behind(rt: &impl Abort, count: usize) -> Tag {
+    let count = u32::try_from(count).ok().expect(rt, "too many Writes");
+    tag(rt, count.saturating_add(1))
 }
 
 pub fn wid(rt: &impl Abort, origin: u8, seq: u32) -> Wid {

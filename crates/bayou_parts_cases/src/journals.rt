@@ -12,28 +12,28 @@ type Memory = MemoryDevice<OpenGate>;
 /// What an opening finds: how many bodies there are, and how many bytes behind the chain are dropped.
 type Found = Result<(usize, usize), OpenFault>;
 
-/// The body of an entry: a Write of server 0 that puts 1 at the key `room`. Its entry has 94 bytes.
-const WRITE: &str = "<0:1> <stamp> <none> <put>";
+/// The body of an entry: a Write of server 0 that puts 1 at the key `room`, behind its tag. Its entry has 104 bytes.
+const WRITE: &str = "01 00 00000001 00000001 <0:1> <stamp> <none> <put>";
 
 /// The journal of server 0 with that body three times. The digests are those of `sha256sum`.
-const THREE: &str = "4241594f554a4e4c 0100
-    003c <0:1> <stamp> <none> <put> dd7fd99ca1386304a7db218154a54dd243b5f05e41fff44a7de8e59df8b6bbcb
-    003c <0:1> <stamp> <none> <put> 3595483d1bcc2e0efd01d4028efec82191862f258cdca32df82edbedf13dadd8
-    003c <0:1> <stamp> <none> <put> e25d18e166e29ea887934600ee6b358fc32eb0e0d0fb8234e13cdadfbc0ce7b5";
+const THREE: &str = "4241594f554a4e4c 0200
+    0046 01 00 00000001 00000001 <0:1> <stamp> <none> <put> bea4b836fb87f3eeb0c1843b420fd4d02483adb01004382c81e314d3d5b5dd13
+    0046 01 00 00000001 00000001 <0:1> <stamp> <none> <put> 8bb66929c4a20841c694a1cb980d26aed97e36ef4658749c27b0caf638ad70d0
+    0046 01 00 00000001 00000001 <0:1> <stamp> <none> <put> 7b21e37c1ed04eb342ad95007f47cf3429b939b4b0e3c85403f49aae9b4c7870";
 
 /// The journal of server 2 with the bodies 00 and 0102, as docs/FORMATS.md has it.
-const EXAMPLE: &str = "4241594f554a4e4c 0102
-    0001 00 2432200c76e1709bf136d13a0e3efba4badf25ef5cbf57bfde035e5133e4add8
-    0002 0102 87c24bdde946702e24e4afd51a1645c3d102f10fb4ce17b65b7651c504e5df97";
+const EXAMPLE: &str = "4241594f554a4e4c 0202
+    0001 00 bb0e46ca9ab5826b166f0d4ff3113b2644bc40db3732e4855a937ca9c81d9be7
+    0002 0102 5dd3bbb139f414f3c8f15e231d76b234f0016336627cb3061e7a94267683e9df";
 
 fn device_of(bytes: Vec<u8>) -> Memory {
     MemoryDevice::with_bytes(bytes, OpenGate)
 }
 
-/// Whether the bodies found are these, each in the format's only version.
+/// Whether the bodies found are these, each in the newest version.
 fn are_found(found: &Opened, bodies: &[&[u8]]) -> bool {
     for (at, body) in bodies.iter().enumerate() {
-        if at >= found.len() || found.body(at) != *body || found.version(at) != 1 {
+        if at >= found.len() || found.body(at) != *body || found.version(at) != 2 {
             return false;
         }
     }
@@ -41,7 +41,7 @@ fn are_found(found: &Opened, bodies: &[&[u8]]) -> bool {
 }
 
 /// Whether the journal takes the body.
-fn takes(journal: &mut Journal<Memory>, body: &[u8]) -> bool {
+pub fn takes(journal: &mut Journal<Memory>, body: &[u8]) -> bool {
     !body.is_empty() && body.len() <= MAX_BODY_BYTES && journal.append(body).is_ok()
 }
 
@@ -113,7 +113,7 @@ fn the_longest_body_is_found_again(rt: HostRuntime) {
     assert!(rt; is_found);
 }
 
-/// Bodies of one byte each, which would mark a version if there were a later one.
+/// Bodies of one byte each, which would mark a version if it were a later one than the chain's.
 static BYTES: [&[u8]; 4] = [b"\x00", b"\x01", b"\x02", b"\x03"];
 
 #[test]
@@ -151,7 +151,7 @@ fn is_found(
 fn in_front(len: usize) -> (Found, usize) {
     match len.checked_sub(10) {
         None => (Ok((0, len)), 10),
-        Some(behind) => (Ok((behind / 94, behind % 94)), len - behind % 94),
+        Some(behind) => (Ok((behind / 104, behind % 104)), len - behind % 104),
     }
 }
 
@@ -173,8 +173,8 @@ fn is_journal(rt: &impl Abort, alloc: Global, server: ServerId, bytes: &[u8], le
 fn each_front_is_a_journal(rt: HostRuntime) {
     let server = server_id(&rt, 0);
     let bytes = bytes_of(&rt, rt.alloc(), THREE);
-    for len in 0..293 {
-        let is_so = bytes.len() == 292 && is_journal(&rt, rt.alloc(), server, &bytes, len);
+    for len in 0..323 {
+        let is_so = bytes.len() == 322 && is_journal(&rt, rt.alloc(), server, &bytes, len);
         must_be_so(&rt, is_so, len);
     }
 }
@@ -182,11 +182,11 @@ fn each_front_is_a_journal(rt: HostRuntime) {
 /// What an opening finds where the byte at this place was changed, and how many bytes it leaves.
 fn changed_at(at: usize) -> (Found, usize) {
     match at.checked_sub(10) {
-        None if at < 9 => (Err(OpenFault::NotAJournal), 292),
-        None => (Err(OpenFault::OtherServer), 292),
+        None if at < 9 => (Err(OpenFault::NotAJournal), 322),
+        None => (Err(OpenFault::OtherServer), 322),
         Some(behind) => {
             let (_, left) = in_front(at);
-            (Ok((behind / 94, 292_usize.saturating_sub(left))), left)
+            (Ok((behind / 104, 322_usize.saturating_sub(left))), left)
         }
     }
 }
@@ -215,7 +215,7 @@ fn is_ended(rt: &impl Abort, alloc: Global, server: ServerId, bytes: &[u8], at: 
 fn a_changed_byte_ends_the_chain_before_it(rt: HostRuntime) {
     let server = server_id(&rt, 0);
     let mut bytes = bytes_of(&rt, rt.alloc(), THREE);
-    for at in 0..292 {
+    for at in 0..322 {
         change(&mut bytes, at);
         let is_so = is_ended(&rt, rt.alloc(), server, &bytes, at);
         must_be_so(&rt, is_so, at);
@@ -224,13 +224,14 @@ fn a_changed_byte_ends_the_chain_before_it(rt: HostRuntime) {
 }
 
 /// A server, bytes, and why they are no journal of its own.
-static FOREIGN: [(u8, &str, OpenFault); 7] = [
+static FOREIGN: [(u8, &str, OpenFault); 8] = [
     (0, "68656c6c6f", OpenFault::NotAJournal),
     (1, THREE, OpenFault::OtherServer),
+    (1, "4241594f554a4e4c 0100", OpenFault::OtherServer),
     // Versions that there aren't, with no identifier behind them, with the server's, and with another's.
-    (0, "4241594f554a4e4c 02", OpenFault::NotAJournal),
-    (0, "4241594f554a4e4c 0200", OpenFault::NotAJournal),
-    (0, "4241594f554a4e4c 0201", OpenFault::NotAJournal),
+    (0, "4241594f554a4e4c 03", OpenFault::NotAJournal),
+    (0, "4241594f554a4e4c 0300", OpenFault::NotAJournal),
+    (0, "4241594f554a4e4c 0301", OpenFault::NotAJournal),
     (0, "4241594f554a4e4c 00", OpenFault::NotAJournal),
     (0, "4241594f554a4e4c 0000", OpenFault::NotAJournal),
 ];
@@ -253,12 +254,12 @@ fn foreign_bytes_are_refused(rt: HostRuntime) {
 /// are left; where that isn't said it is the append of a header, of which so many are added.
 static FAILING: [(usize, u32, Option<usize>); 12] = [
     // A whole journal: the read, the sync.
-    (292, 1, Some(292)),
-    (292, 2, Some(292)),
+    (322, 1, Some(322)),
+    (322, 2, Some(322)),
     // A torn one: the read, the cut, the sync.
-    (291, 1, Some(291)),
-    (291, 2, Some(291)),
-    (291, 3, Some(198)),
+    (321, 1, Some(321)),
+    (321, 2, Some(321)),
+    (321, 3, Some(218)),
     // Nothing: the read, the append, the sync.
     (0, 1, Some(0)),
     (0, 2, None),
@@ -413,13 +414,13 @@ static REOPENINGS: [Step; 27] = [
     Fuse(1, 0),
     Reopen(Err(OpenFault::Device)),
     DOWN,
-    Reopen(Ok((2, 93))),
+    Reopen(Ok((2, 103))),
     Append(Ok(())),
     Lose(1),
     Fuse(2, 0),
     Reopen(Err(OpenFault::Device)),
     DOWN,
-    Reopen(Ok((2, 93))),
+    Reopen(Ok((2, 103))),
     Append(Ok(())),
     Lose(1),
     Fuse(3, 0),
@@ -429,7 +430,7 @@ static REOPENINGS: [Step; 27] = [
     Append(Ok(())),
     Lose(1),
     Fuse(4, 0),
-    Reopen(Ok((2, 93))),
+    Reopen(Ok((2, 103))),
     FAULT,
 ];
 
@@ -440,7 +441,7 @@ fn each_device_call_of_a_reopening_may_fail(rt: HostRuntime) {
 }
 
 /// How many bytes at the front of that journal there are, and the first device call that no opening of them makes.
-static OPENINGS: [(usize, u32); 4] = [(292, 3), (291, 4), (0, 4), (5, 5)];
+static OPENINGS: [(usize, u32); 4] = [(322, 3), (321, 4), (0, 4), (5, 5)];
 
 #[test]
 fn a_later_fuse_waits_for_the_append(rt: HostRuntime) {
@@ -454,8 +455,8 @@ fn a_later_fuse_waits_for_the_append(rt: HostRuntime) {
 /// An append that fails with so many bytes of its entry added, or at its sync; and a reopening.
 fn failing_append(kept: usize) -> [Step; 5] {
     let (call, found) = match kept {
-        0..94 => (1, (3, kept)),
-        94 => (1, (4, 0)),
+        0..104 => (1, (3, kept)),
+        104 => (1, (4, 0)),
         _ => (2, (4, 0)),
     };
     [
@@ -470,7 +471,7 @@ fn failing_append(kept: usize) -> [Step; 5] {
 #[test]
 fn each_device_call_of_an_append_may_fail(rt: HostRuntime) {
     let bytes = bytes_of(&rt, rt.alloc(), THREE);
-    for kept in 0..96 {
+    for kept in 0..106 {
         all_go(&rt, rt.alloc(), &bytes, NEVER, &failing_append(kept));
     }
 }

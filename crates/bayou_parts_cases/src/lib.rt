@@ -31,9 +31,13 @@ mod notation;
 #[cfg(test)]
 mod numbers;
 #[cfg(test)]
+mod old_journals;
+#[cfg(test)]
 mod programs;
 #[cfg(test)]
 mod records;
+#[cfg(test)]
+mod repeats;
 #[cfg(test)]
 mod servers;
 #[cfg(test)]

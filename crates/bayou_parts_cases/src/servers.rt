@@ -1,10 +1,10 @@
 //! Servers: what each call answers and leaves, each device call failing in turn, and want of memory.
-use crate::fixtures::{key, must_be_so, must_hold, put, vector, wid};
+use crate::fixtures::{key, must_be_so, must_hold, put, tag, tag_behind, vector, wid};
 use crate::notation::bytes_of;
-use bayou_base::{MAX_WRITES, ServerId, Value, Vector, Wid};
+use bayou_base::{MAX_WRITES, ServerId, Tag, Value, Vector, Wid};
 use bayou_device::{MemoryDevice, OpenGate};
 use bayou_lang::RestingWrite;
-use bayou_server::{JournalFault, LastHeld, ReopenFault, Server, StartFault, WriteFault};
+use bayou_server::{JournalFault, LastHeld, ReopenFault, Server, StartFault, WriteFault, Written};
 use std::alloc::Global;
 use std::process::Abort;
 
@@ -14,7 +14,7 @@ type Served = Server<Memory>;
 
 /// The server in a box of its own, also where one allocation is refused: a function that owns a box is proved in a third of the time that one
 /// takes which owns the server.
-fn boxed(rt: &impl Abort, alloc: Global, server: Served) -> Box<Served> {
+pub fn boxed(rt: &impl Abort, alloc: Global, server: Served) -> Box<Served> {
     match Box::new(alloc, server) {
         Ok(server) => server,
         Err(refused) => Box::new(alloc, refused.value).expect(rt, "no memory"),
@@ -55,15 +55,18 @@ enum Step {
 use Step::{Fuse, Has, Lose, Put, Reopen, Replace};
 
 /// Puts the number at `a`: the Write's seq.
-fn puts(
+pub fn puts(
     rt: &impl Abort,
     alloc: Global,
     server: &mut Served,
     number: i64,
 ) -> Result<u32, WriteFault> {
     let program = put(rt, number).rest(alloc)?;
-    let accepted = server.write(alloc, &Vector::zero(), program)?;
-    Ok(accepted.wid.seq)
+    let tag = tag_behind(rt, server.receipts().len());
+    match server.write(alloc, tag, &Vector::zero(), program)? {
+        Written::New(accepted) => Ok(accepted.wid.seq),
+        Written::Known(_) => rt.abort(),
+    }
 }
 
 /// It puts 1, 2 and so on.
@@ -210,20 +213,21 @@ fn a_write_in_doubt_is_forgotten_or_adopted(rt: HostRuntime) {
     all_go_anew(&rt, rt.alloc(), &REPLACED);
 }
 
-/// The device call of a Write that fails, how much of its entry of 91 bytes is added, the seq of the Write that a reopening adopts,
+/// The device call of a Write that fails, how much of its entry of 101 bytes is added, the seq of the Write that a reopening adopts,
 /// if any, and how many Writes the server has then: the last of them put as much at `a`.
 type Failing = (u32, usize, Option<u32>, u32);
 
-static FAILING: [Failing; 10] = [
+static FAILING: [Failing; 11] = [
     (1, 0, None, 1),
     (1, 1, None, 1),
     (1, 50, None, 1),
-    (1, 91, Some(2), 2),
+    (1, 100, None, 1),
+    (1, 101, Some(2), 2),
     (1, 200, Some(2), 2),
     (2, 0, Some(2), 2),
     (2, 1, Some(2), 2),
     (2, 50, Some(2), 2),
-    (2, 91, Some(2), 2),
+    (2, 101, Some(2), 2),
     (2, 200, Some(2), 2),
 ];
 
@@ -267,23 +271,23 @@ fn each_device_call_of_a_reopening_may_fail(rt: HostRuntime) {
 }
 
 /// The journal of server 0 with the body 00, which is no Write.
-const NO_WRITE: &str = "4241594f554a4e4c 0100
+const NO_WRITE: &str = "4241594f554a4e4c 0200
     0001 00
-    b3ba6d8a6e5ef4e04442f1a7bdc6e5453932d821d3969a80049a40a178c86477";
+    bec739f6b4205d85ade8feac54ca5d1d547f3a1c239031ff11203394282d2b0e";
 
 /// The journal of server 0 with its second Write alone.
-const SECOND: &str = "4241594f554a4e4c 0100
-    0039 0000000002 00000002 <one> 00010101610101000000000000000200
-    a08cfdeda8db9eb228a001bb10bd1c725755e6d9a36b05539e0302bc8350888f";
+const SECOND: &str = "4241594f554a4e4c 0200
+    0043 01 00 00000001 00000002 0000000002 00000002 <one> 00010101610101000000000000000200
+    81158b68d283e32945961e090bae94be2f3dacae2dd911f1debdce43108a6cad";
 
 /// The journal of server 0 with Writes that put 1, 2 and 3 at `a`.
-const THREE: &str = "4241594f554a4e4c 0100
-    0039 0000000001 00000001 <none> 00010101610101000000000000000100
-    e838bcc5d3639a9069e0fe731f287ef03ef504a48fb87dab1c8b7e92b98bac8c
-    0039 0000000002 00000002 <one> 00010101610101000000000000000200
-    bd3dda4ef052f38aa2657f033d26af4436a1a673b228708436a7c4da17d11af6
-    0039 0000000003 00000003 <two> 00010101610101000000000000000300
-    3a054e5646160f0146d55cdcc2a751ed7c52ab93fe51bcec13c74ea96fd8e24d";
+const THREE: &str = "4241594f554a4e4c 0200
+    0043 01 00 00000001 00000001 0000000001 00000001 <none> 00010101610101000000000000000100
+    6e1dcb3cf738a4dfd52acc94da375a263976ed6cd7ed389c74249d6264ea3486
+    0043 01 00 00000001 00000002 0000000002 00000002 <one> 00010101610101000000000000000200
+    58f7d3fdb5712ac3c4899e9159a898a10ec2987cda1c499a061f20fbe0a87031
+    0043 01 00 00000001 00000003 0000000003 00000003 <two> 00010101610101000000000000000300
+    5557effcf64e6b347302a3b7e3af504d3355344791c49728584ca7e312e21ae2";
 
 /// A fuse that no start reaches.
 const NEVER: u32 = 1000;
@@ -300,7 +304,7 @@ static REFUSED: [(&str, u32, StartFault); 9] = [
         StartFault::Journal(JournalFault::NotAJournal),
     ),
     (
-        "4241594f554a4e4c 0101",
+        "4241594f554a4e4c 0201",
         NEVER,
         StartFault::Journal(JournalFault::OtherServer),
     ),
@@ -391,7 +395,7 @@ fn given_back(server: Box<Served>) -> (usize, usize) {
 fn tells_and_stops(rt: &impl Abort, alloc: Global, device: Memory) -> bool {
     let server = start(rt, alloc, 2, device).expect(rt, "no server");
     let are_told = tells_both(rt, alloc, &server);
-    given_back(server) == (2, 192) && are_told
+    given_back(server) == (2, 212) && are_told
 }
 
 #[test]
@@ -402,9 +406,14 @@ fn a_server_tells_what_it_holds(rt: HostRuntime) {
     assert!(rt; tells_and_stops(&rt, alloc, device));
 }
 
-/// Whether a stopped server tells of two Writes, none of which has a tag, and gives copies of them.
+/// Whether these are the tags of the first two places.
+fn are_first_tags(rt: &impl Abort, tags: &[Option<Tag>]) -> bool {
+    tags == [Some(tag(rt, 1)), Some(tag(rt, 2))].as_slice()
+}
+
+/// Whether a stopped server tells of two Writes with their tags, and gives copies of them.
 fn tells_two(rt: &impl Abort, alloc: Global, last: &LastHeld) -> bool {
-    let is_counted = last.vector() == vector(rt, 2, 0) && last.tags() == [None, None].as_slice();
+    let is_counted = last.vector() == vector(rt, 2, 0) && are_first_tags(rt, last.tags());
     match last.dump(alloc) {
         Ok(dump) => is_counted && are_same(&dump, last.receipts()) && dump.len() == 2,
         Err(_) => false,
@@ -436,6 +445,7 @@ fn a_stopped_server_keeps_what_it_held(rt: HostRuntime) {
     assert!(rt; tells_two(&rt, rt.alloc(), &up) && name_in_doubt(&up).is_none());
     assert!(rt; tells_two(&rt, rt.alloc(), &down));
     assert!(rt; name_in_doubt(&down) == Some(wid(&rt, 0, 3)));
+    assert!(rt; up.doubt_tag().is_none() && down.doubt_tag() == Some(tag(&rt, 3)));
 }
 
 /// Starts a server on the device, again where that was refused.

@@ -1,9 +1,9 @@
 //! Sessions: what they need of a server, and whether a server serves them.
-use crate::fixtures::{key, must_be_so, put, server_id, session_id, vector, wid};
+use crate::fixtures::{key, must_be_so, put, server_id, session_id, tag_behind, vector, wid};
 use crate::servers::start;
 use bayou_base::{Accepted, Asks, Seen, Stamp, Tag, Vector, Wid};
 use bayou_device::{MemoryDevice, OpenGate};
-use bayou_server::{Server, WriteFault};
+use bayou_server::{Server, WriteFault, Written};
 use bayou_session::{FIRST_RUN, Session};
 use std::alloc::Global;
 use std::process::Abort;
@@ -179,10 +179,11 @@ fn accepts(
     need: &Vector,
 ) -> Option<bool> {
     let program = put(rt, 2).rest(alloc).ok()?;
-    match server.write(alloc, need, program) {
-        Ok(_) => Some(true),
+    let tag = tag_behind(rt, server.receipts().len());
+    match server.write(alloc, tag, need, program) {
+        Ok(Written::New(_)) => Some(true),
         Err(WriteFault::Behind(_)) => Some(false),
-        Err(_) => None,
+        Ok(Written::Known(_)) | Err(_) => None,
     }
 }
 

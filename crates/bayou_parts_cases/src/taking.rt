@@ -1,10 +1,10 @@
 //! Several Writes that a server takes together: they are applied once, and end as if each had been taken alone.
-use crate::fixtures::{key, must_be_so, plus, put, vector};
+use crate::fixtures::{key, must_be_so, plus, put, tag_behind, vector};
 use bayou_base::{ServerId, Vector};
 use bayou_device::{MemoryDevice, OpenGate};
 use bayou_lang::{Program, RestingProgram, RestingWrite};
 use bayou_log::plain::replayed;
-use bayou_server::{Server, TakeFault, TookAll};
+use bayou_server::{Server, TakeFault, TookAll, Written};
 use std::alloc::Global;
 use std::process::Abort;
 
@@ -33,7 +33,9 @@ fn at_rest(rt: &impl Abort, alloc: Global, program: &Program) -> RestingProgram 
 /// Whether the server makes a Write of the program.
 fn makes(rt: &impl Abort, alloc: Global, server: &mut Served, program: &Program) -> bool {
     let program = at_rest(rt, alloc, program);
-    server.write(alloc, &Vector::zero(), program).is_ok()
+    let tag = tag_behind(rt, server.receipts().len());
+    let answer = server.write(alloc, tag, &Vector::zero(), program);
+    matches!(answer, Ok(Written::New(_)))
 }
 
 /// Whether the server is up, reopened where it was down: a device that lacks memory for an append fails.

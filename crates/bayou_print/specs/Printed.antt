@@ -50,6 +50,7 @@ value_text (Some (Text text)) = codes "text " ++ compact_text (string text)
 
 -- why an operation was refused
 abbrev pub refusal_text : ℕ → WriteFault → List ℕ
+refusal_text servers writing.TagUsed = codes "used"
 refusal_text servers writing.Down = codes "down"
 refusal_text servers (writing.Behind vector) = codes "behind at " ++ counts_text servers vector
 refusal_text servers writing.LogFull = codes "full"

@@ -91,6 +91,7 @@ fn refusal_words(alloc: Global, servers: u8, refusal: &WriteFault) -> Result<Str
     ensures { IfOk result (λ text. string_bytes text ≡ refusal_text servers refusal.now) }
 {
     match refusal {
+        WriteFault::TagUsed => String::from_str(alloc, "used"),
         WriteFault::Down => String::from_str(alloc, "down"),
         WriteFault::Behind(vector) => {
             let counts = Counts { vector, servers };

@@ -19,11 +19,11 @@ use Rattle.bayou_server.specs.declared.storing.Stored.{Stored}
 use Rattle.bayou_server.specs.declared.storing.Stored.TheVariants.{Held, InDoubt}
 use Rattle.bayou_server.specs.Inner.Fields.{BelongTogether, Stands, core_of, server_of}
 use Rattle.bayou_server.specs.Inner.Storing.{IsHeld, Settles, StaysStored, StoresEntry}
-use Rattle.bayou_server.specs.Server.{Core, IsSoundServer, MayBeInDoubt, ServerState, in_doubt, records, records_of}
+use Rattle.bayou_server.specs.Server.{Core, IsSoundServer, MayBeInDoubt, MayBeItsTag, ServerState, in_doubt, records, records_of}
 use Rattle.bayou_server.specs.Stored.{HasAdded, IsBodyOf, IsStored, Stores}
 use Rattle.bayou_server.proofs.Bodies.{both_more}
 use Rattle.bayou_server.proofs.Beside.{one_each, records-push}
-use Rattle.bayou_server.proofs.Steps.{no_doubt_tag, no_tag_may, sound_doubting, sound_next}
+use Rattle.bayou_server.proofs.Steps.{no_doubt_tag, sound_doubting, sound_next}
 use Rattle.bayou_device.specs.declared.device.Device.{Ghosts}
 
 -- an append that fails is the device's fault, unless the journal was down
@@ -51,14 +51,15 @@ pub record Appends {D : Type 0} (d : Ghosts D) (journal new : JournalState D) (b
   pub rose : IsErrOf result append.Device → Rose (d.failures journal.device) (d.failures new.device)
   pub left : d.is_modelled → IsErrOf result append.Device → FailsToAdd d.may_leave (entry journal.last bytes) (d.content journal.device) (d.content new.device)
 
--- the server that is up adds a Write that it may hold next and that has no tag, for which room was taken
-pub record Adds {D : Type 0} (journal : JournalState D) (holding reserved : Holding) (id : ℕ) (made : Write) (bytes : List ℕ) : Type 0 where
+-- the server that is up adds a Write that it may hold next, and the tag that may be its, or none, for which room was taken
+pub record Adds {D : Type 0} (journal : JournalState D) (holding reserved : Holding) (id : ℕ) (tag : Option Tag) (made : Write) (bytes : List ℕ) : Type 0 where
   pub together : BelongTogether journal holding id
   pub up : holding.doubt ≡ None
   pub may : MayBeInDoubt id holding.log.count holding.log.limit holding.log.receipts made
-  pub stands : IsBodyOf id (added_body bytes) (record { write = made; tag = None })
+  pub its : MayBeItsTag id holding.tags.tags (Some made) tag
+  pub stands : IsBodyOf id (added_body bytes) (record { write = made; tag = tag })
   pub same_log : reserved.log ≡ record holding.log { room = reserved.log.room }
-  pub same_tags : reserved.tags ≡ record holding.tags { coming = None; room = reserved.tags.room }
+  pub same_tags : reserved.tags ≡ record holding.tags { coming = tag; room = reserved.tags.room }
   pub same_doubt : reserved.doubt ≡ holding.doubt
   pub has_room : IsReserved reserved.log.room made
   pub has_place : 0 < reserved.tags.room
@@ -67,23 +68,23 @@ core_by : Log → TagList → Option Write → ℕ → Core
 core_by log tags doubt id = core_of (record { log = log; tags = tags; doubt = doubt }) id
 
 -- the core, once the Write is held
-held_core : {D : Type 0} (journal : JournalState D) (holding reserved new : Holding) (id : ℕ) (made : Write) (bytes : List ℕ) → Adds journal holding reserved id made bytes → IsHeld reserved made new
-    → core_of new id ≡ record (core_of holding id) { held = holding.log.receipts ++ made ∷ []; tags = holding.tags.tags ++ None ∷ [] }
+held_core : {D : Type 0} (journal : JournalState D) (holding reserved new : Holding) (id : ℕ) (tag : Option Tag) (made : Write) (bytes : List ℕ) → Adds journal holding reserved id tag made bytes → IsHeld reserved made new
+    → core_of new id ≡ record (core_of holding id) { held = holding.log.receipts ++ made ∷ []; tags = holding.tags.tags ++ tag ∷ [] }
 unfolding core_by
-held_core journal holding reserved new id made bytes adds is =
+held_core journal holding reserved new id tag made bytes adds is =
     let none : holding.tags.coming ≡ None = no_doubt_tag (core_of holding id) adds.together.sound adds.up in
     ap (λ (l : Log). core_by l new.tags new.doubt id) is.log
     ∙ ap (λ (l : Log). core_by (record l { receipts = l.receipts ++ made ∷ []; room = new.log.room; waiting = new.log.waiting }) new.tags new.doubt id) adds.same_log
     ∙ ap (λ (t : TagList). record (core_by holding.log t new.doubt id) { held = holding.log.receipts ++ made ∷ [] }) is.tags
     ∙ ap (λ (t : TagList). record (core_by holding.log t new.doubt id) { held = holding.log.receipts ++ made ∷ []; tags = t.tags ++ t.coming ∷ []; doubt_tag = None }) adds.same_tags
-    ∙ ap (λ (d : Option Write). record (core_by holding.log holding.tags d id) { held = holding.log.receipts ++ made ∷ []; tags = holding.tags.tags ++ None ∷ []; doubt_tag = None }) (is.doubt ∙ adds.same_doubt)
-    ∙ ap (λ (t : Option Tag). record (core_by holding.log holding.tags holding.doubt id) { held = holding.log.receipts ++ made ∷ []; tags = holding.tags.tags ++ None ∷ []; doubt_tag = t }) (sym none)
+    ∙ ap (λ (d : Option Write). record (core_by holding.log holding.tags d id) { held = holding.log.receipts ++ made ∷ []; tags = holding.tags.tags ++ tag ∷ []; doubt_tag = None }) (is.doubt ∙ adds.same_doubt)
+    ∙ ap (λ (t : Option Tag). record (core_by holding.log holding.tags holding.doubt id) { held = holding.log.receipts ++ made ∷ []; tags = holding.tags.tags ++ tag ∷ []; doubt_tag = t }) (sym none)
 
 -- and once it is in doubt
-doubted_core : {D : Type 0} (journal : JournalState D) (holding reserved new : Holding) (id : ℕ) (made : Write) (bytes : List ℕ) → Adds journal holding reserved id made bytes
-    → new ≡ record reserved { doubt = Some made } → core_of new id ≡ record (core_of holding id) { doubt = Some made; doubt_tag = None }
+doubted_core : {D : Type 0} (journal : JournalState D) (holding reserved new : Holding) (id : ℕ) (tag : Option Tag) (made : Write) (bytes : List ℕ) → Adds journal holding reserved id tag made bytes
+    → new ≡ record reserved { doubt = Some made } → core_of new id ≡ record (core_of holding id) { doubt = Some made; doubt_tag = tag }
 unfolding core_by
-doubted_core journal holding reserved new id made bytes adds is =
+doubted_core journal holding reserved new id tag made bytes adds is =
     ap (λ (h : Holding). core_of h id) is
     ∙ ap (λ (l : Log). core_by l reserved.tags (Some made) id) adds.same_log
     ∙ ap (λ (t : TagList). core_by holding.log t (Some made) id) adds.same_tags
@@ -94,14 +95,14 @@ fault_of : {D : Type 0} (d : Ghosts D) (journal new : JournalState D) (holding :
 fault_of d journal new holding id bytes reason together up appends =
     device_fault (Err reason) refl (λ down. absurd (let was = appends.down down in let is = stands_up journal holding id together up in cc))
 
-pub settled_stores : {D : Type 0} (d : Ghosts D) (journal new : JournalState D) (holding reserved after : Holding) (id : ℕ) (made : Write) (bytes : List ℕ)
+pub settled_stores : {D : Type 0} (d : Ghosts D) (journal new : JournalState D) (holding reserved after : Holding) (id : ℕ) (tag : Option Tag) (made : Write) (bytes : List ℕ)
     (added : Result (Unit {0}) AppendFault) (result : Stored)
-    → Adds journal holding reserved id made bytes → Appends d journal new bytes added → Settles reserved made added result after
+    → Adds journal holding reserved id tag made bytes → Appends d journal new bytes added → Settles reserved made added result after
     → StoresEntry d (server_of journal holding id) result (server_of new after id)
-settled_stores {D} d journal new holding reserved after id made bytes (Ok done) Held adds appends settles =
-    let core = held_core journal holding reserved after id made bytes adds settles in
+settled_stores {D} d journal new holding reserved after id tag made bytes (Ok done) Held adds appends settles =
+    let core = held_core journal holding reserved after id tag made bytes adds settles in
     record {
-      stored = record { write = made; tag = None };
+      stored = record { write = made; tag = tag };
       held = ap (λ (c : Core). c.held) core;
       tags = ap (λ (c : Core). c.tags) core;
       added = entry journal.last bytes;
@@ -111,46 +112,46 @@ settled_stores {D} d journal new holding reserved after id made bytes (Ok done) 
       synced = appends.synced;
       counts = appends.counts;
     }
-settled_stores d journal new holding reserved after id made bytes (Err reason) InDoubt adds appends settles =
+settled_stores d journal new holding reserved after id tag made bytes (Err reason) InDoubt adds appends settles =
     let fault = fault_of d journal new holding id bytes reason adds.together adds.up appends in
     record {
-      stored = record { write = made; tag = None };
-      doubt = ap (λ (c : Core). in_doubt c.doubt c.doubt_tag) (doubted_core journal holding reserved after id made bytes adds settles);
+      stored = record { write = made; tag = tag };
+      doubt = ap (λ (c : Core). in_doubt c.doubt c.doubt_tag) (doubted_core journal holding reserved after id tag made bytes adds settles);
       added = entry journal.last bytes;
       entry_of = record { body = bytes; stands = adds.stands; is = refl };
       left = λ modelled. appends.left modelled fault;
       rose = appends.rose fault;
     }
-settled_stores d journal new holding reserved after id made bytes (Ok done) InDoubt adds appends settles = absurd settles
-settled_stores d journal new holding reserved after id made bytes (Err reason) Held adds appends settles = absurd settles
+settled_stores d journal new holding reserved after id tag made bytes (Ok done) InDoubt adds appends settles = absurd settles
+settled_stores d journal new holding reserved after id tag made bytes (Err reason) Held adds appends settles = absurd settles
 
 -- the limit is as it was
 limit_stays : (holding reserved : Holding) → reserved.log ≡ record holding.log { room = reserved.log.room } → holding.log.limit ≤ MAX_WRITES → reserved.log.limit ≤ MAX_WRITES
 limit_stays holding reserved same within = subst (λ (l : Log). l.limit ≤ MAX_WRITES) (sym same) within
 
-pub settled_together : {D : Type 0} (d : Ghosts D) (journal new : JournalState D) (holding reserved after : Holding) (id : ℕ) (made : Write) (bytes : List ℕ)
+pub settled_together : {D : Type 0} (d : Ghosts D) (journal new : JournalState D) (holding reserved after : Holding) (id : ℕ) (tag : Option Tag) (made : Write) (bytes : List ℕ)
     (added : Result (Unit {0}) AppendFault) (result : Stored)
-    → Adds journal holding reserved id made bytes → Appends d journal new bytes added → Settles reserved made added result after
+    → Adds journal holding reserved id tag made bytes → Appends d journal new bytes added → Settles reserved made added result after
     → BelongTogether new after id
-settled_together {D} d journal new holding reserved after id made bytes (Ok done) Held adds appends settles = record {
+settled_together {D} d journal new holding reserved after id tag made bytes (Ok done) Held adds appends settles = record {
   owner = ap (λ (j : JournalState D). j.server) appends.ends ∙ adds.together.owner;
   limit = subst (λ (l : Log). l.limit ≤ MAX_WRITES) (sym settles.log) (limit_stays holding reserved adds.same_log adds.together.limit);
-  sound = subst IsSoundServer (sym (held_core journal holding reserved after id made bytes adds settles))
-      (sound_next (core_of holding id) made None adds.together.sound adds.up adds.may (no_tag_may (core_of holding id) made));
+  sound = subst IsSoundServer (sym (held_core journal holding reserved after id tag made bytes adds settles))
+      (sound_next (core_of holding id) made tag adds.together.sound adds.up adds.may adds.its);
   stands = subst (λ (o : Option Write). Stands new after o) (sym (settles.doubt ∙ adds.same_doubt ∙ adds.up))
       (ap (λ (j : JournalState D). j.is_down) appends.ends ∙ stands_up journal holding id adds.together adds.up);
 }
-settled_together {D} d journal new holding reserved after id made bytes (Err reason) InDoubt adds appends settles =
+settled_together {D} d journal new holding reserved after id tag made bytes (Err reason) InDoubt adds appends settles =
     let fault = appends.fault (fault_of d journal new holding id bytes reason adds.together adds.up appends) in
     record {
       owner = ap (λ (j : JournalState D). j.server) fault ∙ adds.together.owner;
       limit = subst (λ (h : Holding). h.log.limit ≤ MAX_WRITES) (sym settles) (limit_stays holding reserved adds.same_log adds.together.limit);
-      sound = subst IsSoundServer (sym (doubted_core journal holding reserved after id made bytes adds settles))
-          (sound_doubting (core_of holding id) made None adds.together.sound adds.may (no_tag_may (core_of holding id) made));
+      sound = subst IsSoundServer (sym (doubted_core journal holding reserved after id tag made bytes adds settles))
+          (sound_doubting (core_of holding id) made tag adds.together.sound adds.may adds.its);
       stands = subst (λ (h : Holding). Stands new h h.doubt) (sym settles) (adds.has_room, adds.has_place);
     }
-settled_together d journal new holding reserved after id made bytes (Ok done) InDoubt adds appends settles = absurd settles
-settled_together d journal new holding reserved after id made bytes (Err reason) Held adds appends settles = absurd settles
+settled_together d journal new holding reserved after id tag made bytes (Ok done) InDoubt adds appends settles = absurd settles
+settled_together d journal new holding reserved after id tag made bytes (Err reason) Held adds appends settles = absurd settles
 
 -- what the journal's law says of one body more
 abbrev pub OneBodyMore : Type 0
@@ -178,14 +179,14 @@ stored_after {D} d law old new modelled sound same has is (bodies, stores, journ
           (subst (λ (b : List ℕ). HasJournal id (bodies ++ added_body one.body ∷ []) (link old.last one.body) b) content more)),
     )
 
-pub settled_stored : {D : Type 0} (d : Ghosts D) → OneBodyMore → (journal new : JournalState D) (holding reserved after : Holding) (id : ℕ) (made : Write) (bytes : List ℕ)
+pub settled_stored : {D : Type 0} (d : Ghosts D) → OneBodyMore → (journal new : JournalState D) (holding reserved after : Holding) (id : ℕ) (tag : Option Tag) (made : Write) (bytes : List ℕ)
     (added : Result (Unit {0}) AppendFault) (result : Stored)
-    → d.is_modelled → IsBody bytes → Adds journal holding reserved id made bytes → Appends d journal new bytes added → Settles reserved made added result after
+    → d.is_modelled → IsBody bytes → Adds journal holding reserved id tag made bytes → Appends d journal new bytes added → Settles reserved made added result after
     → StaysStored d (server_of journal holding id) result (server_of new after id)
 unfolding settled_stores
-settled_stored d law journal new holding reserved after id made bytes (Ok done) Held modelled is adds appends settles =
+settled_stored d law journal new holding reserved after id tag made bytes (Ok done) Held modelled is adds appends settles =
     stored_after d law (server_of journal holding id) (server_of new after id) modelled adds.together.sound refl
-    (settled_stores d journal new holding reserved after id made bytes (Ok done) Held adds appends settles) is
-settled_stored d law journal new holding reserved after id made bytes (Err reason) InDoubt modelled is adds appends settles = tt
-settled_stored d law journal new holding reserved after id made bytes (Ok done) InDoubt modelled is adds appends settles = absurd settles
-settled_stored d law journal new holding reserved after id made bytes (Err reason) Held modelled is adds appends settles = absurd settles
+    (settled_stores d journal new holding reserved after id tag made bytes (Ok done) Held adds appends settles) is
+settled_stored d law journal new holding reserved after id tag made bytes (Err reason) InDoubt modelled is adds appends settles = tt
+settled_stored d law journal new holding reserved after id tag made bytes (Ok done) InDoubt modelled is adds appends settles = absurd settles
+settled_stored d law journal new holding reserved after id tag made bytes (Err reason) Held modelled is adds appends settles = absurd settles

@@ -1,7 +1,7 @@
 -- That what a server holds is kept by each call, and what a crash leaves of that.
 use Rattle.std.proofs.Common.{◌≡◌, inl, inr, ℕ, List, Option, None, Some, Result, Ok, Err, sym, ◌∙◌, ap, subst}
 use Rattle.std.specs.Prelude.{IsSome}
-use Rattle.bayou_base.specs.declared.answer.Accepted.{Accepted}
+use Rattle.bayou_base.specs.declared.tag.Tag.{Tag}
 use Rattle.bayou_device.specs.declared.device.Device.{Ghosts}
 use Rattle.bayou_journal.specs.Honest as journals
 use Rattle.bayou_journal.specs.Honest.{BeginsWithBodies}
@@ -13,6 +13,8 @@ use Rattle.bayou_wire.specs.declared.record.Record.{Record}
 use Rattle.bayou_server.specs.declared.answer.Reopened.{Reopened}
 use Rattle.bayou_server.specs.declared.answer.Took.{Took}
 use Rattle.bayou_server.specs.declared.answer.Took.TheVariants.{New, Had}
+use Rattle.bayou_server.specs.declared.answer.Written.{Written}
+use Rattle.bayou_server.specs.declared.answer.Written.TheVariants as written_as
 use Rattle.bayou_server.specs.declared.fault.ReopenFault.{ReopenFault}
 use Rattle.bayou_server.specs.declared.fault.ReopenFault.TheVariants as reopening
 use Rattle.bayou_server.specs.declared.fault.TakeFault.{TakeFault}
@@ -89,15 +91,17 @@ comes_in_doubt d wholes law old new same_id same_held has keeps was =
     settles d new same_id same_held has.doubt
     (again d law old.core.id (records_of old.core) old.device new.device (writes_of d wholes old.core.id (records_of old.core) (record_in_doubt old.core) old.last old.device was) keeps)
 
-pub written : {D : Type 0} (d : Ghosts D) → WholeIsHonest d → AppendAdds d → BodyOfRecord → KeptAgain → (need : List ℕ) (program : Program) (result : Result Accepted WriteFault) (old new : ServerState D) → d.is_modelled → IsSoundServer old.core
-    → IsKeptServer d old → Writes old.core need program result new.core → StoresWrite d old result new → KeepsChains (d.kept old.device) (d.kept new.device) → IsKeptServer d new
-written d wholes adds laws law need program (Ok accepted) old new modelled sound was writes stores keeps =
-    honest_keeps d new (added d adds laws old new modelled sound writes.makes.ready.up (ap (λ (c : Core). c.id) writes.is) (ap (λ (c : Core). c.doubt) writes.is ∙ writes.makes.ready.up) stores (honest_up d old writes.makes.ready.up was))
-written d wholes adds laws law need program (Err writing.Down) old new modelled sound was writes stores keeps = as_it_was d old new writes.1 stores was
-written d wholes adds laws law need program (Err (writing.Behind vector)) old new modelled sound was writes stores keeps = as_it_was d old new writes.2 stores was
-written d wholes adds laws law need program (Err writing.LogFull) old new modelled sound was writes stores keeps = as_it_was d old new writes.2 stores was
-written d wholes adds laws law need program (Err writing.OutOfMemory) old new modelled sound was writes stores keeps = as_it_was d old new writes.2 stores was
-written d wholes adds laws law need program (Err writing.Journal) old new modelled sound was writes stores keeps = comes_in_doubt d wholes law old new (ap (λ (c : Core). c.id) writes.is) (ap records_of writes.is) stores keeps was
+pub written : {D : Type 0} (d : Ghosts D) → WholeIsHonest d → AppendAdds d → BodyOfRecord → KeptAgain → (tag : Tag) (need : List ℕ) (program : Program) (result : Result Written WriteFault) (old new : ServerState D) → d.is_modelled → IsSoundServer old.core
+    → IsKeptServer d old → Writes old.core tag need program result new.core → StoresWrite d old result new → KeepsChains (d.kept old.device) (d.kept new.device) → IsKeptServer d new
+written d wholes adds laws law tag need program (Ok (written_as.New accepted)) old new modelled sound was writes stores keeps =
+    honest_keeps d new (added d adds laws old new modelled sound writes.1.makes.ready.up (ap (λ (c : Core). c.id) writes.1.is) (ap (λ (c : Core). c.doubt) writes.1.is ∙ writes.1.makes.ready.up) stores (honest_up d old writes.1.makes.ready.up was))
+written d wholes adds laws law tag need program (Ok (written_as.Known accepted)) old new modelled sound was writes stores keeps = as_it_was d old new writes.1 stores was
+written d wholes adds laws law tag need program (Err writing.TagUsed) old new modelled sound was writes stores keeps = as_it_was d old new writes.1 stores was
+written d wholes adds laws law tag need program (Err writing.Down) old new modelled sound was writes stores keeps = as_it_was d old new writes.2 stores was
+written d wholes adds laws law tag need program (Err (writing.Behind vector)) old new modelled sound was writes stores keeps = as_it_was d old new writes.3 stores was
+written d wholes adds laws law tag need program (Err writing.LogFull) old new modelled sound was writes stores keeps = as_it_was d old new writes.3 stores was
+written d wholes adds laws law tag need program (Err writing.OutOfMemory) old new modelled sound was writes stores keeps = as_it_was d old new writes.3 stores was
+written d wholes adds laws law tag need program (Err writing.Journal) old new modelled sound was writes stores keeps = comes_in_doubt d wholes law old new (ap (λ (c : Core). c.id) writes.1.is) (ap records_of writes.1.is) stores keeps was
 
 pub taken : {D : Type 0} (d : Ghosts D) → WholeIsHonest d → AppendAdds d → BodyOfRecord → KeptAgain → (given : Write) (result : Result Took TakeFault) (old new : ServerState D) → d.is_modelled → IsSoundServer old.core
     → IsKeptServer d old → Takes old.core given result new.core → StoresTaken d old result new → KeepsChains (d.kept old.device) (d.kept new.device) → IsKeptServer d new

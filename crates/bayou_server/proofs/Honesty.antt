@@ -2,7 +2,6 @@
 use Rattle.std.proofs.Common.{◌≡◌, inl, inr, ℕ, List, [], ◌∷◌, ◌++◌, Option, None, Some, Result, Ok, Err, length, refl, sym, ◌∙◌, ap, subst, arith, length-append}
 use Rattle.std.specs.Prelude.{IsSome}
 use Rattle.std.proofs.lemmas.List.{append-nil}
-use Rattle.bayou_base.specs.declared.answer.Accepted.{Accepted}
 use Rattle.bayou_base.specs.declared.tag.Tag.{Tag}
 use Rattle.bayou_base.specs.declared.wid.Wid.{Wid}
 use Rattle.bayou_device.specs.declared.device.Device.{Ghosts}
@@ -19,6 +18,8 @@ use Rattle.bayou_lang.specs.declared.write.Write.{Write}
 use Rattle.bayou_server.specs.declared.answer.Reopened.{Reopened}
 use Rattle.bayou_server.specs.declared.answer.Took.{Took}
 use Rattle.bayou_server.specs.declared.answer.Took.TheVariants.{New, Had}
+use Rattle.bayou_server.specs.declared.answer.Written.{Written}
+use Rattle.bayou_server.specs.declared.answer.Written.TheVariants as written_as
 use Rattle.bayou_server.specs.declared.fault.JournalFault.{JournalFault}
 use Rattle.bayou_server.specs.declared.fault.JournalFault.TheVariants.{Device, NotAJournal, OtherServer}
 use Rattle.bayou_server.specs.declared.fault.ReopenFault.{ReopenFault}
@@ -174,17 +175,19 @@ failed {D} d law laws old new tears up same_id same_held has keeps was = settles
       honest = law old.core.id whole.bodies old.last body old.device new.device tears (laws old.core.id (added_body body) has.stored has.entry_of.stands) whole.whole tears_it keeps;
     }
 
-pub written : {D : Type 0} (d : Ghosts D) → AppendAdds d → AppendFails d → BodyOfRecord → (need : List ℕ) (program : Program) (result : Result Accepted WriteFault) (old new : ServerState D) → journals.OnlyTears d
-    → IsSoundServer old.core → IsSoundServer new.core → IsHonestServer d old → Writes old.core need program result new.core → StoresWrite d old result new → KeepsChains (d.kept old.device) (d.kept new.device)
+pub written : {D : Type 0} (d : Ghosts D) → AppendAdds d → AppendFails d → BodyOfRecord → (tag : Tag) (need : List ℕ) (program : Program) (result : Result Written WriteFault) (old new : ServerState D) → journals.OnlyTears d
+    → IsSoundServer old.core → IsSoundServer new.core → IsHonestServer d old → Writes old.core tag need program result new.core → StoresWrite d old result new → KeepsChains (d.kept old.device) (d.kept new.device)
     → IsHonestServer d new
-written d adds law laws need program (Ok accepted) old new tears sound next was writes stores keeps =
-    added d adds laws old new tears.modelled sound writes.makes.ready.up (ap (λ (c : Core). c.id) writes.is) (ap (λ (c : Core). c.doubt) writes.is ∙ writes.makes.ready.up) stores was
-written d adds law laws need program (Err writing.Down) old new tears sound next was writes stores keeps = as_it_was d old new writes.1 stores was
-written d adds law laws need program (Err (writing.Behind vector)) old new tears sound next was writes stores keeps = as_it_was d old new writes.2 stores was
-written d adds law laws need program (Err writing.LogFull) old new tears sound next was writes stores keeps = as_it_was d old new writes.2 stores was
-written d adds law laws need program (Err writing.OutOfMemory) old new tears sound next was writes stores keeps = as_it_was d old new writes.2 stores was
-written d adds law laws need program (Err writing.Journal) old new tears sound next was writes stores keeps =
-    failed d law laws old new tears writes.makes.ready.up (ap (λ (c : Core). c.id) writes.is) (ap records_of writes.is) stores keeps was
+written d adds law laws tag need program (Ok (written_as.New accepted)) old new tears sound next was writes stores keeps =
+    added d adds laws old new tears.modelled sound writes.1.makes.ready.up (ap (λ (c : Core). c.id) writes.1.is) (ap (λ (c : Core). c.doubt) writes.1.is ∙ writes.1.makes.ready.up) stores was
+written d adds law laws tag need program (Ok (written_as.Known accepted)) old new tears sound next was writes stores keeps = as_it_was d old new writes.1 stores was
+written d adds law laws tag need program (Err writing.TagUsed) old new tears sound next was writes stores keeps = as_it_was d old new writes.1 stores was
+written d adds law laws tag need program (Err writing.Down) old new tears sound next was writes stores keeps = as_it_was d old new writes.2 stores was
+written d adds law laws tag need program (Err (writing.Behind vector)) old new tears sound next was writes stores keeps = as_it_was d old new writes.3 stores was
+written d adds law laws tag need program (Err writing.LogFull) old new tears sound next was writes stores keeps = as_it_was d old new writes.3 stores was
+written d adds law laws tag need program (Err writing.OutOfMemory) old new tears sound next was writes stores keeps = as_it_was d old new writes.3 stores was
+written d adds law laws tag need program (Err writing.Journal) old new tears sound next was writes stores keeps =
+    failed d law laws old new tears writes.1.makes.ready.up (ap (λ (c : Core). c.id) writes.1.is) (ap records_of writes.1.is) stores keeps was
 
 pub taken : {D : Type 0} (d : Ghosts D) → AppendAdds d → AppendFails d → BodyOfRecord → (given : Write) (result : Result Took TakeFault) (old new : ServerState D) → journals.OnlyTears d
     → IsSoundServer old.core → IsSoundServer new.core → IsHonestServer d old → Takes old.core given result new.core → StoresTaken d old result new → KeepsChains (d.kept old.device) (d.kept new.device)

@@ -8,6 +8,7 @@ pub mod Entries
 pub mod Following
 pub mod Honesty
 pub mod Keeping
+pub mod Knowing
 pub mod Recovering
 pub mod SameWrite
 pub mod Steps

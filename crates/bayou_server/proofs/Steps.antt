@@ -1,9 +1,8 @@
 -- What the steps of a server keep.
 use Rattle.std.proofs.Common.{◌≡◌, ◌≢◌, ℕ, ◌+◌, ◌<◌, ◌==◌, Bool, true, false, List, [], ◌∷◌, ◌++◌, Option, None, Some, Result, Ok, Err, length, refl, sym, ◌∙◌, ap, subst, arith, length-append}
-use Rattle.std.specs.Prelude.{IfSome, MatchResult, slice_index, if◌then◌else◌}
+use Rattle.std.specs.Prelude.{IfSome, slice_index, if◌then◌else◌}
 use Rattle.std.proofs.lemmas.Bool.Decides.{Decides-eqb}
 use Rattle.std.proofs.lemmas.List.Elements.{All-push}
-use Rattle.bayou_base.specs.declared.answer.Accepted.{Accepted}
 use Rattle.bayou_base.specs.declared.tag.Tag.{Tag}
 use Rattle.bayou_base.specs.declared.wid.Wid.{Wid}
 use Rattle.bayou_device.specs.declared.device.Device.{Ghosts}
@@ -14,16 +13,18 @@ use Rattle.bayou_lang.specs.Laws.Fitting.{IsSound-push, next_fits, count_of-push
 use Rattle.bayou_lang.specs.Ranges.{IsWrite}
 use Rattle.bayou_server.specs.declared.answer.Took.{Took}
 use Rattle.bayou_server.specs.declared.answer.Took.TheVariants.{New, Had}
+use Rattle.bayou_server.specs.declared.answer.Written.{Written}
+use Rattle.bayou_server.specs.declared.answer.Written.TheVariants as written
 use Rattle.bayou_server.specs.declared.fault.TakeFault.{TakeFault}
 use Rattle.bayou_server.specs.declared.fault.TakeFault.TheVariants as taking
 use Rattle.bayou_server.specs.declared.fault.WriteFault.{WriteFault}
-use Rattle.bayou_server.specs.declared.fault.WriteFault.TheVariants.{Down, Behind, LogFull, OutOfMemory, Journal}
+use Rattle.bayou_server.specs.declared.fault.WriteFault.TheVariants.{TagUsed, Down, Behind, LogFull, OutOfMemory, Journal}
 use Rattle.bayou_server.specs.Reopens.{Recovers, own_adopted}
 use Rattle.bayou_server.specs.Inner.Storing.{MayBeStored}
 use Rattle.bayou_server.specs.Server.{Core, IsSoundServer, IsUp, MayBeInDoubt, MayBeItsTag, ServerState, own_count}
 use Rattle.bayou_server.specs.Stored.{StoresTaken}
 use Rattle.bayou_server.specs.Takes.{Takes}
-use Rattle.bayou_server.specs.Writes.{Writes}
+use Rattle.bayou_server.specs.Writes.{Writes, own_made}
 use Rattle.bayou_server.proofs.Beside.{AreTags-push}
 
 -- a server that is up has no tag in doubt
@@ -44,10 +45,6 @@ sound_next core made tag sound up may tagged = record {
   doubted = subst (λ (d : Option Write). IfSome d (MayBeInDoubt core.id core.count core.limit (core.held ++ made ∷ []))) (sym up) tt;
   doubt_tagged = subst (λ (d : Option Write). MayBeItsTag core.id (core.tags ++ tag ∷ []) d core.doubt_tag) (sym up) (no_doubt_tag core sound up);
 }
-
--- no tag may be any Write's
-pub no_tag_may : (core : Core) (made : Write) → MayBeItsTag core.id core.tags (Some made) None
-no_tag_may core made = (tt, λ some. absurd cc)
 
 -- and so is one that puts it in doubt
 pub sound_doubting : (core : Core) (made : Write) (tag : Option Tag) → IsSoundServer core → MayBeInDoubt core.id core.count core.limit core.held made
@@ -108,14 +105,16 @@ one_more held id made own =
 none_more : (held : List Write) (id : ℕ) (made : Write) → made.wid.origin.index ≢ id → slice_index (count_of (held ++ made ∷ [])) id ≡ slice_index (count_of held) id
 none_more held id made another = ap (λ (counts : List ℕ). slice_index counts id) (count_of-push held made) ∙ counted-other (count_of held) made.wid id another
 
-pub own_of_write : (old : Core) (need : List ℕ) (program : Program) (result : Result Accepted WriteFault) (new : Core) → Writes old need program result new
-    → MatchResult result (λ _. own_count new ≡ own_count old + 1) (λ _. own_count new ≡ own_count old)
-own_of_write old need program (Ok accepted) new writes = ap own_count writes.is ∙ one_more old.held old.id writes.made writes.makes.next.origin
-own_of_write old need program (Err Down) new writes = ap own_count writes.1
-own_of_write old need program (Err (Behind vector)) new writes = ap own_count writes.2
-own_of_write old need program (Err LogFull) new writes = ap own_count writes.2
-own_of_write old need program (Err OutOfMemory) new writes = ap own_count writes.2
-own_of_write old need program (Err Journal) new writes = ap own_count writes.is
+pub own_of_write : (old : Core) (tag : Tag) (need : List ℕ) (program : Program) (result : Result Written WriteFault) (new : Core) → Writes old tag need program result new
+    → own_count new ≡ own_count old + own_made result
+own_of_write old tag need program (Ok (written.New accepted)) new writes = ap own_count writes.1.is ∙ one_more old.held old.id writes.1.made writes.1.makes.next.origin
+own_of_write old tag need program (Ok (written.Known accepted)) new writes = ap own_count writes.1 ∙ omega arith
+own_of_write old tag need program (Err TagUsed) new writes = ap own_count writes.1 ∙ omega arith
+own_of_write old tag need program (Err Down) new writes = ap own_count writes.2 ∙ omega arith
+own_of_write old tag need program (Err (Behind vector)) new writes = ap own_count writes.3 ∙ omega arith
+own_of_write old tag need program (Err LogFull) new writes = ap own_count writes.3 ∙ omega arith
+own_of_write old tag need program (Err OutOfMemory) new writes = ap own_count writes.3 ∙ omega arith
+own_of_write old tag need program (Err Journal) new writes = ap own_count writes.1.is ∙ omega arith
 
 -- one Write more, of whatever server
 grows_by : (held : List Write) (id : ℕ) (made : Write) (is_own : Bool) → (made.wid.origin.index == id) ≡ is_own

@@ -1,7 +1,6 @@
 -- What a journal stores of the Writes of a server and of their tags, and how the device stands after each call: this project's own.
 use Rattle.std.specs.Prelude.{◌≡◌, ◌==◌, ◌⊎◌, ◌↔◌, ℕ, List, [], ◌∷◌, ◌++◌, Some, IsSome, Result, Ok, Err, if◌then◌else◌}
 use Rattle.std.specs.List.{AllZip}
-use Rattle.bayou_base.specs.declared.answer.Accepted.{Accepted}
 use Rattle.bayou_device.specs.Device.{Rose}
 use Rattle.bayou_device.specs.declared.device.Device.{Ghosts}
 use Rattle.bayou_journal.specs.Chain.{entry, link}
@@ -19,12 +18,14 @@ use Rattle.bayou_wire.specs.declared.record.Record.{Record}
 use Rattle.bayou_server.specs.declared.answer.Reopened.{Reopened}
 use Rattle.bayou_server.specs.declared.answer.Took.{Took}
 use Rattle.bayou_server.specs.declared.answer.Took.TheVariants.{New, Had}
+use Rattle.bayou_server.specs.declared.answer.Written.{Written}
+use Rattle.bayou_server.specs.declared.answer.Written.TheVariants as written
 use Rattle.bayou_server.specs.declared.fault.ReopenFault.{ReopenFault}
 use Rattle.bayou_server.specs.declared.fault.ReopenFault.TheVariants as reopening
 use Rattle.bayou_server.specs.declared.fault.TakeFault.{TakeFault}
 use Rattle.bayou_server.specs.declared.fault.TakeFault.TheVariants as taking
 use Rattle.bayou_server.specs.declared.fault.WriteFault.{WriteFault}
-use Rattle.bayou_server.specs.declared.fault.WriteFault.TheVariants.{Down, Behind, LogFull, OutOfMemory, Journal}
+use Rattle.bayou_server.specs.declared.fault.WriteFault.TheVariants.{TagUsed, Down, Behind, LogFull, OutOfMemory, Journal}
 use Rattle.bayou_server.specs.Faults.{open_fault}
 use Rattle.bayou_server.specs.Server.{Core, ServerState, record_in_doubt, records, records_of}
 
@@ -86,8 +87,10 @@ pub record HasFailed {D : Type 0} (d : Ghosts D) (old new : ServerState D) : Typ
   pub rose : Rose (d.failures old.device) (d.failures new.device)
 
 -- how the device stands after a program was answered
-abbrev pub StoresWrite : {D : Type 0} → Ghosts D → (old : ServerState D) → Result Accepted WriteFault → (new : ServerState D) → Type 0
-StoresWrite d old (Ok accepted) new = HasAdded d old new
+abbrev pub StoresWrite : {D : Type 0} → Ghosts D → (old : ServerState D) → Result Written WriteFault → (new : ServerState D) → Type 0
+StoresWrite d old (Ok (written.New accepted)) new = HasAdded d old new
+StoresWrite d old (Ok (written.Known accepted)) new = IsUntouched old new
+StoresWrite d old (Err TagUsed) new = IsUntouched old new
 StoresWrite d old (Err Down) new = IsUntouched old new
 StoresWrite d old (Err (Behind vector)) new = IsUntouched old new
 StoresWrite d old (Err LogFull) new = IsUntouched old new

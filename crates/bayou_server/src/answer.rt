@@ -4,10 +4,19 @@ ghost use Rattle.bayou_lang.specs.Writes.{count_of};
 use crate::fault::TakeFault;
 use crate::holding::Holding;
 use crate::server::copies;
-use bayou_base::{Tag, Vector, Wid};
+use bayou_base::{Accepted, Tag, Vector, Wid};
 use bayou_lang::RestingWrite;
 use std::alloc::{AllocError, Global};
 use std::marker::Model;
+
+/// A program of which there is a Write: what that was given as it was made.
+#[derive(Clone, Copy, Debug, PartialEq, Eq)]
+pub enum Written {
+    /// The Write was made now, and is held behind the others.
+    New(Accepted),
+    /// It was made before, under the same tag, and is held.
+    Known(Accepted),
+}
 
 /// What a server that was given a Write did with it.
 #[derive(Clone, Copy, Debug, PartialEq, Eq)]
@@ -102,6 +111,13 @@ impl LastHeld {
         ensures { MatchOption result (self.now.doubt ≡ None) (λ write. self.now.doubt ≡ Some write.now) }
     {
         self.doubt.as_ref()
+    }
+
+    /// The tag of the Write in doubt, if it has one.
+    pub fn doubt_tag(&self) -> Option<Tag>
+        ensures { result ≡ self.now.doubt_tag }
+    {
+        self.doubt_tag
     }
 
     /// Copies of the Writes, in order of receipt.

@@ -43,6 +43,8 @@ pub struct Behind {
 /// Why a program was made no Write of.
 #[derive(Clone, Copy, Debug, PartialEq, Eq)]
 pub enum WriteFault {
+    /// A Write is held under the tag, of another program, or before which its server didn't hold all that the session needs.
+    TagUsed,
     /// A Write is in doubt.
     Down,
     /// The server doesn't hold all that the session needs, but this.

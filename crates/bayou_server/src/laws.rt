@@ -1,7 +1,7 @@
 //! Laws of starts and reopenings: over a device that the clauses model, the bytes decide; and laws of servers whose device calls
 //! fail. Each is the contract of a function that does nothing.
 ghost use Rattle.std.specs.Prelude.{◌≡◌, ℕ, List, [], ◌++◌, Option, Some, Result, All};
-ghost use Rattle.bayou_base.specs.declared.answer.Accepted.{Accepted};
+ghost use Rattle.bayou_base.specs.declared.tag.Tag.{Tag};
 ghost use Rattle.bayou_base.specs.declared.wid.Wid.{Wid};
 ghost use Rattle.bayou_lang.specs.declared.program.Program.{Program};
 ghost use Rattle.bayou_lang.specs.declared.write.Write.{Write};
@@ -16,6 +16,7 @@ ghost use Rattle.bayou_wire.specs.declared.record.Record.{Record};
 ghost use Rattle.bayou_server.specs.declared.answer.Reopened.{Reopened};
 ghost use Rattle.bayou_server.specs.declared.fault.ReopenFault.{ReopenFault};
 ghost use Rattle.bayou_server.specs.declared.answer.Took.{Took};
+ghost use Rattle.bayou_server.specs.declared.answer.Written.{Written};
 ghost use Rattle.bayou_server.specs.declared.fault.TakeFault.{TakeFault};
 ghost use Rattle.bayou_server.specs.declared.fault.WriteFault.{WriteFault};
 ghost use Rattle.bayou_server.specs.Honest.{AreHonest, HasCrashed, IsHonestAnswer, IsHonestServerDevice, IsHonestRefusal, IsHonestServer, IsKept, IsKeptServer, KeepsWrites, LosesNothing};
@@ -96,8 +97,8 @@ pub fn a_record_is_a_body()
 /// Over a device whose failed calls do no more than to tear, a program and a given Write leave an honest server honest, whatever is
 /// answered: while it is up its device is whole, and where the Write comes to be in doubt, honest.
 pub fn an_honest_server_stays_honest<D: Device>()
-    ensures written { (need : List ℕ) (program : Program) (result : Result Accepted WriteFault) (old new : ServerState D) → OnlyTears D.Device → IsSoundServer old.core → IsSoundServer new.core
-        → IsHonestServer D.Device old → Writes old.core need program result new.core → StoresWrite D.Device old result new → KeepsChains (D.kept old.device) (D.kept new.device)
+    ensures written { (tag : Tag) (need : List ℕ) (program : Program) (result : Result Written WriteFault) (old new : ServerState D) → OnlyTears D.Device → IsSoundServer old.core → IsSoundServer new.core
+        → IsHonestServer D.Device old → Writes old.core tag need program result new.core → StoresWrite D.Device old result new → KeepsChains (D.kept old.device) (D.kept new.device)
         → IsHonestServer D.Device new }
     ensures taken { (given : Write) (result : Result Took TakeFault) (old new : ServerState D) → OnlyTears D.Device → IsSoundServer old.core → IsSoundServer new.core
         → IsHonestServer D.Device old → Takes old.core given result new.core → StoresTaken D.Device old result new → KeepsChains (D.kept old.device) (D.kept new.device)
@@ -146,8 +147,8 @@ pub fn a_start_on_an_honest_device_is_honest<D: Device>()
 /// call leaves it so, answered or not, a start that is refused too. So crashes may follow each other, and such calls.
 pub fn what_is_held_is_kept<D: Device>()
     ensures honest { (server : ServerState D) → IsHonestServer D.Device server → IsKeptServer D.Device server }
-    ensures written { (need : List ℕ) (program : Program) (result : Result Accepted WriteFault) (old new : ServerState D) → D.is_modelled → IsSoundServer old.core
-        → IsKeptServer D.Device old → Writes old.core need program result new.core → StoresWrite D.Device old result new → KeepsChains (D.kept old.device) (D.kept new.device)
+    ensures written { (tag : Tag) (need : List ℕ) (program : Program) (result : Result Written WriteFault) (old new : ServerState D) → D.is_modelled → IsSoundServer old.core
+        → IsKeptServer D.Device old → Writes old.core tag need program result new.core → StoresWrite D.Device old result new → KeepsChains (D.kept old.device) (D.kept new.device)
         → IsKeptServer D.Device new }
     ensures taken { (given : Write) (result : Result Took TakeFault) (old new : ServerState D) → D.is_modelled → IsSoundServer old.core
         → IsKeptServer D.Device old → Takes old.core given result new.core → StoresTaken D.Device old result new → KeepsChains (D.kept old.device) (D.kept new.device)

@@ -3,7 +3,6 @@ ghost use Rattle.std.specs.Borrow.{Lends, sem};
 ghost use Rattle.std.specs.Vec.Iter.{into_iter_items};
 ghost use Rattle.bayou_base.specs.declared.limits.TheConstants.{SERVERS, MAX_WRITES};
 ghost use Rattle.bayou_journal.specs.Opening.{KeepsChains};
-ghost use Rattle.bayou_lang.specs.declared.program.Program.{Program as Asked};
 ghost use Rattle.bayou_lang.specs.Writes.{count_of, lacking_of};
 ghost use Rattle.bayou_log.specs.Listing.{listing_of};
 ghost use Rattle.bayou_server.specs.contracts.server.Server.{the_row};
@@ -14,17 +13,18 @@ ghost use Rattle.bayou_server.specs.Starts.{FailsToStart, Starts, StartsOn};
 ghost use Rattle.bayou_server.specs.Stored.{IsStored, OpensInCalls, ReopensJournal, StoresTaken, StoresWrite};
 ghost use Rattle.bayou_server.specs.Takes.{Takes};
 ghost use Rattle.bayou_server.specs.TakesAll.{TakesAll, TakesAt};
-ghost use Rattle.bayou_server.specs.Writes.{Writes};
+ghost use Rattle.bayou_server.specs.Writes.{Writes, own_made};
+ghost use Rattle.bayou_tags.specs.Tags.{IsGreatestRun};
 
-use crate::answer::{LastHeld, Reopened, Stopped, Took, TookAll};
+use crate::answer::{LastHeld, Reopened, Stopped, Took, TookAll, Written};
 use crate::fault::{Behind, NotStarted, ReopenFault, StartFault, TakeFault, WriteFault};
 use crate::holding::Holding;
-use crate::making::{accepted, refusal};
+use crate::making::{accepted, answered};
 use crate::reopen::has_doubt;
 use crate::start::holding_of;
 use crate::storing::{Stored, store};
 use crate::taking::{take_one, take_several};
-use bayou_base::{Accepted, Key, Seen, ServerId, Vector, Wid};
+use bayou_base::{Key, Seen, ServerId, Tag, Vector, Wid};
 use bayou_device::Device;
 use bayou_journal::Journal;
 use bayou_journal::laws::an_honest_device_opens_honestly;
@@ -121,16 +121,18 @@ impl<D: Device> Server<D> {
         }
     }
 
-    /// Makes the program the server's next Write, stores its entry, and then holds it. Device calls: those of the journal's
-    /// append alone.
+    /// Makes the program the server's next Write, stores its entry, and then holds it under the tag. Where a Write is held under it already,
+    /// that is told, also while the server is down. Neither that nor a refusal before `OutOfMemory` takes memory or calls the device.
+    /// Device calls: those of the journal's append alone.
     pub fn write(
         &mut self,
         alloc: Global,
+        tag: Tag,
         need: &Vector,
         program: RestingProgram,
-    ) -> Result<Accepted, WriteFault>
-        ensures writes { Writes self.old.core need.now program result self.new.core }
-        ensures own { MatchResult result (λ _. own_count self.new.core ≡ own_count self.old.core + 1) (λ _. own_count self.new.core ≡ own_count self.old.core) }
+    ) -> Result<Written, WriteFault>
+        ensures writes { Writes self.old.core tag need.now program result self.new.core }
+        ensures own { own_count self.new.core ≡ own_count self.old.core + own_made result }
         ensures sound { IsSoundServer self.old.core × IsSoundServer self.new.core }
         ensures stores { StoresWrite D.Device self.old result self.new }
         // A device that had the journal of the Writes held, and nothing else, has that of those held then.
@@ -138,28 +140,40 @@ impl<D: Device> Server<D> {
         ensures safe { D.is_modelled → KeepsChains (D.kept self.old.device) (D.kept self.new.device) }
         ensures calls { D.leads_to 2 self.old.device self.new.device }
     {
-        if let Some(fault) = refusal(&self.holding, need) {
-            return Err(fault);
+        if let Some(answer) = answered(&self.holding, self.id, tag, need, &program) {
+            return answer;
         }
         let write = self.holding.log.next_write(self.id, program);
         let accepted = accepted(&write);
-        let stored = store(alloc, &mut self.journal, &mut self.holding, self.id, write);
+        let stored = store(
+            alloc,
+            &mut self.journal,
+            &mut self.holding,
+            self.id,
+            Some(tag),
+            write,
+        );
         self.holding.log.catch_up();
         match stored? {
-            Stored::Held => Ok(accepted),
+            Stored::Held => Ok(Written::New(accepted)),
             Stored::InDoubt => Err(WriteFault::Journal),
         }
     }
 
-    /// What a program is answered for which its caller has no memory: what is refused before that is missed, or the want of it.
-    pub fn refusal_for_memory(&self, need: &Vector) -> WriteFault
-        ensures writes { (program : Asked) → Writes self.now.core need.now program (Err result) self.now.core }
-        ensures stores { StoresWrite D.Device self.now (Err result) self.now }
+    /// What a program is answered for which its caller has no memory: what is told, or refused, before that is missed, or the want of it.
+    pub fn answer_without_memory(
+        &self,
+        tag: Tag,
+        need: &Vector,
+        program: &RestingProgram,
+    ) -> Result<Written, WriteFault>
+        ensures writes { Writes self.now.core tag need.now program.now result self.now.core }
+        ensures stores { StoresWrite D.Device self.now result self.now }
         ensures sound { IsSoundServer self.now.core }
     {
-        match refusal(&self.holding, need) {
-            Some(fault) => fault,
-            None => WriteFault::OutOfMemory,
+        match answered(&self.holding, self.id, tag, need, program) {
+            Some(answer) => answer,
+            None => Err(WriteFault::OutOfMemory),
         }
     }
 
@@ -270,6 +284,13 @@ impl<D: Device> Server<D> {
         ensures in_range { result ≤ MAX_WRITES }
     {
         self.holding.log.limit()
+    }
+
+    /// The greatest run of the tags of the Writes held, 0 where none has a tag. It looks at each tag.
+    pub fn last_run(&self) -> u32
+        ensures { IsGreatestRun self.now.core.tags result }
+    {
+        self.holding.tags.last_run()
     }
 
     /// The Write of this name, if it is held.

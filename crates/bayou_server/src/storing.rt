@@ -5,16 +5,16 @@ ghost use Rattle.bayou_journal.specs.Opening.{KeepsChains};
 ghost use Rattle.bayou_lang.specs.Writes.{Fits};
 ghost use Rattle.bayou_log.specs.Log.{IsReserved};
 ghost use Rattle.bayou_server.specs.Inner.Fields.{BelongTogether, core_of, server_of};
-ghost use Rattle.bayou_server.specs.Inner.Storing.{Keeps, MayBeStored, Settles, StaysStored, StoresEntry};
+ghost use Rattle.bayou_server.specs.Inner.Storing.{Keeps, MayBeStored, MayBeTagged, Settles, StaysStored, StoresEntry};
 ghost use Rattle.bayou_server.specs.Stored.{IsUntouched};
 
 use crate::holding::Holding;
-use bayou_base::ServerId;
+use bayou_base::{ServerId, Tag};
 use bayou_device::Device;
 use bayou_journal::laws::an_append_leaves_an_honest_device;
 use bayou_journal::{AppendFault, Journal};
 use bayou_lang::RestingWrite;
-use bayou_wire::encode_resting_write;
+use bayou_wire::encode_record;
 use std::alloc::{AllocError, Global};
 
 // What came of it.
@@ -46,19 +46,21 @@ fn settle(holding: &mut Holding, write: RestingWrite, added: Result<(), AppendFa
     }
 }
 
-// Stores the entry of the Write, which may be held next and has no tag, and then holds it, or puts it in doubt.
+// Stores the entry of the Write, which may be held next, and of its tag, if it has one, and then holds it, or puts it in doubt.
 pub fn store<D: Device>(
     alloc: Global,
     journal: &mut Journal<D>,
     holding: &mut Holding,
     id: ServerId,
+    tag: Option<Tag>,
     write: RestingWrite,
 ) -> Result<Stored, AllocError>
     requires together { BelongTogether journal.old holding.old id.index }
     requires may { MayBeStored (core_of holding.old id.index) write }
+    requires tagged { MayBeTagged (core_of holding.old id.index) tag write }
     ensures together { BelongTogether journal.new holding.new id.index }
     ensures keeps { MatchResult result
-        (λ stored. Keeps (core_of holding.old id.index) write stored (core_of holding.new id.index))
+        (λ stored. Keeps (core_of holding.old id.index) tag write stored (core_of holding.new id.index))
         (λ _. core_of holding.new id.index ≡ core_of holding.old id.index) }
     ensures stores { MatchResult result
         (λ stored. StoresEntry D.Device (server_of journal.old holding.old id.index) stored (server_of journal.new holding.new id.index))
@@ -69,8 +71,8 @@ pub fn store<D: Device>(
 {
     an_append_leaves_an_honest_device::<D>();
     holding.log.reserve(&write)?;
-    let body = encode_resting_write(alloc, &write)?;
-    holding.tags.reserve(None)?;
+    let body = encode_record(alloc, tag, &write)?;
+    holding.tags.reserve(tag)?;
     let added = journal.append(&body);
     Ok(settle(holding, write, added))
 }

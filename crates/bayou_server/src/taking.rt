@@ -68,7 +68,7 @@ pub fn take_one<D: Device>(
     if let Some(answer) = decided(holding, id, &write) {
         return answer;
     }
-    match store(alloc, journal, holding, id, write)? {
+    match store(alloc, journal, holding, id, None, write)? {
         Stored::Held => Ok(Took::New),
         Stored::InDoubt => Err(TakeFault::Journal),
     }

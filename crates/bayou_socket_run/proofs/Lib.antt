@@ -1,2 +1,3 @@
+pub mod Later
 pub mod Seated
 pub mod Told

@@ -1,6 +1,7 @@
 //! Servers that are started on journals in files.
-ghost use Rattle.std.specs.Prelude.{◌≡◌, ◌<◌, IfErr, IfOk};
+ghost use Rattle.std.specs.Prelude.{◌≡◌, ◌<◌, All, IfErr, IfOk};
 ghost use Rattle.bayou_socket_run.specs.Inner.Faults.{IsStartFault};
+ghost use Rattle.bayou_socket_run.specs.Inner.Runs.{HasRunsBefore};
 
 use bayou_base::ServerId;
 use bayou_device::FileDevice;
@@ -13,6 +14,15 @@ use std::fs::{File, Files};
 
 /// A server with its journal in a file.
 pub(crate) type Journaled = Server<FileDevice<File>>;
+
+/// The servers, from server 0 on, and the run of the program that is theirs.
+#[derive(Drop)]
+pub(crate) struct Started {
+    pub(crate) servers: VecDeque<Box<Journaled>>,
+    /// Runs are counted from 1. No server holds a tag of this one, or of a later one.
+    pub(crate) run: u32,
+    ghost counted: { 0 < run },
+}
 
 /// What a start that was refused comes to.
 fn fault_of(refused: StartFault) -> RunFault
@@ -65,18 +75,39 @@ fn start_one<T: Files<File = File>>(
     }
 }
 
-/// The servers, from server 0 on, each on the journal that the folder has of it.
+/// The run behind all those of which a server holds a tag. After the last run there is none.
+fn next_run(servers: &VecDeque<Box<Journaled>>) -> Result<u32, RunFault>
+    ensures counted { IfOk result (λ run. 0 < run) }
+    ensures later { IfOk result (λ run. All (λ server. HasRunsBefore run server.value.core) servers.now.items) }
+    ensures fault { IfErr result IsStartFault }
+{
+    let mut last: u32 = 0;
+    for at in 0..servers.len() {
+        last = last.max(servers[at].last_run());
+    }
+    match last.checked_add(1) {
+        Some(run) => Ok(run),
+        None => Err(RunFault::Device),
+    }
+}
+
+/// The servers, from server 0 on, each on the journal that the folder has of it, and the run that begins.
 pub(crate) fn start_all<T: Files<File = File>>(
     rt: &T,
     alloc: Global,
     folder: &str,
     servers: Servers,
-) -> Result<VecDeque<Box<Journaled>>, RunFault>
-    ensures { IfErr result IsStartFault }
+) -> Result<Started, RunFault>
+    ensures later { IfOk result (λ started. All (λ server. HasRunsBefore started.run server.value.core) started.servers.items) }
+    ensures fault { IfErr result IsStartFault }
 {
     let mut started = VecDeque::new(alloc);
     for index in 0..servers.count {
         started.push_back(start_one(rt, alloc, folder, servers, index)?)?;
     }
-    Ok(started)
+    let run = next_run(&started)?;
+    Ok(Started {
+        servers: started,
+        run,
+    })
 }

@@ -1,5 +1,5 @@
 //! The phases of a script over a network, one behind another.
-ghost use Rattle.std.specs.Prelude.{◌≤◌, IfErr, OnOk};
+ghost use Rattle.std.specs.Prelude.{◌<◌, ◌≤◌, IfErr, OnOk};
 ghost use Rattle.bayou_print.specs.Waiting.{stage};
 ghost use Rattle.bayou_socket_run.specs.Inner.Telling.{Tells};
 ghost use Rattle.bayou_print.specs.Turns.{EndsWriting};
@@ -22,11 +22,14 @@ use std::thread::Threads;
 #[derive(Drop)]
 pub(crate) struct Agenda<K: Ledgers> {
     pub(crate) servers: Servers,
+    /// The run of the program that the sessions belong to.
+    pub(crate) run: u32,
     /// How many connections each server is reached by at the most.
     pub(crate) connections: u32,
     pub(crate) commands: VecDeque<NetworkCommand>,
     /// The sessions, from session 0 on.
     pub(crate) sessions: Vec<RunSession<K>>,
+    pub(crate) ghost run_in_range: { 0 < run },
 }
 
 /// What a phase came to.

@@ -12,7 +12,7 @@ ghost use Rattle.bayou_print.specs.Turns.{EndsWriting};
 ghost use Rattle.bayou_streams.specs.Account.{TakesBytes, account};
 
 use crate::faults::in_run;
-use crate::journals::{Journaled, start_all};
+use crate::journals::{Journaled, Started, start_all};
 use crate::phases::{Agenda, run_phases};
 use crate::settling::{settle, write_books};
 use bayou_audit::{AuditBook, Blanks, Four, Ledgers, Share};
@@ -208,7 +208,8 @@ where
     ensures ready { OnOk result (output.old.channel.turns_left ≤ output.new.channel.turns_left) }
 {
     let Setting { book, agenda, .. } = setting;
-    let network = in_run(Network::bind(rt, alloc, fleet, agenda.servers.count, book))?;
+    let (count, run) = (agenda.servers.count, agenda.run);
+    let network = in_run(Network::bind(rt, alloc, fleet, count, run, book))?;
     run_at(rt, alloc, network, agenda, output)
 }
 
@@ -358,7 +359,7 @@ fn run_booked<S, R, U, V, T, W>(
     rt: &T,
     alloc: Global,
     blanks: Blanks,
-    servers: VecDeque<Box<Journaled>>,
+    started: Started,
     script: NetworkScript,
     output: &mut Output<W>,
 ) -> Result<Ended, RunFault>
@@ -387,8 +388,10 @@ where
     let Ok(sessions) = sessions_of(alloc, shares) else {
         return Err(RunFault::Memory);
     };
+    let Started { servers, run } = started;
     let agenda = Agenda {
         servers: script.servers,
+        run,
         connections: connections_for(&script.commands),
         commands: script.commands,
         sessions,
@@ -427,8 +430,8 @@ where
         refusals: Blank::new(SESSIONS as u64),
     };
     match start_all(rt, alloc, folder, script.servers) {
-        Ok(servers) => run_booked::<Brand, Brand, Brand, Brand, T, W>(
-            rt, alloc, blanks, servers, script, output,
+        Ok(started) => run_booked::<Brand, Brand, Brand, Brand, T, W>(
+            rt, alloc, blanks, started, script, output,
         ),
         Err(fault) => Err(fault),
     }

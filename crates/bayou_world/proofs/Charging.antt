@@ -3,13 +3,14 @@ use Rattle.std.proofs.Common.{◌≡◌, ◌≢◌, inl, inr, ℕ, ◌+◌, ◌<
 use Rattle.std.proofs.lemmas.Bool.{cases_lt}
 use Rattle.std.proofs.lemmas.Bool.Decides.{nat_tests}
 use Rattle.std.proofs.lemmas.List.{get_or-set_other, get_or-set_same, get_or_default, length-set, take-append-le, take_all, take_more}
-use Rattle.bayou_base.specs.declared.answer.Accepted.{Accepted}
 use Rattle.bayou_device.specs.Device.{Rose, greatest_count}
 use Rattle.bayou_device.specs.Memory.{LeadsTo, Memory, with_fuse}
 use Rattle.bayou_device.specs.MemoryDevice.{memory_device}
 use Rattle.bayou_server.specs.declared.answer.Reopened.{Reopened}
 use Rattle.bayou_server.specs.declared.answer.Took.{Took}
 use Rattle.bayou_server.specs.declared.answer.Took.TheVariants.{New, Had}
+use Rattle.bayou_server.specs.declared.answer.Written.{Written}
+use Rattle.bayou_server.specs.declared.answer.Written.TheVariants as written
 use Rattle.bayou_server.specs.declared.fault.JournalFault.TheVariants.{Device, NotAJournal, OtherServer}
 use Rattle.bayou_server.specs.declared.fault.ReopenFault.{ReopenFault}
 use Rattle.bayou_server.specs.declared.fault.ReopenFault.TheVariants as reopening
@@ -55,9 +56,11 @@ rises most old new calls rose = record {
 as_it_was : (old new : Memory) → new ≡ old → Spends false false old new
 as_it_was old new same = subst (Spends false false old) (sym same) (same_spends old)
 
-pub wrote_spends : (answer : Result Accepted WriteFault) (old new : ServerState Memory) → LeadsTo 2 old.device new.device → StoresWrite memory_device old answer new
+pub wrote_spends : (answer : Result Written WriteFault) (old new : ServerState Memory) → LeadsTo 2 old.device new.device → StoresWrite memory_device old answer new
     → Spends (tells_fault (replies.Wrote answer)) false old.device new.device
-wrote_spends (Ok accepted) old new calls stores = steady 2 old.device new.device calls stores.counts
+wrote_spends (Ok (written.New accepted)) old new calls stores = steady 2 old.device new.device calls stores.counts
+wrote_spends (Ok (written.Known accepted)) old new calls same = as_it_was old.device new.device same.device
+wrote_spends (Err writing.TagUsed) old new calls same = as_it_was old.device new.device same.device
 wrote_spends (Err writing.Down) old new calls same = as_it_was old.device new.device same.device
 wrote_spends (Err (writing.Behind vector)) old new calls same = as_it_was old.device new.device same.device
 wrote_spends (Err writing.LogFull) old new calls same = as_it_was old.device new.device same.device

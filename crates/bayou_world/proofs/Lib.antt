@@ -15,6 +15,7 @@ pub mod Collecting
 pub mod Possible
 pub mod Agreeing
 pub mod Standing
+pub mod Beside
 pub mod Tied
 pub mod TiedWrites
 pub mod TiedFlights

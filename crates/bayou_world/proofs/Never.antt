@@ -1,11 +1,10 @@
 -- What a server's own rules never answer in a run.
-use Rattle.std.proofs.Common.{◌≡◌, inl, inr, ◌⊎◌, ℕ, List, [], ◌∷◌, ◌++◌, Option, None, Some, Result, Ok, Err, map, ap, sym, ◌∙◌, refl, subst}
+use Rattle.std.proofs.Common.{◌≡◌, inl, inr, ◌⊎◌, ℕ, List, [], Some, Result, Ok, Err, map, ap, sym, ◌∙◌, refl, subst}
 use Rattle.std.specs.List.{slice_get}
-use Rattle.std.specs.Option.{option_map}
-use Rattle.std.proofs.lemmas.List.{append-nil, map-append}
+use Rattle.std.specs.Option.{option_and_then, option_map}
+use Rattle.std.proofs.lemmas.List.{append-nil}
 use Rattle.std.proofs.lemmas.List.Elements.{All-contains}
 use Rattle.std.proofs.lemmas.Option.{get_or_from_slice_get, slice_get_within}
-use Rattle.bayou_base.specs.declared.tag.Tag.{Tag}
 use Rattle.bayou_device.specs.declared.device.Device.{Ghosts}
 use Rattle.bayou_journal.specs.Versions.{Body}
 use Rattle.bayou_lang.specs.declared.write.Write.{Write}
@@ -22,9 +21,9 @@ use Rattle.bayou_server.specs.Laws.Stored.{begins_with_held}
 use Rattle.bayou_server.specs.Takes as takes
 use Rattle.bayou_world.specs.declared.reply.Reply.TheVariants as replies
 use Rattle.bayou_world.specs.Inner.Good.{IsGoodMachine, IsHome}
-use Rattle.bayou_world.specs.Inner.Tie.{IsServerOf, write_of}
+use Rattle.bayou_world.specs.Inner.Tie.{write_of}
 use Rattle.bayou_world.specs.Invariant.{IsImpossible}
-use Rattle.bayou_world.specs.Machine.{Machine, Made, ServerSets, writes}
+use Rattle.bayou_world.specs.Machine.{Machine, Made, ServerSets, tag_at, writes}
 use Rattle.bayou_world.specs.Never.{FindsOthers, OpensHonestly, core_at}
 use Rattle.bayou_world.specs.Steps.{IsGiven, TakeStep}
 use Rattle.bayou_world.proofs.Given.{given_fits, no_gap_within}
@@ -57,62 +56,26 @@ no_item_is_refused machine good place item made got answer new takes_it =
     never_taken machine good place made
     (All-contains (IsHome machine.servers) machine.items made good.items (item, slice_get_within machine.items item made got, get_or_from_slice_get machine.items item made made got)) answer new takes_it
 
--- no Write that is held has a tag, nor the one in doubt
-record IsUntagged (core : Core) : Type 0 where
-  held : core.tags ≡ map (λ (write : Write). None) core.held
-  doubt : core.doubt_tag ≡ None
-
--- so it stays, whatever is taken
-stays_untagged : (old new : Core) (given : Write) (answer : Result Took TakeFault) → takes.Takes old given answer new → IsUntagged old → IsUntagged new
-stays_untagged old new given (Ok Had) takes_it was = subst IsUntagged (sym takes_it.1) was
-stays_untagged old new given (Ok New) takes_it was = subst IsUntagged (sym takes_it.2) (record {
-  held = ap (λ (t : List (Option Tag)). t ++ None ∷ []) was.held ∙ sym (map-append (λ (write : Write). None) old.held (given ∷ []));
-  doubt = was.doubt;
-})
-stays_untagged old new given (Err taking.Conflict) takes_it was = subst IsUntagged (sym takes_it.1) was
-stays_untagged old new given (Err taking.Down) takes_it was = subst IsUntagged (sym takes_it.2) was
-stays_untagged old new given (Err taking.OwnLost) takes_it was = subst IsUntagged (sym takes_it.3) was
-stays_untagged old new given (Err taking.Gap) takes_it was = subst IsUntagged (sym takes_it.2) was
-stays_untagged old new given (Err taking.BadStamp) takes_it was = subst IsUntagged (sym takes_it.3) was
-stays_untagged old new given (Err taking.LogFull) takes_it was = subst IsUntagged (sym takes_it.2) was
-stays_untagged old new given (Err taking.OutOfMemory) takes_it was = subst IsUntagged (sym takes_it.1) was
-stays_untagged old new given (Err taking.Journal) takes_it was = subst IsUntagged (sym takes_it.2) (record { held = was.held; doubt = refl })
-
--- as many that have none
-none_each : (held : List Made) → map {B = Option Tag} (λ (made : Made). None) held ≡ map {B = Option Tag} (λ (write : Write). None) (writes held)
-none_each [] = refl
-none_each (made ∷ held) = ap (λ (t : List (Option Tag)). None ∷ t) (none_each held)
-
--- a server that is the machine's, and has no tags
-untagged_there : (machine : Machine) (place : ℕ) (server : ServerSets) (core : Core) → IsServerOf machine.count machine.limit place core server → IsUntagged core
-    → core ≡ record { id = place; count = machine.count; limit = machine.limit; held = writes server.held; tags = map (λ (made : Made). None) server.held; doubt = option_map write_of server.doubt; doubt_tag = None }
-untagged_there machine place server core at none =
-    let tags : core.tags ≡ map (λ (made : Made). None) server.held = none.held ∙ ap (λ (c : Core). map (λ (write : Write). None) c.held) at.is ∙ sym (none_each server.held) in
-    at.is
-    ∙ ap (λ t. record { id = place; count = machine.count; limit = machine.limit; held = writes server.held; tags = t; doubt = option_map write_of server.doubt; doubt_tag = core.doubt_tag }) tags
-    ∙ ap (λ t. record { id = place; count = machine.count; limit = machine.limit; held = writes server.held; tags = map (λ (made : Made). None) server.held; doubt = option_map write_of server.doubt; doubt_tag = t }) none.doubt
-
 -- each answer of its rules is one of the machine, which leaves the same
 pub rows_of_rules : (machine : Machine) → IsGoodMachine machine → (place item : ℕ) (made : Made) → IsGiven machine place item made → (answer : Result Took TakeFault) (new : Core)
     → takes.Takes (core_at machine place) made.write answer new → (next : Machine) × TakeStep machine place item (replies.Took answer) next × (new ≡ core_at next place)
 rows_of_rules machine good place item made given answer new takes_it =
     let home = All-contains (IsHome machine.servers) machine.items made good.items (item, slice_get_within machine.items item made given.there, get_or_from_slice_get machine.items item made made given.there) in
     let found = took machine good place item made given home (core_at machine place) new answer (record { is = refl }) takes_it in
-    let none = stays_untagged (core_at machine place) new made.write answer takes_it (record { held = none_each (machine.servers place).held; doubt = refl }) in
     let core_of : ServerSets → Core = λ server. record {
       id = place;
       count = machine.count;
       limit = machine.limit;
       held = writes server.held;
-      tags = map (λ (made : Made). None) server.held;
+      tags = map (tag_at place) server.held;
       doubt = option_map write_of server.doubt;
-      doubt_tag = None;
+      doubt_tag = option_and_then (tag_at place) server.doubt;
     } in (
       found.0,
       found.1,
       elim found.2 as (λ _. new ≡ core_at found.0 place) [
         | inl same ↦ same.1 ∙ ap (λ (m : Machine). core_at m place) (sym same.0)
-        | inr other ↦ untagged_there machine place other.0 new other.3 none ∙ ap core_of (sym (changed-same machine.servers place other.0)) ∙ ap (λ (m : Machine). core_at m place) (sym other.1)
+        | inr other ↦ other.3.is ∙ ap core_of (sym (changed-same machine.servers place other.0)) ∙ ap (λ (m : Machine). core_at m place) (sym other.1)
       ],
     )
 

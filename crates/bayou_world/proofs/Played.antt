@@ -21,20 +21,21 @@ use Rattle.bayou_world.specs.declared.state.State.{State}
 use Rattle.bayou_world.specs.Inner.Beginning.{AreFirstSeats, AreStarted, IsFirstSeat, IsFirstState, IsLeft, Leaves, SoFar}
 use Rattle.bayou_world.specs.Inner.WorldBooks.{Booking, FollowsInBook, IsBookOf}
 use Rattle.bayou_world.specs.Inner.Good.{IsGoodMachine}
-use Rattle.bayou_world.specs.Inner.WorldServers.{core_of, held_by}
+use Rattle.bayou_world.specs.Inner.WorldServers.{held_by}
 use Rattle.bayou_world.specs.Inner.Tie.{Follows, IsFlightOf, IsOf, IsSeatOf, IsTied, seat}
 use Rattle.bayou_world.specs.Invariant.{IsVectorOf}
 use Rattle.bayou_world.specs.Machine.{Machine, writes}
-use Rattle.bayou_world.specs.Runs.{Run, asks_of, first_machine, new_server, new_session, capacity_for}
+use Rattle.bayou_world.specs.Runs.{Run, asks_of, first_machine, new_session, capacity_for}
 use Rattle.bayou_world.specs.RunHistories.{Begun, IsRunHistory}
 use Rattle.bayou_world.specs.declared.run_history.RunHistory.{RunHistory}
 use Rattle.bayou_audit.specs.declared.totals.Totals.{Totals}
 use Rattle.bayou_audit.specs.Totals.{is_read, is_refusal, is_write, number_of, totals_of}
 use Rattle.std.specs.Global.{Vec}
 use Rattle.bayou_world.specs.Steps.{CollectStep, DeliverStep, FileStep, FuseStep, LoseStep, OfferStep, ReadStep, ReopenStep, RestartStep, Step, TakeStep, WriteStep}
-use Rattle.bayou_world.proofs.TiedWrites.{is_server}
+use Rattle.bayou_world.specs.Tags.{AreTagged}
 use Rattle.bayou_world.proofs.Starting.{first_good}
 use Rattle.bayou_world.proofs.Stepping.{step_good}
+use Rattle.bayou_world.proofs.Tagging.{first_tagged, step_tagged}
 use Rattle.bayou_world.proofs.Vectors.{IsVectorOf-none}
 
 -- ---- what an event leaves of the bounds and the book
@@ -116,8 +117,8 @@ step_count old (events.File session) reply new step = file_count old session.ind
 -- ---- one event, with the book beside it
 
 beside : (old new : State) (booking : Booking) (Does : Machine → Machine → Type 0) → ((machine next : Machine) → Does machine next → Keeps machine next) → Follows old Does new → FollowsInBook old booking Does new booking
-beside old new booking Does keeps follows machine good tied book =
-    let step = follows machine good tied in
+beside old new booking Does keeps follows machine good tagged tied book =
+    let step = follows machine good tagged tied in
     let same = keeps machine step.0 step.1 in
     (step.0, step.1, step.2, record { capacity = book.capacity ∙ sym same.capacity; entries = book.entries ∙ sym same.filed })
 
@@ -174,12 +175,13 @@ pub SoFar-more : (first : Machine) (events : List Event) (at : ℕ) (replies : L
     → SoFar first (take at events) replies state booking → FollowsInBook state booking (λ machine next. Step machine event reply next) new new_booking
     → SoFar first (take (at + 1) events) (replies ++ reply ∷ []) new new_booking
 SoFar-more first events at replies state new booking new_booking event reply inside is so_far follows =
-    let step = follows so_far.now so_far.good so_far.tied so_far.book in
+    let step = follows so_far.now so_far.good so_far.tagged so_far.tied so_far.book in
     let longer : take (at + 1) events ≡ take at events ++ event ∷ [] = take_more events at event inside ∙ ap (λ e. take at events ++ e ∷ []) (sym is) in
     subst (λ list. SoFar first list (replies ++ reply ∷ []) new new_booking) (sym longer) (record {
       now = step.0;
       run = run_more first (take at events) replies so_far.now event reply step.0 so_far.run step.1;
       good = step_good so_far.now event reply step.0 so_far.good step.1;
+      tagged = step_tagged so_far.now event reply step.0 so_far.tagged step.1;
       count = step_count so_far.now event reply step.0 step.1 ∙ so_far.count;
       tied = step.2;
       book = step.3;
@@ -218,8 +220,7 @@ begins_tied servers world_sessions count limit capacity list started seated = re
   servers_are = λ place d inside.
       let fresh = started.fresh place d inside in record {
         stopped = sym fresh.runs;
-        core = is_server count limit place (core_of (get_or servers place d)) new_server (ap (λ (c : Core). c.id) fresh.core) (ap (λ (c : Core). c.count) fresh.core)
-            (ap (λ (c : Core). c.limit) fresh.core) (ap (λ (c : Core). c.held) fresh.core) (ap (λ (c : Core). c.doubt) fresh.core);
+        core = record { is = fresh.core };
         kept = fresh.kept;
       };
   seats = seated.many;
@@ -263,7 +264,7 @@ leaves first events state booking replies totals history so_far left counted =
 -- from the beginning
 pub history_is : (begun : Begun) (state new : State) (booking new_booking : Booking) (events : List Event) (replies : List Reply) (totals : Totals) (history : RunHistory)
     → IsFirstState begun state → booking ≡ record { capacity = capacity_for events; entries = [] }
-    → ((first : Machine) → IsGoodMachine first → IsOf state first → IsBookOf booking first → SoFar first events replies new new_booking)
+    → ((first : Machine) → IsGoodMachine first → AreTagged first → IsOf state first → IsBookOf booking first → SoFar first events replies new new_booking)
     → IsLeft new.servers.items new.served.items replies totals history
     → totals ≡ totals_of 0 (number_of is_read new_booking.entries) (number_of is_write new_booking.entries) (number_of is_refusal new_booking.entries) → IsRunHistory begun events history
 history_is begun state new booking new_booking events replies totals history begins book plays left counted =
@@ -275,7 +276,8 @@ history_is begun state new booking new_booking events replies totals history beg
     subst (λ x. IsTied servers world_sessions x state.items.items state.served.items first) (sym begins.offers)
     (subst (λ x. IsTied servers world_sessions [] x state.served.items first) (sym begins.items)
     (subst (λ x. IsTied servers world_sessions [] [] x first) (sym begins.served) tied)) in
-    let so_far = plays first (first_good begun.count begun.limit (capacity_for events) (asks_of begun.sessions)) is_of
+    let so_far = plays first (first_good begun.count begun.limit (capacity_for events) (asks_of begun.sessions))
+    (first_tagged begun.count begun.limit (capacity_for events) (asks_of begun.sessions)) is_of
     (record { capacity = ap (λ (b : Booking). b.capacity) book; entries = ap (λ (b : Booking). b.entries) book }) in
     let told = leaves first events new new_booking replies totals history so_far left counted in
     record { last = told.last; run = told.run; served = told.served; one_each = told.one_each; dumps = told.dumps; totals = told.totals }

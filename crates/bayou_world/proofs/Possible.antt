@@ -9,15 +9,17 @@ use Rattle.bayou_server.specs.declared.fault.StartFault.{StartFault}
 use Rattle.bayou_server.specs.declared.fault.StartFault.TheVariants as starting
 use Rattle.bayou_server.specs.declared.fault.TakeFault.{TakeFault}
 use Rattle.bayou_server.specs.declared.fault.TakeFault.TheVariants as taking
+use Rattle.bayou_server.specs.declared.fault.WriteFault.{WriteFault}
+use Rattle.bayou_server.specs.declared.fault.WriteFault.TheVariants as writing
 use Rattle.bayou_server.specs.Honest.{IsHonestRefusal}
 use Rattle.bayou_world.specs.declared.event.Event.{Event}
 use Rattle.bayou_world.specs.declared.event.Event.TheVariants as events
 use Rattle.bayou_world.specs.declared.reply.Reply.{Reply}
 use Rattle.bayou_world.specs.declared.reply.Reply.TheVariants as replies
 use Rattle.bayou_world.specs.Invariant.{IsImpossible}
-use Rattle.bayou_world.specs.Machine.{Machine, Made, ServerSets}
+use Rattle.bayou_world.specs.Machine.{Machine, Made, ServerSets, SessionSets}
 use Rattle.bayou_world.specs.Runs.{Run}
-use Rattle.bayou_world.specs.Steps.{CollectStep, DeliverStep, FileStep, FuseStep, LoseStep, OfferStep, ReadStep, RefusesItem, RefusesReopening, ReopenStep, RestartStep, Step, TakeStep, WriteStep}
+use Rattle.bayou_world.specs.Steps.{CollectStep, DeliverStep, FileStep, FuseStep, LoseStep, OfferStep, ReadStep, RefusesItem, RefusesReopening, RefusesWrite, ReopenStep, RestartStep, Step, TakeStep, WriteStep}
 
 -- a reply that isn't of that kind
 is : (reply other : Reply) → reply ≡ other → (¬ IsImpossible other) → ¬ IsImpossible reply
@@ -38,9 +40,18 @@ read_possible old who place key reply new (ReadStep.skipped cannot told_is same)
 read_possible old who place key reply new (ReadStep.behind session entry may not_may told_is entry_is same) = is reply _ told_is (λ no. no)
 read_possible old who place key reply new (ReadStep.served session entry seen may covered value vector told_is entry_is same) = is reply _ told_is (λ no. no)
 
+unwritten_possible : (limit : ℕ) (session : SessionSets) (server : ServerSets) (fault : WriteFault) → RefusesWrite limit session server fault → ¬ IsImpossible (replies.Wrote (Err fault))
+unwritten_possible limit session server writing.TagUsed refused = absurd refused
+unwritten_possible limit session server writing.Down refused = λ no. no
+unwritten_possible limit session server (writing.Behind vector) refused = λ no. no
+unwritten_possible limit session server writing.LogFull refused = λ no. no
+unwritten_possible limit session server writing.OutOfMemory refused = λ no. no
+unwritten_possible limit session server writing.Journal refused = absurd refused
+
 write_possible : (old : Machine) (who place : ℕ) (program : Program) (reply : Reply) (new : Machine) → WriteStep old who place program reply new → ¬ IsImpossible reply
 write_possible old who place program reply new (WriteStep.skipped cannot told_is same) = is reply _ told_is (λ no. no)
-write_possible old who place program reply new (WriteStep.refused session entry fault may refused told_is entry_is same) = is reply _ told_is (λ no. no)
+write_possible old who place program reply new (WriteStep.refused session entry fault may refused told_is entry_is same) =
+    is reply _ told_is (unwritten_possible old.limit session (old.servers place) fault refused)
 write_possible old who place program reply new (WriteStep.doubted session entry made may makes told_is entry_is same) = is reply _ told_is (λ no. no)
 write_possible old who place program reply new (WriteStep.accepted session entry made accepted may makes accepted_is told_is entry_is same) = is reply _ told_is (λ no. no)
 

@@ -18,6 +18,7 @@ use Rattle.bayou_world.specs.Inner.Good.{IsGoodMachine}
 use Rattle.bayou_world.specs.Inner.Tie.{IsOf}
 use Rattle.bayou_world.specs.Machine.{Machine, with_session}
 use Rattle.bayou_world.specs.Steps.{FileStep}
+use Rattle.bayou_world.specs.Tags.{AreTagged}
 use Rattle.bayou_world.proofs.Lists.{same_number}
 
 -- the share that is found at its place is of the session of that number
@@ -45,9 +46,9 @@ put_back shares at old new are within found same = record {
 -- an entry is entered
 pub files : (old new : State) (who : ℕ) (entry : Entry) (booking : Booking) (inside claimed filed : Booked) → TakesOldest old who (Some entry) new → record { capacity = inside.capacity; entries = inside.entries } ≡ booking
     → inside.totals.slips ≡ 0 → IsExact inside → ¬ (length inside.entries + inside.totals.slips ≡ inside.capacity) → claimed ≡ with_claim inside → filed ≡ with_entry claimed entry
-    → (machine : Machine) → IsGoodMachine machine → IsOf old machine → IsBookOf booking machine
+    → (machine : Machine) → IsGoodMachine machine → AreTagged machine → IsOf old machine → IsBookOf booking machine
     → (next : Machine) × FileStep machine who replies.Filed next × IsOf new next × IsBookOf (record { capacity = filed.capacity; entries = filed.entries }) next
-files old new who entry booking inside claimed filed takes view none exact not_full claims is machine good tied book =
+files old new who entry booking inside claimed filed takes view none exact not_full claims is machine good tagged tied book =
     let there = takes machine good tied in
     let session = there.0 in
     let later = there.1 in
@@ -84,9 +85,9 @@ files old new who entry booking inside claimed filed takes view none exact not_f
 -- nothing waits, and the book is as it was
 pub none_files : (old new : State) (who : ℕ) (booking : Booking) (inside claimed voided : Booked) → TakesOldest old who None new → record { capacity = inside.capacity; entries = inside.entries } ≡ booking
     → claimed ≡ with_claim inside → voided ≡ with_void claimed
-    → (machine : Machine) → IsGoodMachine machine → IsOf old machine → IsBookOf booking machine
+    → (machine : Machine) → IsGoodMachine machine → AreTagged machine → IsOf old machine → IsBookOf booking machine
     → (next : Machine) × FileStep machine who replies.Skipped next × IsOf new next × IsBookOf (record { capacity = voided.capacity; entries = voided.entries }) next
-none_files old new who booking inside claimed voided takes view claims is machine good tied book =
+none_files old new who booking inside claimed voided takes view claims is machine good tagged tied book =
     let there = takes machine good tied in (
       machine,
       FileStep.skipped (λ session entry later may. there.0 session entry later may.there may.waits) refl refl,

@@ -391,7 +391,7 @@ restart_tagged old place reply new is (RestartStep.restarted adopted server know
 
 -- ---- an event, and a run
 
-step_tagged : (old : Machine) (event : Event) (reply : Reply) (new : Machine) → AreTagged old → Step old event reply new → AreTagged new
+pub step_tagged : (old : Machine) (event : Event) (reply : Reply) (new : Machine) → AreTagged old → Step old event reply new → AreTagged new
 step_tagged old (events.Read session server key) reply new is step = read_tagged old session.index server.index key reply new is step
 step_tagged old (events.Write session server program) reply new is step = write_tagged old session.index server.index program reply new is step
 step_tagged old (events.Deliver session) reply new is step = deliver_tagged old session.index reply new is step
@@ -420,7 +420,7 @@ nothing_asked : (asks : Option Asks) (session : SessionSets) (asking : Asking) �
 nothing_asked None session asking is asked = none_is session is
 nothing_asked (Some asks) session asking is asked = none_is asking (ap (λ (s : SessionSets). s.asked) (some_is (new_session asks) session is) ∙ asked)
 
-first_tagged : (count limit capacity : ℕ) (asks : ℕ → Option Asks) → AreTagged (first_machine count limit capacity asks)
+pub first_tagged : (count limit capacity : ℕ) (asks : ℕ → Option Asks) → AreTagged (first_machine count limit capacity asks)
 first_tagged count limit capacity asks = record {
   asked = λ made stands. absurd (nothing_stands count limit capacity asks made stands);
   one = λ made other here there same. absurd (nothing_stands count limit capacity asks made here);

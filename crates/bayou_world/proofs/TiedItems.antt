@@ -1,5 +1,5 @@
 -- What is offered, collected and taken by the servers that run, is so in the machine.
-use Rattle.std.proofs.Common.{◌≡◌, ◌≢◌, ◌↔◌, inl, inr, ◌⊎◌, ℕ, zero, suc, ◌+◌, ◌<◌, ◌≤◌, Bool, cond, true, false, nat_lt, max, List, [], ◌∷◌, ◌++◌, Option, Some, Result, Ok, Err, IsSome, map, length, get_or, set, filter, take, Contains, AllPairs, slice_index, ap, sym, ◌∙◌, refl, subst, arith}
+use Rattle.std.proofs.Common.{◌≡◌, ◌≢◌, ◌↔◌, inl, inr, ◌⊎◌, ℕ, zero, suc, ◌+◌, ◌<◌, ◌≤◌, Bool, cond, true, false, nat_lt, max, List, [], ◌∷◌, ◌++◌, Option, None, Some, Result, Ok, Err, IsSome, map, length, get_or, set, filter, take, Contains, AllPairs, slice_index, ap, sym, ◌∙◌, refl, subst, arith}
 use Rattle.std.specs.List.{slice_get}
 use Rattle.std.proofs.lemmas.Bool.{cases_lt}
 use Rattle.std.proofs.lemmas.Bool.Decides.{nat_tests}
@@ -31,9 +31,10 @@ use Rattle.bayou_world.specs.declared.reply.Reply.TheVariants as replies
 use Rattle.bayou_world.specs.Inner.Good.{IsGoodMachine, IsHome}
 use Rattle.bayou_world.specs.Inner.WorldServers.{StaysHonest}
 use Rattle.bayou_world.specs.Inner.Tie.{IsServerOf, IsTied, write_of}
-use Rattle.bayou_world.specs.Machine.{Machine, Made, Offered, ServerSets, names, with_server, writes}
+use Rattle.bayou_world.specs.Machine.{Machine, Made, Offered, ServerSets, names, tag_at, with_server, writes}
 use Rattle.bayou_world.specs.Steps.{AreLacking, CollectStep, HoldsName, IsGiven, IsNext, IsRunning, OfferStep, TakeStep, with_doubt, with_write}
 use Rattle.bayou_base.specs.declared.limits.TheConstants.{MAX_NUMBER}
+use Rattle.bayou_world.proofs.Beside.{no_tag}
 use Rattle.bayou_world.proofs.Given.{given_fits, no_gap_within}
 use Rattle.bayou_world.proofs.Homes.{fitting_at, home_of_held, one_home, one_write}
 use Rattle.bayou_world.proofs.Lists.{AllPairs-map, Contains-filter, Contains-from_filter, Contains-here, Contains-later, Contains-map, Contains-map_from, Contains-none}
@@ -101,6 +102,10 @@ room_there : (machine : Machine) (place : ℕ) (core : Core) → IsServerOf mach
 room_there machine place core at room =
     omega (arith, room, length-map (machine.servers place).held write_of, ap length (ap (λ (c : Core). c.held) at.is), ap (λ (c : Core). c.limit) at.is)
 
+-- of an item that it takes, which is another's, the server knows no tag
+not_its_own : (place : ℕ) (made : Made) (core : Core) (count limit : ℕ) (server : ServerSets) → IsServerOf count limit place core server → takes.IsTakable core made.write → tag_at place made ≡ None
+not_its_own place made core count limit server at takable = no_tag place made (subst (λ (c : Core). made.write.wid.origin.index ≢ c.id) at.is takable.fit.foreign.foreign)
+
 -- what the code says of an item, the machine says
 pub took : (machine : Machine) → IsGoodMachine machine → (place item : ℕ) (made : Made) → IsGiven machine place item made → IsHome machine.servers made → (core new : Core) (answer : Result Took TakeFault)
     → IsServerOf machine.count machine.limit place core (machine.servers place) → takes.Takes core made.write answer new
@@ -165,7 +170,7 @@ took machine good place item made given home core new (Err taking.Journal) at (t
     with_doubt (machine.servers place) made,
     refl,
     refl,
-    doubted_there machine.count machine.limit place core new (machine.servers place) made at same,
+    doubted_there machine.count machine.limit place core new (machine.servers place) made None (not_its_own place made core machine.count machine.limit (machine.servers place) at takable) at same,
   ),
 )
 took machine good place item made given home core new (Ok New) at (takable, spelled, same) = (
@@ -175,7 +180,7 @@ took machine good place item made given home core new (Ok New) at (takable, spel
     with_write (machine.servers place) made,
     refl,
     refl,
-    held_more machine.count machine.limit place core new (machine.servers place) made at same,
+    held_more machine.count machine.limit place core new (machine.servers place) made None (not_its_own place made core machine.count machine.limit (machine.servers place) at takable) at same,
   ),
 )
 

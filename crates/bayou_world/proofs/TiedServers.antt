@@ -1,9 +1,10 @@
 -- What befalls servers as they run, befalls those of the machine: a fuse, a reopening, a restart.
-use Rattle.std.proofs.Common.{◌≡◌, inl, inr, ◌⊎◌, ℕ, zero, suc, ◌<◌, List, [], ◌∷◌, ◌++◌, Option, None, Some, Result, Ok, Err, IsSome, length, get_or, set, ap, sym, ◌∙◌, refl, subst, arith}
+use Rattle.std.proofs.Common.{◌≡◌, inl, inr, ◌⊎◌, ℕ, zero, suc, ◌<◌, List, [], ◌∷◌, ◌++◌, Option, None, Some, Result, Ok, Err, IsSome, length, map, get_or, set, ap, sym, ◌∙◌, refl, subst, arith}
 use Rattle.std.specs.List.{insert, remove}
-use Rattle.std.specs.Option.{option_map}
+use Rattle.std.specs.Option.{option_and_then, option_map}
 use Rattle.std.proofs.lemmas.List.{length-map, map-append}
 use Rattle.bayou_base.specs.declared.entry.Entry.{Entry}
+use Rattle.bayou_base.specs.declared.tag.Tag.{Tag}
 use Rattle.bayou_base.specs.declared.wid.Wid.{Wid}
 use Rattle.bayou_device.specs.Memory.{Memory}
 use Rattle.bayou_device.specs.MemoryDevice.{memory_device}
@@ -15,15 +16,17 @@ use Rattle.bayou_server.specs.declared.fault.ReopenFault.TheVariants as reopenin
 use Rattle.bayou_server.specs.declared.fault.StartFault.{StartFault}
 use Rattle.bayou_server.specs.Honest.{AreHonest, IsHonestAnswer, IsHonestServer}
 use Rattle.bayou_server.specs.Reopens as opened
-use Rattle.bayou_server.specs.Server.{Core, ServerState}
+use Rattle.bayou_server.specs.Server.{Core, IsSoundServer, ServerState, in_doubt, record_in_doubt, records, records_of}
+use Rattle.bayou_wire.specs.declared.record.Record.{Record}
 use Rattle.bayou_world.specs.declared.world_session.WorldSession.{WorldSession}
 use Rattle.bayou_world.specs.declared.world_server.WorldServer.{WorldServer}
 use Rattle.bayou_world.specs.declared.world_server.WorldServer.TheVariants.{Running}
 use Rattle.bayou_world.specs.declared.reply.Reply.TheVariants as replies
 use Rattle.bayou_world.specs.Inner.WorldServers.{IsKept, Starts, StaysHonest, core_of, is_stopped}
 use Rattle.bayou_world.specs.Inner.Tie.{IsWorldServerOf, IsServerOf, IsTied, write_of}
-use Rattle.bayou_world.specs.Machine.{Machine, Made, ServerSets, with_server, writes}
+use Rattle.bayou_world.specs.Machine.{Machine, Made, ServerSets, tag_at, with_server, writes}
 use Rattle.bayou_world.specs.Steps.{FuseStep, Recovers, RefusesReopening, ReopenStep, RestartStep, stopped_now, up_again, wid_of, with_write}
+use Rattle.bayou_world.proofs.Beside.{kept_tags, kept_writes, one_each}
 use Rattle.bayou_world.proofs.Tied.{IsRunningServer, running_server, runs_at, same_place, with_place}
 use Rattle.bayou_world.proofs.TiedWrites.{is_server, no_doubt, some_doubt}
 
@@ -44,19 +47,22 @@ same_core count limit place core new server at same = subst (λ (c : Core). IsSe
 
 -- a server that is up again, with what it holds
 up_there : (count limit place : ℕ) (core new : Core) (server after : ServerSets) → IsServerOf count limit place core server → new ≡ record core { held = new.held; tags = new.tags; doubt = None; doubt_tag = None }
-    → new.held ≡ writes after.held → option_map write_of after.doubt ≡ None → IsServerOf count limit place new after
-up_there count limit place core new server after at is held none =
+    → new.held ≡ writes after.held → new.tags ≡ map (tag_at place) after.held → after.doubt ≡ None → IsServerOf count limit place new after
+up_there count limit place core new server after at is held tags none =
     is_server count limit place new after (ap (λ (c : Core). c.id) is ∙ ap (λ (c : Core). c.id) at.is) (ap (λ (c : Core). c.count) is ∙ ap (λ (c : Core). c.count) at.is)
-    (ap (λ (c : Core). c.limit) is ∙ ap (λ (c : Core). c.limit) at.is) held (ap (λ (c : Core). c.doubt) is ∙ sym none)
+    (ap (λ (c : Core). c.limit) is ∙ ap (λ (c : Core). c.limit) at.is) held tags (ap (λ (c : Core). c.doubt) is ∙ sym (ap (option_map write_of) none))
+    (ap (λ (c : Core). c.doubt_tag) is ∙ sym (ap (option_and_then (tag_at place)) none))
 
 forgotten_there : (count limit place : ℕ) (core new : Core) (server : ServerSets) → IsServerOf count limit place core server → new ≡ record core { held = new.held; tags = new.tags; doubt = None; doubt_tag = None }
-    → new.held ≡ writes server.held → IsServerOf count limit place new (up_again server)
-forgotten_there count limit place core new server at is held = up_there count limit place core new server (up_again server) at is held refl
+    → new.held ≡ writes server.held → new.tags ≡ map (tag_at place) server.held → IsServerOf count limit place new (up_again server)
+forgotten_there count limit place core new server at is held tags = up_there count limit place core new server (up_again server) at is held tags refl
 
 adopted_there : (count limit place : ℕ) (core new : Core) (server : ServerSets) (made : Made) → IsServerOf count limit place core server
-    → new ≡ record core { held = new.held; tags = new.tags; doubt = None; doubt_tag = None } → new.held ≡ writes server.held ++ made.write ∷ [] → IsServerOf count limit place new (with_write (up_again server) made)
-adopted_there count limit place core new server made at is held =
-    up_there count limit place core new server (with_write (up_again server) made) at is (held ∙ sym (map-append write_of server.held (made ∷ []))) refl
+    → new ≡ record core { held = new.held; tags = new.tags; doubt = None; doubt_tag = None } → new.held ≡ writes server.held ++ made.write ∷ []
+    → new.tags ≡ map (tag_at place) server.held ++ tag_at place made ∷ [] → IsServerOf count limit place new (with_write (up_again server) made)
+adopted_there count limit place core new server made at is held tags =
+    up_there count limit place core new server (with_write (up_again server) made) at is (held ∙ sym (map-append write_of server.held (made ∷ [])))
+    (tags ∙ sym (map-append (tag_at place) server.held (made ∷ []))) refl
 
 -- ---- a fuse
 
@@ -98,13 +104,17 @@ up_again_there machine place old new None here honest (down, is) =
       name = refl;
       world_server = running_server machine.count machine.limit place new (up_again server) refl
           (forgotten_there machine.count machine.limit place old.core new.core server here.core
-          (is ∙ ap (λ (c : Core). record old.core { held = c.held; tags = c.tags; doubt = None; doubt_tag = None }) (sym is)) (ap (λ (c : Core). c.held) is ∙ ap (λ (c : Core). c.held) here.core.is)) honest;
+          (is ∙ ap (λ (c : Core). record old.core { held = c.held; tags = c.tags; doubt = None; doubt_tag = None }) (sym is)) (ap (λ (c : Core). c.held) is ∙ ap (λ (c : Core). c.held) here.core.is)
+          (ap (λ (c : Core). c.tags) is ∙ ap (λ (c : Core). c.tags) here.core.is)) honest;
     }
 up_again_there machine place old new (Some wid) here honest (doubt, doubted, name, is) =
     let server = machine.servers place in
     let there = some_made server.doubt doubt (sym (ap (λ (c : Core). c.doubt) here.core.is) ∙ doubted) in
     let held : new.core.held ≡ writes server.held ++ there.0.write ∷ [] =
-    ap (λ (c : Core). c.held) is ∙ ap (λ (c : Core). c.held ++ doubt ∷ []) here.core.is ∙ ap (λ w. writes server.held ++ w ∷ []) (sym there.2) in record {
+    ap (λ (c : Core). c.held) is ∙ ap (λ (c : Core). c.held ++ doubt ∷ []) here.core.is ∙ ap (λ w. writes server.held ++ w ∷ []) (sym there.2) in
+    let tags : new.core.tags ≡ map (tag_at place) server.held ++ tag_at place there.0 ∷ [] =
+    ap (λ (c : Core). c.tags) is ∙ ap (λ (c : Core). c.tags ++ c.doubt_tag ∷ []) here.core.is
+    ∙ ap (λ (o : Option Made). map (tag_at place) server.held ++ option_and_then (tag_at place) o ∷ []) there.1 in record {
       made = Some there.0;
       server = with_write (up_again server) there.0;
       down = subst IsSome (sym there.1) refl;
@@ -112,7 +122,7 @@ up_again_there machine place old new (Some wid) here honest (doubt, doubted, nam
       name = ap Some (name ∙ ap (λ (w : Write). w.wid) (sym there.2));
       world_server = running_server machine.count machine.limit place new (with_write (up_again server) there.0) refl
           (adopted_there machine.count machine.limit place old.core new.core server there.0 here.core
-          (is ∙ ap (λ (c : Core). record old.core { held = c.held; tags = c.tags; doubt = None; doubt_tag = None }) (sym is)) held) honest;
+          (is ∙ ap (λ (c : Core). record old.core { held = c.held; tags = c.tags; doubt = None; doubt_tag = None }) (sym is)) held tags) honest;
     }
 
 -- why it isn't
@@ -149,12 +159,57 @@ reopen_tied servers world_sessions offers items told machine tied place old new 
 
 -- ---- a restart
 
--- what an honest start holds
-honest_is : (held : List Made) (doubt : Option Made) (list : List Write) → AreHonest (writes held) (option_map write_of doubt) list
-    → (list ≡ writes held) ⊎ ((made : Made) × (doubt ≡ Some made) × (list ≡ writes held ++ made.write ∷ []))
-honest_is held None list is = inl is
-honest_is held (Some made) list (inl is) = inl is
-honest_is held (Some made) list (inr is) = inr (made, refl, is)
+-- what the server keeps of a Write in doubt
+abbrev kept_doubt : (place : ℕ) (made : Made) → Record
+kept_doubt place made = record { write = made.write; tag = tag_at place made }
+
+in_doubt_there : (place : ℕ) (doubt : Option Made) → in_doubt (option_map write_of doubt) (option_and_then (tag_at place) doubt) ≡ option_map (kept_doubt place) doubt
+in_doubt_there place None = refl
+in_doubt_there place (Some made) = refl
+
+-- what an honest start holds, with which tags
+record HoldsStill (place : ℕ) (server : ServerSets) (core : Core) : Type 0 where
+  held : core.held ≡ writes server.held
+  tags : core.tags ≡ map (tag_at place) server.held
+
+record HoldsMore (place : ℕ) (server : ServerSets) (core : Core) : Type 0 where
+  made : Made
+  doubt : server.doubt ≡ Some made
+  held : core.held ≡ writes server.held ++ made.write ∷ []
+  tags : core.tags ≡ map (tag_at place) server.held ++ tag_at place made ∷ []
+
+one_of_two : (held : List Record) (doubt : Option Made) (kept : Made → Record) (list : List Record) → AreHonest held (option_map kept doubt) list
+    → (list ≡ held) ⊎ ((made : Made) × (doubt ≡ Some made) × (list ≡ held ++ kept made ∷ []))
+one_of_two held None kept list is = inl is
+one_of_two held (Some made) kept list (inl is) = inl is
+one_of_two held (Some made) kept list (inr is) = inr (made, refl, is)
+
+holds_honestly : (count limit place : ℕ) (old new : Core) (server : ServerSets) → IsServerOf count limit place old server → IsSoundServer new
+    → AreHonest (records_of old) (record_in_doubt old) (records_of new) → HoldsStill place server new ⊎ HoldsMore place server new
+holds_honestly count limit place old new server at sound honest =
+    let held = writes server.held in
+    let tags = map (tag_at place) server.held in
+    let was = records held tags in
+    let write_in : Record → Write = λ r. r.write in
+    let tag_in : Record → Option Tag = λ r. r.tag in
+    let same : length tags ≡ length held = length-map server.held (tag_at place) ∙ sym (length-map server.held write_of) in
+    let each : length new.tags ≡ length new.held = one_each (λ (w : Write) (t : Option Tag). IsSome t → w.wid.origin.index ≡ new.id) new.held new.tags sound.tagged.own in
+    let now : AreHonest was (option_map (kept_doubt place) server.doubt) (records_of new) =
+    subst (λ (o : Option Record). AreHonest was o (records_of new)) (in_doubt_there place server.doubt) (subst (λ (c : Core). AreHonest (records_of c) (record_in_doubt c) (records_of new)) at.is honest) in
+    elim (one_of_two was server.doubt (kept_doubt place) (records_of new) now) as (λ _. HoldsStill place server new ⊎ HoldsMore place server new) [
+      | inl is ↦ inl (record {
+        held = sym (kept_writes new.held new.tags each) ∙ ap (map write_in) is ∙ kept_writes held tags same;
+        tags = sym (kept_tags new.held new.tags each) ∙ ap (map tag_in) is ∙ kept_tags held tags same;
+      })
+      | inr more ↦ inr (record {
+        made = more.0;
+        doubt = more.1;
+        held = sym (kept_writes new.held new.tags each) ∙ ap (map write_in) more.2 ∙ map-append write_in was (kept_doubt place more.0 ∷ [])
+            ∙ ap (λ (l : List Write). l ++ more.0.write ∷ []) (kept_writes held tags same);
+        tags = sym (kept_tags new.held new.tags each) ∙ ap (map tag_in) more.2 ∙ map-append tag_in was (kept_doubt place more.0 ∷ [])
+            ∙ ap (λ (l : List (Option Tag)). l ++ tag_at place more.0 ∷ []) (kept_tags held tags same);
+      })
+    ]
 
 pub restart_tied : (servers : List WorldServer) (world_sessions : List (Option WorldSession)) (offers : List (List ℕ)) (items : List Write) (told : List Entry) (machine : Machine)
     → IsTied servers world_sessions offers items told machine → (place : ℕ) (old new : WorldServer) (answer : Result ℕ StartFault) → place < length servers → get_or servers place old ≡ old
@@ -166,25 +221,24 @@ restart_tied servers world_sessions offers items told machine tied place old new
     let was = subst (λ (r : WorldServer). IsWorldServerOf machine.count machine.limit place r server) stands (tied.servers_are place old in_count) in
     let both = starts was.kept in
     let core_is = both.0.2 in
-    let honest = subst (λ (c : Core). AreHonest c.held c.doubt (core_of new).held) was.core.is both.0.3 in
-    elim (honest_is server.held server.doubt (core_of new).held honest)
+    elim (holds_honestly machine.count machine.limit place (core_of old) (core_of new) server was.core both.0.3 both.0.4)
     as (λ _. (next : Machine) × RestartStep machine place (replies.Restarted (Ok holds)) next × IsTied (set servers place new) world_sessions offers items told next) [
-      | inl held ↦ (
+      | inl still ↦ (
         with_server machine place (up_again server),
-        RestartStep.restarted None (up_again server) in_count refl (ap (λ n. replies.Restarted (Ok n)) (both.0.1 ∙ ap length held ∙ length-map server.held write_of)) refl,
+        RestartStep.restarted None (up_again server) in_count refl (ap (λ n. replies.Restarted (Ok n)) (both.0.1 ∙ ap length still.held ∙ length-map server.held write_of)) refl,
         with_place servers world_sessions offers items told machine tied place new (up_again server) in_count (record {
           stopped = sym both.0.0;
-          core = forgotten_there machine.count machine.limit place (core_of old) (core_of new) server was.core core_is held;
+          core = forgotten_there machine.count machine.limit place (core_of old) (core_of new) server was.core core_is still.held still.tags;
           kept = both.1;
         }),
       )
       | inr more ↦ (
-        with_server machine place (with_write (up_again server) more.0),
-        RestartStep.restarted (Some more.0) (with_write (up_again server) more.0) in_count (more.1, refl)
-            (ap (λ n. replies.Restarted (Ok n)) (both.0.1 ∙ ap length (more.2 ∙ sym (map-append write_of server.held (more.0 ∷ []))) ∙ length-map (server.held ++ more.0 ∷ []) write_of)) refl,
-        with_place servers world_sessions offers items told machine tied place new (with_write (up_again server) more.0) in_count (record {
+        with_server machine place (with_write (up_again server) more.made),
+        RestartStep.restarted (Some more.made) (with_write (up_again server) more.made) in_count (more.doubt, refl)
+            (ap (λ n. replies.Restarted (Ok n)) (both.0.1 ∙ ap length (more.held ∙ sym (map-append write_of server.held (more.made ∷ []))) ∙ length-map (server.held ++ more.made ∷ []) write_of)) refl,
+        with_place servers world_sessions offers items told machine tied place new (with_write (up_again server) more.made) in_count (record {
           stopped = sym both.0.0;
-          core = adopted_there machine.count machine.limit place (core_of old) (core_of new) server more.0 was.core core_is more.2;
+          core = adopted_there machine.count machine.limit place (core_of old) (core_of new) server more.made was.core core_is more.held more.tags;
           kept = both.1;
         }),
       )

@@ -13,11 +13,12 @@ use Rattle.bayou_world.specs.declared.reply.Reply.TheVariants as replies
 -- a device call failed
 abbrev pub tells_fault : Reply → Bool
 tells_fault (replies.Wrote (Err writing.Journal)) = true
+tells_fault (replies.Wrote (Err writing.TagUsed)) = false
 tells_fault (replies.Wrote (Err writing.Down)) = false
 tells_fault (replies.Wrote (Err (writing.Behind vector))) = false
 tells_fault (replies.Wrote (Err writing.LogFull)) = false
 tells_fault (replies.Wrote (Err writing.OutOfMemory)) = false
-tells_fault (replies.Wrote (Ok accepted)) = false
+tells_fault (replies.Wrote (Ok written)) = false
 tells_fault (replies.Took (Err taking.Journal)) = true
 tells_fault (replies.Took (Err taking.Conflict)) = false
 tells_fault (replies.Took (Err taking.Down)) = false

@@ -5,10 +5,12 @@ use Rattle.bayou_base.specs.declared.wid.Wid.{Wid}
 use Rattle.bayou_base.specs.Vector.{Covers, Dominates}
 use Rattle.bayou_lang.specs.declared.write.Write.{Write}
 use Rattle.bayou_lang.specs.Writes.{IsPrefixClosed, IsSound, count_of}
+use Rattle.bayou_server.specs.declared.answer.Written.TheVariants.{New, Known}
 use Rattle.bayou_server.specs.declared.fault.JournalFault.TheVariants.{Device, NotAJournal, OtherServer}
 use Rattle.bayou_server.specs.declared.fault.ReopenFault.TheVariants as reopening
 use Rattle.bayou_server.specs.declared.fault.StartFault.TheVariants as starting
 use Rattle.bayou_server.specs.declared.fault.TakeFault.TheVariants as taking
+use Rattle.bayou_server.specs.declared.fault.WriteFault.TheVariants as writing
 use Rattle.bayou_world.specs.declared.event.Event.{Event}
 use Rattle.bayou_world.specs.declared.reply.Reply.{Reply}
 use Rattle.bayou_world.specs.declared.reply.Reply.TheVariants as replies
@@ -47,7 +49,8 @@ TestsAgree machine = (server : ℕ) (vector : List ℕ) (set : List Wid) → IsV
     → IsWithin set (names (writes (machine.servers server).held)) ↔ Dominates (count_of (writes (machine.servers server).held)) vector
 
 -- A server refuses an item because it holds another Write of that name, because it made it itself and doesn't hold it, or because its
--- stamp is wrong; or its journal has lost a Write that it held, or has something else than what it held and the Write in doubt.
+-- stamp is wrong; or its journal has lost a Write that it held, or has something else than what it held and the Write in doubt; or a Write
+-- is held already under the tag of a Write that is asked for the first time.
 abbrev pub IsImpossible : Reply → Type 0
 IsImpossible (replies.Took (Err taking.Conflict)) = Unit {0}
 IsImpossible (replies.Took (Err taking.OwnLost)) = Unit {0}
@@ -75,7 +78,14 @@ IsImpossible (replies.Restarted (Err (starting.Journal Device))) = ⊥
 IsImpossible (replies.Restarted (Err starting.OutOfMemory)) = ⊥
 IsImpossible (replies.Restarted (Ok holds)) = ⊥
 IsImpossible (replies.Read answer) = ⊥
-IsImpossible (replies.Wrote answer) = ⊥
+IsImpossible (replies.Wrote (Err writing.TagUsed)) = Unit {0}
+IsImpossible (replies.Wrote (Ok (Known accepted))) = Unit {0}
+IsImpossible (replies.Wrote (Ok (New accepted))) = ⊥
+IsImpossible (replies.Wrote (Err writing.Down)) = ⊥
+IsImpossible (replies.Wrote (Err (writing.Behind vector))) = ⊥
+IsImpossible (replies.Wrote (Err writing.LogFull)) = ⊥
+IsImpossible (replies.Wrote (Err writing.OutOfMemory)) = ⊥
+IsImpossible (replies.Wrote (Err writing.Journal)) = ⊥
 IsImpossible (replies.Kept offer) = ⊥
 IsImpossible (replies.Flown first number) = ⊥
 IsImpossible replies.Delivered = ⊥

@@ -1,6 +1,6 @@
 -- All servers and all sessions as one machine (Terry et al. 1994, 1995). It speaks of lists and sets of Writes, and counts none. That a
 -- Write may be asked again, and has a tag for that, is this project's own.
-use Rattle.std.specs.Prelude.{ℕ, ◌==◌, Bool, List, Option, Some, Contains, map, if◌then◌else◌}
+use Rattle.std.specs.Prelude.{ℕ, ◌==◌, Bool, List, Option, None, Some, Contains, map, if◌then◌else◌}
 use Rattle.bayou_base.specs.declared.asks.Asks.{Asks}
 use Rattle.bayou_base.specs.declared.entry.Entry.{Entry}
 use Rattle.bayou_base.specs.declared.tag.Tag.{Tag}
@@ -18,6 +18,10 @@ pub record Made : Type 0 where
 -- without their pasts and tags
 abbrev pub writes : List Made → List Write
 writes list = map (λ (made : Made). made.write) list
+
+-- a server knows the tags of the Writes that it made, and of no other
+abbrev pub tag_at : (place : ℕ) → Made → Option Tag
+tag_at place made = if made.write.wid.origin.index == place then Some made.tag else None
 
 -- the names of Writes (WID, Terry et al. 1994)
 abbrev pub names : List Write → List Wid

@@ -17,6 +17,7 @@ use Rattle.bayou_lang.specs.Database.{value_at}
 use Rattle.bayou_lang.specs.Writes.{IsNextWrite, count_of}
 use Rattle.bayou_log.specs.Replay.{replay}
 use Rattle.bayou_server.specs.declared.answer.Took.TheVariants.{New, Had}
+use Rattle.bayou_server.specs.declared.answer.Written.TheVariants as written
 use Rattle.bayou_server.specs.declared.fault.JournalFault.TheVariants.{Device, NotAJournal, OtherServer}
 use Rattle.bayou_server.specs.declared.fault.ReopenFault.{ReopenFault}
 use Rattle.bayou_server.specs.declared.fault.ReopenFault.TheVariants as reopening
@@ -108,8 +109,10 @@ pub record IsReady (session : SessionSets) (server : ServerSets) : Type 0 where
   pub up : server.doubt ≡ None
   pub covered : MayWrite session server.held
 
--- Why a program is made no Write of. The cases stand in their order: each says that those before it don't hold.
+-- Why a program is made no Write of. The cases stand in their order: each says that those before it don't hold. The tag is of a new
+-- asking, and so no Write is held under it.
 abbrev pub RefusesWrite : ℕ → SessionSets → ServerSets → WriteFault → Type 0
+RefusesWrite limit session server writing.TagUsed = ⊥
 RefusesWrite limit session server writing.Down = IsSome server.doubt
 RefusesWrite limit session server (writing.Behind vector) = (server.doubt ≡ None) × (¬ MayWrite session server.held) × (vector ≡ count_of (writes server.held))
 RefusesWrite limit session server writing.LogFull = IsReady session server × (length server.held ≡ limit)
@@ -146,7 +149,7 @@ pub data WriteStep (old : Machine) (who place : ℕ) (program : Program) (reply 
       → reply ≡ replies.Wrote (Err writing.Journal) → IsEntry who place session whats.Refused entry
       → new ≡ with_answer (with_server old place (with_doubt (old.servers place) made)) who session (Some (first_asking place session program)) (refusal entry) → WriteStep old who place program reply new
   accepted : (session : SessionSets) (entry : Entry) (made : Made) (accepted : Accepted) → MayBegin old who place session → Makes old.limit who place session (old.servers place) program made
-      → IsAccepted made accepted → reply ≡ replies.Wrote (Ok accepted) → IsEntry who place session (whats.Write accepted.wid accepted.stamp accepted.deps) entry
+      → IsAccepted made accepted → reply ≡ replies.Wrote (Ok (written.New accepted)) → IsEntry who place session (whats.Write accepted.wid accepted.stamp accepted.deps) entry
       → new ≡ with_answer (with_server old place (with_write (old.servers place) made)) who session (Some (first_asking place session program))
       (record { entry = entry; database = made.past; made = Some made })
       → WriteStep old who place program reply new

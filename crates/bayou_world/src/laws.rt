@@ -97,7 +97,8 @@ pub fn a_tag_is_of_one_write()
 {}
 
 /// Over every run no item is refused because another Write of its name is held, because its server made it and lost it, or because
-/// its stamp is wrong.
+/// its stamp is wrong. No Write that is asked for the first time is told as one that is held already, nor refused because one is held
+/// under its tag.
 pub fn no_item_is_impossible()
     ensures { (count limit capacity : ℕ) (asks : ℕ → Option Asks) (events : List Event) (replies : List Reply) (last : Machine) → Run (first_machine count limit capacity asks) events replies last
         → All (λ reply. ¬ IsImpossible reply) replies }

@@ -1,5 +1,7 @@
-use bayou_base::{Accepted, Seen};
-use bayou_server::{Behind, ReopenFault, Reopened, StartFault, TakeFault, Took, WriteFault};
+use bayou_base::Seen;
+use bayou_server::{
+    Behind, ReopenFault, Reopened, StartFault, TakeFault, Took, WriteFault, Written,
+};
 
 /// What an event came to.
 #[derive(Debug, Drop)]
@@ -7,7 +9,7 @@ pub enum Reply {
     /// The server's answer to a read, which is in flight.
     Read(Result<Seen, Behind>),
     /// The server's answer to a program, which is in flight.
-    Wrote(Result<Accepted, WriteFault>),
+    Wrote(Result<Written, WriteFault>),
     /// The server's answer to an item.
     Took(Result<Took, TakeFault>),
     /// The offer has this number.

@@ -17,6 +17,7 @@ ghost use Rattle.bayou_world.specs.Machine.{Machine};
 ghost use Rattle.bayou_world.specs.RunHistories.{IsRunHistory};
 ghost use Rattle.bayou_world.specs.Runs.{asks_of, is_file as is_file_said, capacity_for as capacity_of};
 ghost use Rattle.bayou_world.specs.Steps.{Step};
+ghost use Rattle.bayou_world.specs.Tags.{AreTagged};
 
 use crate::event::Event;
 use crate::laws::every_run_is_judged_clean;
@@ -177,7 +178,7 @@ fn play<K: Ledgers>(
     book: &mut WorldBook<K>,
     events: &[Event],
 ) -> Result<Vec<Reply>, AllocError>
-    ensures so_far { IfOk result (λ replies. (first : Machine) → IsGoodMachine first → IsOf state.old first → IsBookOf book.old first → SoFar first events.now replies.items state.new book.new) }
+    ensures so_far { IfOk result (λ replies. (first : Machine) → IsGoodMachine first → AreTagged first → IsOf state.old first → IsBookOf book.old first → SoFar first events.now replies.items state.new book.new) }
     ensures charged { IfOk result (λ replies. AreCharged (length state.old.servers.items) [] [] state.old.servers.items → AreCharged (length state.old.servers.items) events.now replies.items state.new.servers.items) }
 {
     let mut replies = Vec::new(alloc);

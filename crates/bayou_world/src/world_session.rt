@@ -1,11 +1,12 @@
 //! A session, and what is on its way to it.
-ghost use Rattle.std.specs.Prelude.{◌≡◌, ◌<◌, ◌↔◌, [], false, IfOk, IsSome, IsTrue, None};
+ghost use Rattle.std.specs.Prelude.{◌≡◌, ◌+◌, ◌<◌, ◌↔◌, [], false, IfOk, IsSome, IsTrue, None};
 ghost use Rattle.bayou_base.specs.declared.limits.TheConstants.{MAX_PLACES};
+ghost use Rattle.bayou_base.specs.declared.tag.Tag.{Tag};
 ghost use Rattle.bayou_server.specs.Reads.{Reads};
 ghost use Rattle.bayou_server.specs.Writes.{Writes};
 ghost use Rattle.bayou_world.specs.declared.reply.Reply.TheVariants.{Wrote};
 ghost use Rattle.bayou_world.specs.Faults.{tells_fault};
-ghost use Rattle.bayou_session.specs.Needs.{HasCounts, asks_first, one_place_more, read_need, write_need};
+ghost use Rattle.bayou_session.specs.Needs.{HasCounts, IsTagOf, asks_first, one_place_more, read_need, write_need};
 ghost use Rattle.bayou_world.specs.Inner.Charges.{Spends};
 ghost use Rattle.bayou_world.specs.Inner.WorldServers.{StaysHonest};
 ghost use Rattle.bayou_world.specs.Inner.WorldSessions.{Begins, Hears, IsAnswered, Pops, accepted_as, accepted_of, after_accepted, after_read, seen_as};
@@ -15,7 +16,7 @@ use bayou_device::{MemoryDevice, OpenGate};
 use bayou_journal::laws::a_device_in_memory_only_tears;
 use bayou_lang::RestingProgram;
 use bayou_server::laws::an_honest_server_stays_honest;
-use bayou_server::{Behind, Server, WriteFault};
+use bayou_server::{Behind, Server, WriteFault, Written};
 use bayou_session::Session;
 use std::alloc::{AllocError, Global};
 use std::collections::VecDeque;
@@ -46,20 +47,22 @@ fn what_seen(key: &Key, answer: &Result<Seen, Behind>) -> What
 }
 
 /// What an answer to a program tells.
-fn what_accepted(answer: &Result<Accepted, WriteFault>) -> What
+fn what_accepted(answer: &Result<Written, WriteFault>) -> What
     ensures { result ≡ accepted_as answer.now }
 {
     match answer {
-        Ok(accepted) => What::Write(accepted.wid, accepted.stamp, accepted.deps),
+        Ok(Written::New(accepted) | Written::Known(accepted)) => {
+            What::Write(accepted.wid, accepted.stamp, accepted.deps)
+        }
         Err(_) => What::Refused,
     }
 }
 
-fn accepted_in(answer: &Result<Accepted, WriteFault>) -> Option<Accepted>
+fn accepted_in(answer: &Result<Written, WriteFault>) -> Option<Accepted>
     ensures { result ≡ accepted_of answer.now }
 {
     match answer {
-        Ok(accepted) => Some(*accepted),
+        Ok(Written::New(accepted) | Written::Known(accepted)) => Some(*accepted),
         Err(_) => None,
     }
 }
@@ -142,16 +145,16 @@ impl WorldSession {
     }
 
     /// It asks the server to make a Write of the program, at a place that it begins, behind which it may ask again. The tag of what it asks
-    /// goes nowhere: no server knows tags.
+    /// is that of the place.
     pub fn write(
         &mut self,
         alloc: Global,
         server: &mut Server<MemoryDevice<OpenGate>>,
         program: RestingProgram,
-    ) -> Result<Accepted, WriteFault>
+    ) -> Result<Written, WriteFault>
         requires { self.old.session.begun < MAX_PLACES }
         ensures counts { HasCounts self.old.session }
-        ensures answer { Writes server.old.core (write_need self.old.session) program result server.new.core }
+        ensures answer { (tag : Tag) × IsTagOf self.old.session (self.old.session.begun + 1) tag × Writes server.old.core tag (write_need self.old.session) program result server.new.core }
         ensures begun { Begins self.old (asks_first self.old.session) server.old.core.id (accepted_as result) (accepted_of result) self.new }
         ensures honest { StaysHonest server.old server.new }
         ensures spends { Spends (tells_fault (Wrote result)) false server.old.device server.new.device }
@@ -159,10 +162,11 @@ impl WorldSession {
         an_honest_server_stays_honest::<MemoryDevice<OpenGate>>();
         a_device_in_memory_only_tears();
         let id = server.id();
-        let answer = server.write(alloc, &self.session.need_write(), program);
+        let need = self.session.need_write();
+        let tag = self.session.ask();
+        let answer = server.write(alloc, tag, &need, program);
         let what = what_accepted(&answer);
         let accepted = accepted_in(&answer);
-        self.session.ask();
         self.answered(id, what, accepted);
         answer
     }

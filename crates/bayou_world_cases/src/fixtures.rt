@@ -3,7 +3,7 @@ ghost use Rattle.std.specs.Prelude.{◌≡◌, All, IfOk};
 ghost use Rattle.bayou_session.specs.declared.session.TheConstants.{FIRST_RUN as FIRST_RUN_NUMBER};
 ghost use Rattle.bayou_session.specs.Needs.{Told};
 
-use bayou_base::{Asks, Key, ServerId, SessionId, Value};
+use bayou_base::{Asks, Key, ServerId, SessionId, Tag, Value};
 use bayou_lang::{Op, Program, RestingProgram, Term};
 use bayou_session::{FIRST_RUN, Session};
 use bayou_world::world::World;
@@ -17,6 +17,13 @@ pub fn server_id(rt: &impl Abort, index: u8) -> ServerId {
 
 pub fn session_id(rt: &impl Abort, index: u8) -> SessionId {
     SessionId::new(index).expect(rt, "no session")
+}
+
+/// The tag of the first session's place behind so many, in the first run: a fresh one for a server that holds so many Writes, where those before
+/// it were given theirs so.
+pub fn tag_behind(rt: &impl Abort, count: usize) -> Tag {
+    let count = u32::try_from(count).ok().expect(rt, "too many Writes");
+    Tag::new(session_id(rt, 0), 1, count.saturating_add(1)).expect(rt, "no tag")
 }
 
 pub fn room(rt: &impl Abort) -> Key {

@@ -7,7 +7,7 @@ use crate::failures::is_fault;
 use crate::fixtures::{history, must_be_so, put, room, server_id, session_id};
 use bayou_base::{Asks, Entry, ServerId, SessionId};
 use bayou_judge::{Guarantee, Verdict, judge, lend_dumps};
-use bayou_server::{JournalFault, ReopenFault, StartFault, TakeFault, Took, WriteFault};
+use bayou_server::{JournalFault, ReopenFault, StartFault, TakeFault, Took, WriteFault, Written};
 use bayou_world::{Event, Reply, RunHistory};
 use std::alloc::Global;
 use std::process::Abort;
@@ -382,7 +382,7 @@ fn kind_of(event: &Event, reply: &Reply) -> usize {
     match reply {
         Reply::Read(Ok(_)) => 0,
         Reply::Read(Err(_)) => 1,
-        Reply::Wrote(Ok(_)) => 2,
+        Reply::Wrote(Ok(Written::New(_))) => 2,
         Reply::Wrote(Err(WriteFault::Behind(_))) => 3,
         Reply::Wrote(Err(WriteFault::LogFull)) => 4,
         Reply::Took(Ok(Took::New)) => 5,
@@ -401,7 +401,7 @@ fn kind_of(event: &Event, reply: &Reply) -> usize {
         Reply::Took(Err(TakeFault::Down)) => 17,
         Reply::Fused => 18,
         Reply::Reopened(_) | Reply::Restarted(_) => recovery_of(reply),
-        Reply::Wrote(Err(_)) | Reply::Took(Err(_)) | Reply::NoMemory => KINDS,
+        Reply::Wrote(_) | Reply::Took(Err(_)) | Reply::NoMemory => KINDS,
     }
 }
 

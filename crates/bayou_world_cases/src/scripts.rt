@@ -10,7 +10,9 @@ use Told::{Saw, Wrote};
 use bayou_audit::Totals;
 use bayou_base::{Asks, Entry, Value, Vector, What, Wid};
 use bayou_lang::RestingWrite;
-use bayou_server::{Behind, JournalFault, ReopenFault, StartFault, TakeFault, Took, WriteFault};
+use bayou_server::{
+    Behind, JournalFault, ReopenFault, StartFault, TakeFault, Took, WriteFault, Written,
+};
 use bayou_world::{Event, Reply, RunHistory};
 use std::alloc::{AllocError, Global};
 use std::process::Abort;
@@ -299,7 +301,7 @@ pub fn saying(reply: &Reply) -> Said {
     match reply {
         Reply::Read(Ok(seen)) => Seen(number_in(&seen.value), counts_of(&seen.vector)),
         Reply::Read(Err(Behind { vector })) => ReadBehind(counts_of(vector)),
-        Reply::Wrote(Ok(made)) => Accepted(
+        Reply::Wrote(Ok(Written::New(made))) => Accepted(
             (made.wid.origin.index, made.wid.seq),
             counts_of(&made.deps),
         ),
@@ -333,6 +335,7 @@ pub fn saying(reply: &Reply) -> Said {
         Reply::Took(Err(TakeFault::Conflict | TakeFault::OwnLost | TakeFault::BadStamp)) => {
             Said::Otherwise
         }
+        Reply::Wrote(Ok(Written::Known(_)) | Err(WriteFault::TagUsed)) => Said::Otherwise,
         Reply::Reopened(Err(_)) | Reply::Restarted(Err(_)) => Said::Otherwise,
     }
 }

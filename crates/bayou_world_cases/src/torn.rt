@@ -1,8 +1,8 @@
 //! A third Write whose entry is torn: its server is reopened, or it crashes and is started again.
-use crate::fixtures::{boxed, must_be_so, put, server_id};
+use crate::fixtures::{boxed, must_be_so, put, server_id, tag_behind};
 use bayou_base::{ServerId, Vector};
 use bayou_device::{MemoryDevice, OpenGate};
-use bayou_server::{Server, WriteFault};
+use bayou_server::{Server, WriteFault, Written};
 use std::alloc::Global;
 use std::process::Abort;
 
@@ -11,10 +11,10 @@ type Memory = MemoryDevice<OpenGate>;
 type Served = Server<Memory>;
 
 /// How many bytes the journal of the two Writes before it has.
-const BEFORE: usize = 198;
+const BEFORE: usize = 218;
 
 /// How many its entry has.
-const ENTRY: usize = 94;
+const ENTRY: usize = 104;
 
 /// The server on the device, alone, and how many bytes were dropped.
 fn started(rt: &impl Abort, alloc: Global, device: Memory) -> (Box<Served>, usize) {
@@ -33,8 +33,11 @@ fn puts(
     number: i64,
 ) -> Result<u32, WriteFault> {
     let program = put(rt, alloc, number);
-    let accepted = server.write(alloc, &Vector::zero(), program)?;
-    Ok(accepted.wid.seq)
+    let tag = tag_behind(rt, server.receipts().len());
+    match server.write(alloc, tag, &Vector::zero(), program)? {
+        Written::New(accepted) => Ok(accepted.wid.seq),
+        Written::Known(_) => rt.abort(),
+    }
 }
 
 /// A new server, alone.

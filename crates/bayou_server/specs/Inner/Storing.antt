@@ -1,5 +1,6 @@
 -- How a server stores one Write more, which its callers don't see.
-use Rattle.std.specs.Prelude.{◌≡◌, ◌<◌, [], ◌∷◌, ◌++◌, None, Some, Result, Ok, Err, length}
+use Rattle.std.specs.Prelude.{◌≡◌, ◌<◌, ◌↔◌, [], ◌∷◌, ◌++◌, Option, None, Some, IsSome, Result, Ok, Err, length}
+use Rattle.bayou_base.specs.declared.tag.Tag.{Tag}
 use Rattle.bayou_device.specs.declared.device.Device.{Ghosts}
 use Rattle.bayou_journal.specs.declared.fault.AppendFault.{AppendFault}
 use Rattle.bayou_lang.specs.declared.write.Write.{Write}
@@ -8,7 +9,7 @@ use Rattle.bayou_lang.specs.Ranges.{IsWrite}
 use Rattle.bayou_server.specs.declared.holding.Holding.{Holding}
 use Rattle.bayou_server.specs.declared.storing.Stored.{Stored}
 use Rattle.bayou_server.specs.declared.storing.Stored.TheVariants.{Held, InDoubt}
-use Rattle.bayou_server.specs.Server.{Core, IsUp, ServerState}
+use Rattle.bayou_server.specs.Server.{Core, IsNewTag, IsUp, ServerState}
 use Rattle.bayou_server.specs.Stored.{HasAdded, HasFailed, IsStored}
 
 -- the server is up, and may hold the Write next: there is room for it, it fits what is held, and the server's own is its next
@@ -18,10 +19,15 @@ pub record MayBeStored (core : Core) (write : Write) : Type 0 where
   pub fits : Fits core.count core.held write
   pub own : write.wid.origin.index ≡ core.id → IsNextWrite core.held core.id write.program write
 
--- what comes of a Write that has a spelling, and has no tag, and what the server then holds
-abbrev pub Keeps : (old : Core) → Write → Stored → (new : Core) → Type 0
-Keeps old write Held new = IsWrite write × (new ≡ record old { held = old.held ++ write ∷ []; tags = old.tags ++ None ∷ [] })
-Keeps old write InDoubt new = IsWrite write × (new ≡ record old { doubt = Some write; doubt_tag = None })
+-- the tag may be that of the Write: there is one exactly where the Write is the server's own, and it is new
+pub record MayBeTagged (core : Core) (tag : Option Tag) (write : Write) : Type 0 where
+  pub own : IsSome tag ↔ (write.wid.origin.index ≡ core.id)
+  pub new : IsNewTag core.tags tag
+
+-- what comes of a Write that has a spelling, and of its tag, if it has one, and what the server then holds
+abbrev pub Keeps : (old : Core) → Option Tag → Write → Stored → (new : Core) → Type 0
+Keeps old tag write Held new = IsWrite write × (new ≡ record old { held = old.held ++ write ∷ []; tags = old.tags ++ tag ∷ [] })
+Keeps old tag write InDoubt new = IsWrite write × (new ≡ record old { doubt = Some write; doubt_tag = tag })
 
 -- and how the device stands then
 abbrev pub StoresEntry : {D : Type 0} → Ghosts D → (old : ServerState D) → Stored → (new : ServerState D) → Type 0

@@ -24,6 +24,7 @@ use Rattle.bayou_world.specs.Inner.WorldServers.{IsFresh, device_of, held_by}
 use Rattle.bayou_world.specs.Machine.{Answered, Machine, writes}
 use Rattle.bayou_world.specs.RunHistories.{Begun}
 use Rattle.bayou_world.specs.Runs.{Run, asks_of, capacity_for}
+use Rattle.bayou_world.specs.Tags.{AreTagged}
 
 -- a server that was started first for each of the first so many places
 pub record AreStarted (done count limit : ℕ) (servers : List WorldServer) : Type 0 where
@@ -79,6 +80,7 @@ pub record SoFar (first : Machine) (events : List Event) (replies : List Reply) 
   pub now : Machine
   pub run : Run first events replies now
   pub good : IsGoodMachine now
+  pub tagged : AreTagged now
   pub count : now.count ≡ first.count
   pub tied : IsOf state now
   pub book : IsBookOf booking now
@@ -88,5 +90,5 @@ pub record IsBooked (old : State) (events : List Event) (replies : List Reply) (
   pub empty : Booking
   pub full : Booking
   pub begins : empty ≡ record { capacity = capacity_for events; entries = [] }
-  pub so_far : (first : Machine) → IsGoodMachine first → IsOf old first → IsBookOf empty first → SoFar first events replies new full
+  pub so_far : (first : Machine) → IsGoodMachine first → AreTagged first → IsOf old first → IsBookOf empty first → SoFar first events replies new full
   pub counted : totals ≡ totals_of 0 (number_of is_read full.entries) (number_of is_write full.entries) (number_of is_refusal full.entries)

@@ -1,7 +1,7 @@
 -- How the servers and sessions that run stand to the machine: callers don't see it.
 use Rattle.std.specs.Prelude.{◌≡◌, ℕ, ◌<◌, List, Option, None, Some, All, length, map}
 use Rattle.std.specs.List.{slice_index_or}
-use Rattle.std.specs.Option.{option_map}
+use Rattle.std.specs.Option.{option_and_then, option_map}
 use Rattle.bayou_base.specs.declared.answer.Accepted.{Accepted}
 use Rattle.bayou_base.specs.declared.entry.Entry.{Entry}
 use Rattle.bayou_base.specs.declared.entry.What.{What}
@@ -18,15 +18,24 @@ use Rattle.bayou_world.specs.declared.state.State.{State}
 use Rattle.bayou_world.specs.Inner.Good.{IsGoodMachine}
 use Rattle.bayou_world.specs.Inner.WorldServers.{IsKept, core_of, is_stopped}
 use Rattle.bayou_world.specs.Invariant.{IsVectorOf}
-use Rattle.bayou_world.specs.Machine.{Answered, Asking, Machine, Made, Offered, ServerSets, SessionSets, writes}
+use Rattle.bayou_world.specs.Machine.{Answered, Asking, Machine, Made, Offered, ServerSets, SessionSets, tag_at, writes}
+use Rattle.bayou_world.specs.Tags.{AreTagged}
 
 -- the Write of it
 abbrev pub write_of : Made → Write
 write_of made = made.write
 
--- the server that holds this, with whatever tags beside it
+-- the server that holds this, with the tags that it knows
 pub record IsServerOf (count limit place : ℕ) (core : Core) (server : ServerSets) : Type 0 where
-  pub is : core ≡ record { id = place; count = count; limit = limit; held = writes server.held; tags = core.tags; doubt = option_map write_of server.doubt; doubt_tag = core.doubt_tag }
+  pub is : core ≡ record {
+    id = place;
+    count = count;
+    limit = limit;
+    held = writes server.held;
+    tags = map (tag_at place) server.held;
+    doubt = option_map write_of server.doubt;
+    doubt_tag = option_and_then (tag_at place) server.doubt;
+  }
 
 -- the same server, running or stopped, over an honest device
 pub record IsWorldServerOf (count limit place : ℕ) (world_server : WorldServer) (server : ServerSets) : Type 0 where
@@ -86,6 +95,7 @@ pub record IsTied (servers : List WorldServer) (world_sessions : List (Option Wo
 abbrev pub IsOf : State → Machine → Type 0
 IsOf state machine = IsTied state.servers.items state.sessions.items state.offers.items state.items.items state.served.items machine
 
--- Whatever good machine the old state is tied to: what is done to the machine leaves one that the new state is tied to.
+-- Whatever good machine the old state is tied to, in which a tag is of one Write: what is done to the machine leaves one that the new state
+-- is tied to.
 abbrev pub Follows : State → (Machine → Machine → Type 0) → State → Type 0
-Follows old Does new = (machine : Machine) → IsGoodMachine machine → IsOf old machine → (next : Machine) × Does machine next × IsOf new next
+Follows old Does new = (machine : Machine) → IsGoodMachine machine → AreTagged machine → IsOf old machine → (next : Machine) × Does machine next × IsOf new next

@@ -8,6 +8,7 @@ use Rattle.bayou_world.specs.declared.state.State.{State}
 use Rattle.bayou_world.specs.Inner.Good.{IsGoodMachine}
 use Rattle.bayou_world.specs.Inner.Tie.{IsOf}
 use Rattle.bayou_world.specs.Machine.{Machine, SessionSets, with_session}
+use Rattle.bayou_world.specs.Tags.{AreTagged}
 
 -- a book: how many entries it may have, and what was entered, in that order
 pub record Booking : Type 0 where
@@ -32,7 +33,8 @@ TakesOldest old who (Some entry) new = (machine : Machine) → IsGoodMachine mac
     → (session : SessionSets) × (later : List Entry) × (machine.sessions who ≡ Some session) × (session.waiting ≡ entry ∷ later) × (entry.session.index ≡ who)
     × IsOf new (with_session machine who (record session { waiting = later }))
 
--- Whatever good machine the old state and book are tied to: what is done to the machine leaves one that the new ones are tied to.
+-- Whatever good machine the old state and book are tied to, in which a tag is of one Write: what is done to the machine leaves one that the
+-- new ones are tied to.
 abbrev pub FollowsInBook : State → Booking → (Machine → Machine → Type 0) → State → Booking → Type 0
-FollowsInBook old booking Does new new_booking = (machine : Machine) → IsGoodMachine machine → IsOf old machine → IsBookOf booking machine
+FollowsInBook old booking Does new new_booking = (machine : Machine) → IsGoodMachine machine → AreTagged machine → IsOf old machine → IsBookOf booking machine
     → (next : Machine) × Does machine next × IsOf new next × IsBookOf new_booking next

@@ -54,8 +54,8 @@ pub record IsFresh (count limit place : ℕ) (world_server : WorldServer) : Type
   pub core : core_of world_server ≡ record { id = place; count = count; limit = limit; held = []; tags = []; doubt = None; doubt_tag = None }
   pub kept : IsKept world_server
 
--- what comes of a start on the device of a server
+-- What comes of a start on the device of a server: what was held, or that and the Write in doubt, with their tags, or a refusal.
 abbrev pub Starts : (old : WorldServer) → Result ℕ StartFault → (new : WorldServer) → Type 0
 Starts old (Ok holds) new = (is_stopped new ≡ false) × (holds ≡ length (core_of new).held) × (core_of new ≡ record (core_of old) { held = (core_of new).held; tags = (core_of new).tags; doubt = None; doubt_tag = None })
-    × AreHonest (core_of old).held (core_of old).doubt (core_of new).held
+    × IsSoundServer (core_of new) × AreHonest (records_of (core_of old)) (record_in_doubt (core_of old)) (records_of (core_of new))
 Starts old (Err fault) new = (is_stopped new ≡ true) × IsHonestRefusal fault × (core_of new ≡ core_of old)

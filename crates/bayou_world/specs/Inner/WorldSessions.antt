@@ -7,6 +7,8 @@ use Rattle.bayou_base.specs.declared.entry.Entry.{Entry}
 use Rattle.bayou_base.specs.declared.entry.What.{What}
 use Rattle.bayou_base.specs.declared.entry.What.TheVariants as whats
 use Rattle.bayou_base.specs.Vector.{joined}
+use Rattle.bayou_server.specs.declared.answer.Written.{Written}
+use Rattle.bayou_server.specs.declared.answer.Written.TheVariants.{New, Known}
 use Rattle.bayou_server.specs.declared.fault.Behind.{Behind}
 use Rattle.bayou_server.specs.declared.fault.WriteFault.{WriteFault}
 use Rattle.bayou_session.specs.Needs.{Told, after_write}
@@ -18,12 +20,14 @@ seen_as key (Ok seen) = whats.Read key seen.vector
 seen_as key (Err behind) = whats.Refused
 
 -- what an answer to a program tells
-abbrev pub accepted_as : Result Accepted WriteFault → What
-accepted_as (Ok accepted) = whats.Write accepted.wid accepted.stamp accepted.deps
+abbrev pub accepted_as : Result Written WriteFault → What
+accepted_as (Ok (New accepted)) = whats.Write accepted.wid accepted.stamp accepted.deps
+accepted_as (Ok (Known accepted)) = whats.Write accepted.wid accepted.stamp accepted.deps
 accepted_as (Err fault) = whats.Refused
 
-abbrev pub accepted_of : Result Accepted WriteFault → Option Accepted
-accepted_of (Ok accepted) = Some accepted
+abbrev pub accepted_of : Result Written WriteFault → Option Accepted
+accepted_of (Ok (New accepted)) = Some accepted
+accepted_of (Ok (Known accepted)) = Some accepted
 accepted_of (Err fault) = None
 
 -- at the place that it began last the server answers it this, which is on its way

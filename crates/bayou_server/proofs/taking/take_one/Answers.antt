@@ -1,4 +1,4 @@
-use Rattle.std.proofs.Common.{Ok, subst}
+use Rattle.std.proofs.Common.{None, Ok, subst}
 use Rattle.bayou_server.specs.declared.answer.Took.TheVariants.{New}
 use Rattle.bayou_server.specs.declared.storing.Stored.{Stored}
 use Rattle.bayou_server.specs.declared.storing.Stored.TheVariants.{Held}
@@ -12,7 +12,7 @@ pub returns-in-Held-clause-takes : goal.returns-in-Held-clause-takes
 returns-in-Held-clause-takes g c =
     let old = server_of c.args.journal.now c.args.holding.now c.args.id.index in
     let new = server_of c.store.new.journal c.store.new.holding c.args.id.index in
-    let kept : Keeps old.core c.args.write Held new.core = subst (λ (s : Stored). Keeps old.core c.args.write s new.core) c.in-Held.is c.in_ok-store.ensures.keeps in
+    let kept : Keeps old.core None c.args.write Held new.core = subst (λ (s : Stored). Keeps old.core None c.args.write s new.core) c.in-Held.is c.in_ok-store.ensures.keeps in
     let takes : Takes old.core c.args.write (Ok New) new.core = (c.in_default.ensures, kept.0, kept.1) in
     let stores : StoresEntry g.D.Device old Held new = subst (λ (s : Stored). StoresEntry g.D.Device old s new) c.in-Held.is c.in_ok-store.ensures.stores in
     record {

@@ -14,10 +14,10 @@ loop-event-preserved g c =
     let inside : at < length events = omega (arith, c.loop-event-test.true) in
     let few : length c.loop-event.replies.items < greatest_count = omega (arith, c.loop-event.replies.ok.0, c.loop-event.replies.ok.1, c.loop-event.replies.small) in
     record {
-      so_far = λ first good tied book.
+      so_far = λ first good tagged tied book.
           subst (λ list. SoFar first (take (at + 1) events) list c.step.new.state c.step.new.book) (sym c.in_ok-push.ensures.items)
           (SoFar-more first events at c.loop-event.replies.items c.loop-event.state c.step.new.state c.loop-event.book c.step.new.book c.event-item.result c.in_ok-step.field-0 inside c.event-item.is
-          (c.loop-event.invariant.so_far first good tied book) c.in_ok-step.ensures.follows);
+          (c.loop-event.invariant.so_far first good tagged tied book) c.in_ok-step.ensures.follows);
       charged = λ unused.
           subst (λ list. AreCharged (length c.args.state.now.servers.items) (take (at + 1) events) list c.step.new.state.servers.items) (sym c.in_ok-push.ensures.items)
           (charged_step (length c.args.state.now.servers.items) events at c.loop-event.replies.items c.event-item.result c.in_ok-step.field-0 c.loop-event.state.servers.items c.step.new.state.servers.items inside c.event-item.is few
@@ -25,11 +25,11 @@ loop-event-preserved g c =
     }
 
 pub returns-clause-so_far : goal.returns-clause-so_far
-returns-clause-so_far g c first good tied book =
+returns-clause-so_far g c first good tagged tied book =
     let events = c.args.events.now in
     let at = c.loop-event.event-index in
     let all : length events ≤ at = omega (arith, c.loop-event-test.false) in
-    subst (λ list. SoFar first list c.loop-event.replies.items c.loop-event.state c.loop-event.book) (take_all at events all) (c.loop-event.invariant.so_far first good tied book)
+    subst (λ list. SoFar first list c.loop-event.replies.items c.loop-event.state c.loop-event.book) (take_all at events all) (c.loop-event.invariant.so_far first good tagged tied book)
 
 pub returns-clause-charged : goal.returns-clause-charged
 returns-clause-charged g c unused =

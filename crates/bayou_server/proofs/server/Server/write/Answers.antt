@@ -1,5 +1,6 @@
-use Rattle.std.proofs.Common.{◌≡◌, OnOk, Ok, Err, sym, ap, subst}
+use Rattle.std.proofs.Common.{◌≡◌, OnOk, Ok, Err, Some, sym, ap, subst}
 use Rattle.bayou_log.specs.Log.{Log}
+use Rattle.bayou_server.specs.declared.answer.Written.TheVariants.{New}
 use Rattle.bayou_server.specs.declared.fault.WriteFault.TheVariants as faults
 use Rattle.bayou_server.specs.declared.storing.Stored.{Stored}
 use Rattle.bayou_server.specs.declared.storing.Stored.TheVariants.{Held, InDoubt}
@@ -7,7 +8,7 @@ use Rattle.bayou_server.specs.Inner.Fields.{core_of, server_of}
 use Rattle.bayou_server.specs.Inner.Storing.{Keeps, StaysStored}
 use Rattle.bayou_server.specs.Server.{Core}
 use Rattle.bayou_server.specs.Stored.{IsStored}
-use Rattle.bayou_server.specs.Writes.{Writes}
+use Rattle.bayou_server.specs.Writes.{Makes, Writes}
 use Rattle.bayou_server.proofs.Steps.{next_may_be_stored, own_of_write}
 use Rattle.bayou_server.proofs.server.Server.write.Goals as goal
 use Rattle.bayou_server.proofs.server.Server.write.Goals.{in-Held, in-InDoubt}
@@ -15,7 +16,14 @@ use Rattle.bayou_server.proofs.server.Server.write.Goals.{in-Held, in-InDoubt}
 pub store-stored-requires-clause-may : goal.store-stored-requires-clause-may
 store-stored-requires-clause-may g c =
     let inside = c.self.inside in
-    next_may_be_stored (core_of inside.holding inside.id.index) c.args.program c.next_write-write.result c.self.invariant.0.sound c.in_default.ensures.0.0 c.in_default.ensures.1 c.next_write-write.ensures
+    let may = c.in_default.ensures.1 in
+    next_may_be_stored (core_of inside.holding inside.id.index) c.args.program c.next_write-write.result c.self.invariant.0.sound may.0.up may.1 c.next_write-write.ensures
+
+pub store-stored-requires-clause-tagged : goal.store-stored-requires-clause-tagged
+store-stored-requires-clause-tagged g c = record {
+  own = ((λ some. c.next_write-write.ensures.origin), (λ own. cc));
+  new = c.in_default.ensures.0;
+}
 
 pub returns-clause-writes : goal.returns-clause-writes
 returns-clause-writes g c =
@@ -23,44 +31,28 @@ returns-clause-writes g c =
     let made = c.next_write-write.result in
     let old = core_of inside.holding inside.id.index in
     let new = core_of c.store-stored.new.holding inside.id.index in
+    let may = c.in_default.ensures.1 in
     let same : core_of (record c.store-stored.new.holding { log = c.catch_up.new.self }) inside.id.index ≡ new =
     ap (λ (log : Log). core_of (record c.store-stored.new.holding { log = log }) inside.id.index) c.catch_up.ensures in
     rw (← c.self.view_is)
-    (subst (λ (core : Core). Writes old c.args.need.now c.args.program c.match-branch-2.result core) (sym same)
+    (subst (λ (core : Core). Writes old c.args.tag c.args.need.now c.args.program c.match-branch-2.result core) (sym same)
     (elim c.match-branch-2.branch [
       | in-Held w ↦
-          let kept : Keeps old made Held new = subst (λ (s : Stored). Keeps old made s new) w.in-Held.is c.in_ok-stored.ensures.keeps in
-          let writes : Writes old c.args.need.now c.args.program (Ok c.accepted-accepted.result) new = record {
-            made = made;
-            makes = record {
-              ready = record { up = c.in_default.ensures.0.0; covered = c.in_default.ensures.0.1 };
-              room = c.in_default.ensures.1;
-              next = c.next_write-write.ensures;
-              spelled = kept.0;
-            };
-            wid = c.accepted-accepted.ensures.wid;
-            stamp = c.accepted-accepted.ensures.stamp;
-            deps = c.accepted-accepted.ensures.deps;
-            is = kept.1;
-          } in
+          let kept : Keeps old (Some c.args.tag) made Held new = subst (λ (s : Stored). Keeps old (Some c.args.tag) made s new) w.in-Held.is c.in_ok-stored.ensures.keeps in
+          let makes : Makes old c.args.need.now c.args.program made = record { ready = may.0; room = may.1; next = c.next_write-write.ensures; spelled = kept.0 } in
+          let writes : Writes old c.args.tag c.args.need.now c.args.program (Ok (New c.accepted-accepted.result)) new =
+          (c.in_default.ensures.0, record { made = made; makes = makes; tells = c.accepted-accepted.ensures; is = kept.1 }) in
           rw w.result-is writes
       | in-InDoubt w ↦
-          let kept : Keeps old made InDoubt new = subst (λ (s : Stored). Keeps old made s new) w.in-InDoubt.is c.in_ok-stored.ensures.keeps in
-          let writes : Writes old c.args.need.now c.args.program (Err faults.Journal) new = record {
-            made = made;
-            makes = record {
-              ready = record { up = c.in_default.ensures.0.0; covered = c.in_default.ensures.0.1 };
-              room = c.in_default.ensures.1;
-              next = c.next_write-write.ensures;
-              spelled = kept.0;
-            };
-            is = kept.1;
-          } in
+          let kept : Keeps old (Some c.args.tag) made InDoubt new = subst (λ (s : Stored). Keeps old (Some c.args.tag) made s new) w.in-InDoubt.is c.in_ok-stored.ensures.keeps in
+          let makes : Makes old c.args.need.now c.args.program made = record { ready = may.0; room = may.1; next = c.next_write-write.ensures; spelled = kept.0 } in
+          let writes : Writes old c.args.tag c.args.need.now c.args.program (Err faults.Journal) new =
+          (c.in_default.ensures.0, record { made = made; makes = makes; is = kept.1 }) in
           rw w.result-is writes
     ]))
 
 pub returns-clause-own : goal.returns-clause-own
-returns-clause-own g c = own_of_write c.args.self.now.core c.args.need.now c.args.program c.match-branch-2.result _ (returns-clause-writes g c)
+returns-clause-own g c = own_of_write c.args.self.now.core c.args.tag c.args.need.now c.args.program c.match-branch-2.result _ (returns-clause-writes g c)
 
 pub returns-clause-stored : goal.returns-clause-stored
 returns-clause-stored g c = λ modelled.
@@ -77,3 +69,6 @@ returns-clause-stored g c = λ modelled.
           rw w.result-is stays
       | in-InDoubt w ↦ rw w.result-is tt
     ]))
+
+pub returns-clause-safe : goal.returns-clause-safe
+returns-clause-safe g c = rw (← c.self.view_is) c.store-stored.ensures.safe

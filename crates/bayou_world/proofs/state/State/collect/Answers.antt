@@ -15,7 +15,7 @@ use Rattle.bayou_world.proofs.state.State.collect.Goals as goal
 use Rattle.bayou_world.proofs.state.State.collect.Goals.{then-at-len-via-then-at-len, then-at-len-via-else-at-len+then-offer-len}
 
 pub returns-then-first-max-clause-follows : goal.returns-then-first-max-clause-follows
-returns-then-first-max-clause-follows c machine good tied =
+returns-then-first-max-clause-follows c machine good tagged tied =
     let place = c.args.place.index in
     let servers = c.args.self.now.servers.items in
     let world_sessions = c.args.self.now.sessions.items in
@@ -34,7 +34,7 @@ returns-then-first-max-clause-follows c machine good tied =
     (omega (arith, c.if-first-max.true, c.len-first.ensures, c.len-number.ensures, c.max.ensures))
 
 pub returns-clause-follows : goal.returns-clause-follows
-returns-clause-follows c machine good tied =
+returns-clause-follows c machine good tagged tied =
     let place = c.args.place.index in
     let servers = c.args.self.now.servers.items in
     let world_sessions = c.args.self.now.sessions.items in
@@ -61,7 +61,7 @@ returns-clause-follows c machine good tied =
     (collect_flown servers world_sessions offers items c.args.self.now.served.items machine tied place c.args.offer lacking lacks few)))
 
 pub returns-then-at-len-clause-follows : goal.returns-then-at-len-clause-follows
-returns-then-at-len-clause-follows c machine good tied =
+returns-then-at-len-clause-follows c machine good tagged tied =
     let place = c.args.place.index in
     let servers = c.args.self.now.servers.items in
     let world_sessions = c.args.self.now.sessions.items in
@@ -76,7 +76,7 @@ returns-then-at-len-clause-follows c machine good tied =
     (machine, CollectStep.skipped none refl refl, tied)
 
 pub returns-in_default-clause-follows : goal.returns-in_default-clause-follows
-returns-in_default-clause-follows c machine good tied =
+returns-in_default-clause-follows c machine good tagged tied =
     let place = c.args.place.index in
     let servers = c.args.self.now.servers.items in
     let world_sessions = c.args.self.now.sessions.items in
@@ -91,7 +91,7 @@ returns-in_default-clause-follows c machine good tied =
     )
 
 pub returns-in_default-lacking_in-clause-follows : goal.returns-in_default-lacking_in-clause-follows
-returns-in_default-lacking_in-clause-follows c machine good tied =
+returns-in_default-lacking_in-clause-follows c machine good tagged tied =
     let place = c.args.place.index in
     let servers = c.args.self.now.servers.items in
     let world_sessions = c.args.self.now.sessions.items in

@@ -9,7 +9,7 @@ use Rattle.bayou_world.proofs.TiedFlights.{deliver_tied}
 use Rattle.bayou_world.proofs.state.State.deliver.Goals as goal
 
 pub returns-clause-follows : goal.returns-clause-follows
-returns-clause-follows c machine good tied =
+returns-clause-follows c machine good tagged tied =
     let who = c.args.who.index in
     let servers = c.args.self.now.servers.items in
     let world_sessions = c.args.self.now.sessions.items in

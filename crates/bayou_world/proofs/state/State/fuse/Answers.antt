@@ -10,7 +10,7 @@ use Rattle.bayou_world.proofs.TiedServers.{fuse_tied}
 use Rattle.bayou_world.proofs.state.State.fuse.Goals as goal
 
 pub returns-clause-follows : goal.returns-clause-follows
-returns-clause-follows c machine good tied =
+returns-clause-follows c machine good tagged tied =
     let place = c.args.place.index in
     let servers = c.args.self.now.servers.items in
     let old = c.index_mut.result.now in

@@ -9,7 +9,7 @@ use Rattle.bayou_world.proofs.TiedFlights.{lose_tied, some_flight}
 use Rattle.bayou_world.proofs.state.State.lose.Goals as goal
 
 pub returns-then-lose-clause-follows : goal.returns-then-lose-clause-follows
-returns-then-lose-clause-follows c machine good tied =
+returns-then-lose-clause-follows c machine good tagged tied =
     let who = c.args.who.index in
     let servers = c.args.self.now.servers.items in
     let world_sessions = c.args.self.now.sessions.items in

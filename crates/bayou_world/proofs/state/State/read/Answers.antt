@@ -13,7 +13,7 @@ use Rattle.bayou_world.proofs.state.State.read.Goals as goal
 use Rattle.bayou_world.proofs.state.State.read.Goals.{then-seat-len-via-then-seat-len, then-seat-len-via-else-seat-len+then-at-len}
 
 pub returns-clause-follows : goal.returns-clause-follows
-returns-clause-follows c machine good tied =
+returns-clause-follows c machine good tagged tied =
     let who = c.args.who.index in
     let place = c.args.place.index in
     let servers = c.args.self.now.servers.items in
@@ -32,7 +32,7 @@ returns-clause-follows c machine good tied =
     c.in-Some.session c.read.new.self server c.read.result c.args.who.in_range at may.0 may.1 known stands c.read.ensures.counts c.read.ensures.answer c.read.ensures.begun)
 
 pub returns-then-seat-len-clause-follows : goal.returns-then-seat-len-clause-follows
-returns-then-seat-len-clause-follows c machine good tied =
+returns-then-seat-len-clause-follows c machine good tagged tied =
     let who = c.args.who.index in
     let place = c.args.place.index in
     let servers = c.args.self.now.servers.items in
@@ -47,7 +47,7 @@ returns-then-seat-len-clause-follows c machine good tied =
     (machine, ReadStep.skipped (cannot_begin servers world_sessions offers items served machine tied who place c.args.who.in_range (λ world_session there idle left known running. omega (arith, none, known))) refl refl, tied)
 
 pub returns-in_default-clause-follows : goal.returns-in_default-clause-follows
-returns-in_default-clause-follows c machine good tied =
+returns-in_default-clause-follows c machine good tagged tied =
     let who = c.args.who.index in
     let place = c.args.place.index in
     let servers = c.args.self.now.servers.items in
@@ -66,7 +66,7 @@ returns-in_default-clause-follows c machine good tied =
     )
 
 pub returns-then-not-may_begin-clause-follows : goal.returns-then-not-may_begin-clause-follows
-returns-then-not-may_begin-clause-follows c machine good tied =
+returns-then-not-may_begin-clause-follows c machine good tagged tied =
     let who = c.args.who.index in
     let place = c.args.place.index in
     let servers = c.args.self.now.servers.items in
@@ -89,7 +89,7 @@ returns-then-not-may_begin-clause-follows c machine good tied =
     )
 
 pub returns-in_default-index-clause-follows : goal.returns-in_default-index-clause-follows
-returns-in_default-index-clause-follows c machine good tied =
+returns-in_default-index-clause-follows c machine good tagged tied =
     let who = c.args.who.index in
     let place = c.args.place.index in
     let servers = c.args.self.now.servers.items in

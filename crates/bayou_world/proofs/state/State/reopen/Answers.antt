@@ -13,7 +13,7 @@ use Rattle.bayou_world.proofs.TiedServers.{reopen_tied}
 use Rattle.bayou_world.proofs.state.State.reopen.Goals as goal
 
 pub returns-clause-follows : goal.returns-clause-follows
-returns-clause-follows c machine good tied =
+returns-clause-follows c machine good tagged tied =
     let place = c.args.place.index in
     let servers = c.args.self.now.servers.items in
     let old = c.in-Running.server in

@@ -11,7 +11,7 @@ use Rattle.bayou_world.proofs.TiedServers.{put_back, restart_tied}
 use Rattle.bayou_world.proofs.state.State.restart.Goals as goal
 
 pub returns-clause-follows : goal.returns-clause-follows
-returns-clause-follows c machine good tied =
+returns-clause-follows c machine good tagged tied =
     let place = c.args.place.index in
     let servers = c.args.self.now.servers.items in
     let old = c.remove.result in

@@ -16,7 +16,7 @@ use Rattle.bayou_world.proofs.state.State.take.Goals as goal
 use Rattle.bayou_world.proofs.state.State.take.Goals.{then-at-len-via-then-at-len, then-at-len-via-else-at-len+then-item-len}
 
 pub returns-clause-follows : goal.returns-clause-follows
-returns-clause-follows c machine good tied =
+returns-clause-follows c machine good tagged tied =
     let place = c.args.place.index in
     let servers = c.args.self.now.servers.items in
     let world_sessions = c.args.self.now.sessions.items in
@@ -55,7 +55,7 @@ returns-clause-spent c =
     (one_spent servers place (tells_fault (replies.Took c.take_write.result)) false (Running old) (Running c.take_write.new.server) known stands c.take_write.ensures.spends)
 
 pub returns-then-at-len-clause-follows : goal.returns-then-at-len-clause-follows
-returns-then-at-len-clause-follows c machine good tied =
+returns-then-at-len-clause-follows c machine good tagged tied =
     let place = c.args.place.index in
     let servers = c.args.self.now.servers.items in
     let world_sessions = c.args.self.now.sessions.items in
@@ -71,7 +71,7 @@ returns-then-at-len-clause-follows c machine good tied =
     (machine, TakeStep.skipped none refl refl, tied)
 
 pub returns-in_default-clause-follows : goal.returns-in_default-clause-follows
-returns-in_default-clause-follows c machine good tied =
+returns-in_default-clause-follows c machine good tagged tied =
     let place = c.args.place.index in
     let servers = c.args.self.now.servers.items in
     let world_sessions = c.args.self.now.sessions.items in

@@ -17,7 +17,7 @@ use Rattle.bayou_world.proofs.state.State.write.Goals as goal
 use Rattle.bayou_world.proofs.state.State.write.Goals.{then-seat-len-via-then-seat-len, then-seat-len-via-else-seat-len+then-at-len}
 
 pub returns-clause-follows : goal.returns-clause-follows
-returns-clause-follows c machine good tied =
+returns-clause-follows c machine good tagged tied =
     let who = c.args.who.index in
     let place = c.args.place.index in
     let servers = c.args.self.now.servers.items in
@@ -34,8 +34,8 @@ returns-clause-follows c machine good tied =
     × IsTied (set servers n (Running c.write.new.server)) (set world_sessions c.from-seat.result (Some c.write.new.self)) c.args.self.now.offers.items c.args.self.now.items.items c.args.self.now.served.items next) (sym c.from-at.ensures)
     (subst (λ n. (next : Machine) × WriteStep machine who place c.args.program (replies.Wrote c.write.result) next
     × IsTied (set servers place (Running c.write.new.server)) (set world_sessions n (Some c.write.new.self)) c.args.self.now.offers.items c.args.self.now.items.items c.args.self.now.served.items next) (sym c.from-seat.ensures)
-    (write_tied c.write_need_is_what_is_asked.ensures servers world_sessions c.args.self.now.offers.items c.args.self.now.items.items c.args.self.now.served.items machine good tied who place c.args.program
-    c.in-Some.session c.write.new.self server c.write.new.server c.write.result c.args.who.in_range at may.0 may.1 known stands c.write.ensures.honest c.write.ensures.counts c.write.ensures.answer c.write.ensures.begun))
+    (write_tied c.write_need_is_what_is_asked.ensures servers world_sessions c.args.self.now.offers.items c.args.self.now.items.items c.args.self.now.served.items machine good tagged tied who place c.write.ensures.answer.0 c.args.program
+    c.in-Some.session c.write.new.self server c.write.new.server c.write.result c.args.who.in_range at may.0 may.1 known stands c.write.ensures.honest c.write.ensures.counts c.write.ensures.answer.1 c.write.ensures.answer.2 c.write.ensures.begun))
 
 pub returns-then-seat-len-clause-spent : goal.returns-then-seat-len-clause-spent
 returns-then-seat-len-clause-spent c = none_spent c.args.self.now.servers.items c.args.place.index
@@ -65,7 +65,7 @@ returns-clause-spent c =
     (one_spent servers place (tells_fault (replies.Wrote c.write.result)) false (Running old) (Running c.write.new.server) known stands c.write.ensures.spends)
 
 pub returns-then-seat-len-clause-follows : goal.returns-then-seat-len-clause-follows
-returns-then-seat-len-clause-follows c machine good tied =
+returns-then-seat-len-clause-follows c machine good tagged tied =
     let who = c.args.who.index in
     let place = c.args.place.index in
     let servers = c.args.self.now.servers.items in
@@ -80,7 +80,7 @@ returns-then-seat-len-clause-follows c machine good tied =
     (machine, WriteStep.skipped (cannot_begin servers world_sessions offers items served machine tied who place c.args.who.in_range (λ world_session there idle left known running. omega (arith, none, known))) refl refl, tied)
 
 pub returns-in_default-clause-follows : goal.returns-in_default-clause-follows
-returns-in_default-clause-follows c machine good tied =
+returns-in_default-clause-follows c machine good tagged tied =
     let who = c.args.who.index in
     let place = c.args.place.index in
     let servers = c.args.self.now.servers.items in
@@ -99,7 +99,7 @@ returns-in_default-clause-follows c machine good tied =
     )
 
 pub returns-then-not-may_begin-clause-follows : goal.returns-then-not-may_begin-clause-follows
-returns-then-not-may_begin-clause-follows c machine good tied =
+returns-then-not-may_begin-clause-follows c machine good tagged tied =
     let who = c.args.who.index in
     let place = c.args.place.index in
     let servers = c.args.self.now.servers.items in
@@ -122,7 +122,7 @@ returns-then-not-may_begin-clause-follows c machine good tied =
     )
 
 pub returns-in_default-index_mut-clause-follows : goal.returns-in_default-index_mut-clause-follows
-returns-in_default-index_mut-clause-follows c machine good tied =
+returns-in_default-index_mut-clause-follows c machine good tagged tied =
     let who = c.args.who.index in
     let place = c.args.place.index in
     let servers = c.args.self.now.servers.items in

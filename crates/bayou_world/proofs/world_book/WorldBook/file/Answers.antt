@@ -12,7 +12,7 @@ invariant_of-self g c = (
 )
 
 pub returns-in_default-clause-follows : goal.returns-in_default-clause-follows
-returns-in_default-clause-follows g c machine good tied book =
+returns-in_default-clause-follows g c machine good tagged tied book =
     full_files c.args.state.now c.args.who.index c.args.self.now c.self.inside.book c.claim.new.self c.self.view_is (c.in_default.ensures.full.0 refl) c.self.invariant.0 c.in_default.ensures.claimed.0 machine tied book
 
 pub void-requires : goal.void-requires
@@ -94,7 +94,7 @@ invariant_of-self-then-ne g c = (
 )
 
 pub returns-then-ne-clause-follows : goal.returns-then-ne-clause-follows
-returns-then-ne-clause-follows g c machine good tied book =
+returns-then-ne-clause-follows g c machine good tagged tied book =
     let named : c.session.result.index ≡ c.args.who.index =
     ap (λ (id : SessionId). id.index) c.session.ensures ∙ ap (λ (share : Shared). share.session.index) c.in-Ok.ensures.claimed.2
     ∙ of_session c.self.inside.shares.items c.from.result c.index_mut-share.result.now c.self.invariant.1 (omega (arith, c.from.ensures, c.args.who.in_range)) c.index_mut-share.ensures.value ∙ c.from.ensures in

@@ -19,7 +19,7 @@ returns-in-Ok-clause-starts c kept =
     let starts = of_role (λ id count limit. Starts id count limit server.core) c.role-role.result old c.role-role.ensures.id c.role-role.ensures.count c.role-role.ensures.limit c.in-Ok.ensures.starts in
     let opens = subst (λ (d : Memory). StartsOn memory_device d server c.in-Ok.field-0-1) c.stop-device.ensures.device c.in-Ok.ensures.opens in
     let law = c.a_start_on_an_honest_device_is_honest.ensures in (
-      (refl, ap length c.receipts-holds.ensures.value, starts.is, law.held old _ _ server tt left.sound left.honest starts opens),
+      (refl, ap length c.receipts-holds.ensures.value, starts.is, starts.sound, law.records old _ _ server tt left.sound left.honest starts opens),
       law.whole old.id old.count old.limit _ _ server tt starts opens,
     )
 
