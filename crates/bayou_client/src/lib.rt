@@ -4,9 +4,11 @@
 //! since what comes next might belong to that request; whoever goes on opens another. A [`Client`] is a session with its share of the book:
 //! callers see the two, and what becomes of them in words of the reply that was read. It begins a place and claims a slip
 //! for each operation, sends the session's need, and tells the session just what a reply to that request says. A Write is sent under the
-//! tag of its place, by which the session may ask it again.
+//! tag of its place. The client keeps its program and the server, and asks it again over another link, under that tag and at the session's
+//! next place: until it is told as accepted, or a read or another Write is begun.
 //!
-//! A caller owes that the session has a place left, and that session and share name one session. Servers may send any bytes: what is no
+//! A caller owes that the session has a place left, that session and share name one session, that there is something to ask again where it
+//! is asked again, and that each link leads to the server that it is for: for what is asked again, the one that the client names. Servers may send any bytes: what is no
 //! reply to the request is a bad frame. It isn't promised that a server did anything, nor, where a reply is lost, that it did nothing.
 #![tactic(auto)]
 
@@ -16,6 +18,6 @@ mod judging;
 pub mod link;
 mod reading;
 
-pub use client::Client;
+pub use client::{Asked, Client};
 pub use fault::{ClientFault, LinkFault};
 pub use link::Link;

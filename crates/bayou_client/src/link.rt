@@ -4,15 +4,15 @@ ghost use Rattle.std.specs.Io.KnownBytes.{Consumes, IsAtEnd};
 ghost use Rattle.bayou_base.specs.declared.limits.TheConstants.{MAX_TURNS};
 ghost use Rattle.bayou_client.specs.Exchange.{IsGone, LinkEnds, asks_dump, asks_read, asks_reopening, asks_write};
 ghost use Rattle.bayou_client.specs.Inner.Exchanging.{Exchanges, Opens};
-ghost use Rattle.bayou_wire.specs.declared.frame.Frame.TheVariants.{Dump, Read as ReadFrame, Reopen, Write as WriteFrame};
+ghost use Rattle.bayou_wire.specs.declared.frame.Frame.TheVariants.{Dump, Read as ReadFrame, Reopen};
 ghost use Rattle.bayou_wire.specs.Stream.{spelling};
 
 use crate::fault::LinkFault;
 use crate::judging::{accepted_of, dumped_of, reopened_of, seen_of};
 use crate::reading::{Reply, read_reply};
-use bayou_base::{Accepted, Key, Seen, ServerId, Tag, Vector, Wid};
+use bayou_base::{Accepted, Key, Seen, ServerId, Vector, Wid};
 use bayou_frames::send;
-use bayou_lang::{RestingProgram, RestingWrite};
+use bayou_lang::RestingWrite;
 use bayou_streams::CountedChannel;
 use bayou_wire::{Frame, encode_frame};
 use std::alloc::Global;
@@ -101,22 +101,21 @@ impl<R: Read, W: Write> Link<R, W> {
         told
     }
 
-    // Has the program accepted as a Write, at this server, which has what is needed. The tag names its asking.
+    // Has what this request names accepted as a Write, at this server, which has what is needed. The request stays with the caller.
     pub(crate) fn write(
         &mut self,
         alloc: Global,
-        tag: Tag,
+        request: &Frame,
         need: &Vector,
         server: ServerId,
-        program: RestingProgram,
     ) -> Result<Accepted, LinkFault>
         ensures ends { (read : List ℕ) × Consumes (R.remaining self.old.channel.reader) (R.remaining self.new.channel.reader) read
-            × LinkEnds (asks_write need.now server) (spelling (WriteFrame tag need.now program)) (W.contents self.old.channel.writer) (W.contents self.new.channel.writer) read self.old.is_closed self.new.is_closed
+            × LinkEnds (asks_write need.now server) (spelling request.now) (W.contents self.old.channel.writer) (W.contents self.new.channel.writer) read self.old.is_closed self.new.is_closed
             (IsGone self.new.channel.read_failed self.new.channel.write_failed self.new.channel.turns_left (IsAtEnd (R.remaining self.new.channel.reader))) result }
         ensures closed { self.old.is_closed ≡ true → self.new ≡ self.old }
         ensures turns { self.new.channel.turns_left ≤ self.old.channel.turns_left }
     {
-        let reply = exchange(alloc, self, &Frame::Write(tag, *need, program), false)?;
+        let reply = exchange(alloc, self, request, false)?;
         let told = accepted_of(reply, need, server);
         self.is_closed = !is_answered(&told);
         told

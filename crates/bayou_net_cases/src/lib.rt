@@ -3,6 +3,7 @@
 #![tactic(auto)]
 
 #[cfg(test)]
+mod agains;
 #[cfg(test)]
 mod breaks;
 #[cfg(test)]
