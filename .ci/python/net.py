@@ -7,6 +7,7 @@ import tempfile
 import time
 import traceback
 
+import frames
 import net_calls
 import net_device
 import net_faults
@@ -141,9 +142,31 @@ def goes_on(checks, program, room):
     checks.that("its journals", sorted(contents(folder)), ["server-%d.journal" % s for s in range(3)])
 
 
+def counts_runs(checks, program, room):
+    """Each run has tags of its own, one more than the greatest run that the journals have; behind the last run there is none."""
+    folder = fresh(room, "runs")
+    path = net_runs.journal(folder, 0)
+    writes = script(["servers", 1, 100], ["session", 5, []], ["write", 5, 0, put("a", 1)])
+    program_put = ([], [("put", "a", ("lit", 1))], [])
+    bodies = []
+    for number in (1, 2, 3):
+        told = "5 wrote 0:%d clock %d deps %d" % (number, number, number - 1)
+        status, output, errors = run(program, folder, writes)
+        checks.that("run %d writes anew" % number, (status, output.split("\n")[0], errors), (0, told, ""))
+        write = frames.write_bytes((0, number, number, frames.counts(number - 1), program_put))
+        bodies.append(frames.own_record((5, number, 1), write))
+        checks.that("the tags of run %d" % number, net_runs.content(path), frames.journal(0, bodies))
+    last = frames.own_record((5, frames.MAX_NUMBER, 1), frames.write_bytes((0, 1, 1, frames.ZERO, program_put)))
+    with open(path, "wb") as it:
+        it.write(frames.journal(0, [last]))
+    kept = contents(folder)
+    checks.that("behind the last run", run(program, folder, writes), net_faults.DEVICE)
+    checks.that("what it leaves", contents(folder), kept)
+
+
 def groups_of(folder, number):
     """Each group of checks by its name."""
-    groups = [meets, helps, goes_on]
+    groups = [meets, helps, goes_on, counts_runs]
     groups += [net_faults.folders, net_faults.journals, net_faults.torn, net_faults.old, net_faults.held, net_faults.at_once, net_faults.places, net_faults.files]
     groups += [net_verdicts.of_journals, net_verdicts.of_replies, net_verdicts.surveys, net_waits.phases, net_waits.short, net_waits.down]
     groups += [net_output.bytes_told, net_calls.connections, net_calls.batches, net_calls.all_sessions]
