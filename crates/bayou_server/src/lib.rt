@@ -10,7 +10,10 @@
 //! stands in them. `StartsOn`, `FailsToStart`, `StoresWrite`, `StoresTaken` and `ReopensJournal` say how the device stands
 //! then.
 //!
-//! A server makes Writes of programs, and takes Writes that others accepted exactly where they fit, so that it holds none
+//! A server makes Writes of programs. A program that comes under the tag of a Write that is held is told what that was given, and no
+//! second Write is made: so a client may ask again whose reply was lost.
+//!
+//! A server takes Writes that others accepted exactly where they fit, so that it holds none
 //! before one on which it rests; a taken Write leaves the count of the server's own as it was. Of each other the answer
 //! says why not, and nothing is left of it. Several that are taken together ([`Server::take_next`]) are each stored and synced in
 //! turn, and applied once; nobody sees a database that lags.
@@ -27,7 +30,7 @@
 //! A caller starts a server whose identifier is below the number of servers, and doesn't run two on one device. Through
 //! [`Server::device`] a caller may do to the device what it likes: a server that is up adds its entries behind whatever is
 //! there, and the next opening tells what came of it. Want of memory is an answer only where a growth was refused. Reads,
-//! adopting, and what is said of a given Write that isn't added, take none. The crate doesn't promise what a real file
+//! adopting, and what is said of a Write that is known, or given and not added, take none. The crate doesn't promise what a real file
 //! holds, how long a call takes, or that the journal of another server with the same identifier is told from its own.
 #![tactic(auto)]
 
