@@ -10,6 +10,7 @@ use Rattle.bayou_base.specs.declared.limits.TheConstants.{SERVERS}
 use Rattle.bayou_base.specs.declared.session.SessionId.{SessionId}
 use Rattle.bayou_base.specs.Vector.{Dominates}
 use Rattle.bayou_judge.specs.History.{IsFrontOf}
+use Rattle.bayou_lang.specs.declared.write.Write.{Write}
 use Rattle.bayou_lang.specs.Laws.Fitting.{fitting-front, length-count_of}
 use Rattle.bayou_lang.specs.Writes.{AreFitting, count_of}
 use Rattle.bayou_session.specs.Needs as sessions
@@ -19,7 +20,7 @@ use Rattle.bayou_world.specs.Inner.Good.{IsGoodMachine, IsHome, WasSo}
 use Rattle.bayou_world.specs.Invariant.{IsVectorOf}
 use Rattle.bayou_world.specs.Machine.{Answered, Machine, Made, Offered, SessionSets, names, writes}
 use Rattle.bayou_world.specs.Runs.{new_session}
-use Rattle.bayou_world.specs.Steps.{MayRead, MayWrite, heard, told}
+use Rattle.bayou_world.specs.Steps.{CoversWrite, MayRead, MayWrite, heard, told}
 use Rattle.bayou_world.proofs.Given.{given_fits, no_gap_within}
 use Rattle.bayou_world.proofs.Homes.{fitting_at}
 use Rattle.bayou_world.proofs.Vectors.{IsVectorOf-counts, IsVectorOf-joined, IsVectorOf-none, IsVectorOf-raised, length-joined, named, tests_agree}
@@ -63,6 +64,18 @@ may_write law count held fitting told session is =
         wfr = λ asked. reads.1 ((all.0 dominates).0 (ap (λ (a : Asks). a.wfr) is.asks ∙ asked));
         mw = λ asked. wrote.1 ((all.0 dominates).1 (ap (λ (a : Asks). a.mw) is.asks ∙ asked));
       },
+    )
+
+-- what a past has that the session needs
+pub covers_write : WriteLaw → (count : ℕ) (past : List Write) → AreFitting count past → (told : Told) (session : SessionSets) → StandsFor told session → CoversWrite session past
+    → Dominates (count_of past) (write_need told)
+covers_write law count past fitting told session is covers =
+    let all = law told (count_of past) is.long.0 is.long.1 in
+    let reads = tests_agree count past told.reads session.reads fitting is.reads in
+    let wrote = tests_agree count past told.writes session.writes fitting is.writes in
+    all.1 (
+      (λ asked. reads.0 (covers.wfr (ap (λ (a : Asks). a.wfr) (sym is.asks) ∙ asked))),
+      (λ asked. wrote.0 (covers.mw (ap (λ (a : Asks). a.mw) (sym is.asks) ∙ asked))),
     )
 
 pub needs_agree : ReadLaw → WriteLaw → (machine : Machine) → IsGoodMachine machine → (session : SessionSets) (told : Told) → StandsFor told session → NeedsAgree machine session told

@@ -6,8 +6,8 @@ use Rattle.bayou_base.specs.declared.tag.Tag.{Tag}
 use Rattle.bayou_lang.specs.declared.write.Write.{Write}
 use Rattle.bayou_server.specs.Server.{records}
 use Rattle.bayou_wire.specs.declared.record.Record.{Record}
-use Rattle.bayou_world.specs.Machine.{Made, tag_at}
-use Rattle.bayou_world.proofs.Lists.{Contains-later}
+use Rattle.bayou_world.specs.Machine.{Made, tag_at, writes}
+use Rattle.bayou_world.proofs.Lists.{Contains-here, Contains-later}
 
 -- the tag of a Write that the server made
 pub own_tag : (place : ℕ) (made : Made) → made.write.wid.origin.index ≡ place → tag_at place made ≡ Some made.tag
@@ -45,6 +45,14 @@ tag_kept [] tags kept (k, within, is) = absurd (omega (arith, within))
 tag_kept (write ∷ held) [] kept (k, within, is) = absurd (omega (arith, within))
 tag_kept (write ∷ held) (tag ∷ tags) kept (zero, within, is) = (0, omega arith, ap (λ (r : Record). r.tag) is)
 tag_kept (write ∷ held) (tag ∷ tags) kept (suc k, within, is) = Contains-later tag tags kept.tag (tag_kept held tags kept (k, omega (arith, within), is))
+
+-- and what is kept is so of one of the Writes, where a server knows the tags of its own
+pub kept_of : (place : ℕ) (held : List Made) (kept : Record) → Contains (records (writes held) (map (tag_at place) held)) kept
+    → (made : Made) × Contains held made × (made.write ≡ kept.write) × (tag_at place made ≡ kept.tag)
+kept_of place [] kept (k, within, is) = absurd (omega (arith, within))
+kept_of place (made ∷ held) kept (zero, within, is) = (made, Contains-here made held, ap (λ (r : Record). r.write) is, ap (λ (r : Record). r.tag) is)
+kept_of place (made ∷ held) kept (suc k, within, is) =
+    let rest = kept_of place held kept (k, omega (arith, within), is) in (rest.0, Contains-later made held rest.0 rest.1, rest.2, rest.3)
 
 -- where there is one tag each, the Writes and the tags follow from what is kept
 pub kept_writes : (held : List Write) (tags : List (Option Tag)) → length tags ≡ length held → map (λ (r : Record). r.write) (records held tags) ≡ held

@@ -27,7 +27,7 @@ use Rattle.bayou_world.specs.declared.event.Event.{Event}
 use Rattle.bayou_world.specs.declared.world_server.WorldServer.{WorldServer}
 use Rattle.bayou_world.specs.declared.reply.Reply.{Reply}
 use Rattle.bayou_world.specs.declared.reply.Reply.TheVariants as replies
-use Rattle.bayou_world.specs.Faults.{AreFused, is_of, number_at, tells_fault, tells_fuse}
+use Rattle.bayou_world.specs.Faults.{AreFused, has_doubt, is_of, number_at, tells_fault, tells_fuse}
 use Rattle.bayou_world.specs.Inner.Charges.{AreAmple, AreCharged, AreSpent, IsCharged, SetsFuse, Spends, SpendsAt, Waits, one_if}
 use Rattle.bayou_world.specs.Inner.WorldServers.{device_of}
 
@@ -57,7 +57,7 @@ as_it_was : (old new : Memory) → new ≡ old → Spends false false old new
 as_it_was old new same = subst (Spends false false old) (sym same) (same_spends old)
 
 pub wrote_spends : (answer : Result Written WriteFault) (old new : ServerState Memory) → LeadsTo 2 old.device new.device → StoresWrite memory_device old answer new
-    → Spends (tells_fault (replies.Wrote answer)) false old.device new.device
+    → Spends (has_doubt answer) false old.device new.device
 wrote_spends (Ok (written.New accepted)) old new calls stores = steady 2 old.device new.device calls stores.counts
 wrote_spends (Ok (written.Known accepted)) old new calls same = as_it_was old.device new.device same.device
 wrote_spends (Err writing.TagUsed) old new calls same = as_it_was old.device new.device same.device
@@ -142,7 +142,7 @@ waits_there servers place call kept reply old new known stands is set_now d =
     ap device_of there ∙ is ∙ ap (λ r. with_fuse call kept (device_of r)) (sym here)
 
 -- an event of one server
-pub spent_as : (event : Event) (place : ℕ) (reply : Reply) (old new : List WorldServer) → ((other : ℕ) → is_of other event ≡ (other == place)) → AreSpent place (tells_fault reply) (tells_fuse reply) old new
+pub spent_as : (event : Event) (place : ℕ) (reply : Reply) (old new : List WorldServer) → ((other : ℕ) → is_of other event reply ≡ (other == place)) → AreSpent place (tells_fault reply) (tells_fuse reply) old new
     → SetsFuse event reply old new → SpendsAt event reply old new
 spent_as event place reply old new is spent sets = record {
   many = spent.many;
@@ -152,7 +152,7 @@ spent_as event place reply old new is spent sets = record {
 }
 
 -- an event that is of no server alone
-pub beside_spent : (event : Event) (reply : Reply) (old new : List WorldServer) → ((place : ℕ) → is_of place event ≡ false) → new ≡ old → SetsFuse event reply old old
+pub beside_spent : (event : Event) (reply : Reply) (old new : List WorldServer) → ((place : ℕ) → is_of place event reply ≡ false) → new ≡ old → SetsFuse event reply old old
     → SpendsAt event reply old new
 beside_spent event reply old new none same sets = subst (SpendsAt event reply old) (sym same) (record {
   many = refl;
@@ -166,7 +166,7 @@ beside_spent event reply old new none same sets = subst (SpendsAt event reply ol
 
 -- how often one event and its reply tell so
 abbrev tell : (Reply → Bool) → ℕ → Event → Reply → ℕ
-tell tells place event reply = cond (is_of place event) (cond (tells reply) 1 0) 0
+tell tells place event reply = cond (is_of place event reply) (cond (tells reply) 1 0) 0
 
 number_more : (tells : Reply → Bool) (place : ℕ) (events : List Event) (told : List Reply) (event : Event) (reply : Reply) → length events ≡ length told
     → number_at tells place (events ++ event ∷ []) (told ++ reply ∷ []) ≡ number_at tells place events told + tell tells place event reply
@@ -185,7 +185,7 @@ number_most : (tells : Reply → Bool) (place : ℕ) (events : List Event) (told
 number_most tells place [] told = omega arith
 number_most tells place (one ∷ events) [] = omega arith
 number_most tells place (one ∷ events) (first ∷ told) =
-    omega (arith, one_most (is_of place one) (tells first), number_most tells place events told)
+    omega (arith, one_most (is_of place one first) (tells first), number_most tells place events told)
 
 as_one : (a b : Bool) → one_if (cond a b false) ≡ cond a (cond b 1 0) 0
 as_one true true = refl
@@ -226,8 +226,8 @@ charged_more many events told event reply old new few charged spent = record {
     now_at place d within =
         let was = charged.now place d within in
         let spends = spent.each place d (omega (arith, within, charged.length_is)) in
-        let fault = as_one (is_of place event) (tells_fault reply) in
-        let fused = as_one (is_of place event) (tells_fuse reply) in
+        let fault = as_one (is_of place event reply) (tells_fault reply) in
+        let fused = as_one (is_of place event reply) (tells_fuse reply) in
         let faults = number_more tells_fault place events told event reply same in
         let fuses = number_more tells_fuse place events told event reply same in
         let most = number_most tells_fault place events told in

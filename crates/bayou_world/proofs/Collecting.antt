@@ -1,5 +1,5 @@
 -- What servers hold and what is in flight only grows, and so the items of one Collect can be taken in their order.
-use Rattle.std.proofs.Common.{◌≡◌, ◌≢◌, inl, inr, ◌⊎◌, ℕ, zero, suc, ◌+◌, ◌<◌, true, false, List, [], ◌∷◌, ◌++◌, None, Some, Err, length, get_or, Contains, AllPairs, slice_index, ap, sym, ◌∙◌, refl, subst, arith}
+use Rattle.std.proofs.Common.{◌≡◌, ◌≢◌, inl, inr, ◌⊎◌, ℕ, zero, suc, ◌+◌, ◌<◌, true, false, List, [], ◌∷◌, ◌++◌, None, Some, Result, Err, length, get_or, Contains, AllPairs, slice_index, ap, sym, ◌∙◌, refl, subst, arith}
 use Rattle.std.specs.List.{slice_get}
 use Rattle.std.proofs.lemmas.Bool.{cases_lt}
 use Rattle.std.proofs.lemmas.List.{append-nil, append_assoc}
@@ -13,15 +13,17 @@ use Rattle.bayou_lang.specs.Laws.StampOrder.{is_before-asym}
 use Rattle.bayou_lang.specs.Laws.Fitting.{fitting-front}
 use Rattle.bayou_lang.specs.Writes.{AreFitting, count_of}
 use Rattle.bayou_judge.specs.History.{IsFrontOf}
+use Rattle.bayou_server.specs.declared.answer.Written.{Written}
 use Rattle.bayou_server.specs.declared.fault.TakeFault.TheVariants as taking
+use Rattle.bayou_server.specs.declared.fault.WriteFault.{WriteFault}
 use Rattle.bayou_world.specs.declared.event.Event.{Event}
 use Rattle.bayou_world.specs.declared.event.Event.TheVariants as events
 use Rattle.bayou_world.specs.declared.reply.Reply.{Reply}
 use Rattle.bayou_world.specs.declared.reply.Reply.TheVariants as replies
 use Rattle.bayou_world.specs.Inner.Good.{IsGoodMachine}
-use Rattle.bayou_world.specs.Machine.{IsWithin, Machine, Made, Offered, ServerSets, names, writes}
+use Rattle.bayou_world.specs.Machine.{Asking, IsWithin, Machine, Made, Offered, ServerSets, SessionSets, names, writes}
 use Rattle.bayou_world.specs.Runs.{Run}
-use Rattle.bayou_world.specs.Steps.{AreLacking, CollectStep, DeliverStep, FileStep, FuseStep, HoldsName, LoseStep, OfferStep, ReadStep, RefusesItem, ReopenStep, RestartStep, Step, TakeStep, WriteStep}
+use Rattle.bayou_world.specs.Steps.{AgainStep, AreLacking, AskStep, CollectStep, DeliverStep, FileStep, FuseStep, HoldsName, LoseStep, OfferStep, ReadStep, RefusesItem, ReopenStep, RestartStep, Step, TakeStep, WriteStep, first_asking}
 use Rattle.bayou_world.proofs.Growing.{HaveGrown, grown_by_doubt, grown_by_recovery, grown_by_stop, grown_by_write}
 use Rattle.bayou_world.proofs.Homes.{fitting_at, home_of_held, past_is_before, past_is_had}
 use Rattle.bayou_world.proofs.Lists.{Contains-map, Contains-map_from}
@@ -53,11 +55,19 @@ grown_by_read old who place key reply new (ReadStep.skipped cannot is same) = sa
 grown_by_read old who place key reply new (ReadStep.behind session entry may not_may is entry_is same) = stays old new _ same refl refl
 grown_by_read old who place key reply new (ReadStep.served session entry seen may covered value vector is entry_is same) = stays old new _ same refl refl
 
+grown_by_asking : (old : Machine) (who : ℕ) (session : SessionSets) (asking : Asking) (answer : Result Written WriteFault) (new : Machine) → AskStep old who session asking answer new → HasGrown old new
+grown_by_asking old who session asking answer new (AskStep.refused entry fault refused is entry_is same) = stays old new _ same refl refl
+grown_by_asking old who session asking answer new (AskStep.doubted entry made makes is entry_is same) = grows old new _ same (grown_by_doubt old.servers asking.server made) refl
+grown_by_asking old who session asking answer new (AskStep.accepted entry made accepted makes told_is is entry_is same) = grows old new _ same (grown_by_write old.servers asking.server made) refl
+
 grown_by_program : (old : Machine) (who place : ℕ) (program : Program) (reply : Reply) (new : Machine) → WriteStep old who place program reply new → HasGrown old new
 grown_by_program old who place program reply new (WriteStep.skipped cannot is same) = same_grown old new same
-grown_by_program old who place program reply new (WriteStep.refused session entry fault may refused is entry_is same) = stays old new _ same refl refl
-grown_by_program old who place program reply new (WriteStep.doubted session entry made may makes is entry_is same) = grows old new _ same (grown_by_doubt old.servers place made) refl
-grown_by_program old who place program reply new (WriteStep.accepted session entry made accepted may makes told_is is entry_is same) = grows old new _ same (grown_by_write old.servers place made) refl
+grown_by_program old who place program reply new (WriteStep.asked session answer may asks is) = grown_by_asking old who session (first_asking place session program) answer new asks
+
+grown_by_repeat : (old : Machine) (who : ℕ) (reply : Reply) (new : Machine) → AgainStep old who reply new → HasGrown old new
+grown_by_repeat old who reply new (AgainStep.skipped cannot is same) = same_grown old new same
+grown_by_repeat old who reply new (AgainStep.known session asking entry made accepted may holds told_is is entry_is same) = stays old new _ same refl refl
+grown_by_repeat old who reply new (AgainStep.asked session asking answer may none asks is) = grown_by_asking old who session asking answer new asks
 
 grown_by_delivery : (old : Machine) (who : ℕ) (reply : Reply) (new : Machine) → DeliverStep old who reply new → HasGrown old new
 grown_by_delivery old who reply new (DeliverStep.skipped none is same) = same_grown old new same
@@ -105,6 +115,7 @@ grown_by_restart old place reply new (RestartStep.restarted adopted server known
 grown_by_step : (old : Machine) (event : Event) (reply : Reply) (new : Machine) → Step old event reply new → HasGrown old new
 grown_by_step old (events.Read session server key) reply new step = grown_by_read old session.index server.index key reply new step
 grown_by_step old (events.Write session server program) reply new step = grown_by_program old session.index server.index program reply new step
+grown_by_step old (events.Again session) reply new step = grown_by_repeat old session.index reply new step
 grown_by_step old (events.Deliver session) reply new step = grown_by_delivery old session.index reply new step
 grown_by_step old (events.Lose session) reply new step = grown_by_loss old session.index reply new step
 grown_by_step old (events.Offer server) reply new step = grown_by_offer old server.index reply new step

@@ -29,7 +29,7 @@ pub record IsOwnDoubt (machine : Machine) (made : Made) : Type 0 where
   pub own : made.write.wid.origin.index ≡ place
   pub doubt : (machine.servers place).doubt ≡ Some made
 
-home_or_doubt : (machine : Machine) → IsGoodMachine machine → (made : Made) → Stands machine made → IsHome machine.servers made ⊎ IsOwnDoubt machine made
+pub home_or_doubt : (machine : Machine) → IsGoodMachine machine → (made : Made) → Stands machine made → IsHome machine.servers made ⊎ IsOwnDoubt machine made
 home_or_doubt machine good made (inl held) = inl (home_of_held machine.count machine.limit machine.servers good.servers held.0 made held.1)
 home_or_doubt machine good made (inr (inl doubt)) =
     elim (same_number made.write.wid.origin.index doubt.0) as (λ _. IsHome machine.servers made ⊎ IsOwnDoubt machine made) [

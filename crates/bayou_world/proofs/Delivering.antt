@@ -3,9 +3,10 @@ use Rattle.std.proofs.Common.{◌≡◌, ◌≢◌, inl, inr, ◌⊎◌, ℕ, �
 use Rattle.std.proofs.lemmas.List.Elements.{All-contains, All-push, Contains-append_left, Contains-append_right, Contains-push, Contains-push_cases}
 use Rattle.bayou_base.specs.declared.wid.Wid.{Wid}
 use Rattle.bayou_lang.specs.declared.write.Write.{Write}
-use Rattle.bayou_world.specs.Inner.Good.{IsCoveredRead, IsCoveredWrite, IsGoodFlight, IsGoodSession, IsMadeAt}
+use Rattle.bayou_world.specs.Inner.Good.{IsCoveredRead, IsGoodFlight, IsGoodSession, IsMadeAt}
 use Rattle.bayou_world.specs.Machine.{Answered, IsWithin, Made, SessionSets, names}
 use Rattle.bayou_world.specs.Runs.{IsAt, IsRead, IsReadAt}
+use Rattle.bayou_world.specs.Steps.{CoversWrite}
 
 -- ---- one served operation more
 
@@ -61,6 +62,8 @@ flight_of_other served answered who session differs (Some other) good = record {
   last = good.last;
   behind = All-push (λ (o : Answered). o.entry.session.index ≡ who → o.entry.place < session.begun) served answered good.behind (λ is. absurd (differs is));
   covered = good.covered;
+  own = good.own;
+  reading = good.reading;
 }
 
 pub more_of_other : (served : List Answered) (answered : Answered) (who : ℕ) (session : SessionSets) → answered.entry.session.index ≢ who
@@ -148,7 +151,7 @@ heard_read served who session new answered good flight none covered asks begun r
 
 -- it hears that a Write was accepted
 pub heard_write : (served : List Answered) (who : ℕ) (session new : SessionSets) (answered : Answered) (wid : Wid) → IsGoodSession served who session → IsGoodFlight served who session answered
-    → (¬ IsRead answered.entry.what) → ((made : Made) → answered.made ≡ Some made → (made.write.wid ≡ wid) × IsCoveredWrite session made.past)
+    → (¬ IsRead answered.entry.what) → ((made : Made) → answered.made ≡ Some made → (made.write.wid ≡ wid) × CoversWrite session made.past)
     → new.asks ≡ session.asks → new.begun ≡ session.begun → new.reads ≡ session.reads → new.writes ≡ session.writes ++ wid ∷ [] → new.flight ≡ None
     → IsGoodSession (served ++ answered ∷ []) who new
 heard_write served who session new answered wid good flight no_read covered asks begun same_reads written landed =

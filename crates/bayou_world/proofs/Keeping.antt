@@ -28,7 +28,7 @@ read_had machine good session place server database is =
     (read_true machine is.answered.entry.what is.answered.entry.server.index is.answered is.read is_true))
 
 -- what was made is at home
-made_true : (machine : Machine) (what : What) (place : ℕ) (answered : Answered) (made : Made) → answered.made ≡ Some made → WasSo machine.servers what place answered → IsHome machine.servers made
+pub made_true : (machine : Machine) (what : What) (place : ℕ) (answered : Answered) (made : Made) → answered.made ≡ Some made → WasSo machine.servers what place answered → IsHome machine.servers made
 made_true machine (whats.Read key vector) place answered made accepted is = let both : None ≡ Some made = sym is.0 ∙ accepted in absurd (cc)
 made_true machine (whats.Write wid stamp deps) place answered made accepted (other, is, home, name) =
     let both : Some other ≡ Some made = sym is ∙ accepted in

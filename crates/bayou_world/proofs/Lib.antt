@@ -11,6 +11,7 @@ pub mod Telling
 pub mod Judging
 pub mod Consistent
 pub mod Tagging
+pub mod Running
 pub mod Collecting
 pub mod Possible
 pub mod Agreeing
@@ -18,6 +19,7 @@ pub mod Standing
 pub mod Beside
 pub mod Tied
 pub mod TiedWrites
+pub mod TiedAgains
 pub mod TiedFlights
 pub mod TiedItems
 pub mod Never

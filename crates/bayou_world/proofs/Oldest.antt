@@ -24,12 +24,12 @@ pub takes_oldest : (old new : State) (who place : ℕ) (world_session popped : W
     → new.servers.items ≡ old.servers.items → new.sessions.items ≡ set old.sessions.items place (Some popped) → new.offers.items ≡ old.offers.items → new.items.items ≡ old.items.items → new.served.items ≡ old.served.items
     → TakesOldest old who entry new
 takes_oldest old new who place world_session popped None inside at here pops servers world_sessions offers items served = λ machine good tied.
-    let there = oldest_none old.servers.items old.sessions.items old.offers.items old.items.items old.served.items machine tied who world_session popped inside at pops.items (pops.none refl) pops.session pops.flight in (
+    let there = oldest_none old.servers.items old.sessions.items old.offers.items old.items.items old.served.items machine tied who world_session popped inside at pops.items (pops.none refl) pops.session pops.asked pops.flight in (
       there.0,
       of_lists new machine _ _ _ _ _ servers (world_sessions ∙ ap (λ n. set old.sessions.items n (Some popped)) here) offers items served there.1,
     )
 takes_oldest old new who place world_session popped (Some entry) inside at here pops servers world_sessions offers items served = λ machine good tied.
-    let there = oldest_some old.servers.items old.sessions.items old.offers.items old.items.items old.served.items machine tied who world_session popped entry inside at pops.items pops.session pops.flight in
+    let there = oldest_some old.servers.items old.sessions.items old.offers.items old.items.items old.served.items machine tied who world_session popped entry inside at pops.items pops.session pops.asked pops.flight in
     let session = there.0 in
     let later = there.1 in (
       session,

@@ -8,6 +8,8 @@ use Rattle.bayou_base.specs.declared.entry.Entry.{Entry}
 use Rattle.bayou_base.specs.declared.limits.TheConstants.{SERVERS, SESSIONS}
 use Rattle.bayou_lang.specs.declared.program.Program.{Program}
 use Rattle.bayou_lang.specs.declared.write.Write.{Write}
+use Rattle.bayou_server.specs.declared.answer.Written.{Written}
+use Rattle.bayou_server.specs.declared.fault.WriteFault.{WriteFault}
 use Rattle.bayou_server.specs.Server.{Core}
 use Rattle.bayou_session.specs.declared.session.TheConstants.{FIRST_RUN}
 use Rattle.bayou_session.specs.Needs.{Told}
@@ -22,16 +24,16 @@ use Rattle.bayou_world.specs.Inner.Beginning.{AreFirstSeats, AreStarted, IsFirst
 use Rattle.bayou_world.specs.Inner.WorldBooks.{Booking, FollowsInBook, IsBookOf}
 use Rattle.bayou_world.specs.Inner.Good.{IsGoodMachine}
 use Rattle.bayou_world.specs.Inner.WorldServers.{held_by}
-use Rattle.bayou_world.specs.Inner.Tie.{Follows, IsFlightOf, IsOf, IsSeatOf, IsTied, seat}
+use Rattle.bayou_world.specs.Inner.Tie.{Follows, IsAskedOf, IsFlightOf, IsOf, IsSeatOf, IsTied, seat}
 use Rattle.bayou_world.specs.Invariant.{IsVectorOf}
-use Rattle.bayou_world.specs.Machine.{Machine, writes}
+use Rattle.bayou_world.specs.Machine.{Asking, Machine, SessionSets, writes}
 use Rattle.bayou_world.specs.Runs.{Run, asks_of, first_machine, new_session, capacity_for}
 use Rattle.bayou_world.specs.RunHistories.{Begun, IsRunHistory}
 use Rattle.bayou_world.specs.declared.run_history.RunHistory.{RunHistory}
 use Rattle.bayou_audit.specs.declared.totals.Totals.{Totals}
 use Rattle.bayou_audit.specs.Totals.{is_read, is_refusal, is_write, number_of, totals_of}
 use Rattle.std.specs.Global.{Vec}
-use Rattle.bayou_world.specs.Steps.{CollectStep, DeliverStep, FileStep, FuseStep, LoseStep, OfferStep, ReadStep, ReopenStep, RestartStep, Step, TakeStep, WriteStep}
+use Rattle.bayou_world.specs.Steps.{AgainStep, AskStep, CollectStep, DeliverStep, FileStep, FuseStep, LoseStep, OfferStep, ReadStep, ReopenStep, RestartStep, Step, TakeStep, WriteStep, first_asking}
 use Rattle.bayou_world.specs.Tags.{AreTagged}
 use Rattle.bayou_world.proofs.Starting.{first_good}
 use Rattle.bayou_world.proofs.Stepping.{step_good}
@@ -53,11 +55,19 @@ read_keeps old who place key reply new (ReadStep.skipped cannot is same) = kept 
 read_keeps old who place key reply new (ReadStep.behind session entry may not_may is entry_is same) = kept old new _ same refl refl refl
 read_keeps old who place key reply new (ReadStep.served session entry seen may covered value vector is entry_is same) = kept old new _ same refl refl refl
 
+ask_keeps : (old : Machine) (who : ℕ) (session : SessionSets) (asking : Asking) (answer : Result Written WriteFault) (new : Machine) → AskStep old who session asking answer new → Keeps old new
+ask_keeps old who session asking answer new (AskStep.refused entry fault refused is entry_is same) = kept old new _ same refl refl refl
+ask_keeps old who session asking answer new (AskStep.doubted entry made makes is entry_is same) = kept old new _ same refl refl refl
+ask_keeps old who session asking answer new (AskStep.accepted entry made accepted makes told_is is entry_is same) = kept old new _ same refl refl refl
+
 write_keeps : (old : Machine) (who place : ℕ) (program : Program) (reply : Reply) (new : Machine) → WriteStep old who place program reply new → Keeps old new
 write_keeps old who place program reply new (WriteStep.skipped cannot is same) = kept old new _ same refl refl refl
-write_keeps old who place program reply new (WriteStep.refused session entry fault may refused is entry_is same) = kept old new _ same refl refl refl
-write_keeps old who place program reply new (WriteStep.doubted session entry made may makes is entry_is same) = kept old new _ same refl refl refl
-write_keeps old who place program reply new (WriteStep.accepted session entry made accepted may makes told_is is entry_is same) = kept old new _ same refl refl refl
+write_keeps old who place program reply new (WriteStep.asked session answer may asks is) = ask_keeps old who session (first_asking place session program) answer new asks
+
+again_keeps : (old : Machine) (who : ℕ) (reply : Reply) (new : Machine) → AgainStep old who reply new → Keeps old new
+again_keeps old who reply new (AgainStep.skipped cannot is same) = kept old new _ same refl refl refl
+again_keeps old who reply new (AgainStep.known session asking entry made accepted may holds told_is is entry_is same) = kept old new _ same refl refl refl
+again_keeps old who reply new (AgainStep.asked session asking answer may none asks is) = ask_keeps old who session asking answer new asks
 
 deliver_keeps : (old : Machine) (who : ℕ) (reply : Reply) (new : Machine) → DeliverStep old who reply new → Keeps old new
 deliver_keeps old who reply new (DeliverStep.skipped none is same) = kept old new _ same refl refl refl
@@ -104,6 +114,7 @@ file_count old who reply new (FileStep.filed session entry later may is same) = 
 step_count : (old : Machine) (event : Event) (reply : Reply) (new : Machine) → Step old event reply new → new.count ≡ old.count
 step_count old (events.Read session server key) reply new step = (read_keeps old session.index server.index key reply new step).count
 step_count old (events.Write session server program) reply new step = (write_keeps old session.index server.index program reply new step).count
+step_count old (events.Again session) reply new step = (again_keeps old session.index reply new step).count
 step_count old (events.Deliver session) reply new step = (deliver_keeps old session.index reply new step).count
 step_count old (events.Lose session) reply new step = (lose_keeps old session.index reply new step).count
 step_count old (events.Offer server) reply new step = (offer_keeps old server.index reply new step).count
@@ -129,6 +140,10 @@ read_beside old new booking who place key reply = beside old new booking (λ mac
 pub write_beside : (old new : State) (booking : Booking) (who place : ℕ) (program : Program) (reply : Reply) → Follows old (λ machine next. WriteStep machine who place program reply next) new
     → FollowsInBook old booking (λ machine next. WriteStep machine who place program reply next) new booking
 write_beside old new booking who place program reply = beside old new booking (λ machine next. WriteStep machine who place program reply next) (λ machine next does. write_keeps machine who place program reply next does)
+
+pub again_beside : (old new : State) (booking : Booking) (who : ℕ) (reply : Reply) → Follows old (λ machine next. AgainStep machine who reply next) new
+    → FollowsInBook old booking (λ machine next. AgainStep machine who reply next) new booking
+again_beside old new booking who reply = beside old new booking (λ machine next. AgainStep machine who reply next) (λ machine next does. again_keeps machine who reply next does)
 
 pub deliver_beside : (old new : State) (booking : Booking) (who : ℕ) (reply : Reply) → Follows old (λ machine next. DeliverStep machine who reply next) new
     → FollowsInBook old booking (λ machine next. DeliverStep machine who reply next) new booking
@@ -180,8 +195,8 @@ SoFar-more first events at replies state new booking new_booking event reply ins
     subst (λ list. SoFar first list (replies ++ reply ∷ []) new new_booking) (sym longer) (record {
       now = step.0;
       run = run_more first (take at events) replies so_far.now event reply step.0 so_far.run step.1;
-      good = step_good so_far.now event reply step.0 so_far.good step.1;
-      tagged = step_tagged so_far.now event reply step.0 so_far.tagged step.1;
+      good = step_good so_far.now event reply step.0 so_far.good so_far.tagged step.1;
+      tagged = step_tagged so_far.now event reply step.0 so_far.good so_far.tagged step.1;
       count = step_count so_far.now event reply step.0 step.1 ∙ so_far.count;
       tied = step.2;
       book = step.3;
@@ -205,6 +220,7 @@ new_world_session who (Some asks) (Some world_session) is =
       run = ap (λ (t : Told). t.run) is.session;
       begun = ap (λ (t : Told). t.begun) is.session;
       asked = ap (λ (t : Told). t.asked) is.session;
+      kept = subst (λ a. IsAskedOf a None) (sym is.asked) tt;
       long = subst (λ (t : Told). (length t.reads ≡ SERVERS) × (length t.writes ≡ SERVERS)) (sym is.session) (length-replicate {A = ℕ} SERVERS 0, length-replicate {A = ℕ} SERVERS 0);
       reads = subst (λ (t : Told). IsVectorOf t.reads []) (sym is.session) IsVectorOf-none;
       writes = subst (λ (t : Told). IsVectorOf t.writes []) (sym is.session) IsVectorOf-none;

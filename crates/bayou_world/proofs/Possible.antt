@@ -1,7 +1,9 @@
 -- What no item is refused for.
-use Rattle.std.proofs.Common.{◌≡◌, ℕ, List, [], ◌∷◌, Err, All, sym, subst}
+use Rattle.std.proofs.Common.{◌≡◌, ℕ, List, [], ◌∷◌, Result, Err, All, sym, subst}
 use Rattle.std.proofs.lemmas.List.Elements.{All-cons, All-nil}
+use Rattle.bayou_base.specs.declared.server.ServerId.{ServerId}
 use Rattle.bayou_lang.specs.declared.program.Program.{Program}
+use Rattle.bayou_server.specs.declared.answer.Written.{Written}
 use Rattle.bayou_server.specs.declared.fault.JournalFault.TheVariants.{Device, NotAJournal, OtherServer}
 use Rattle.bayou_server.specs.declared.fault.ReopenFault.{ReopenFault}
 use Rattle.bayou_server.specs.declared.fault.ReopenFault.TheVariants as reopening
@@ -17,9 +19,9 @@ use Rattle.bayou_world.specs.declared.event.Event.TheVariants as events
 use Rattle.bayou_world.specs.declared.reply.Reply.{Reply}
 use Rattle.bayou_world.specs.declared.reply.Reply.TheVariants as replies
 use Rattle.bayou_world.specs.Invariant.{IsImpossible}
-use Rattle.bayou_world.specs.Machine.{Machine, Made, ServerSets, SessionSets}
+use Rattle.bayou_world.specs.Machine.{Asking, Machine, Made, ServerSets, SessionSets}
 use Rattle.bayou_world.specs.Runs.{Run}
-use Rattle.bayou_world.specs.Steps.{CollectStep, DeliverStep, FileStep, FuseStep, LoseStep, OfferStep, ReadStep, RefusesItem, RefusesReopening, RefusesWrite, ReopenStep, RestartStep, Step, TakeStep, WriteStep}
+use Rattle.bayou_world.specs.Steps.{AgainStep, AskStep, CollectStep, DeliverStep, FileStep, FuseStep, LoseStep, OfferStep, ReadStep, RefusesItem, RefusesReopening, RefusesWrite, ReopenStep, RestartStep, Step, TakeStep, WriteStep, first_asking}
 
 -- a reply that isn't of that kind
 is : (reply other : Reply) → reply ≡ other → (¬ IsImpossible other) → ¬ IsImpossible reply
@@ -40,20 +42,33 @@ read_possible old who place key reply new (ReadStep.skipped cannot told_is same)
 read_possible old who place key reply new (ReadStep.behind session entry may not_may told_is entry_is same) = is reply _ told_is (λ no. no)
 read_possible old who place key reply new (ReadStep.served session entry seen may covered value vector told_is entry_is same) = is reply _ told_is (λ no. no)
 
-unwritten_possible : (limit : ℕ) (session : SessionSets) (server : ServerSets) (fault : WriteFault) → RefusesWrite limit session server fault → ¬ IsImpossible (replies.Wrote (Err fault))
-unwritten_possible limit session server writing.TagUsed refused = absurd refused
-unwritten_possible limit session server writing.Down refused = λ no. no
-unwritten_possible limit session server (writing.Behind vector) refused = λ no. no
-unwritten_possible limit session server writing.LogFull refused = λ no. no
-unwritten_possible limit session server writing.OutOfMemory refused = λ no. no
-unwritten_possible limit session server writing.Journal refused = absurd refused
+-- a Write that is asked for, for the first time or again
+asked_possible : (old : Machine) (who : ℕ) (session : SessionSets) (asking : Asking) (answer : Result Written WriteFault) (new : Machine) → AskStep old who session asking answer new
+    → (server : ServerId) → (¬ IsImpossible (replies.Wrote answer)) × (¬ IsImpossible (replies.AskedAgain server answer))
+asked_possible old who session asking answer new (AskStep.refused entry fault refused told_is entry_is same) server =
+    subst (λ a. (¬ IsImpossible (replies.Wrote a)) × (¬ IsImpossible (replies.AskedAgain server a))) (sym told_is) (of_fault fault refused)
+  where
+    of_fault : (why : WriteFault) → RefusesWrite old.limit session (old.servers asking.server) why → (¬ IsImpossible (replies.Wrote (Err why))) × (¬ IsImpossible (replies.AskedAgain server (Err why)))
+    of_fault writing.TagUsed refused = absurd refused
+    of_fault writing.Down refused = (λ no. no, λ no. no)
+    of_fault (writing.Behind vector) refused = (λ no. no, λ no. no)
+    of_fault writing.LogFull refused = (λ no. no, λ no. no)
+    of_fault writing.OutOfMemory refused = (λ no. no, λ no. no)
+    of_fault writing.Journal refused = absurd refused
+asked_possible old who session asking answer new (AskStep.doubted entry made makes told_is entry_is same) server =
+    subst (λ a. (¬ IsImpossible (replies.Wrote a)) × (¬ IsImpossible (replies.AskedAgain server a))) (sym told_is) (λ no. no, λ no. no)
+asked_possible old who session asking answer new (AskStep.accepted entry made accepted makes accepted_is told_is entry_is same) server =
+    subst (λ a. (¬ IsImpossible (replies.Wrote a)) × (¬ IsImpossible (replies.AskedAgain server a))) (sym told_is) (λ no. no, λ no. no)
 
-write_possible : (old : Machine) (who place : ℕ) (program : Program) (reply : Reply) (new : Machine) → WriteStep old who place program reply new → ¬ IsImpossible reply
-write_possible old who place program reply new (WriteStep.skipped cannot told_is same) = is reply _ told_is (λ no. no)
-write_possible old who place program reply new (WriteStep.refused session entry fault may refused told_is entry_is same) =
-    is reply _ told_is (unwritten_possible old.limit session (old.servers place) fault refused)
-write_possible old who place program reply new (WriteStep.doubted session entry made may makes told_is entry_is same) = is reply _ told_is (λ no. no)
-write_possible old who place program reply new (WriteStep.accepted session entry made accepted may makes accepted_is told_is entry_is same) = is reply _ told_is (λ no. no)
+write_possible : (old : Machine) (who : ℕ) (server : ServerId) (program : Program) (reply : Reply) (new : Machine) → WriteStep old who server.index program reply new → ¬ IsImpossible reply
+write_possible old who server program reply new (WriteStep.skipped cannot told_is same) = is reply _ told_is (λ no. no)
+write_possible old who server program reply new (WriteStep.asked session answer may asks told_is) =
+    is reply _ told_is (asked_possible old who session (first_asking server.index session program) answer new asks server).0
+
+again_possible : (old : Machine) (who : ℕ) (reply : Reply) (new : Machine) → AgainStep old who reply new → ¬ IsImpossible reply
+again_possible old who reply new (AgainStep.skipped cannot told_is same) = is reply _ told_is (λ no. no)
+again_possible old who reply new (AgainStep.known session asking entry made accepted may holds accepted_is (server, at, told_is) entry_is same) = is reply _ told_is (λ no. no)
+again_possible old who reply new (AgainStep.asked session asking answer may none asks (server, at, told_is)) = is reply _ told_is (asked_possible old who session asking answer new asks server).1
 
 deliver_possible : (old : Machine) (who : ℕ) (reply : Reply) (new : Machine) → DeliverStep old who reply new → ¬ IsImpossible reply
 deliver_possible old who reply new (DeliverStep.skipped none told_is same) = is reply _ told_is (λ no. no)
@@ -117,7 +132,8 @@ file_possible old who reply new (FileStep.filed session entry later may told_is 
 
 step_possible : (old : Machine) (event : Event) (reply : Reply) (new : Machine) → Step old event reply new → ¬ IsImpossible reply
 step_possible old (events.Read session server key) reply new step = read_possible old session.index server.index key reply new step
-step_possible old (events.Write session server program) reply new step = write_possible old session.index server.index program reply new step
+step_possible old (events.Write session server program) reply new step = write_possible old session.index server program reply new step
+step_possible old (events.Again session) reply new step = again_possible old session.index reply new step
 step_possible old (events.Deliver session) reply new step = deliver_possible old session.index reply new step
 step_possible old (events.Lose session) reply new step = lose_possible old session.index reply new step
 step_possible old (events.Offer server) reply new step = offer_possible old server.index reply new step

@@ -1,9 +1,11 @@
 -- Along a run a session's vectors stand for its sets.
-use Rattle.std.proofs.Common.{◌≡◌, ◌≢◌, inl, inr, ℕ, List, [], ◌∷◌, Option, Some, ap, sym, ◌∙◌, refl, subst}
+use Rattle.std.proofs.Common.{◌≡◌, ◌≢◌, inl, inr, ℕ, List, [], ◌∷◌, Result, Option, Some, ap, sym, ◌∙◌, refl, subst}
 use Rattle.std.specs.Option.{option_map}
 use Rattle.bayou_base.specs.declared.asks.Asks.{Asks}
 use Rattle.bayou_base.specs.declared.session.SessionId.{SessionId}
 use Rattle.bayou_lang.specs.declared.program.Program.{Program}
+use Rattle.bayou_server.specs.declared.answer.Written.{Written}
+use Rattle.bayou_server.specs.declared.fault.WriteFault.{WriteFault}
 use Rattle.bayou_session.specs.Needs as sessions
 use Rattle.bayou_session.specs.Needs.{Told}
 use Rattle.bayou_world.specs.declared.event.Event.{Event}
@@ -12,13 +14,15 @@ use Rattle.bayou_world.specs.declared.reply.Reply.{Reply}
 use Rattle.bayou_world.specs.Agreement.{IsToldOf, Reaches, RunTelling, StandsFor, TellsOver}
 use Rattle.bayou_world.specs.Inner.Good.{IsGoodMachine}
 use Rattle.bayou_world.specs.Invariant.{IsVectorOf}
-use Rattle.bayou_world.specs.Machine.{Answered, Machine, SessionSets, changed}
+use Rattle.bayou_world.specs.Machine.{Answered, Asking, Machine, SessionSets, changed}
 use Rattle.bayou_world.specs.Runs.{first_machine, new_session}
-use Rattle.bayou_world.specs.Steps.{CollectStep, DeliverStep, FileStep, FuseStep, IsInFlight, LoseStep, OfferStep, ReadStep, ReopenStep, RestartStep, Step, TakeStep, WriteStep, heard}
+use Rattle.bayou_world.specs.Steps.{AgainStep, AskStep, CollectStep, DeliverStep, FileStep, FuseStep, IsInFlight, LoseStep, OfferStep, ReadStep, ReopenStep, RestartStep, Step, TakeStep, WriteStep, first_asking, heard}
+use Rattle.bayou_world.specs.Tags.{AreTagged}
 use Rattle.bayou_world.proofs.Agreeing.{begins_standing, heard_standing}
 use Rattle.bayou_world.proofs.Lists.{changed-other, changed-same, same_number}
 use Rattle.bayou_world.proofs.Starting.{first_good}
 use Rattle.bayou_world.proofs.Stepping.{sessions_changed, step_good}
+use Rattle.bayou_world.proofs.Tagging.{first_tagged, step_tagged}
 
 -- it asks for the same, and has the same sets
 record HaveSameSets (old new : SessionSets) : Type 0 where
@@ -54,14 +58,24 @@ read_keeps old who place key reply new (ReadStep.behind session entry may not_ma
 read_keeps old who place key reply new (ReadStep.served session entry seen may covered value vector is entry_is same) =
     becomes old new _ same (changed_there old.sessions who session _ may.there (record { asks = refl; reads = refl; writes = refl }))
 
+ask_keeps : (old : Machine) (who : ℕ) (session : SessionSets) (asking : Asking) (answer : Result Written WriteFault) (new : Machine) → old.sessions who ≡ Some session
+    → AskStep old who session asking answer new → KeepSets old.sessions new.sessions
+ask_keeps old who session asking answer new there (AskStep.refused entry fault refused is entry_is same) =
+    becomes old new _ same (changed_there old.sessions who session _ there (record { asks = refl; reads = refl; writes = refl }))
+ask_keeps old who session asking answer new there (AskStep.doubted entry made makes is entry_is same) =
+    becomes old new _ same (changed_there old.sessions who session _ there (record { asks = refl; reads = refl; writes = refl }))
+ask_keeps old who session asking answer new there (AskStep.accepted entry made accepted makes told_is is entry_is same) =
+    becomes old new _ same (changed_there old.sessions who session _ there (record { asks = refl; reads = refl; writes = refl }))
+
 write_keeps : (old : Machine) (who place : ℕ) (program : Program) (reply : Reply) (new : Machine) → WriteStep old who place program reply new → KeepSets old.sessions new.sessions
 write_keeps old who place program reply new (WriteStep.skipped cannot is same) = unchanged old new same
-write_keeps old who place program reply new (WriteStep.refused session entry fault may refused is entry_is same) =
-    becomes old new _ same (changed_there old.sessions who session _ may.there (record { asks = refl; reads = refl; writes = refl }))
-write_keeps old who place program reply new (WriteStep.doubted session entry made may makes is entry_is same) =
-    becomes old new _ same (changed_there old.sessions who session _ may.there (record { asks = refl; reads = refl; writes = refl }))
-write_keeps old who place program reply new (WriteStep.accepted session entry made accepted may makes told_is is entry_is same) =
-    becomes old new _ same (changed_there old.sessions who session _ may.there (record { asks = refl; reads = refl; writes = refl }))
+write_keeps old who place program reply new (WriteStep.asked session answer may asks is) = ask_keeps old who session (first_asking place session program) answer new may.there asks
+
+again_keeps : (old : Machine) (who : ℕ) (reply : Reply) (new : Machine) → AgainStep old who reply new → KeepSets old.sessions new.sessions
+again_keeps old who reply new (AgainStep.skipped cannot is same) = unchanged old new same
+again_keeps old who reply new (AgainStep.known session asking entry made accepted may holds told_is is entry_is same) =
+    becomes old new _ same (changed_there old.sessions who session _ may.begin.there (record { asks = refl; reads = refl; writes = refl }))
+again_keeps old who reply new (AgainStep.asked session asking answer may none asks is) = ask_keeps old who session asking answer new may.begin.there asks
 
 lose_keeps : (old : Machine) (who : ℕ) (reply : Reply) (new : Machine) → LoseStep old who reply new → KeepSets old.sessions new.sessions
 lose_keeps old who reply new (LoseStep.skipped none is same) = unchanged old new same
@@ -181,6 +195,8 @@ step_standing old good (events.Read session server key) reply new step who told 
     told_nothing old new (read_keeps old session.index server.index key reply new step) (events.Read session server key) who told next (λ answered no. no) tells stands
 step_standing old good (events.Write session server program) reply new step who told next tells stands =
     told_nothing old new (write_keeps old session.index server.index program reply new step) (events.Write session server program) who told next (λ answered no. no) tells stands
+step_standing old good (events.Again session) reply new step who told next tells stands =
+    told_nothing old new (again_keeps old session.index reply new step) (events.Again session) who told next (λ answered no. no) tells stands
 step_standing old good (events.Deliver session) reply new step who told next tells stands = deliver_standing old good session reply new step who told next tells stands
 step_standing old good (events.Lose session) reply new step who told next tells stands =
     told_nothing old new (lose_keeps old session.index reply new step) (events.Lose session) who told next (λ answered no. no) tells stands
@@ -199,20 +215,20 @@ step_standing old good (events.Restart server) reply new step who told next tell
 step_standing old good (events.File session) reply new step who told next tells stands =
     told_nothing old new (file_keeps old session.index reply new step) (events.File session) who told next (λ answered no. no) tells stands
 
-run_standing : (who : ℕ) (old : Machine) (told : Told) (events : List Event) (replies : List Reply) (new : Machine) (last : Told) → IsGoodMachine old → RunTelling who old told events replies new last
+run_standing : (who : ℕ) (old : Machine) (told : Told) (events : List Event) (replies : List Reply) (new : Machine) (last : Told) → IsGoodMachine old → AreTagged old → RunTelling who old told events replies new last
     → Stands old who told → Stands new who last
-run_standing who old told [] [] new last good run stands =
+run_standing who old told [] [] new last good tagged run stands =
     subst (λ (m : Machine). Stands m who last) (sym run.0) (subst (Stands old who) (sym run.1) stands)
-run_standing who old told [] (reply ∷ replies) new last good run stands = absurd run
-run_standing who old told (event ∷ events) [] new last good run stands = absurd run
-run_standing who old told (event ∷ events) (reply ∷ replies) new last good (mid, next, step, tells, rest) stands =
-    run_standing who mid next events replies new last (step_good old event reply mid good step) rest (step_standing old good event reply mid step who told next tells stands)
+run_standing who old told [] (reply ∷ replies) new last good tagged run stands = absurd run
+run_standing who old told (event ∷ events) [] new last good tagged run stands = absurd run
+run_standing who old told (event ∷ events) (reply ∷ replies) new last good tagged (mid, next, step, tells, rest) stands =
+    run_standing who mid next events replies new last (step_good old event reply mid good tagged step) (step_tagged old event reply mid good tagged step) rest (step_standing old good event reply mid step who told next tells stands)
 
 -- from its beginning
 pub stands_along : (count limit capacity : ℕ) (asks : ℕ → Option Asks) (who : ℕ) (id : SessionId) (run : ℕ) (wants : Asks) (events : List Event) (replies : List Reply) (last : Machine) (told : Told) → asks who ≡ Some wants
     → RunTelling who (first_machine count limit capacity asks) (sessions.new_session id run wants) events replies last told → (session : SessionSets) → last.sessions who ≡ Some session → StandsFor told session
 stands_along count limit capacity asks who id run wants events replies last told asked tells =
-    run_standing who (first_machine count limit capacity asks) (sessions.new_session id run wants) events replies last told (first_good count limit capacity asks) tells
+    run_standing who (first_machine count limit capacity asks) (sessions.new_session id run wants) events replies last told (first_good count limit capacity asks) (first_tagged count limit capacity asks) tells
     (λ session there.
     let one : new_session wants ≡ session = some_session (new_session wants) session (sym (ap (option_map new_session) asked) ∙ there) in
     subst (StandsFor (sessions.new_session id run wants)) one (begins_standing id run wants))

@@ -1,5 +1,5 @@
--- A run begins with what is good, and goes on with it. What its sessions ask for stays.
-use Rattle.std.proofs.Common.{◌≡◌, ℕ, ◌≤◌, List, [], ◌∷◌, Option, None, Some, length, length-append, ap, sym, ◌∙◌, refl, subst, arith}
+-- A run begins with what is good. What its sessions ask for stays.
+use Rattle.std.proofs.Common.{◌≡◌, ℕ, ◌≤◌, List, [], ◌∷◌, Result, Option, None, Some, length, length-append, ap, sym, ◌∙◌, refl, subst, arith}
 use Rattle.std.specs.Option.{option_map}
 use Rattle.std.proofs.lemmas.List.Elements.{All-cons, All-nil}
 use Rattle.bayou_base.specs.declared.asks.Asks.{Asks}
@@ -8,15 +8,16 @@ use Rattle.bayou_base.specs.declared.entry.What.TheVariants as whats
 use Rattle.bayou_lang.specs.declared.program.Program.{Program}
 use Rattle.bayou_lang.specs.Laws.Fitting.{IsSound-empty}
 use Rattle.bayou_judge.specs.History.{IsFrontOf}
+use Rattle.bayou_server.specs.declared.answer.Written.{Written}
+use Rattle.bayou_server.specs.declared.fault.WriteFault.{WriteFault}
 use Rattle.bayou_world.specs.declared.event.Event.{Event}
 use Rattle.bayou_world.specs.declared.event.Event.TheVariants as events
 use Rattle.bayou_world.specs.declared.reply.Reply.{Reply}
 use Rattle.bayou_world.specs.Inner.Good.{IsGoodMachine, IsGoodSession, IsHome, IsTrueAnswer}
-use Rattle.bayou_world.specs.Machine.{Answered, Machine, Offered, SessionSets, changed, writes}
+use Rattle.bayou_world.specs.Machine.{Answered, Asking, Machine, Offered, SessionSets, changed, writes}
 use Rattle.bayou_world.specs.Runs.{Run, first_machine, new_server, new_session}
-use Rattle.bayou_world.specs.Steps.{CollectStep, DeliverStep, FileStep, FuseStep, LoseStep, OfferStep, ReadStep, ReopenStep, RestartStep, Step, TakeStep, WriteStep, told}
+use Rattle.bayou_world.specs.Steps.{AgainStep, AskStep, CollectStep, DeliverStep, FileStep, FuseStep, LoseStep, OfferStep, ReadStep, ReopenStep, RestartStep, Step, TakeStep, WriteStep, first_asking, told}
 use Rattle.bayou_world.proofs.Lists.{Contains-none, at_changed}
-use Rattle.bayou_world.proofs.Stepping.{run_good}
 
 new_good : (who : ℕ) (asks : Option Asks) (session : SessionSets) → option_map new_session asks ≡ Some session → IsGoodSession [] who session
 new_good who None session is = let both : None ≡ Some session = is in absurd (cc)
@@ -58,10 +59,6 @@ first_good count limit capacity asks =
       flights = λ who session answered is flies. absurd (no_flight (asks who) session answered is flies);
     }
 
-pub run_is_good : (count limit capacity : ℕ) (asks : ℕ → Option Asks) (events : List Event) (replies : List Reply) (last : Machine)
-    → Run (first_machine count limit capacity asks) events replies last → IsGoodMachine last
-run_is_good count limit capacity asks events replies last run = run_good (first_machine count limit capacity asks) events replies last (first_good count limit capacity asks) run
-
 -- ---- what sessions ask for
 
 -- the session is there, and asks for this
@@ -98,11 +95,20 @@ read_asks old who place key reply new (ReadStep.skipped cannot is same) = same_a
 read_asks old who place key reply new (ReadStep.behind session entry may not_may is entry_is same) = becomes old new _ same (changed_asks old.sessions who session _ may.there refl)
 read_asks old who place key reply new (ReadStep.served session entry seen may covered value vector is entry_is same) = becomes old new _ same (changed_asks old.sessions who session _ may.there refl)
 
+ask_asks : (old : Machine) (who : ℕ) (session : SessionSets) (asking : Asking) (answer : Result Written WriteFault) (new : Machine) → old.sessions who ≡ Some session
+    → AskStep old who session asking answer new → KeepAsking old.sessions new.sessions
+ask_asks old who session asking answer new there (AskStep.refused entry fault refused is entry_is same) = becomes old new _ same (changed_asks old.sessions who session _ there refl)
+ask_asks old who session asking answer new there (AskStep.doubted entry made makes is entry_is same) = becomes old new _ same (changed_asks old.sessions who session _ there refl)
+ask_asks old who session asking answer new there (AskStep.accepted entry made accepted makes told_is is entry_is same) = becomes old new _ same (changed_asks old.sessions who session _ there refl)
+
 write_asks : (old : Machine) (who place : ℕ) (program : Program) (reply : Reply) (new : Machine) → WriteStep old who place program reply new → KeepAsking old.sessions new.sessions
 write_asks old who place program reply new (WriteStep.skipped cannot is same) = same_asks old new same
-write_asks old who place program reply new (WriteStep.refused session entry fault may refused is entry_is same) = becomes old new _ same (changed_asks old.sessions who session _ may.there refl)
-write_asks old who place program reply new (WriteStep.doubted session entry made may makes is entry_is same) = becomes old new _ same (changed_asks old.sessions who session _ may.there refl)
-write_asks old who place program reply new (WriteStep.accepted session entry made accepted may makes told_is is entry_is same) = becomes old new _ same (changed_asks old.sessions who session _ may.there refl)
+write_asks old who place program reply new (WriteStep.asked session answer may asks is) = ask_asks old who session (first_asking place session program) answer new may.there asks
+
+again_asks : (old : Machine) (who : ℕ) (reply : Reply) (new : Machine) → AgainStep old who reply new → KeepAsking old.sessions new.sessions
+again_asks old who reply new (AgainStep.skipped cannot is same) = same_asks old new same
+again_asks old who reply new (AgainStep.known session asking entry made accepted may holds told_is is entry_is same) = becomes old new _ same (changed_asks old.sessions who session _ may.begin.there refl)
+again_asks old who reply new (AgainStep.asked session asking answer may none asks is) = ask_asks old who session asking answer new may.begin.there asks
 
 deliver_asks : (old : Machine) (who : ℕ) (reply : Reply) (new : Machine) → DeliverStep old who reply new → KeepAsking old.sessions new.sessions
 deliver_asks old who reply new (DeliverStep.skipped none is same) = same_asks old new same
@@ -150,6 +156,7 @@ restart_asks old place reply new (RestartStep.restarted adopted server known rec
 step_asks : (old : Machine) (event : Event) (reply : Reply) (new : Machine) → Step old event reply new → KeepAsking old.sessions new.sessions
 step_asks old (events.Read session server key) reply new step = read_asks old session.index server.index key reply new step
 step_asks old (events.Write session server program) reply new step = write_asks old session.index server.index program reply new step
+step_asks old (events.Again session) reply new step = again_asks old session.index reply new step
 step_asks old (events.Deliver session) reply new step = deliver_asks old session.index reply new step
 step_asks old (events.Lose session) reply new step = lose_asks old session.index reply new step
 step_asks old (events.Offer server) reply new step = offer_asks old server.index reply new step

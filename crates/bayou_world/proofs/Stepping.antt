@@ -1,5 +1,5 @@
 -- What is good stays so over each event.
-use Rattle.std.proofs.Common.{◌≡◌, ◌≢◌, inl, inr, ℕ, ◌+◌, ◌<◌, ◌≤◌, List, [], ◌∷◌, ◌++◌, Option, None, Some, IfSome, Contains, All, length, ap, sym, ◌∙◌, refl, subst, arith}
+use Rattle.std.proofs.Common.{◌≡◌, ◌≢◌, inl, inr, ℕ, ◌+◌, ◌<◌, ◌≤◌, List, [], ◌∷◌, ◌++◌, Result, Option, None, Some, IfSome, Contains, All, length, ap, sym, ◌∙◌, refl, subst, arith}
 use Rattle.std.specs.List.{slice_get}
 use Rattle.std.proofs.lemmas.List.{append-nil, get_or_default}
 use Rattle.std.proofs.lemmas.List.Elements.{All-append, All-contains, All-push, All-weaker, Contains-push}
@@ -11,13 +11,16 @@ use Rattle.bayou_lang.specs.declared.program.Program.{Program}
 use Rattle.bayou_lang.specs.declared.write.Write.{Write}
 use Rattle.bayou_lang.specs.Laws.Fitting.{next_fits}
 use Rattle.bayou_judge.specs.History.{IsFrontOf}
+use Rattle.bayou_server.specs.declared.answer.Written.{Written}
+use Rattle.bayou_server.specs.declared.fault.WriteFault.{WriteFault}
 use Rattle.bayou_world.specs.declared.event.Event.{Event}
 use Rattle.bayou_world.specs.declared.event.Event.TheVariants as events
 use Rattle.bayou_world.specs.declared.reply.Reply.{Reply}
-use Rattle.bayou_world.specs.Inner.Good.{AreGoodServers, IsCovered, IsCoveredWrite, IsGoodMachine, IsGoodFlight, IsGoodSession, IsHome, WasSo, IsTrueAnswer, MayBeDoubted}
+use Rattle.bayou_world.specs.Inner.Good.{AreGoodServers, IsCovered, IsGoodMachine, IsGoodFlight, IsGoodSession, IsHome, WasSo, IsTrueAnswer, MayBeDoubted}
 use Rattle.bayou_world.specs.Machine.{Answered, Asking, IsWithin, Machine, Made, Offered, ServerSets, SessionSets, changed, names, with_session, writes}
-use Rattle.bayou_world.specs.Runs.{IsRead, Run}
-use Rattle.bayou_world.specs.Steps.{CollectStep, DeliverStep, FileStep, FuseStep, IsEntry, IsGiven, IsInFlight, IsNext, LoseStep, Makes, MayBegin, OfferStep, ReadStep, ReopenStep, RestartStep, Step, TakeStep, WriteStep, first_asking, landed, refusal, served_by, stopped_now, told, with_answer, with_doubt, with_write}
+use Rattle.bayou_world.specs.Runs.{IsRead}
+use Rattle.bayou_world.specs.Steps.{AgainStep, AskStep, CollectStep, CoversWrite, DeliverStep, FileStep, FuseStep, IsEntry, IsGiven, IsInFlight, IsNext, LoseStep, Makes, MayBegin, OfferStep, ReadStep, ReopenStep, RestartStep, Step, TakeStep, WriteStep, first_asking, landed, refusal, served_by, stopped_now, told, with_answer, with_doubt, with_write}
+use Rattle.bayou_world.specs.Tags.{AreTagged}
 use Rattle.bayou_world.proofs.Delivering.{heard_read, heard_write, more_of_other}
 use Rattle.bayou_world.proofs.Given.{given_fits}
 use Rattle.bayou_world.proofs.Growing.{HaveGrown, add_doubt, add_write, answer_grows, grown_by_doubt, grown_by_recovery, grown_by_stop, grown_by_write, home_grows, offers_grow, recover, stop}
@@ -28,6 +31,9 @@ use Rattle.bayou_world.proofs.Lists.{Contains-map, at_changed, changed-other, ch
 
 some_is : {X : Type 0} (a b : X) → Some a ≡ Some b → a ≡ b
 some_is a b same = cc
+
+none_is : {X : Type 0} (a : X) → None ≡ Some a → ⊥
+none_is a same = cc
 
 -- what is true of one session, and of each other as it was
 pub sessions_changed : (P : ℕ → SessionSets → Type 0) (sessions : ℕ → Option SessionSets) (who : ℕ) (session : SessionSets) → P who session
@@ -43,7 +49,7 @@ whole_front list = ([], sym (append-nil list))
 no_growth : (servers : ℕ → ServerSets) → HaveGrown servers servers
 no_growth servers place = ([], sym (append-nil (servers place).held))
 
-all_of_contained : {X : Type 0} (P : X → Type 0) (xs : List X) → ((x : X) → Contains xs x → P x) → All P xs
+pub all_of_contained : {X : Type 0} (P : X → Type 0) (xs : List X) → ((x : X) → Contains xs x → P x) → All P xs
 all_of_contained P xs each k d within = each _ (k, within, get_or_default xs k _ d within)
 
 item_at : (items : List Made) (item : ℕ) (made : Made) → slice_get items item ≡ Some made → Contains items made
@@ -54,9 +60,9 @@ item_at items item made got = (item, slice_get_within items item made got, get_o
 -- the answer goes in flight, over servers that may hold more
 begin_good : (old : Machine) → IsGoodMachine old → (servers : ℕ → ServerSets) → HaveGrown old.servers servers → AreGoodServers old.count old.limit servers
     → (who place : ℕ) (session : SessionSets) (asked : Option Asking) (what : What) (answered : Answered) → MayBegin old who place session → IsEntry who place session what answered.entry
-    → WasSo servers what place answered → IsCovered session what answered
+    → WasSo servers what place answered → IsCovered session what answered → ((made : Made) → answered.made ≡ Some made → made.tag.session.index ≡ who) → (IsRead what → asked ≡ None)
     → IsGoodMachine (with_answer (record old { servers = servers }) who session asked answered)
-begin_good old good servers grown are_good who place session asked what answered may entry is_true covered =
+begin_good old good servers grown are_good who place session asked what answered may entry is_true covered own reading =
     let new = record session { begun = session.begun + 1; asked = asked; flight = Some answered } in
     let mine = good.sessions who session may.there in
     let true_answer : IsTrueAnswer servers answered =
@@ -83,6 +89,8 @@ begin_good old good servers grown are_good who place session asked what answered
               behind = All-weaker (λ (o : Answered). o.entry.session.index ≡ who → o.entry.place ≤ session.begun) (λ (o : Answered). o.entry.session.index ≡ who → o.entry.place < session.begun + 1)
                   (λ o early is. omega (arith, early is)) old.served mine.begun;
               covered = still;
+              own = own;
+              reading = λ read. reading (subst IsRead entry.what_is read);
             };
           })
           good.sessions;
@@ -98,11 +106,11 @@ begin_good old good servers grown are_good who place session asked what answered
     covers whats.Refused c = tt
 
 -- what the server makes may be held next
-pub made_may : (old : Machine) → IsGoodMachine old → (who place : ℕ) (session : SessionSets) (program : Program) (made : Made) → place < old.count
-    → Makes old.limit who place session (old.servers place) program made → MayBeDoubted old.count old.limit old.servers place (old.servers place).held made
-made_may old good who place session program made known makes = record {
+made_may : (old : Machine) → IsGoodMachine old → (who : ℕ) (session : SessionSets) (asking : Asking) (made : Made) → asking.server < old.count
+    → Makes old.limit who session (old.servers asking.server) asking made → MayBeDoubted old.count old.limit old.servers asking.server (old.servers asking.server).held made
+made_may old good who session asking made known makes = record {
   room = makes.room;
-  fits = next_fits old.count (writes (old.servers place).held) place program made.write (fitting_at old.count old.limit old.servers good.servers place) known makes.next;
+  fits = next_fits old.count (writes (old.servers asking.server).held) asking.server asking.program made.write (fitting_at old.count old.limit old.servers good.servers asking.server) known makes.next;
   deps = λ own. makes.next.deps;
   past = λ own. makes.past;
   home = λ foreign. absurd (foreign makes.next.origin);
@@ -120,32 +128,55 @@ added_home servers place made own =
 read_good : (old : Machine) (who place : ℕ) (key : List ℕ) (reply : Reply) (new : Machine) → IsGoodMachine old → ReadStep old who place key reply new → IsGoodMachine new
 read_good old who place key reply new good (ReadStep.skipped cannot is same) = subst IsGoodMachine (sym same) good
 read_good old who place key reply new good (ReadStep.behind session entry may not_may is entry_is same) =
-    subst IsGoodMachine (sym same) (begin_good old good old.servers (no_growth old.servers) good.servers who place session None whats.Refused (refusal entry) may entry_is refl tt)
+    subst IsGoodMachine (sym same) (begin_good old good old.servers (no_growth old.servers) good.servers who place session None whats.Refused (refusal entry) may entry_is refl tt (λ made none. absurd (none_is made none)) (λ read. refl))
 read_good old who place key reply new good (ReadStep.served session entry seen may covered value vector is entry_is same) =
     let database = writes (old.servers place).held in
     subst IsGoodMachine (sym same)
     (begin_good old good old.servers (no_growth old.servers) good.servers who place session None (whats.Read key seen.vector) (record { entry = entry; database = database; made = None }) may entry_is
-    (refl, whole_front database, vector) (record { ryw = covered.ryw; mr = covered.mr }))
+    (refl, whole_front database, vector) (record { ryw = covered.ryw; mr = covered.mr }) (λ made none. absurd (none_is made none)) (λ read. refl))
 
-write_good : (old : Machine) (who place : ℕ) (program : Program) (reply : Reply) (new : Machine) → IsGoodMachine old → WriteStep old who place program reply new → IsGoodMachine new
-write_good old who place program reply new good (WriteStep.skipped cannot is same) = subst IsGoodMachine (sym same) good
-write_good old who place program reply new good (WriteStep.refused session entry fault may refused is entry_is same) =
-    subst IsGoodMachine (sym same) (begin_good old good old.servers (no_growth old.servers) good.servers who place session (Some (first_asking place session program)) whats.Refused (refusal entry) may entry_is refl tt)
-write_good old who place program reply new good (WriteStep.doubted session entry made may makes is entry_is same) =
-    let may_be = made_may old good who place session program made may.server.there makes in
+-- a Write is asked for, for the first time or again
+ask_good : (old : Machine) → IsGoodMachine old → (who : ℕ) (session : SessionSets) (asking : Asking) (answer : Result Written WriteFault) (new : Machine) → MayBegin old who asking.server session
+    → AskStep old who session asking answer new → IsGoodMachine new
+ask_good old good who session asking answer new may (AskStep.refused entry fault refused is entry_is same) =
+    subst IsGoodMachine (sym same) (begin_good old good old.servers (no_growth old.servers) good.servers who asking.server session (Some asking) whats.Refused (refusal entry) may entry_is refl tt
+    (λ made none. absurd (none_is made none)) (λ read. absurd read))
+ask_good old good who session asking answer new may (AskStep.doubted entry made makes is entry_is same) =
+    let place = asking.server in
+    let may_be = made_may old good who session asking made may.server.there makes in
     subst IsGoodMachine (sym same)
     (begin_good old good (changed old.servers place (with_doubt (old.servers place) made)) (grown_by_doubt old.servers place made)
-    (add_doubt old.count old.limit old.servers good.servers place made may_be) who place session (Some (first_asking place session program)) whats.Refused (refusal entry) may entry_is refl tt)
-write_good old who place program reply new good (WriteStep.accepted session entry made accepted may makes told_is is entry_is same) =
-    let may_be = made_may old good who place session program made may.server.there makes in
+    (add_doubt old.count old.limit old.servers good.servers place made may_be) who place session (Some asking) whats.Refused (refusal entry) may entry_is refl tt
+    (λ other none. absurd (none_is other none)) (λ read. absurd read))
+ask_good old good who session asking answer new may (AskStep.accepted entry made accepted makes told_is is entry_is same) =
+    let place = asking.server in
+    let may_be = made_may old good who session asking made may.server.there makes in
     let covered = makes.ready.covered in
     subst IsGoodMachine (sym same)
     (begin_good old good (changed old.servers place (with_write (old.servers place) made)) (grown_by_write old.servers place made)
-    (add_write old.count old.limit old.servers good.servers place made makes.ready.up may_be) who place session (Some (first_asking place session program)) (whats.Write accepted.wid accepted.stamp accepted.deps)
+    (add_write old.count old.limit old.servers good.servers place made makes.ready.up may_be) who place session (Some asking) (whats.Write accepted.wid accepted.stamp accepted.deps)
     (record { entry = entry; database = made.past; made = Some made }) may entry_is
     (made, refl, added_home old.servers place made makes.next.origin, sym told_is.wid)
-    (λ other is_it. subst (λ (m : Made). IsCoveredWrite session m.past) (some_is made other is_it)
-    (subst (IsCoveredWrite session) (sym makes.past) (record { wfr = covered.wfr; mw = covered.mw }))))
+    (λ other is_it. subst (λ (m : Made). CoversWrite session m.past) (some_is made other is_it)
+    (subst (CoversWrite session) (sym makes.past) (record { wfr = covered.wfr; mw = covered.mw })))
+    (λ other is_it. subst (λ (m : Made). m.tag.session.index ≡ who) (some_is made other is_it) makes.tag.session_is) (λ read. absurd read))
+
+write_good : (old : Machine) (who place : ℕ) (program : Program) (reply : Reply) (new : Machine) → IsGoodMachine old → WriteStep old who place program reply new → IsGoodMachine new
+write_good old who place program reply new good (WriteStep.skipped cannot is same) = subst IsGoodMachine (sym same) good
+write_good old who place program reply new good (WriteStep.asked session answer may asks is) = ask_good old good who session (first_asking place session program) answer new may asks
+
+-- what is held under the tag is at home, and was made behind what the session needs
+again_good : (old : Machine) (who : ℕ) (reply : Reply) (new : Machine) → IsGoodMachine old → AreTagged old → AgainStep old who reply new → IsGoodMachine new
+again_good old who reply new good tagged (AgainStep.skipped cannot is same) = subst IsGoodMachine (sym same) good
+again_good old who reply new good tagged (AgainStep.known session asking entry made accepted may holds told_is is entry_is same) =
+    let home = home_of_held old.count old.limit old.servers good.servers asking.server made holds.held in
+    let made_for = tagged.again who asking (record { session = session; there = may.begin.there; asked = may.asked }) made (inl (asking.server, holds.held)) holds.under in
+    subst IsGoodMachine (sym same)
+    (begin_good old good old.servers (no_growth old.servers) good.servers who asking.server session (Some asking) (whats.Write accepted.wid accepted.stamp accepted.deps)
+    (record { entry = entry; database = made.past; made = Some made }) may.begin entry_is (made, refl, home, sym told_is.wid)
+    (λ other is_it. subst (λ (m : Made). CoversWrite session m.past) (some_is made other is_it) made_for.covered)
+    (λ other is_it. subst (λ (m : Made). m.tag.session.index ≡ who) (some_is made other is_it) holds.under.session_is) (λ read. absurd read))
+again_good old who reply new good tagged (AgainStep.asked session asking answer may none asks is) = ask_good old good who session asking answer new may.begin asks
 
 -- ---- the answer in flight
 
@@ -334,7 +365,7 @@ restart_good old place reply new good (RestartStep.restarted adopted server know
 flight_waits : (served : List Answered) (who : ℕ) (session : SessionSets) (later : List Entry) (flight : Option Answered) → IfSome flight (IsGoodFlight served who session)
     → IfSome flight (IsGoodFlight served who (record session { waiting = later }))
 flight_waits served who session later None good = tt
-flight_waits served who session later (Some answered) good = record { session_is = good.session_is; last = good.last; behind = good.behind; covered = covers answered.entry.what good.covered }
+flight_waits served who session later (Some answered) good = record { session_is = good.session_is; last = good.last; behind = good.behind; covered = covers answered.entry.what good.covered; own = good.own; reading = good.reading }
   where
     covers : (what : What) → IsCovered session what answered → IsCovered (record session { waiting = later }) what answered
     covers (whats.Read key vector) c = record { ryw = c.ryw; mr = c.mr }
@@ -369,23 +400,18 @@ file_good old who reply new good (FileStep.filed session entry later may is same
           (λ o s is a flies. good.flights o s a is flies) other found there flying in_flight;
     })
 
--- ---- an event, and a run
+-- ---- an event
 
-pub step_good : (old : Machine) (event : Event) (reply : Reply) (new : Machine) → IsGoodMachine old → Step old event reply new → IsGoodMachine new
-step_good old (events.Read session server key) reply new good step = read_good old session.index server.index key reply new good step
-step_good old (events.Write session server program) reply new good step = write_good old session.index server.index program reply new good step
-step_good old (events.Deliver session) reply new good step = deliver_good old session.index reply new good step
-step_good old (events.Lose session) reply new good step = lose_good old session.index reply new good step
-step_good old (events.Offer server) reply new good step = offer_good old server.index reply new good step
-step_good old (events.Collect server offer) reply new good step = collect_good old server.index offer reply new good step
-step_good old (events.Take server item) reply new good step = take_good old server.index item reply new good step
-step_good old (events.Fuse server call front) reply new good step = fuse_good old server.index call reply new good step
-step_good old (events.Reopen server) reply new good step = reopen_good old server.index reply new good step
-step_good old (events.Restart server) reply new good step = restart_good old server.index reply new good step
-step_good old (events.File session) reply new good step = file_good old session.index reply new good step
-
-pub run_good : (old : Machine) (events : List Event) (replies : List Reply) (new : Machine) → IsGoodMachine old → Run old events replies new → IsGoodMachine new
-run_good old [] [] new good run = subst IsGoodMachine (sym run) good
-run_good old [] (reply ∷ replies) new good run = absurd run
-run_good old (event ∷ events) [] new good run = absurd run
-run_good old (event ∷ events) (reply ∷ replies) new good (mid, step, rest) = run_good mid events replies new (step_good old event reply mid good step) rest
+pub step_good : (old : Machine) (event : Event) (reply : Reply) (new : Machine) → IsGoodMachine old → AreTagged old → Step old event reply new → IsGoodMachine new
+step_good old (events.Read session server key) reply new good tagged step = read_good old session.index server.index key reply new good step
+step_good old (events.Write session server program) reply new good tagged step = write_good old session.index server.index program reply new good step
+step_good old (events.Again session) reply new good tagged step = again_good old session.index reply new good tagged step
+step_good old (events.Deliver session) reply new good tagged step = deliver_good old session.index reply new good step
+step_good old (events.Lose session) reply new good tagged step = lose_good old session.index reply new good step
+step_good old (events.Offer server) reply new good tagged step = offer_good old server.index reply new good step
+step_good old (events.Collect server offer) reply new good tagged step = collect_good old server.index offer reply new good step
+step_good old (events.Take server item) reply new good tagged step = take_good old server.index item reply new good step
+step_good old (events.Fuse server call front) reply new good tagged step = fuse_good old server.index call reply new good step
+step_good old (events.Reopen server) reply new good tagged step = reopen_good old server.index reply new good step
+step_good old (events.Restart server) reply new good tagged step = restart_good old server.index reply new good step
+step_good old (events.File session) reply new good tagged step = file_good old session.index reply new good step

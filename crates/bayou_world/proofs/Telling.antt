@@ -1,9 +1,10 @@
 -- Over each event sessions are told what was done, and servers remember what they had.
-use Rattle.std.proofs.Common.{◌≡◌, ◌≢◌, inl, inr, ◌⊎◌, ℕ, ◌+◌, ◌<◌, Bool, false, List, [], ◌∷◌, ◌++◌, Option, None, Some, IfSome, Contains, All, length, get_or, slice_index, ap, sym, ◌∙◌, refl, subst, arith}
+use Rattle.std.proofs.Common.{◌≡◌, ◌≢◌, inl, inr, ◌⊎◌, ℕ, ◌+◌, ◌<◌, Bool, false, List, [], ◌∷◌, ◌++◌, Result, Option, None, Some, IfSome, Contains, All, length, get_or, slice_index, ap, sym, ◌∙◌, refl, subst, arith}
 use Rattle.std.specs.Option.{option_map}
 use Rattle.std.proofs.lemmas.List.{append-nil, map-append}
-use Rattle.std.proofs.lemmas.List.Elements.{All-nil, All-push, All-weaker, Contains-append_left, Contains-push}
+use Rattle.std.proofs.lemmas.List.Elements.{All-contains, All-nil, All-push, All-weaker, Contains-append_left, Contains-push}
 use Rattle.std.proofs.lemmas.List.Quantifiers.{all_pairs_push}
+use Rattle.bayou_base.specs.declared.answer.Accepted.{Accepted}
 use Rattle.bayou_base.specs.declared.asks.Asks.{Asks}
 use Rattle.bayou_base.specs.declared.entry.Entry.{Entry}
 use Rattle.bayou_base.specs.declared.entry.What.{What}
@@ -14,6 +15,8 @@ use Rattle.bayou_lang.specs.declared.write.Write.{Write}
 use Rattle.bayou_lang.specs.Writes.{IsNextWrite, count_of}
 use Rattle.bayou_judge.specs.Evidence.{TellsOf}
 use Rattle.bayou_judge.specs.History.{IsFrontOf}
+use Rattle.bayou_server.specs.declared.answer.Written.{Written}
+use Rattle.bayou_server.specs.declared.fault.WriteFault.{WriteFault}
 use Rattle.bayou_world.specs.declared.event.Event.{Event}
 use Rattle.bayou_world.specs.declared.event.Event.TheVariants as events
 use Rattle.bayou_world.specs.declared.reply.Reply.{Reply}
@@ -21,11 +24,13 @@ use Rattle.bayou_world.specs.Inner.Good.{IsGoodFlight, IsGoodMachine, IsHome, Is
 use Rattle.bayou_world.specs.Inner.Told.{Flies, IsLater, IsRemembered, IsToldBy, IsToldMachine, IsToldTrue, TellsOfOthers}
 use Rattle.bayou_world.specs.Machine.{Answered, Asking, Machine, Made, ServerSets, SessionSets, changed, names, with_session, writes}
 use Rattle.bayou_world.specs.Runs.{Run, first_machine, new_session}
-use Rattle.bayou_world.specs.Steps.{CollectStep, DeliverStep, FileStep, FuseStep, IsEntry, IsInFlight, LoseStep, MayBegin, OfferStep, ReadStep, Recovers, ReopenStep, RestartStep, Step, TakeStep, WriteStep, first_asking, refusal, served_by, stopped_now, told, with_answer, with_doubt, with_write}
-use Rattle.bayou_world.proofs.Homes.{fitting_at}
+use Rattle.bayou_world.specs.Steps.{AgainStep, AskStep, CollectStep, DeliverStep, FileStep, FuseStep, HoldsAsked, IsAccepted, IsEntry, IsInFlight, LoseStep, MayBegin, MayRepeat, OfferStep, ReadStep, Recovers, ReopenStep, RestartStep, Step, TakeStep, WriteStep, first_asking, refusal, served_by, stopped_now, told, with_answer, with_doubt, with_write}
+use Rattle.bayou_world.specs.Tags.{AreTagged}
+use Rattle.bayou_world.proofs.Homes.{fitting_at, home_of_held, one_home, stands_behind}
 use Rattle.bayou_world.proofs.Lists.{Contains-map, at_changed, changed-other, changed-same, same_number}
 use Rattle.bayou_world.proofs.Starting.{first_good}
-use Rattle.bayou_world.proofs.Stepping.{sessions_changed, step_good}
+use Rattle.bayou_world.proofs.Stepping.{all_of_contained, sessions_changed, step_good}
+use Rattle.bayou_world.proofs.Tagging.{first_tagged, step_tagged}
 use Rattle.bayou_world.proofs.Vectors.{named}
 
 -- ---- what servers had
@@ -252,32 +257,90 @@ read_told count asks old who place key reply new is (ReadStep.served session ent
     (λ k d within. tells_none what (get_or old.served k d) answered entry_is.what_is (λ name tells. tells))
     (λ other second flies. tells_none what second answered entry_is.what_is (λ name tells. tells)))
 
-write_told : (count : ℕ) (asks : ℕ → Option Asks) (old : Machine) (who place : ℕ) (program : Program) (reply : Reply) (new : Machine) → IsGoodMachine old → IsToldMachine count asks old
-    → WriteStep old who place program reply new → IsToldMachine count asks new
-write_told count asks old who place program reply new good is (WriteStep.skipped cannot replies same) = same_told count asks old new same is
-write_told count asks old who place program reply new good is (WriteStep.refused session entry fault may refused replies entry_is same) =
-    subst (IsToldMachine count asks) (sym same) (refuses count asks old is old.servers is.servers who place session (Some (first_asking place session program)) entry may entry_is)
-write_told count asks old who place program reply new good is (WriteStep.doubted session entry made may makes replies entry_is same) =
+-- a Write is asked for, for the first time or again
+ask_told : (count : ℕ) (asks : ℕ → Option Asks) (old : Machine) (who : ℕ) (session : SessionSets) (asking : Asking) (answer : Result Written WriteFault) (new : Machine) → IsGoodMachine old → IsToldMachine count asks old
+    → MayBegin old who asking.server session → AskStep old who session asking answer new → IsToldMachine count asks new
+ask_told count asks old who session asking answer new good is may (AskStep.refused entry fault refused replies entry_is same) =
+    subst (IsToldMachine count asks) (sym same) (refuses count asks old is old.servers is.servers who asking.server session (Some asking) entry may entry_is)
+ask_told count asks old who session asking answer new good is may (AskStep.doubted entry made makes replies entry_is same) =
+    let place = asking.server in
     let doubted = with_doubt (old.servers place) made in
     subst (IsToldMachine count asks) (sym same)
     (refuses count asks old is (changed old.servers place doubted)
     (at_changed (IsRemembered count) old.servers place doubted (remembers_same count place (old.servers place) doubted refl refl (is.servers place)) is.servers)
-    who place session (Some (first_asking place session program)) entry may entry_is)
-write_told count asks old who place program reply new good is (WriteStep.accepted session entry made accepted may makes told_is replies entry_is same) =
+    who place session (Some asking) entry may entry_is)
+ask_told count asks old who session asking answer new good is may (AskStep.accepted entry made accepted makes told_is replies entry_is same) =
+    let place = asking.server in
     let server = old.servers place in
     let what = whats.Write accepted.wid accepted.stamp accepted.deps in
     let answered : Answered = record { entry = entry; database = made.past; made = Some made } in
     let known = known_server count asks old is place may.server.there in
     let is_new : (other : Answered) → IsTrueAnswer old.servers other → TellsOfOthers other answered = λ other is_true name here there.
-    next_is_new old good place program made makes.next other is_true name here (sym (subst (TellsOf name) entry_is.what_is there) ∙ told_is.wid) in
+    next_is_new old good place asking.program made makes.next other is_true name here (sym (subst (TellsOf name) entry_is.what_is there) ∙ told_is.wid) in
     subst (IsToldMachine count asks) (sym same)
     (begins count asks old is (changed old.servers place (with_write server made))
     (at_changed (IsRemembered count) old.servers place (with_write server made) (remembers_write count place server made server.doubt server.stopped known (is.servers place)) is.servers)
-    who session (Some (first_asking place session program)) answered may.there
+    who session (Some asking) answered may.there
     (entry_told count asks who place session what answered entry_is known (is.asks_are who session may.there)
     (made, refl, told_is.wid, told_is.stamp, told_is.deps ∙ ap count_of makes.past ∙ sym makes.next.deps, makes.next.origin))
     (All-weaker (IsTrueAnswer old.servers) (λ (o : Answered). TellsOfOthers o answered) is_new old.served good.served)
     (λ other second flies. is_new second (good.flights other flies.0 second flies.1 flies.2)))
+
+write_told : (count : ℕ) (asks : ℕ → Option Asks) (old : Machine) (who place : ℕ) (program : Program) (reply : Reply) (new : Machine) → IsGoodMachine old → IsToldMachine count asks old
+    → WriteStep old who place program reply new → IsToldMachine count asks new
+write_told count asks old who place program reply new good is (WriteStep.skipped cannot replies same) = same_told count asks old new same is
+write_told count asks old who place program reply new good is (WriteStep.asked session answer may does replies) =
+    ask_told count asks old who session (first_asking place session program) answer new good is may does
+
+-- who tells of a Write at home has it
+tells_it : (old : Machine) → IsGoodMachine old → (made : Made) → IsHome old.servers made → (what : What) (place : ℕ) (other : Answered) → WasSo old.servers what place other → TellsOf made.write.wid what
+    → other.made ≡ Some made
+tells_it old good made home (whats.Read key vector) place other was tells = absurd tells
+tells_it old good made home (whats.Write wid stamp deps) place other (one, is, one_at_home, named_so) tells =
+    is ∙ ap Some (one_home old.count old.limit old.servers good.servers one made one_at_home home (named_so ∙ tells))
+tells_it old good made home whats.Refused place other was tells = absurd tells
+
+-- Of the Write that is held nobody was told yet: it was asked for by this session alone, which is told of none, and to which nothing is in flight.
+held_told : (count : ℕ) (asks : ℕ → Option Asks) (old : Machine) (who : ℕ) (session : SessionSets) (asking : Asking) (entry : Entry) (made : Made) (accepted : Accepted) → IsGoodMachine old → AreTagged old
+    → IsToldMachine count asks old → MayRepeat old who session asking → HoldsAsked old who asking made → IsAccepted made accepted
+    → IsEntry who asking.server session (whats.Write accepted.wid accepted.stamp accepted.deps) entry
+    → IsToldMachine count asks (with_answer old who session (Some asking) (record { entry = entry; database = made.past; made = Some made }))
+held_told count asks old who session asking entry made accepted good tagged is may holds told_is entry_is =
+    let place = asking.server in
+    let what = whats.Write accepted.wid accepted.stamp accepted.deps in
+    let answered : Answered = record { entry = entry; database = made.past; made = Some made } in
+    let known = known_server count asks old is place may.begin.server.there in
+    let home = home_of_held old.count old.limit old.servers good.servers place made holds.held in
+    let made_for = tagged.again who asking (record { session = session; there = may.begin.there; asked = may.asked }) made (inl (place, holds.held)) holds.under in
+    let stands = stands_behind old.count old.limit old.servers good.servers made home in
+    let is_it : (name : Wid) → TellsOf name entry.what → name ≡ made.write.wid = λ name tells. sym (subst (TellsOf name) entry_is.what_is tells) ∙ told_is.wid in
+    let has_it : (other : Answered) → IsTrueAnswer old.servers other → (name : Wid) → TellsOf name other.entry.what → TellsOf name entry.what → other.made ≡ Some made = λ other is_true name here there.
+    tells_it old good made home other.entry.what other.entry.server.index other is_true (subst (λ n. TellsOf n other.entry.what) (is_it name there) here) in
+    begins count asks old is old.servers is.servers who session (Some asking) answered may.begin.there
+    (entry_told count asks who place session what answered entry_is known (is.asks_are who session may.begin.there)
+    (made, refl, told_is.wid, told_is.stamp, told_is.deps ∙ sym stands.deps, made_for.server))
+    (all_of_contained (λ (o : Answered). TellsOfOthers o answered) old.served (λ other among name here there.
+    All-contains (λ (o : Answered). o.made ≢ Some made) old.served other made_for.untold among
+    (has_it other (All-contains (IsTrueAnswer old.servers) old.served other good.served among) name here there)))
+    (λ other second flies name here there.
+    let flight = subst (λ f. IfSome f (IsGoodFlight old.served other flies.0)) flies.2 (good.sessions other flies.0 flies.1).flight in
+    let own : made.tag.session.index ≡ other = flight.own made (has_it second (good.flights other flies.0 second flies.1 flies.2) name here there) in
+    let same : session ≡ flies.0 = some_session session flies.0 (sym may.begin.there ∙ ap old.sessions (sym holds.under.session_is ∙ own) ∙ flies.1) in
+    not_both second (sym may.begin.idle ∙ ap (λ (s : SessionSets). s.flight) same ∙ flies.2))
+  where
+    some_session : (a b : SessionSets) → Some a ≡ Some b → a ≡ b
+    some_session a b both = cc
+
+    not_both : (a : Answered) → None ≡ Some a → ⊥
+    not_both a both = cc
+
+again_told : (count : ℕ) (asks : ℕ → Option Asks) (old : Machine) (who : ℕ) (reply : Reply) (new : Machine) → IsGoodMachine old → AreTagged old → IsToldMachine count asks old → AgainStep old who reply new
+    → IsToldMachine count asks new
+again_told count asks old who reply new good tagged is (AgainStep.skipped cannot replies same) = same_told count asks old new same is
+again_told count asks old who reply new good tagged is (AgainStep.known session asking entry made accepted may holds told_is replies entry_is same) =
+    subst (IsToldMachine count asks) (sym same) (held_told count asks old who session asking entry made accepted good tagged is may holds told_is entry_is)
+again_told count asks old who reply new good tagged is (AgainStep.asked session asking answer may none does replies) =
+    ask_told count asks old who session asking answer new good is may.begin does
 
 -- the answer in flight is of a later place than what the session was served
 behind_all : (old : Machine) → IsGoodMachine old → (who : ℕ) (session : SessionSets) (answered : Answered) → IsInFlight old who session answered
@@ -404,25 +467,26 @@ restart_told count asks old place reply new is (RestartStep.restarted adopted se
     (server_told count asks old is place server
     (remembers_recovery count place (old.servers place) adopted server (known_server count asks old is place known) recovers (is.servers place)))
 
-step_told : (count : ℕ) (asks : ℕ → Option Asks) (old : Machine) (event : Event) (reply : Reply) (new : Machine) → IsGoodMachine old → IsToldMachine count asks old → Step old event reply new → IsToldMachine count asks new
-step_told count asks old (events.Read session server key) reply new good is step = read_told count asks old session.index server.index key reply new is step
-step_told count asks old (events.Write session server program) reply new good is step = write_told count asks old session.index server.index program reply new good is step
-step_told count asks old (events.Deliver session) reply new good is step = deliver_told count asks old session.index reply new good is step
-step_told count asks old (events.Lose session) reply new good is step = lose_told count asks old session.index reply new is step
-step_told count asks old (events.Offer server) reply new good is step = offer_told count asks old server.index reply new is step
-step_told count asks old (events.Collect server offer) reply new good is step = collect_told count asks old server.index offer reply new is step
-step_told count asks old (events.Take server item) reply new good is step = take_told count asks old server.index item reply new is step
-step_told count asks old (events.Fuse server call front) reply new good is step = fuse_told count asks old server.index call reply new is step
-step_told count asks old (events.Reopen server) reply new good is step = reopen_told count asks old server.index reply new is step
-step_told count asks old (events.Restart server) reply new good is step = restart_told count asks old server.index reply new is step
-step_told count asks old (events.File session) reply new good is step = file_told count asks old session.index reply new is step
+step_told : (count : ℕ) (asks : ℕ → Option Asks) (old : Machine) (event : Event) (reply : Reply) (new : Machine) → IsGoodMachine old → AreTagged old → IsToldMachine count asks old → Step old event reply new → IsToldMachine count asks new
+step_told count asks old (events.Read session server key) reply new good tagged is step = read_told count asks old session.index server.index key reply new is step
+step_told count asks old (events.Write session server program) reply new good tagged is step = write_told count asks old session.index server.index program reply new good is step
+step_told count asks old (events.Again session) reply new good tagged is step = again_told count asks old session.index reply new good tagged is step
+step_told count asks old (events.Deliver session) reply new good tagged is step = deliver_told count asks old session.index reply new good is step
+step_told count asks old (events.Lose session) reply new good tagged is step = lose_told count asks old session.index reply new is step
+step_told count asks old (events.Offer server) reply new good tagged is step = offer_told count asks old server.index reply new is step
+step_told count asks old (events.Collect server offer) reply new good tagged is step = collect_told count asks old server.index offer reply new is step
+step_told count asks old (events.Take server item) reply new good tagged is step = take_told count asks old server.index item reply new is step
+step_told count asks old (events.Fuse server call front) reply new good tagged is step = fuse_told count asks old server.index call reply new is step
+step_told count asks old (events.Reopen server) reply new good tagged is step = reopen_told count asks old server.index reply new is step
+step_told count asks old (events.Restart server) reply new good tagged is step = restart_told count asks old server.index reply new is step
+step_told count asks old (events.File session) reply new good tagged is step = file_told count asks old session.index reply new is step
 
-run_told : (count : ℕ) (asks : ℕ → Option Asks) (old : Machine) (events : List Event) (replies : List Reply) (new : Machine) → IsGoodMachine old → IsToldMachine count asks old → Run old events replies new → IsToldMachine count asks new
-run_told count asks old [] [] new good is run = same_told count asks old new run is
-run_told count asks old [] (reply ∷ replies) new good is run = absurd run
-run_told count asks old (event ∷ events) [] new good is run = absurd run
-run_told count asks old (event ∷ events) (reply ∷ replies) new good is (mid, step, rest) =
-    run_told count asks mid events replies new (step_good old event reply mid good step) (step_told count asks old event reply mid good is step) rest
+run_told : (count : ℕ) (asks : ℕ → Option Asks) (old : Machine) (events : List Event) (replies : List Reply) (new : Machine) → IsGoodMachine old → AreTagged old → IsToldMachine count asks old → Run old events replies new → IsToldMachine count asks new
+run_told count asks old [] [] new good tagged is run = same_told count asks old new run is
+run_told count asks old [] (reply ∷ replies) new good tagged is run = absurd run
+run_told count asks old (event ∷ events) [] new good tagged is run = absurd run
+run_told count asks old (event ∷ events) (reply ∷ replies) new good tagged is (mid, step, rest) =
+    run_told count asks mid events replies new (step_good old event reply mid good tagged step) (step_tagged old event reply mid good tagged step) (step_told count asks old event reply mid good tagged is step) rest
 
 -- ---- as a run begins
 
@@ -459,4 +523,4 @@ first_told count limit capacity asks = record {
 pub run_is_told : (count limit capacity : ℕ) (asks : ℕ → Option Asks) (events : List Event) (replies : List Reply) (last : Machine)
     → Run (first_machine count limit capacity asks) events replies last → IsToldMachine count asks last
 run_is_told count limit capacity asks events replies last run =
-    run_told count asks (first_machine count limit capacity asks) events replies last (first_good count limit capacity asks) (first_told count limit capacity asks) run
+    run_told count asks (first_machine count limit capacity asks) events replies last (first_good count limit capacity asks) (first_tagged count limit capacity asks) (first_told count limit capacity asks) run

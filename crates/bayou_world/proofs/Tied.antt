@@ -22,6 +22,7 @@ use Rattle.bayou_server.specs.Honest.{IsHonestServer}
 use Rattle.bayou_server.specs.Server.{Core, ServerState}
 use Rattle.bayou_session.specs.Needs.{HasCounts, Told, one_place_more, read_need}
 use Rattle.bayou_world.specs.declared.world_session.WorldSession.{WorldSession}
+use Rattle.bayou_world.specs.declared.world_session.Asked.{Asked}
 use Rattle.bayou_world.specs.declared.world_session.Flight.{Flight}
 use Rattle.bayou_world.specs.declared.world_server.WorldServer.{WorldServer}
 use Rattle.bayou_world.specs.declared.world_server.WorldServer.TheVariants.{Running}
@@ -29,7 +30,7 @@ use Rattle.bayou_world.specs.declared.reply.Reply.TheVariants as replies
 use Rattle.bayou_world.specs.Inner.WorldSessions.{Begins, seen_as}
 use Rattle.bayou_world.specs.Inner.Good.{IsGoodMachine}
 use Rattle.bayou_world.specs.Inner.WorldServers.{is_stopped}
-use Rattle.bayou_world.specs.Inner.Tie.{IsAcceptedIn, IsWorldSessionOf, IsFlightOf, IsSeatOf, IsWorldServerOf, IsServerOf, IsTied, number_of, seat}
+use Rattle.bayou_world.specs.Inner.Tie.{IsAcceptedIn, IsAskedOf, IsWorldSessionOf, IsFlightOf, IsSeatOf, IsWorldServerOf, IsServerOf, IsTied, number_of, seat}
 use Rattle.bayou_world.specs.Agreement.{StandsFor}
 use Rattle.bayou_world.specs.Machine.{Answered, Asking, Machine, ServerSets, SessionSets, changed, with_server, with_session, writes}
 use Rattle.bayou_world.specs.Steps.{CannotBegin, IsEntry, IsRunning, MayBegin, MayRead, ReadStep, refusal, with_answer}
@@ -197,19 +198,20 @@ idle (Some flight) a is none = let both : Some flight ≡ None = none in absurd 
 -- ---- an operation begins
 
 -- its next place is begun, behind which it may ask again what it asked at this place, if that is one
-abbrev place_begun : Told → Option ℕ → Told
+abbrev pub place_begun : Told → Option ℕ → Told
 place_begun told asked = record told { begun = told.begun + 1; asked = asked }
 
 -- the session that runs begins as the machine's does
-pub began : (who place : ℕ) (world_session new : WorldSession) (session : SessionSets) (asked : Option ℕ) (asking : Option Asking) → asked ≡ option_map number_of asking → (what : What) (accepted : Option Accepted) (answered : Answered) → IsWorldSessionOf who world_session session
-    → (begins : Begins world_session (place_begun world_session.session asked) place what accepted new) → answered.entry ≡ begins.entry → IsAcceptedIn what accepted
+pub began : (who place : ℕ) (world_session new : WorldSession) (session : SessionSets) (asked : Option ℕ) (kept : Option Asked) (asking : Option Asking) → asked ≡ option_map number_of asking → IsAskedOf kept asking → (what : What) (accepted : Option Accepted) (answered : Answered)
+    → IsWorldSessionOf who world_session session → (begins : Begins world_session (place_begun world_session.session asked) kept place what accepted new) → answered.entry ≡ begins.entry → IsAcceptedIn what accepted
     → IsWorldSessionOf who new (record session { begun = session.begun + 1; asked = asking; flight = Some answered })
-began who place world_session new session asked asking asked_is what accepted answered is begins entry_is tells = record {
+began who place world_session new session asked kept asking asked_is kept_is what accepted answered is begins entry_is tells = record {
   name = ap (λ (t : Told). t.id.index) begins.session ∙ is.name;
   asks = ap (λ (t : Told). t.asks) begins.session ∙ is.asks;
   run = ap (λ (t : Told). t.run) begins.session ∙ is.run;
   begun = ap (λ (t : Told). t.begun) begins.session ∙ ap (λ n. n + 1) is.begun;
   asked = ap (λ (t : Told). t.asked) begins.session ∙ asked_is;
+  kept = subst (λ a. IsAskedOf a asking) (sym begins.asked) kept_is;
   long = subst (λ (t : Told). (length t.reads ≡ SERVERS) × (length t.writes ≡ SERVERS)) (sym begins.session) is.long;
   reads = subst (λ (t : Told). IsVectorOf t.reads session.reads) (sym begins.session) is.reads;
   writes = subst (λ (t : Told). IsVectorOf t.writes session.writes) (sym begins.session) is.writes;
@@ -219,9 +221,9 @@ began who place world_session new session asked asking asked_is what accepted an
   own = is.own;
 }
 
-pub entry_of : (who place : ℕ) (world_session new : WorldSession) (session : SessionSets) (asked : Option ℕ) (what : What) (accepted : Option Accepted) → IsWorldSessionOf who world_session session
-    → (begins : Begins world_session (place_begun world_session.session asked) place what accepted new) → IsEntry who place session what begins.entry
-entry_of who place world_session new session asked what accepted is begins = record {
+pub entry_of : (who place : ℕ) (world_session new : WorldSession) (session : SessionSets) (asked : Option ℕ) (kept : Option Asked) (what : What) (accepted : Option Accepted) → IsWorldSessionOf who world_session session
+    → (begins : Begins world_session (place_begun world_session.session asked) kept place what accepted new) → IsEntry who place session what begins.entry
+entry_of who place world_session new session asked kept what accepted is begins = record {
   session_is = ap (λ (id : _). id.index) begins.session_is ∙ is.name;
   place_is = begins.place_is ∙ ap (λ n. n + 1) is.begun;
   asks_are = begins.asks_are ∙ is.asks;
@@ -254,7 +256,7 @@ read_covered law machine good who place world_session session is counts =
 pub read_tied : ReadLaw → (servers : List WorldServer) (world_sessions : List (Option WorldSession)) (offers : List (List ℕ)) (items : List Write) (told : List Entry) (machine : Machine) → IsGoodMachine machine
     → IsTied servers world_sessions offers items told machine → (who place : ℕ) (key : List ℕ) (world_session new : WorldSession) (server : ServerState Memory) (answer : Result Seen Behind) → who < SESSIONS → seat world_sessions who ≡ Some world_session
     → world_session.flight ≡ None → world_session.session.begun < MAX_PLACES → place < length servers → get_or servers place (Running server) ≡ Running server → HasCounts world_session.session → served.Reads server.core (read_need world_session.session) key answer
-    → Begins world_session (one_place_more world_session.session) server.core.id (seen_as key answer) None new
+    → Begins world_session (one_place_more world_session.session) None server.core.id (seen_as key answer) None new
     → (next : Machine) × ReadStep machine who place key (replies.Read answer) next × IsTied servers (set world_sessions who (Some new)) offers items told next
 read_tied law servers world_sessions offers items told machine good tied who place key world_session new server (Ok seen) inside at none left known stands counts serves begins =
     let seat_is = session_of_seat who (seat world_sessions who) (machine.sessions who) world_session (tied.sessions_are who inside) at in
@@ -263,15 +265,15 @@ read_tied law servers world_sessions offers items told machine good tied who pla
     let here = runs_at servers world_sessions offers items told machine tied place server known stands in
     let core = here.core in
     let held_is : server.core.held ≡ writes (machine.servers place).held = ap (λ (c : Core). c.held) core.is in
-    let begins_at = subst (λ n. Begins world_session (one_place_more world_session.session) n (whats.Read key seen.vector) None new) (ap (λ (c : Core). c.id) core.is) begins in
+    let begins_at = subst (λ n. Begins world_session (one_place_more world_session.session) None n (whats.Read key seen.vector) None new) (ap (λ (c : Core). c.id) core.is) begins in
     let may = may_begin machine who place world_session session seat_is.1 is none left here.running in
     let answered : Answered = record { entry = begins_at.entry; database = writes (machine.servers place).held; made = None } in
     let covered = (read_covered law machine good who place world_session session is counts).0 (subst (λ h. Dominates (count_of h) (read_need world_session.session)) held_is serves.covered) in (
       with_answer machine who session None answered,
       ReadStep.served session begins_at.entry seen may covered (serves.value ∙ ap (λ h. value_at (replay h) key) held_is) (serves.vector ∙ ap count_of held_is) refl
-          (entry_of who place world_session new session None (whats.Read key seen.vector) None is begins_at) refl,
+          (entry_of who place world_session new session None None (whats.Read key seen.vector) None is begins_at) refl,
       with_seat servers world_sessions offers items told machine tied who new (record session { begun = session.begun + 1; asked = None; flight = Some answered }) inside
-          (began who place world_session new session None None refl (whats.Read key seen.vector) None answered is begins_at refl refl),
+          (began who place world_session new session None None None refl tt (whats.Read key seen.vector) None answered is begins_at refl refl),
     )
 read_tied law servers world_sessions offers items told machine good tied who place key world_session new server (Err behind) inside at none left known stands counts serves begins =
     let seat_is = session_of_seat who (seat world_sessions who) (machine.sessions who) world_session (tied.sessions_are who inside) at in
@@ -280,15 +282,15 @@ read_tied law servers world_sessions offers items told machine good tied who pla
     let here = runs_at servers world_sessions offers items told machine tied place server known stands in
     let core = here.core in
     let held_is : server.core.held ≡ writes (machine.servers place).held = ap (λ (c : Core). c.held) core.is in
-    let begins_at = subst (λ n. Begins world_session (one_place_more world_session.session) n whats.Refused None new) (ap (λ (c : Core). c.id) core.is) begins in
+    let begins_at = subst (λ n. Begins world_session (one_place_more world_session.session) None n whats.Refused None new) (ap (λ (c : Core). c.id) core.is) begins in
     let may = may_begin machine who place world_session session seat_is.1 is none left here.running in
     let vector : behind.vector ≡ count_of (writes (machine.servers place).held) = serves.held ∙ ap count_of held_is in (
       with_answer machine who session None (refusal begins_at.entry),
       ReadStep.behind session begins_at.entry may
           (λ covered. serves.not_covered (subst (λ h. Dominates (count_of h) (read_need world_session.session)) (sym held_is) ((read_covered law machine good who place world_session session is counts).1 covered)))
-          (ap (λ v. replies.Read (Err (record { vector = v }))) vector) (entry_of who place world_session new session None whats.Refused None is begins_at) refl,
+          (ap (λ v. replies.Read (Err (record { vector = v }))) vector) (entry_of who place world_session new session None None whats.Refused None is begins_at) refl,
       with_seat servers world_sessions offers items told machine tied who new (record session { begun = session.begun + 1; asked = None; flight = Some (refusal begins_at.entry) }) inside
-          (began who place world_session new session None None refl whats.Refused None (refusal begins_at.entry) is begins_at refl refl),
+          (began who place world_session new session None None None refl tt whats.Refused None (refusal begins_at.entry) is begins_at refl refl),
     )
 
 -- what can't be

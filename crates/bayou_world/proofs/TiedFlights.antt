@@ -16,9 +16,9 @@ use Rattle.bayou_world.specs.declared.world_session.WorldSession.{WorldSession}
 use Rattle.bayou_world.specs.declared.world_session.Flight.{Flight}
 use Rattle.bayou_world.specs.declared.world_server.WorldServer.{WorldServer}
 use Rattle.bayou_world.specs.declared.reply.Reply.TheVariants as replies
-use Rattle.bayou_world.specs.Inner.WorldSessions.{Hears, after_accepted, after_read, served_entries}
+use Rattle.bayou_world.specs.Inner.WorldSessions.{Hears, after_accepted, after_read, asked_after, served_entries}
 use Rattle.bayou_world.specs.Inner.Good.{IsGoodMachine, IsGoodFlight, WasSo}
-use Rattle.bayou_world.specs.Inner.Tie.{IsAcceptedIn, IsWorldSessionOf, IsFlightOf, IsTied, seat}
+use Rattle.bayou_world.specs.Inner.Tie.{IsAcceptedIn, IsAskedOf, IsWorldSessionOf, IsFlightOf, IsTied, seat}
 use Rattle.bayou_world.specs.Invariant.{IsVectorOf}
 use Rattle.bayou_world.specs.Machine.{Answered, Machine, SessionSets, names, with_session}
 use Rattle.bayou_world.specs.Steps.{DeliverStep, IsInFlight, LoseStep, heard, landed, served_by, told}
@@ -36,9 +36,9 @@ flies (Some other) f (Some a) is at = let one : other ≡ f = cc in let moved = 
 -- the session that runs and the machine's hear the same
 hears_same : (machine : Machine) → IsGoodMachine machine → (who place : ℕ) (world_session new : WorldSession) (session : SessionSets) (answered : Answered) (accepted : Option Accepted) → IsWorldSessionOf who world_session session
     → (what : What) → answered.entry.what ≡ what → WasSo machine.servers what place answered → IsAcceptedIn what accepted → answered.entry.session.index ≡ who
-    → new.session ≡ after_accepted accepted (after_read what world_session.session) → new.flight ≡ None → new.waiting.items ≡ world_session.waiting.items ++ answered.entry ∷ []
+    → new.session ≡ after_accepted accepted (after_read what world_session.session) → new.asked ≡ asked_after accepted world_session.asked → new.flight ≡ None → new.waiting.items ≡ world_session.waiting.items ++ answered.entry ∷ []
     → IsWorldSessionOf who new (record (told what answered session) { flight = None; waiting = session.waiting ++ answered.entry ∷ [] })
-hears_same machine good who place world_session new session answered accepted is (whats.Read key vector) what_is is_true none own session_is flight_is waits =
+hears_same machine good who place world_session new session answered accepted is (whats.Read key vector) what_is is_true none own session_is asked_is flight_is waits =
     let told_is : new.session ≡ record world_session.session { reads = joined world_session.session.reads vector } = session_is ∙ ap (λ a. after_accepted a (record world_session.session { reads = joined world_session.session.reads vector })) none in
     let fitting : AreFitting machine.count answered.database =
     fitting-front machine.count answered.database is_true.1.0 (subst (AreFitting machine.count) is_true.1.1 (fitting_at machine.count machine.limit machine.servers good.servers place)) in
@@ -50,6 +50,7 @@ hears_same machine good who place world_session new session answered accepted is
       run = ap (λ (t : Told). t.run) told_is ∙ is.run;
       begun = ap (λ (t : Told). t.begun) told_is ∙ is.begun;
       asked = ap (λ (t : Told). t.asked) told_is ∙ is.asked;
+      kept = subst (λ a. IsAskedOf a session.asked) (sym (asked_is ∙ ap (λ a. asked_after a world_session.asked) none)) is.kept;
       long = subst (λ (t : Told). (length t.reads ≡ SERVERS) × (length t.writes ≡ SERVERS)) (sym told_is) (length-joined world_session.session.reads vector same_long ∙ is.long.0, is.long.1);
       reads = subst (λ (t : Told). IsVectorOf t.reads (session.reads ++ names answered.database)) (sym told_is)
           (IsVectorOf-joined world_session.session.reads vector session.reads (names answered.database) same_long is.reads counts);
@@ -58,7 +59,7 @@ hears_same machine good who place world_session new session answered accepted is
       waiting = waits ∙ ap (λ list. list ++ answered.entry ∷ []) is.waiting;
       own = All-push (λ (entry : Entry). entry.session.index ≡ who) session.waiting answered.entry is.own own;
     }
-hears_same machine good who place world_session new session answered accepted is (whats.Write wid stamp deps) what_is is_true some own session_is flight_is waits =
+hears_same machine good who place world_session new session answered accepted is (whats.Write wid stamp deps) what_is is_true some own session_is asked_is flight_is waits =
     let told_is : new.session ≡ after_write world_session.session some.0 = session_is ∙ ap (λ a. after_accepted a world_session.session) some.1 in
     record {
       name = ap (λ (t : Told). t.id.index) told_is ∙ is.name;
@@ -66,6 +67,7 @@ hears_same machine good who place world_session new session answered accepted is
       run = ap (λ (t : Told). t.run) told_is ∙ is.run;
       begun = ap (λ (t : Told). t.begun) told_is ∙ is.begun;
       asked = ap (λ (t : Told). t.asked) told_is;
+      kept = subst (λ a. IsAskedOf a None) (sym (asked_is ∙ ap (λ a. asked_after a world_session.asked) some.1)) tt;
       long = subst (λ (t : Told). (length t.reads ≡ SERVERS) × (length t.writes ≡ SERVERS)) (sym told_is) (is.long.0, length-set world_session.session.writes _ _ ∙ is.long.1);
       reads = subst (λ (t : Told). IsVectorOf t.reads session.reads) (sym told_is) is.reads;
       writes = subst (λ (t : Told). IsVectorOf t.writes (session.writes ++ wid ∷ [])) (sym told_is)
@@ -75,7 +77,7 @@ hears_same machine good who place world_session new session answered accepted is
       waiting = waits ∙ ap (λ list. list ++ answered.entry ∷ []) is.waiting;
       own = All-push (λ (entry : Entry). entry.session.index ≡ who) session.waiting answered.entry is.own own;
     }
-hears_same machine good who place world_session new session answered accepted is whats.Refused what_is is_true none own session_is flight_is waits =
+hears_same machine good who place world_session new session answered accepted is whats.Refused what_is is_true none own session_is asked_is flight_is waits =
     let told_is : new.session ≡ world_session.session = session_is ∙ ap (λ a. after_accepted a world_session.session) none in
     record {
       name = ap (λ (t : Told). t.id.index) told_is ∙ is.name;
@@ -83,6 +85,7 @@ hears_same machine good who place world_session new session answered accepted is
       run = ap (λ (t : Told). t.run) told_is ∙ is.run;
       begun = ap (λ (t : Told). t.begun) told_is ∙ is.begun;
       asked = ap (λ (t : Told). t.asked) told_is ∙ is.asked;
+      kept = subst (λ a. IsAskedOf a session.asked) (sym (asked_is ∙ ap (λ a. asked_after a world_session.asked) none)) is.kept;
       long = subst (λ (t : Told). (length t.reads ≡ SERVERS) × (length t.writes ≡ SERVERS)) (sym told_is) is.long;
       reads = subst (λ (t : Told). IsVectorOf t.reads session.reads) (sym told_is) is.reads;
       writes = subst (λ (t : Told). IsVectorOf t.writes session.writes) (sym told_is) is.writes;
@@ -99,7 +102,7 @@ served_same whats.Refused answered = refl
 pub deliver_tied : (servers : List WorldServer) (world_sessions : List (Option WorldSession)) (offers : List (List ℕ)) (items : List Write) (told_so_far : List Entry) (machine : Machine) → IsGoodMachine machine
     → IsTied servers world_sessions offers items told_so_far machine → (who : ℕ) (world_session new : WorldSession) (entry : Entry) → who < SESSIONS → seat world_sessions who ≡ Some world_session → Hears world_session (Some entry) new
     → (next : Machine) × DeliverStep machine who replies.Delivered next × IsTied servers (set world_sessions who (Some new)) offers items (told_so_far ++ served_entries entry.what entry) next
-deliver_tied servers world_sessions offers items told_so_far machine good tied who world_session new entry inside at (accepted, flight, session_is, none, waits) =
+deliver_tied servers world_sessions offers items told_so_far machine good tied who world_session new entry inside at (accepted, flight, session_is, asked_is, none, waits) =
     let seat_is = session_of_seat who (seat world_sessions who) (machine.sessions who) world_session (tied.sessions_are who inside) at in
     let session = seat_is.0 in
     let is = seat_is.2 in
@@ -113,7 +116,7 @@ deliver_tied servers world_sessions offers items told_so_far machine good tied w
     let session_then : new.session ≡ after_accepted accepted (after_read answered.entry.what world_session.session) = session_is ∙ ap (λ (e : Entry). after_accepted accepted (after_read e.what world_session.session)) entry_is in
     let waits_then : new.waiting.items ≡ world_session.waiting.items ++ answered.entry ∷ [] = waits ∙ ap (λ e. world_session.waiting.items ++ e ∷ []) entry_is in
     let world_session_is : IsWorldSessionOf who new (heard answered session) =
-    hears_same machine good who answered.entry.server.index world_session new session answered accepted is answered.entry.what refl true_answer flying.3 own session_then none waits_then in
+    hears_same machine good who answered.entry.server.index world_session new session answered accepted is answered.entry.what refl true_answer flying.3 own session_then asked_is none waits_then in
     let tied_then = with_seat servers world_sessions offers items told_so_far machine tied who new (heard answered session) inside world_session_is in (
       record (with_session machine who (heard answered session)) { served = machine.served ++ served_by answered.entry.what answered },
       DeliverStep.delivered session answered in_flight refl refl,
@@ -151,6 +154,7 @@ lose_tied servers world_sessions offers items told_so_far machine good tied who 
         run = is.run;
         begun = is.begun;
         asked = is.asked;
+        kept = is.kept;
         long = is.long;
         reads = is.reads;
         writes = is.writes;
@@ -165,10 +169,10 @@ lose_tied servers world_sessions offers items told_so_far machine good tied who 
 -- the oldest entry that waits is the session's
 pub oldest_some : (servers : List WorldServer) (world_sessions : List (Option WorldSession)) (offers : List (List ℕ)) (items : List Write) (told_so_far : List Entry) (machine : Machine)
     → IsTied servers world_sessions offers items told_so_far machine → (who : ℕ) (world_session new : WorldSession) (entry : Entry) → who < SESSIONS → seat world_sessions who ≡ Some world_session
-    → world_session.waiting.items ≡ entry ∷ new.waiting.items → new.session ≡ world_session.session → new.flight ≡ world_session.flight
+    → world_session.waiting.items ≡ entry ∷ new.waiting.items → new.session ≡ world_session.session → new.asked ≡ world_session.asked → new.flight ≡ world_session.flight
     → (session : SessionSets) × (later : List Entry) × (machine.sessions who ≡ Some session) × (session.waiting ≡ entry ∷ later) × (entry.session.index ≡ who)
     × IsTied servers (set world_sessions who (Some new)) offers items told_so_far (with_session machine who (record session { waiting = later }))
-oldest_some servers world_sessions offers items told_so_far machine tied who world_session new entry inside at waits same_session same_flight =
+oldest_some servers world_sessions offers items told_so_far machine tied who world_session new entry inside at waits same_session same_asked same_flight =
     let seat_is = session_of_seat who (seat world_sessions who) (machine.sessions who) world_session (tied.sessions_are who inside) at in
     let session = seat_is.0 in
     let is = seat_is.2 in
@@ -186,6 +190,7 @@ oldest_some servers world_sessions offers items told_so_far machine tied who wor
         run = ap (λ (t : Told). t.run) same_session ∙ is.run;
         begun = ap (λ (t : Told). t.begun) same_session ∙ is.begun;
         asked = ap (λ (t : Told). t.asked) same_session ∙ is.asked;
+        kept = subst (λ a. IsAskedOf a session.asked) (sym same_asked) is.kept;
         long = subst (λ (t : Told). (length t.reads ≡ SERVERS) × (length t.writes ≡ SERVERS)) (sym same_session) is.long;
         reads = subst (λ (t : Told). IsVectorOf t.reads session.reads) (sym same_session) is.reads;
         writes = subst (λ (t : Told). IsVectorOf t.writes session.writes) (sym same_session) is.writes;
@@ -198,10 +203,10 @@ oldest_some servers world_sessions offers items told_so_far machine tied who wor
 -- where none waits nothing changes
 pub oldest_none : (servers : List WorldServer) (world_sessions : List (Option WorldSession)) (offers : List (List ℕ)) (items : List Write) (told_so_far : List Entry) (machine : Machine)
     → IsTied servers world_sessions offers items told_so_far machine → (who : ℕ) (world_session new : WorldSession) → who < SESSIONS → seat world_sessions who ≡ Some world_session
-    → world_session.waiting.items ≡ new.waiting.items → new.waiting.items ≡ [] → new.session ≡ world_session.session → new.flight ≡ world_session.flight
+    → world_session.waiting.items ≡ new.waiting.items → new.waiting.items ≡ [] → new.session ≡ world_session.session → new.asked ≡ world_session.asked → new.flight ≡ world_session.flight
     → ((session : SessionSets) (entry : Entry) (later : List Entry) → machine.sessions who ≡ Some session → ¬ (session.waiting ≡ entry ∷ later))
     × IsTied servers (set world_sessions who (Some new)) offers items told_so_far machine
-oldest_none servers world_sessions offers items told_so_far machine tied who world_session new inside at same none same_session same_flight =
+oldest_none servers world_sessions offers items told_so_far machine tied who world_session new inside at same none same_session same_asked same_flight =
     let seat_is = session_of_seat who (seat world_sessions who) (machine.sessions who) world_session (tied.sessions_are who inside) at in
     let session = seat_is.0 in
     let is = seat_is.2 in (
@@ -215,6 +220,7 @@ oldest_none servers world_sessions offers items told_so_far machine tied who wor
         run = ap (λ (t : Told). t.run) same_session ∙ is.run;
         begun = ap (λ (t : Told). t.begun) same_session ∙ is.begun;
         asked = ap (λ (t : Told). t.asked) same_session ∙ is.asked;
+        kept = subst (λ a. IsAskedOf a session.asked) (sym same_asked) is.kept;
         long = subst (λ (t : Told). (length t.reads ≡ SERVERS) × (length t.writes ≡ SERVERS)) (sym same_session) is.long;
         reads = subst (λ (t : Told). IsVectorOf t.reads session.reads) (sym same_session) is.reads;
         writes = subst (λ (t : Told). IsVectorOf t.writes session.writes) (sym same_session) is.writes;

@@ -47,6 +47,7 @@ abbrev pub Reaches : Machine → Event → (who : ℕ) → Answered → Type 0
 Reaches machine (events.Deliver session) who answered = (session.index ≡ who) × ((found : SessionSets) × IsInFlight machine who found answered)
 Reaches machine (events.Read session server key) who answered = ⊥
 Reaches machine (events.Write session server program) who answered = ⊥
+Reaches machine (events.Again session) who answered = ⊥
 Reaches machine (events.Lose session) who answered = ⊥
 Reaches machine (events.Offer server) who answered = ⊥
 Reaches machine (events.Collect server offer) who answered = ⊥

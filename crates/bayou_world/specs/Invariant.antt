@@ -50,7 +50,7 @@ TestsAgree machine = (server : ℕ) (vector : List ℕ) (set : List Wid) → IsV
 
 -- A server refuses an item because it holds another Write of that name, because it made it itself and doesn't hold it, or because its
 -- stamp is wrong; or its journal has lost a Write that it held, or has something else than what it held and the Write in doubt; or a Write
--- is held already under the tag of a Write that is asked for the first time.
+-- is held already under the tag of a Write that is asked for the first time, or something else under that of one that is asked again.
 abbrev pub IsImpossible : Reply → Type 0
 IsImpossible (replies.Took (Err taking.Conflict)) = Unit {0}
 IsImpossible (replies.Took (Err taking.OwnLost)) = Unit {0}
@@ -86,6 +86,13 @@ IsImpossible (replies.Wrote (Err (writing.Behind vector))) = ⊥
 IsImpossible (replies.Wrote (Err writing.LogFull)) = ⊥
 IsImpossible (replies.Wrote (Err writing.OutOfMemory)) = ⊥
 IsImpossible (replies.Wrote (Err writing.Journal)) = ⊥
+IsImpossible (replies.AskedAgain server (Err writing.TagUsed)) = Unit {0}
+IsImpossible (replies.AskedAgain server (Err writing.Down)) = ⊥
+IsImpossible (replies.AskedAgain server (Err (writing.Behind vector))) = ⊥
+IsImpossible (replies.AskedAgain server (Err writing.LogFull)) = ⊥
+IsImpossible (replies.AskedAgain server (Err writing.OutOfMemory)) = ⊥
+IsImpossible (replies.AskedAgain server (Err writing.Journal)) = ⊥
+IsImpossible (replies.AskedAgain server (Ok written)) = ⊥
 IsImpossible (replies.Kept offer) = ⊥
 IsImpossible (replies.Flown first number) = ⊥
 IsImpossible replies.Delivered = ⊥

@@ -54,6 +54,7 @@ abbrev pub is_file : Event → Bool
 is_file (events.File session) = true
 is_file (events.Read session server key) = false
 is_file (events.Write session server program) = false
+is_file (events.Again session) = false
 is_file (events.Deliver session) = false
 is_file (events.Lose session) = false
 is_file (events.Offer server) = false

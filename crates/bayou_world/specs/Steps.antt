@@ -1,5 +1,5 @@
 -- What each event does to the machine, with each answer that it may have (Terry et al. 1994, 1995; Petersen et al. 1997).
-use Rattle.std.specs.Prelude.{◌≡◌, ℕ, ◌+◌, ◌<◌, ◌≤◌, ◌⊎◌, ◌↔◌, true, false, List, [], ◌∷◌, ◌++◌, Option, None, Some, Ok, Err, IsSome, AllPairs, Contains, length, max}
+use Rattle.std.specs.Prelude.{◌≡◌, ℕ, ◌+◌, ◌<◌, ◌≤◌, ◌⊎◌, ◌↔◌, true, false, List, [], ◌∷◌, ◌++◌, Option, None, Some, Ok, Err, IsSome, AllPairs, Contains, Result, length, max}
 use Rattle.std.specs.List.{slice_get}
 use Rattle.std.specs.Option.{option_map}
 use Rattle.bayou_base.specs.declared.answer.Accepted.{Accepted}
@@ -8,6 +8,7 @@ use Rattle.bayou_base.specs.declared.entry.Entry.{Entry}
 use Rattle.bayou_base.specs.declared.entry.What.{What}
 use Rattle.bayou_base.specs.declared.entry.What.TheVariants as whats
 use Rattle.bayou_base.specs.declared.limits.TheConstants.{MAX_NUMBER, MAX_PLACES}
+use Rattle.bayou_base.specs.declared.server.ServerId.{ServerId}
 use Rattle.bayou_base.specs.declared.tag.Tag.{Tag}
 use Rattle.bayou_base.specs.declared.wid.Wid.{Wid}
 use Rattle.bayou_base.specs.Order.{is_before}
@@ -17,6 +18,7 @@ use Rattle.bayou_lang.specs.Database.{value_at}
 use Rattle.bayou_lang.specs.Writes.{IsNextWrite, count_of}
 use Rattle.bayou_log.specs.Replay.{replay}
 use Rattle.bayou_server.specs.declared.answer.Took.TheVariants.{New, Had}
+use Rattle.bayou_server.specs.declared.answer.Written.{Written}
 use Rattle.bayou_server.specs.declared.answer.Written.TheVariants as written
 use Rattle.bayou_server.specs.declared.fault.JournalFault.TheVariants.{Device, NotAJournal, OtherServer}
 use Rattle.bayou_server.specs.declared.fault.ReopenFault.{ReopenFault}
@@ -64,6 +66,11 @@ pub record MayWrite (session : SessionSets) (held : List Made) : Type 0 where
   pub wfr : session.asks.wfr ≡ true → IsWithin session.reads (names (writes held))
   pub mw : session.asks.mw ≡ true → IsWithin session.writes (names (writes held))
 
+-- a past that has what a Write of the session needs
+pub record CoversWrite (session : SessionSets) (past : List Write) : Type 0 where
+  pub wfr : session.asks.wfr ≡ true → IsWithin session.reads (names past)
+  pub mw : session.asks.mw ≡ true → IsWithin session.writes (names past)
+
 -- the entry of what the session is answered by the server at its next place
 pub record IsEntry (who place : ℕ) (session : SessionSets) (what : What) (entry : Entry) : Type 0 where
   pub session_is : entry.session.index ≡ who
@@ -72,7 +79,7 @@ pub record IsEntry (who place : ℕ) (session : SessionSets) (what : What) (entr
   pub server_is : entry.server.index ≡ place
   pub what_is : entry.what ≡ what
 
--- it begins the place, behind which it may ask again what it asked there, if that is a Write, and the answer goes in flight to it
+-- it begins the place, behind which it may ask this again, if there is such a Write, and the answer goes in flight to it
 abbrev pub with_answer : Machine → ℕ → SessionSets → Option Asking → Answered → Machine
 with_answer machine who session asked answered = with_session machine who (record session { begun = session.begun + 1; asked = asked; flight = Some answered })
 
@@ -109,8 +116,8 @@ pub record IsReady (session : SessionSets) (server : ServerSets) : Type 0 where
   pub up : server.doubt ≡ None
   pub covered : MayWrite session server.held
 
--- Why a program is made no Write of. The cases stand in their order: each says that those before it don't hold. The tag is of a new
--- asking, and so no Write is held under it.
+-- Why no Write is made of what is asked. The cases stand in their order: each says that those before it don't hold. No Write is held under
+-- the tag: that of a first asking is new, and one that is asked again is answered by the Write that is held under it.
 abbrev pub RefusesWrite : ℕ → SessionSets → ServerSets → WriteFault → Type 0
 RefusesWrite limit session server writing.TagUsed = ⊥
 RefusesWrite limit session server writing.Down = IsSome server.doubt
@@ -119,13 +126,13 @@ RefusesWrite limit session server writing.LogFull = IsReady session server × (l
 RefusesWrite limit session server writing.OutOfMemory = IsReady session server × (length server.held < limit)
 RefusesWrite limit session server writing.Journal = ⊥
 
--- the Write that the server makes of the program: the next of its own, whose past is what it holds, with the tag of the session's next place
-pub record Makes (limit who place : ℕ) (session : SessionSets) (server : ServerSets) (program : Program) (made : Made) : Type 0 where
+-- the Write that the server makes of what is asked: the next of its own, whose past is what it holds, with the tag of the asking
+pub record Makes (limit who : ℕ) (session : SessionSets) (server : ServerSets) (asking : Asking) (made : Made) : Type 0 where
   pub ready : IsReady session server
   pub room : length server.held < limit
-  pub next : IsNextWrite (writes server.held) place program made.write
+  pub next : IsNextWrite (writes server.held) asking.server asking.program made.write
   pub past : made.past ≡ writes server.held
-  pub tag : IsTagOf who (session.begun + 1) made.tag
+  pub tag : IsTagOf who asking.number made.tag
 
 -- what is accepted is told by the Write's name and stamp, and what was held just before
 pub record IsAccepted (made : Made) (accepted : Accepted) : Type 0 where
@@ -141,18 +148,51 @@ with_write server made = record server { held = server.held ++ made ∷ []; had 
 abbrev pub with_doubt : ServerSets → Made → ServerSets
 with_doubt server made = record server { doubt = Some made }
 
+-- The session asks at its next place, and the server that is asked makes no Write, or has it in doubt, or accepts it.
+pub data AskStep (old : Machine) (who : ℕ) (session : SessionSets) (asking : Asking) (answer : Result Written WriteFault) (new : Machine) : Type 0 where
+  refused : (entry : Entry) (fault : WriteFault) → RefusesWrite old.limit session (old.servers asking.server) fault → answer ≡ Err fault
+      → IsEntry who asking.server session whats.Refused entry → new ≡ with_answer old who session (Some asking) (refusal entry) → AskStep old who session asking answer new
+  doubted : (entry : Entry) (made : Made) → Makes old.limit who session (old.servers asking.server) asking made → answer ≡ Err writing.Journal
+      → IsEntry who asking.server session whats.Refused entry
+      → new ≡ with_answer (with_server old asking.server (with_doubt (old.servers asking.server) made)) who session (Some asking) (refusal entry) → AskStep old who session asking answer new
+  accepted : (entry : Entry) (made : Made) (accepted : Accepted) → Makes old.limit who session (old.servers asking.server) asking made → IsAccepted made accepted
+      → answer ≡ Ok (written.New accepted) → IsEntry who asking.server session (whats.Write accepted.wid accepted.stamp accepted.deps) entry
+      → new ≡ with_answer (with_server old asking.server (with_write (old.servers asking.server) made)) who session (Some asking)
+      (record { entry = entry; database = made.past; made = Some made })
+      → AskStep old who session asking answer new
+
 pub data WriteStep (old : Machine) (who place : ℕ) (program : Program) (reply : Reply) (new : Machine) : Type 0 where
   skipped : CannotBegin old who place → reply ≡ replies.Skipped → new ≡ old → WriteStep old who place program reply new
-  refused : (session : SessionSets) (entry : Entry) (fault : WriteFault) → MayBegin old who place session → RefusesWrite old.limit session (old.servers place) fault
-      → reply ≡ replies.Wrote (Err fault) → IsEntry who place session whats.Refused entry → new ≡ with_answer old who session (Some (first_asking place session program)) (refusal entry) → WriteStep old who place program reply new
-  doubted : (session : SessionSets) (entry : Entry) (made : Made) → MayBegin old who place session → Makes old.limit who place session (old.servers place) program made
-      → reply ≡ replies.Wrote (Err writing.Journal) → IsEntry who place session whats.Refused entry
-      → new ≡ with_answer (with_server old place (with_doubt (old.servers place) made)) who session (Some (first_asking place session program)) (refusal entry) → WriteStep old who place program reply new
-  accepted : (session : SessionSets) (entry : Entry) (made : Made) (accepted : Accepted) → MayBegin old who place session → Makes old.limit who place session (old.servers place) program made
-      → IsAccepted made accepted → reply ≡ replies.Wrote (Ok (written.New accepted)) → IsEntry who place session (whats.Write accepted.wid accepted.stamp accepted.deps) entry
-      → new ≡ with_answer (with_server old place (with_write (old.servers place) made)) who session (Some (first_asking place session program))
-      (record { entry = entry; database = made.past; made = Some made })
-      → WriteStep old who place program reply new
+  asked : (session : SessionSets) (answer : Result Written WriteFault) → MayBegin old who place session → AskStep old who session (first_asking place session program) answer new
+      → reply ≡ replies.Wrote answer → WriteStep old who place program reply new
+
+-- ---- a Write that is asked again
+
+-- The session may ask its last Write again: there is one that it may, and it may begin an operation at the server that it asked.
+pub record MayRepeat (old : Machine) (who : ℕ) (session : SessionSets) (asking : Asking) : Type 0 where
+  pub asked : session.asked ≡ Some asking
+  pub begin : MayBegin old who asking.server session
+
+abbrev pub CannotRepeat : Machine → ℕ → Type 0
+CannotRepeat old who = (session : SessionSets) (asking : Asking) → ¬ MayRepeat old who session asking
+
+-- the server that was asked holds the Write, under the tag of what was asked
+pub record HoldsAsked (old : Machine) (who : ℕ) (asking : Asking) (made : Made) : Type 0 where
+  pub held : Contains (old.servers asking.server).held made
+  pub under : IsTagOf who asking.number made.tag
+
+-- the reply names the server that answered
+abbrev pub AnswersAgain : (place : ℕ) → Result Written WriteFault → Reply → Type 0
+AnswersAgain place answer reply = (server : ServerId) × (server.index ≡ place) × (reply ≡ replies.AskedAgain server answer)
+
+-- Where the Write is held, nothing is done, and it is told as it was when it was made; else it is asked for, under the tag that it had.
+pub data AgainStep (old : Machine) (who : ℕ) (reply : Reply) (new : Machine) : Type 0 where
+  skipped : CannotRepeat old who → reply ≡ replies.Skipped → new ≡ old → AgainStep old who reply new
+  known : (session : SessionSets) (asking : Asking) (entry : Entry) (made : Made) (accepted : Accepted) → MayRepeat old who session asking → HoldsAsked old who asking made
+      → IsAccepted made accepted → AnswersAgain asking.server (Ok (written.Known accepted)) reply → IsEntry who asking.server session (whats.Write accepted.wid accepted.stamp accepted.deps) entry
+      → new ≡ with_answer old who session (Some asking) (record { entry = entry; database = made.past; made = Some made }) → AgainStep old who reply new
+  asked : (session : SessionSets) (asking : Asking) (answer : Result Written WriteFault) → MayRepeat old who session asking → ((made : Made) → ¬ HoldsAsked old who asking made)
+      → AskStep old who session asking answer new → AnswersAgain asking.server answer reply → AgainStep old who reply new
 
 -- ---- the answer in flight
 
@@ -334,6 +374,7 @@ pub data FileStep (old : Machine) (who : ℕ) (reply : Reply) (new : Machine) : 
 abbrev pub Step : Machine → Event → Reply → Machine → Type 0
 Step old (events.Read session server key) reply new = ReadStep old session.index server.index key reply new
 Step old (events.Write session server program) reply new = WriteStep old session.index server.index program reply new
+Step old (events.Again session) reply new = AgainStep old session.index reply new
 Step old (events.Deliver session) reply new = DeliverStep old session.index reply new
 Step old (events.Lose session) reply new = LoseStep old session.index reply new
 Step old (events.Offer server) reply new = OfferStep old server.index reply new

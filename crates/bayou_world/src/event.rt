@@ -16,6 +16,8 @@ pub enum Event {
         server: ServerId,
         program: RestingProgram,
     },
+    /// The session asks the last Write that it asked for once more, of the same server, under the tag that it had. The reply goes in flight to it.
+    Again(SessionId),
     /// The reply in flight reaches the session.
     Deliver(SessionId),
     /// The reply in flight is lost.

@@ -87,8 +87,9 @@ pub fn a_sessions_vectors_stand_for_its_sets()
 }
 
 /// Over every run no two Writes have one tag, be they held, in doubt or in flight, and whichever servers made them; a tag is of an asking of
-/// its session, and a Write under the tag of what a session may ask again was made for that, by the server that was asked. So the Writes that
-/// a server holds have tags of their own, and the one in doubt there has another.
+/// its session, and a Write under the tag of what a session may ask again was made for that, by the server that was asked, behind what the
+/// session needs, and no session was told of it. So the Writes that a server holds have tags of their own, and the one in doubt there has
+/// another.
 pub fn a_tag_is_of_one_write()
     ensures tagged { (count limit capacity : ℕ) (asks : ℕ → Option Asks) (events : List Event) (replies : List Reply) (last : Machine) → Run (first_machine count limit capacity asks) events replies last
         → AreTagged last }
@@ -97,8 +98,8 @@ pub fn a_tag_is_of_one_write()
 {}
 
 /// Over every run no item is refused because another Write of its name is held, because its server made it and lost it, or because
-/// its stamp is wrong. No Write that is asked for the first time is told as one that is held already, nor refused because one is held
-/// under its tag.
+/// its stamp is wrong. No Write that is asked for the first time is told as one that is held already, nor is one, the first time or
+/// again, refused because another is held under its tag.
 pub fn no_item_is_impossible()
     ensures { (count limit capacity : ℕ) (asks : ℕ → Option Asks) (events : List Event) (replies : List Reply) (last : Machine) → Run (first_machine count limit capacity asks) events replies last
         → All (λ reply. ¬ IsImpossible reply) replies }

@@ -1,4 +1,4 @@
-use bayou_base::Seen;
+use bayou_base::{Seen, ServerId};
 use bayou_server::{
     Behind, ReopenFault, Reopened, StartFault, TakeFault, Took, WriteFault, Written,
 };
@@ -10,6 +10,8 @@ pub enum Reply {
     Read(Result<Seen, Behind>),
     /// The server's answer to a program, which is in flight.
     Wrote(Result<Written, WriteFault>),
+    /// The answer of this server to a program that it was asked again, which is in flight.
+    AskedAgain(ServerId, Result<Written, WriteFault>),
     /// The server's answer to an item.
     Took(Result<Took, TakeFault>),
     /// The offer has this number.
@@ -30,6 +32,7 @@ pub enum Reply {
     Filed,
     /// Nothing went in flight, as memory was refused.
     NoMemory,
-    /// The event named nothing that is there, or a server that is stopped, or a number above the greatest, or a session that can begin nothing now.
+    /// The event named nothing that is there, or a server that is stopped, or a number above the greatest, or a session that can begin nothing now, or has nothing to
+    /// ask again.
     Skipped,
 }

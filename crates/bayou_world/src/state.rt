@@ -3,9 +3,10 @@ ghost use Rattle.std.specs.Prelude.{◌≡◌, ◌++◌, IfOk, OnOk};
 ghost use Rattle.bayou_world.specs.Inner.WorldSessions.{served_entries};
 ghost use Rattle.bayou_world.specs.Inner.WorldBooks.{TakesOldest};
 ghost use Rattle.bayou_world.specs.Faults.{tells_fault, tells_fuse};
-ghost use Rattle.bayou_world.specs.Inner.Charges.{AreSpent, Waits};
+ghost use Rattle.bayou_world.specs.declared.event.Event.TheVariants.{Again};
+ghost use Rattle.bayou_world.specs.Inner.Charges.{AreSpent, SpendsAt, Waits};
 ghost use Rattle.bayou_world.specs.Inner.Tie.{Follows};
-ghost use Rattle.bayou_world.specs.Steps.{CollectStep, DeliverStep, FuseStep, LoseStep, OfferStep, ReadStep, ReopenStep, RestartStep, TakeStep, WriteStep};
+ghost use Rattle.bayou_world.specs.Steps.{AgainStep, CollectStep, DeliverStep, FuseStep, LoseStep, OfferStep, ReadStep, ReopenStep, RestartStep, TakeStep, WriteStep};
 
 use crate::reply::Reply;
 use crate::world_server::{WorldServer, lacking_in, reopen_server, take_write};
@@ -60,32 +61,65 @@ impl State {
         Reply::Read(session.read(server, key))
     }
 
-    /// The session asks the server to make a Write of the program.
+    /// The session asks the server to make a Write of the program, a copy of which is made first.
     pub fn write(
         &mut self,
         alloc: Global,
         who: SessionId,
         place: ServerId,
         program: RestingProgram,
-    ) -> Reply
-        ensures follows { Follows self.old (λ machine next. WriteStep machine who.index place.index program result next) self.new }
-        ensures spent { AreSpent place.index (tells_fault result) (tells_fuse result) self.old.servers.items self.new.servers.items }
+    ) -> Result<Reply, AllocError>
+        ensures follows { IfOk result (λ reply. Follows self.old (λ machine next. WriteStep machine who.index place.index program reply next) self.new) }
+        ensures spent { IfOk result (λ reply. AreSpent place.index (tells_fault reply) (tells_fuse reply) self.old.servers.items self.new.servers.items) }
     {
         write_need_is_what_is_asked();
         let (seat, at) = (usize::from(who.index), usize::from(place.index));
         if seat >= self.sessions.len() || at >= self.servers.len() {
-            return Reply::Skipped;
+            return Ok(Reply::Skipped);
         }
         let Some(session) = &mut self.sessions[seat] else {
-            return Reply::Skipped;
+            return Ok(Reply::Skipped);
         };
         if !session.may_begin() {
-            return Reply::Skipped;
+            return Ok(Reply::Skipped);
         }
         let WorldServer::Running(server) = &mut self.servers[at] else {
-            return Reply::Skipped;
+            return Ok(Reply::Skipped);
         };
-        Reply::Wrote(session.write(alloc, server, program))
+        let answer = session.write(alloc, server, program)?;
+        Ok(Reply::Wrote(answer))
+    }
+
+    /// The session asks its last Write again, a copy of whose program is made first.
+    pub fn again(&mut self, alloc: Global, who: SessionId) -> Result<Reply, AllocError>
+        ensures follows { IfOk result (λ reply. Follows self.old (λ machine next. AgainStep machine who.index reply next) self.new) }
+        ensures spent { IfOk result (λ reply. SpendsAt (Again who) reply self.old.servers.items self.new.servers.items) }
+    {
+        write_need_is_what_is_asked();
+        let seat = usize::from(who.index);
+        if seat >= self.sessions.len() {
+            return Ok(Reply::Skipped);
+        }
+        let Some(session) = &mut self.sessions[seat] else {
+            return Ok(Reply::Skipped);
+        };
+        if !session.may_begin() {
+            return Ok(Reply::Skipped);
+        }
+        let Some(place) = session.asked_at() else {
+            return Ok(Reply::Skipped);
+        };
+        let at = usize::from(place.index);
+        if at >= self.servers.len() {
+            return Ok(Reply::Skipped);
+        }
+        let WorldServer::Running(server) = &mut self.servers[at] else {
+            return Ok(Reply::Skipped);
+        };
+        match session.again(alloc, server)? {
+            Some(answer) => Ok(Reply::AskedAgain(place, answer)),
+            None => Ok(Reply::Skipped),
+        }
     }
 
     /// The answer on its way reaches the session. Want of memory leaves it half told.

@@ -88,6 +88,7 @@ fn is_file(event: &Event) -> bool
         Event::File(_) => true,
         Event::Read { .. }
         | Event::Write { .. }
+        | Event::Again(_)
         | Event::Deliver(_)
         | Event::Lose(_)
         | Event::Offer(_)
@@ -157,8 +158,9 @@ fn step<K: Ledgers>(
             program,
         } => {
             let program = program.copy(alloc)?;
-            Ok(state.write(alloc, *session, *server, program))
+            state.write(alloc, *session, *server, program)
         }
+        Event::Again(session) => state.again(alloc, *session),
         Event::Deliver(session) => state.deliver(*session),
         Event::Lose(session) => Ok(state.lose(*session)),
         Event::Offer(server) => state.offer(*server),

@@ -261,9 +261,11 @@ fn add_round(rt: &impl Abort, alloc: Global, events: &mut Vec<Event>, round: u8)
 pub fn is_fault(reply: &Reply) -> bool {
     match reply {
         Reply::Wrote(Err(WriteFault::Journal)) | Reply::Took(Err(TakeFault::Journal)) => true,
+        Reply::AskedAgain(_, Err(WriteFault::Journal)) => true,
         Reply::Reopened(Err(ReopenFault::Journal(JournalFault::Device))) => true,
         Reply::Restarted(Err(StartFault::Journal(JournalFault::Device))) => true,
         Reply::Wrote(_) | Reply::Took(_) | Reply::Reopened(_) | Reply::Restarted(_) => false,
+        Reply::AskedAgain(..) => false,
         Reply::Read(_) | Reply::Kept(_) | Reply::Flown { .. } => false,
         Reply::Delivered | Reply::Dropped | Reply::Filed | Reply::Fused => false,
         Reply::NoMemory | Reply::Skipped => false,
@@ -280,7 +282,7 @@ fn faults_in(replies: &[Reply]) -> u32 {
     faults
 }
 
-fn is_clean(alloc: Global, history: &RunHistory) -> bool {
+pub fn is_clean(alloc: Global, history: &RunHistory) -> bool {
     if history.dumps.len() != 2 {
         return false;
     }

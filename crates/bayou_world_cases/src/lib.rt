@@ -3,6 +3,8 @@
 #![tactic(auto)]
 
 #[cfg(test)]
+mod agains;
+#[cfg(test)]
 mod books;
 #[cfg(test)]
 mod breaches;

@@ -25,7 +25,7 @@ const ROUNDS: usize = 3;
 const LIMITS: [u32; 4] = [6, 20, 100, 1_000];
 
 /// Kinds of answers: see [`kind_of`].
-const KINDS: usize = 36;
+const KINDS: usize = 43;
 
 const ALL: Asks = Asks {
     ryw: true,
@@ -115,26 +115,24 @@ impl List {
     /// A session tries something, and mostly hears of it at once.
     fn operate(&mut self, rt: &impl Abort, dice: &mut Dice) {
         let (session, server) = (dice.session(rt), dice.server(rt));
-        let event = if dice.chance(2) {
-            let key = room(rt);
-            Event::Read {
+        let event = match dice.below(9) {
+            0..=3 => Event::Read {
                 session,
                 server,
-                key,
-            }
-        } else {
-            let program = put(rt, self.alloc, i64::from(dice.below(100)));
-            Event::Write {
+                key: room(rt),
+            },
+            4..=7 => Event::Write {
                 session,
                 server,
-                program,
-            }
+                program: put(rt, self.alloc, i64::from(dice.below(100))),
+            },
+            _ => Event::Again(session),
         };
         self.add(rt, event);
         self.hear(rt, session, dice);
     }
 
-    /// The session hears of it, or loses it, or neither yet.
+    /// The session hears of it, or loses it, or neither yet. Of what it heard or lost it may ask again at once.
     fn hear(&mut self, rt: &impl Abort, session: SessionId, dice: &mut Dice) {
         let event = match dice.below(8) {
             0..=5 => Event::Deliver(session),
@@ -142,6 +140,9 @@ impl List {
             _ => return,
         };
         self.add(rt, event);
+        if dice.chance(4) {
+            self.add(rt, Event::Again(session));
+        }
     }
 
     /// A server offers, and one collects for that offer or the one before.
@@ -307,9 +308,13 @@ fn run(
     history(rt, alloc, (4, limit), asks, events)
 }
 
-/// The server that the event is of, if it is of one alone.
-fn server_of(event: &Event) -> Option<ServerId> {
+/// The server that the event is of, if it is of one alone. Which one was asked again, the reply tells.
+fn server_of(event: &Event, reply: Option<&Reply>) -> Option<ServerId> {
     match event {
+        Event::Again(_) => match reply {
+            Some(Reply::AskedAgain(server, _)) => Some(*server),
+            _ => None,
+        },
         Event::Write { server, .. } | Event::Take { server, .. } | Event::Fuse { server, .. } => {
             Some(*server)
         }
@@ -323,7 +328,11 @@ fn server_of(event: &Event) -> Option<ServerId> {
 fn are_paid(events: &[Event], replies: &[Reply]) -> bool {
     let mut fuses: [u32; 4] = [0; 4];
     for (at, event) in events.iter().enumerate() {
-        if !pay(&mut fuses, server_of(event), replies.get(at)) {
+        if !pay(
+            &mut fuses,
+            server_of(event, replies.get(at)),
+            replies.get(at),
+        ) {
             return false;
         }
     }
@@ -362,6 +371,7 @@ fn skip_of(event: &Event) -> usize {
         Event::Reopen(_) => 33,
         Event::Restart(_) => 34,
         Event::File(_) => 35,
+        Event::Again(_) => 36,
     }
 }
 
@@ -377,6 +387,19 @@ fn recovery_of(reply: &Reply) -> usize {
     }
 }
 
+/// Which kind the answer to a Write that is asked again is.
+fn repeat_of(answer: &Result<Written, WriteFault>) -> usize {
+    match answer {
+        Ok(Written::New(_)) => 37,
+        Ok(Written::Known(_)) => 38,
+        Err(WriteFault::Down) => 39,
+        Err(WriteFault::Behind(_)) => 40,
+        Err(WriteFault::LogFull) => 41,
+        Err(WriteFault::Journal) => 42,
+        Err(WriteFault::TagUsed | WriteFault::OutOfMemory) => KINDS,
+    }
+}
+
 /// Which of the kinds below [`KINDS`] the answer is: each that there may be where memory isn't refused.
 fn kind_of(event: &Event, reply: &Reply) -> usize {
     match reply {
@@ -385,6 +408,7 @@ fn kind_of(event: &Event, reply: &Reply) -> usize {
         Reply::Wrote(Ok(Written::New(_))) => 2,
         Reply::Wrote(Err(WriteFault::Behind(_))) => 3,
         Reply::Wrote(Err(WriteFault::LogFull)) => 4,
+        Reply::AskedAgain(_, answer) => repeat_of(answer),
         Reply::Took(Ok(Took::New)) => 5,
         Reply::Took(Ok(Took::Had)) => 6,
         Reply::Took(Err(TakeFault::Gap)) => 7,

@@ -25,6 +25,7 @@ pub type Counts = [u32; 2];
 pub enum Act {
     Read(u8, u8),
     Write(u8, u8, i64),
+    Again(u8),
     Deliver(u8),
     Lose(u8),
     Offer(u8),
@@ -44,6 +45,8 @@ pub enum Said {
     /// Origin and seq, and what was held just before.
     Accepted((u8, u32), Counts),
     WriteBehind(Counts),
+    /// What this server answers to one that it was asked again.
+    Again(u8, Repeated),
     Full,
     New,
     Had,
@@ -66,6 +69,21 @@ pub enum Said {
     NotRestarted,
     Skipped,
     /// Memory was refused.
+    Wanting,
+    Otherwise,
+}
+
+/// The answer to a Write that is asked again.
+#[derive(Clone, Copy, PartialEq, Eq)]
+pub enum Repeated {
+    /// The Write of this origin and seq is held, behind so many.
+    Known((u8, u32), Counts),
+    /// It is made now.
+    Made((u8, u32), Counts),
+    Behind(Counts),
+    Full,
+    Doubted,
+    Down,
     Wanting,
     Otherwise,
 }
@@ -256,6 +274,7 @@ fn event_of(rt: &impl Abort, alloc: Global, act: Act) -> Event {
             server: server_id(rt, server),
             program: put(rt, alloc, number),
         },
+        Act::Again(session) => Event::Again(session_id(rt, session)),
         Act::Deliver(session) => Event::Deliver(session_id(rt, session)),
         Act::Lose(session) => Event::Lose(session_id(rt, session)),
         Act::Offer(server) => Event::Offer(server_id(rt, server)),
@@ -297,6 +316,25 @@ fn named(wid: &Option<Wid>) -> Option<(u8, u32)> {
     }
 }
 
+fn repeat_answer(answer: &Result<Written, WriteFault>) -> Repeated {
+    match answer {
+        Ok(Written::Known(made)) => Repeated::Known(
+            (made.wid.origin.index, made.wid.seq),
+            counts_of(&made.deps),
+        ),
+        Ok(Written::New(made)) => Repeated::Made(
+            (made.wid.origin.index, made.wid.seq),
+            counts_of(&made.deps),
+        ),
+        Err(WriteFault::Behind(vector)) => Repeated::Behind(counts_of(vector)),
+        Err(WriteFault::LogFull) => Repeated::Full,
+        Err(WriteFault::Journal) => Repeated::Doubted,
+        Err(WriteFault::Down) => Repeated::Down,
+        Err(WriteFault::OutOfMemory) => Repeated::Wanting,
+        Err(WriteFault::TagUsed) => Repeated::Otherwise,
+    }
+}
+
 pub fn saying(reply: &Reply) -> Said {
     match reply {
         Reply::Read(Ok(seen)) => Seen(number_in(&seen.value), counts_of(&seen.vector)),
@@ -310,6 +348,7 @@ pub fn saying(reply: &Reply) -> Said {
         Reply::Wrote(Err(WriteFault::OutOfMemory)) => Wanting,
         Reply::Wrote(Err(WriteFault::Journal)) => Doubted,
         Reply::Wrote(Err(WriteFault::Down)) => Down,
+        Reply::AskedAgain(server, answer) => Said::Again(server.index, repeat_answer(answer)),
         Reply::Took(Ok(Took::New)) => New,
         Reply::Took(Ok(Took::Had)) => Had,
         Reply::Took(Err(TakeFault::Gap)) => Gap,
@@ -463,7 +502,7 @@ fn leaves_what_it_says(rt: &impl Abort, alloc: Global, script: &Script, row: usi
 }
 
 /// Each script leaves what it says.
-fn all_leave_what_they_say(rt: &impl Abort, alloc: Global, scripts: &[Script]) {
+pub fn all_leave_what_they_say(rt: &impl Abort, alloc: Global, scripts: &[Script]) {
     for (row, script) in scripts.iter().enumerate() {
         must_be_so(rt, leaves_what_it_says(rt, alloc, script, row), row);
     }

@@ -36,6 +36,7 @@ pub record AreStarted (done count limit : ℕ) (servers : List WorldServer) : Ty
 pub record IsNewWorldSession (who : ℕ) (asks : Asks) (world_session : WorldSession) : Type 0 where
   pub name : world_session.session.id.index ≡ who
   pub session : world_session.session ≡ new_session world_session.session.id FIRST_RUN asks
+  pub asked : world_session.asked ≡ None
   pub flight : world_session.flight ≡ None
   pub waiting : world_session.waiting.items ≡ []
 

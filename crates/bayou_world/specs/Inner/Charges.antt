@@ -36,6 +36,7 @@ abbrev pub SetsFuse : Event → Reply → (old new : List WorldServer) → Type 
 SetsFuse (events.Fuse server call kept) reply old new = Waits server.index call kept reply old new
 SetsFuse (events.Read session server key) reply old new = Unit {0}
 SetsFuse (events.Write session server program) reply old new = Unit {0}
+SetsFuse (events.Again session) reply old new = Unit {0}
 SetsFuse (events.Deliver session) reply old new = Unit {0}
 SetsFuse (events.Lose session) reply old new = Unit {0}
 SetsFuse (events.Offer server) reply old new = Unit {0}
@@ -49,7 +50,7 @@ SetsFuse (events.File session) reply old new = Unit {0}
 pub record SpendsAt (event : Event) (reply : Reply) (old new : List WorldServer) : Type 0 where
   pub many : length new ≡ length old
   pub each : (other : ℕ) (d : WorldServer) → other < length old
-      → Spends (if is_of other event then tells_fault reply else false) (if is_of other event then tells_fuse reply else false)
+      → Spends (if is_of other event reply then tells_fault reply else false) (if is_of other event reply then tells_fuse reply else false)
       (device_of (slice_index_or old other d)) (device_of (slice_index_or new other d))
   pub fuse : SetsFuse event reply old new
 

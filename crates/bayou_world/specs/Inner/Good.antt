@@ -6,7 +6,8 @@ use Rattle.bayou_lang.specs.declared.write.Write.{Write}
 use Rattle.bayou_lang.specs.Writes.{Fits, IsSound, count_of}
 use Rattle.bayou_judge.specs.History.{IsFrontOf}
 use Rattle.bayou_world.specs.Machine.{Answered, IsWithin, Machine, Made, Offered, ServerSets, SessionSets, names, writes}
-use Rattle.bayou_world.specs.Runs.{IsReadAt}
+use Rattle.bayou_world.specs.Runs.{IsRead, IsReadAt}
+use Rattle.bayou_world.specs.Steps.{CoversWrite}
 
 -- the Write's own server holds it, with that past
 abbrev pub IsHome : (ℕ → ServerSets) → Made → Type 0
@@ -51,26 +52,25 @@ WasSo servers whats.Refused place answered = answered.made ≡ None
 abbrev pub IsTrueAnswer : (ℕ → ServerSets) → Answered → Type 0
 IsTrueAnswer servers answered = WasSo servers answered.entry.what answered.entry.server.index answered
 
--- the session has been given what it asked for, in its own words: what it read, and what its Writes say
+-- the session has been given what it asked for, in its own words
 pub record IsCoveredRead (session : SessionSets) (database : List Write) : Type 0 where
   pub ryw : session.asks.ryw ≡ true → IsWithin session.writes (names database)
   pub mr : session.asks.mr ≡ true → IsWithin session.reads (names database)
 
-pub record IsCoveredWrite (session : SessionSets) (past : List Write) : Type 0 where
-  pub wfr : session.asks.wfr ≡ true → IsWithin session.reads (names past)
-  pub mw : session.asks.mw ≡ true → IsWithin session.writes (names past)
-
 abbrev pub IsCovered : SessionSets → What → Answered → Type 0
 IsCovered session (whats.Read key vector) answered = IsCoveredRead session answered.database
-IsCovered session (whats.Write wid stamp deps) answered = (made : Made) → answered.made ≡ Some made → IsCoveredWrite session made.past
+IsCovered session (whats.Write wid stamp deps) answered = (made : Made) → answered.made ≡ Some made → CoversWrite session made.past
 IsCovered session whats.Refused answered = Unit {0}
 
--- the answer in flight is of the session's last place, behind all that was served, and was covered
+-- The answer in flight is of the session's last place, behind all that was served, and was covered. A Write in it has a tag of the session,
+-- which may ask none again where it reads.
 pub record IsGoodFlight (served : List Answered) (who : ℕ) (session : SessionSets) (answered : Answered) : Type 0 where
   pub session_is : answered.entry.session.index ≡ who
   pub last : answered.entry.place ≡ session.begun
   pub behind : All (λ (other : Answered). other.entry.session.index ≡ who → other.entry.place < session.begun) served
   pub covered : IsCovered session answered.entry.what answered
+  pub own : (made : Made) → answered.made ≡ Some made → made.tag.session.index ≡ who
+  pub reading : IsRead answered.entry.what → session.asked ≡ None
 
 -- a served operation accepted the Write, with this past
 pub record IsMadeAt (served : List Answered) (session place : ℕ) (made : Made) : Type 0 where

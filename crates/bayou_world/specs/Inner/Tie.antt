@@ -12,6 +12,7 @@ use Rattle.bayou_lang.specs.Writes.{count_of}
 use Rattle.bayou_server.specs.Server.{Core}
 use Rattle.bayou_session.specs.declared.session.TheConstants.{FIRST_RUN}
 use Rattle.bayou_world.specs.declared.world_session.WorldSession.{WorldSession}
+use Rattle.bayou_world.specs.declared.world_session.Asked.{Asked}
 use Rattle.bayou_world.specs.declared.world_session.Flight.{Flight}
 use Rattle.bayou_world.specs.declared.world_server.WorldServer.{WorldServer}
 use Rattle.bayou_world.specs.declared.state.State.{State}
@@ -59,6 +60,13 @@ IsFlightOf (Some flight) None = ⊥
 abbrev pub number_of : Asking → ℕ
 number_of asking = asking.number
 
+-- what is kept to be asked again is what was asked
+abbrev pub IsAskedOf : Option Asked → Option Asking → Type 0
+IsAskedOf None None = Unit {0}
+IsAskedOf (Some asked) (Some asking) = (asked.server.index ≡ asking.server) × (asked.program ≡ asking.program)
+IsAskedOf None (Some asking) = ⊥
+IsAskedOf (Some asked) None = ⊥
+
 -- the session's two vectors stand for its sets, and it may ask the same Write again, or none
 pub record IsWorldSessionOf (who : ℕ) (world_session : WorldSession) (session : SessionSets) : Type 0 where
   pub name : world_session.session.id.index ≡ who
@@ -66,6 +74,7 @@ pub record IsWorldSessionOf (who : ℕ) (world_session : WorldSession) (session 
   pub run : world_session.session.run ≡ FIRST_RUN
   pub begun : world_session.session.begun ≡ session.begun
   pub asked : world_session.session.asked ≡ option_map number_of session.asked
+  pub kept : IsAskedOf world_session.asked session.asked
   pub long : (length world_session.session.reads ≡ SERVERS) × (length world_session.session.writes ≡ SERVERS)
   pub reads : IsVectorOf world_session.session.reads session.reads
   pub writes : IsVectorOf world_session.session.writes session.writes

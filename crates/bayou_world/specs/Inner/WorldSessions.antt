@@ -1,18 +1,27 @@
 -- A session of the code, and what is on its way to it: callers don't see it.
-use Rattle.std.specs.Prelude.{◌≡◌, ℕ, List, [], ◌∷◌, ◌++◌, Option, None, Some, Result, Ok, Err}
+use Rattle.std.specs.Prelude.{◌≡◌, ℕ, false, List, [], ◌∷◌, ◌++◌, Option, None, Some, Result, Ok, Err}
 use Rattle.std.specs.Option.{option_to_list}
 use Rattle.bayou_base.specs.declared.answer.Accepted.{Accepted}
 use Rattle.bayou_base.specs.declared.answer.Seen.{Seen}
 use Rattle.bayou_base.specs.declared.entry.Entry.{Entry}
 use Rattle.bayou_base.specs.declared.entry.What.{What}
 use Rattle.bayou_base.specs.declared.entry.What.TheVariants as whats
+use Rattle.bayou_base.specs.declared.server.ServerId.{ServerId}
+use Rattle.bayou_base.specs.declared.tag.Tag.{Tag}
 use Rattle.bayou_base.specs.Vector.{joined}
+use Rattle.bayou_device.specs.Memory.{Memory}
 use Rattle.bayou_server.specs.declared.answer.Written.{Written}
 use Rattle.bayou_server.specs.declared.answer.Written.TheVariants.{New, Known}
 use Rattle.bayou_server.specs.declared.fault.Behind.{Behind}
 use Rattle.bayou_server.specs.declared.fault.WriteFault.{WriteFault}
-use Rattle.bayou_session.specs.Needs.{Told, after_write}
+use Rattle.bayou_server.specs.Server.{ServerState}
+use Rattle.bayou_server.specs.Writes.{Writes}
+use Rattle.bayou_session.specs.Needs.{HasCounts, IsTagOf, Told, after_write, write_need}
+use Rattle.bayou_world.specs.declared.world_session.Asked.{Asked}
 use Rattle.bayou_world.specs.declared.world_session.WorldSession.{WorldSession}
+use Rattle.bayou_world.specs.Faults.{has_doubt}
+use Rattle.bayou_world.specs.Inner.Charges.{Spends}
+use Rattle.bayou_world.specs.Inner.WorldServers.{StaysHonest}
 
 -- what an answer to a read tells
 abbrev pub seen_as : List ℕ → Result Seen Behind → What
@@ -39,13 +48,29 @@ pub record IsAnswered (old : WorldSession) (server : ℕ) (what : What) (accepte
   pub server_is : entry.server.index ≡ server
   pub what_is : entry.what ≡ what
   pub session : new.session ≡ old.session
+  pub asked : new.asked ≡ old.asked
   pub flight : new.flight ≡ Some (record { entry = entry; accepted = accepted })
   pub waiting : new.waiting ≡ old.waiting
 
--- It has begun its next place, by which its session is this, and is answered there: for a read it has begun a place, and for a Write it has
--- asked, which it may do again.
-abbrev pub Begins : WorldSession → Told → (server : ℕ) → What → Option Accepted → WorldSession → Type 0
-Begins old session server what accepted new = IsAnswered (record old { session = session }) server what accepted new
+-- It has begun its next place, by which its session and what it may ask again are these, and is answered there.
+abbrev pub Begins : WorldSession → Told → Option Asked → (server : ℕ) → What → Option Accepted → WorldSession → Type 0
+Begins old session asked server what accepted new = IsAnswered (record old { session = session; asked = asked }) server what accepted new
+
+-- the server that was asked
+abbrev pub server_of : Asked → ServerId
+server_of asked = asked.server
+
+-- At a place that it begins, by which its session is this, it asks the server for a Write of the program, under the tag of the place
+-- `number`, and may ask that again.
+pub record Asks (old : WorldSession) (session : Told) (asked : Asked) (number : ℕ) (server : ServerState Memory) (answer : Result Written WriteFault) (new : WorldSession)
+    (new_server : ServerState Memory) : Type 0 where
+  pub tag : Tag
+  pub tag_is : IsTagOf old.session number tag
+  pub counts : HasCounts old.session
+  pub writes : Writes server.core tag (write_need old.session) asked.program answer new_server.core
+  pub begun : Begins old session (Some asked) server.core.id (accepted_as answer) (accepted_of answer) new
+  pub honest : StaysHonest server new_server
+  pub spends : Spends (has_doubt answer) false server.device new_server.device
 
 -- what a session is told
 abbrev pub after_read : What → Told → Told
@@ -57,17 +82,23 @@ abbrev pub after_accepted : Option Accepted → Told → Told
 after_accepted None told = told
 after_accepted (Some accepted) told = after_write told accepted
 
+-- what was accepted is asked no more
+abbrev pub asked_after : Option Accepted → Option Asked → Option Asked
+asked_after None asked = asked
+asked_after (Some accepted) asked = None
+
 -- it hears what was on its way, or nothing was
 abbrev pub Hears : WorldSession → Option Entry → WorldSession → Type 0
 Hears old None new = (old.flight ≡ None) × (new ≡ old)
 Hears old (Some entry) new = (accepted : Option Accepted) × (old.flight ≡ Some (record { entry = entry; accepted = accepted }))
-    × (new.session ≡ after_accepted accepted (after_read entry.what old.session)) × (new.flight ≡ None) × (new.waiting.items ≡ old.waiting.items ++ entry ∷ [])
+    × (new.session ≡ after_accepted accepted (after_read entry.what old.session)) × (new.asked ≡ asked_after accepted old.asked) × (new.flight ≡ None) × (new.waiting.items ≡ old.waiting.items ++ entry ∷ [])
 
 -- the oldest entry that waited is taken off, if one did
 pub record Pops (old : WorldSession) (popped : Option Entry) (new : WorldSession) : Type 0 where
   pub items : old.waiting.items ≡ option_to_list popped ++ new.waiting.items
   pub none : popped ≡ None → new.waiting.items ≡ []
   pub session : new.session ≡ old.session
+  pub asked : new.asked ≡ old.asked
   pub flight : new.flight ≡ old.flight
 
 -- what of an answer is served

@@ -1,6 +1,6 @@
 use Rattle.bayou_world.proofs.Agreeing.{begins_standing, heard_standing, needs_agree}
 use Rattle.bayou_world.proofs.Standing.{stands_along}
-use Rattle.bayou_world.proofs.Starting.{run_is_good}
+use Rattle.bayou_world.proofs.Running.{run_is_good}
 use Rattle.bayou_world.proofs.laws.a_sessions_vectors_stand_for_its_sets.Goals as goal
 
 pub returns : goal.returns

@@ -1,5 +1,5 @@
 use Rattle.bayou_world.proofs.Consistent.{consistent}
-use Rattle.bayou_world.proofs.Starting.{run_is_good}
+use Rattle.bayou_world.proofs.Running.{run_is_good}
 use Rattle.bayou_world.proofs.laws.every_run_is_consistent.Goals as goal
 
 pub returns : goal.returns

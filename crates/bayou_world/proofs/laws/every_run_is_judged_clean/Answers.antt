@@ -8,7 +8,8 @@ use Rattle.bayou_world.specs.Judged.{entries_of}
 use Rattle.bayou_world.specs.Runs.{history_of_machine}
 use Rattle.bayou_world.proofs.Judging.{clean, one_history}
 use Rattle.bayou_world.proofs.Keeping.{keeps}
-use Rattle.bayou_world.proofs.Starting.{run_is_good, still_asks}
+use Rattle.bayou_world.proofs.Running.{run_is_good}
+use Rattle.bayou_world.proofs.Starting.{still_asks}
 use Rattle.bayou_world.proofs.Telling.{run_is_told}
 use Rattle.bayou_world.proofs.laws.every_run_is_judged_clean.Goals as goal
 

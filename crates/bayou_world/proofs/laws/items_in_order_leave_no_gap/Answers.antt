@@ -1,5 +1,5 @@
 use Rattle.bayou_world.proofs.Collecting.{no_gap}
-use Rattle.bayou_world.proofs.Starting.{run_is_good}
+use Rattle.bayou_world.proofs.Running.{run_is_good}
 use Rattle.bayou_world.proofs.laws.items_in_order_leave_no_gap.Goals as goal
 
 pub returns : goal.returns

@@ -1,6 +1,6 @@
 use Rattle.bayou_world.proofs.Agreeing.{item_tests_agree}
 use Rattle.bayou_world.proofs.Consistent.{agree}
-use Rattle.bayou_world.proofs.Starting.{run_is_good}
+use Rattle.bayou_world.proofs.Running.{run_is_good}
 use Rattle.bayou_world.proofs.laws.sets_and_vectors_agree.Goals as goal
 
 pub returns : goal.returns

@@ -1,5 +1,5 @@
 use Rattle.bayou_world.proofs.Never.{no_item_is_refused, nothing_other_is_found, rows_of_rules}
-use Rattle.bayou_world.proofs.Starting.{run_is_good}
+use Rattle.bayou_world.proofs.Running.{run_is_good}
 use Rattle.bayou_world.proofs.laws.the_rules_of_servers_refuse_nothing_impossible.Goals as goal
 
 pub returns : goal.returns

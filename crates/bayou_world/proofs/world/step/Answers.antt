@@ -4,7 +4,7 @@ use Rattle.bayou_world.specs.Inner.WorldBooks.{FollowsInBook}
 use Rattle.bayou_world.specs.Inner.Charges.{SpendsAt}
 use Rattle.bayou_world.specs.Inner.Tie.{Follows}
 use Rattle.bayou_world.specs.Steps.{Step, WriteStep}
-use Rattle.bayou_world.proofs.Played.{collect_beside, deliver_beside, fuse_beside, if_ok, lose_beside, offer_beside, read_beside, reopen_beside, restart_beside, take_beside, write_beside}
+use Rattle.bayou_world.proofs.Played.{again_beside, collect_beside, deliver_beside, fuse_beside, if_ok, lose_beside, offer_beside, read_beside, reopen_beside, restart_beside, take_beside, write_beside}
 use Rattle.bayou_world.proofs.Charging.{beside_spent, spent_as}
 use Rattle.bayou_world.proofs.world.step.Goals as goal
 
@@ -15,9 +15,17 @@ returns-in-Read-clause-follows g c =
 
 pub returns-in_ok-program-in-Write-clause-follows : goal.returns-in_ok-program-in-Write-clause-follows
 returns-in_ok-program-in-Write-clause-follows g c =
-    subst (λ (e : Event). FollowsInBook c.args.state.now c.args.book.now (λ machine next. Step machine e c.write.result next) c.write.new.self c.args.book.now) (sym c.in-Write.is)
-    (write_beside c.args.state.now c.write.new.self c.args.book.now c.in-Write.session.index c.in-Write.server.index c.in-Write.program c.write.result
-    (subst (λ program. Follows c.args.state.now (λ machine next. WriteStep machine c.in-Write.session.index c.in-Write.server.index program c.write.result next) c.write.new.self) c.in_ok-program-in-Write.ensures c.write.ensures.follows))
+    if_ok _ (λ reply. FollowsInBook c.args.state.now c.args.book.now (λ machine next. Step machine c.args.event.now reply next) c.write.new.self c.args.book.now)
+    (λ reply follows. subst (λ (e : Event). FollowsInBook c.args.state.now c.args.book.now (λ machine next. Step machine e reply next) c.write.new.self c.args.book.now) (sym c.in-Write.is)
+    (write_beside c.args.state.now c.write.new.self c.args.book.now c.in-Write.session.index c.in-Write.server.index c.in-Write.program reply
+    (subst (λ program. Follows c.args.state.now (λ machine next. WriteStep machine c.in-Write.session.index c.in-Write.server.index program reply next) c.write.new.self) c.in_ok-program-in-Write.ensures follows)))
+    c.write.result c.write.ensures.follows
+
+pub returns-in-Again-clause-follows : goal.returns-in-Again-clause-follows
+returns-in-Again-clause-follows g c =
+    if_ok _ (λ reply. FollowsInBook c.args.state.now c.args.book.now (λ machine next. Step machine c.args.event.now reply next) c.again.new.self c.args.book.now)
+    (λ reply follows. subst (λ (e : Event). FollowsInBook c.args.state.now c.args.book.now (λ machine next. Step machine e reply next) c.again.new.self c.args.book.now) (sym c.in-Again.is)
+    (again_beside c.args.state.now c.again.new.self c.args.book.now c.in-Again.session.index reply follows)) c.again.result c.again.ensures.follows
 
 pub returns-in-Deliver-clause-follows : goal.returns-in-Deliver-clause-follows
 returns-in-Deliver-clause-follows g c =
@@ -74,8 +82,14 @@ returns-in-Read-clause-spent g c =
 
 pub returns-in_ok-program-in-Write-clause-spent : goal.returns-in_ok-program-in-Write-clause-spent
 returns-in_ok-program-in-Write-clause-spent g c =
-    subst (λ (e : Event). SpendsAt e c.write.result c.args.state.now.servers.items c.write.new.self.servers.items) (sym c.in-Write.is)
-    (spent_as _ c.in-Write.server.index c.write.result c.args.state.now.servers.items c.write.new.self.servers.items (λ other. refl) c.write.ensures.spent tt)
+    if_ok _ (λ reply. SpendsAt c.args.event.now reply c.args.state.now.servers.items c.write.new.self.servers.items)
+    (λ reply spent. subst (λ (e : Event). SpendsAt e reply c.args.state.now.servers.items c.write.new.self.servers.items) (sym c.in-Write.is)
+    (spent_as _ c.in-Write.server.index reply c.args.state.now.servers.items c.write.new.self.servers.items (λ other. refl) spent tt)) c.write.result c.write.ensures.spent
+
+pub returns-in-Again-clause-spent : goal.returns-in-Again-clause-spent
+returns-in-Again-clause-spent g c =
+    if_ok _ (λ reply. SpendsAt c.args.event.now reply c.args.state.now.servers.items c.again.new.self.servers.items)
+    (λ reply spent. subst (λ (e : Event). SpendsAt e reply c.args.state.now.servers.items c.again.new.self.servers.items) (sym c.in-Again.is) spent) c.again.result c.again.ensures.spent
 
 pub returns-in-Deliver-clause-spent : goal.returns-in-Deliver-clause-spent
 returns-in-Deliver-clause-spent g c =

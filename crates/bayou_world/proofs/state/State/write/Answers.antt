@@ -30,12 +30,14 @@ returns-clause-follows c machine good tagged tied =
     let at : seat world_sessions who ≡ Some c.in-Some.session =
     get_or_default world_sessions who None c.index_mut.result.now inside ∙ ap (λ n. get_or world_sessions n c.index_mut.result.now) (sym c.from-seat.ensures) ∙ sym c.index_mut.ensures.value ∙ c.in-Some.is in
     let may = c.if-not-may_begin.ensures.0 refl in
-    subst (λ n. (next : Machine) × WriteStep machine who place c.args.program (replies.Wrote c.write.result) next
+    let answer = c.in_ok-answer.answer in
+    let asks = c.in_ok-answer.ensures in
+    subst (λ n. (next : Machine) × WriteStep machine who place c.args.program (replies.Wrote answer) next
     × IsTied (set servers n (Running c.write.new.server)) (set world_sessions c.from-seat.result (Some c.write.new.self)) c.args.self.now.offers.items c.args.self.now.items.items c.args.self.now.served.items next) (sym c.from-at.ensures)
-    (subst (λ n. (next : Machine) × WriteStep machine who place c.args.program (replies.Wrote c.write.result) next
+    (subst (λ n. (next : Machine) × WriteStep machine who place c.args.program (replies.Wrote answer) next
     × IsTied (set servers place (Running c.write.new.server)) (set world_sessions n (Some c.write.new.self)) c.args.self.now.offers.items c.args.self.now.items.items c.args.self.now.served.items next) (sym c.from-seat.ensures)
-    (write_tied c.write_need_is_what_is_asked.ensures servers world_sessions c.args.self.now.offers.items c.args.self.now.items.items c.args.self.now.served.items machine good tagged tied who place c.write.ensures.answer.0 c.args.program
-    c.in-Some.session c.write.new.self server c.write.new.server c.write.result c.args.who.in_range at may.0 may.1 known stands c.write.ensures.honest c.write.ensures.counts c.write.ensures.answer.1 c.write.ensures.answer.2 c.write.ensures.begun))
+    (write_tied c.write_need_is_what_is_asked.ensures servers world_sessions c.args.self.now.offers.items c.args.self.now.items.items c.args.self.now.served.items machine good tagged tied who place c.args.program
+    c.in-Some.session c.write.new.self server c.write.new.server answer c.args.who.in_range at may.0 may.1 known stands asks.0 asks.1 asks.2 asks.3))
 
 pub returns-then-seat-len-clause-spent : goal.returns-then-seat-len-clause-spent
 returns-then-seat-len-clause-spent c = none_spent c.args.self.now.servers.items c.args.place.index
@@ -61,8 +63,9 @@ returns-clause-spent c =
     let known : place < length servers = omega (arith, c.if-at-len.false, c.from-at.ensures, c.len-else-seat-len.ensures) in
     let stands : get_or servers place (Running old) ≡ Running old =
     stands_at servers place c.from-at.result c.index_mut-2.result.now (Running old) c.index_mut-2.ensures.value c.from-at.ensures c.in-Running.is in
-    subst (λ n. AreSpent place (tells_fault (replies.Wrote c.write.result)) false servers (set servers n (Running c.write.new.server))) (sym c.from-at.ensures)
-    (one_spent servers place (tells_fault (replies.Wrote c.write.result)) false (Running old) (Running c.write.new.server) known stands c.write.ensures.spends)
+    let answer = c.in_ok-answer.answer in
+    subst (λ n. AreSpent place (tells_fault (replies.Wrote answer)) false servers (set servers n (Running c.write.new.server))) (sym c.from-at.ensures)
+    (one_spent servers place (tells_fault (replies.Wrote answer)) false (Running old) (Running c.write.new.server) known stands c.in_ok-answer.ensures.3.spends)
 
 pub returns-then-seat-len-clause-follows : goal.returns-then-seat-len-clause-follows
 returns-then-seat-len-clause-follows c machine good tagged tied =

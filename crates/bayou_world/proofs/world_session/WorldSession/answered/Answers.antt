@@ -10,6 +10,7 @@ returns c = record {
   server_is = refl;
   what_is = refl;
   session = refl;
+  asked = refl;
   flight = refl;
   waiting = refl;
 }

@@ -1,30 +1,28 @@
-use Rattle.std.proofs.Common.{subst}
+use Rattle.std.proofs.Common.{Some, subst, sym}
+use Rattle.bayou_lang.specs.declared.program.Program.{Program}
 use Rattle.bayou_server.specs.Writes.{Writes}
-use Rattle.bayou_session.specs.Needs.{asks_first, write_need}
+use Rattle.bayou_session.specs.Needs.{HasCounts, Told, write_need}
+use Rattle.bayou_world.specs.declared.world_session.Asked.{Asked}
 use Rattle.bayou_world.specs.Inner.WorldSessions.{Begins, accepted_as, accepted_of}
-use Rattle.bayou_world.proofs.Charging.{wrote_spends}
 use Rattle.bayou_world.proofs.world_session.WorldSession.write.Goals as goal
 
-pub returns-clause-answer : goal.returns-clause-answer
-returns-clause-answer c =
-    let tag = c.ask-tag.result in
-    let needs : Writes c.args.server.now.core tag (write_need c.args.self.now.session) c.args.program c.write-answer.result c.write-answer.new.self.core =
-    subst (λ need. Writes c.args.server.now.core tag need c.args.program c.write-answer.result c.write-answer.new.self.core) c.need_write-need.ensures.value c.write-answer.ensures.writes in
-    (tag, c.ask-tag.ensures.tag, needs)
-
-pub returns-clause-begun : goal.returns-clause-begun
-returns-clause-begun c =
-    let asked = asks_first c.args.self.now.session in
-    subst (λ n. Begins c.args.self.now asked n (accepted_as c.write-answer.result) (accepted_of c.write-answer.result) c.answered.new.self) c.id-id.ensures.value
-    (subst (λ what. Begins c.args.self.now asked c.id-id.result.index what (accepted_of c.write-answer.result) c.answered.new.self) c.what_accepted-what.ensures
-    (subst (λ accepted. Begins c.args.self.now asked c.id-id.result.index c.what_accepted-what.result accepted c.answered.new.self) c.accepted_in-accepted.ensures
-    (subst (λ session. Begins c.args.self.now session c.id-id.result.index c.what_accepted-what.result c.accepted_in-accepted.result c.answered.new.self) c.ask-tag.ensures.begun c.answered.ensures)))
-
-pub returns-clause-spends : goal.returns-clause-spends
-returns-clause-spends c = wrote_spends c.write-answer.result _ _ c.write-answer.ensures.calls c.write-answer.ensures.stores
-
-pub returns-clause-honest : goal.returns-clause-honest
-returns-clause-honest c honest =
-    let write = c.write-answer.ensures in
-    let memory = c.a_device_in_memory_only_tears.ensures in
-    c.an_honest_server_stays_honest.ensures.written _ _ _ c.write-answer.result c.args.server.now c.write-answer.new.self memory write.sound.0 write.sound.1 honest write.writes write.stores (write.safe memory.modelled)
+pub returns : goal.returns
+returns c =
+    let self = c.args.self.now in
+    let core = c.args.server.now.core in
+    let begun = c.ask-tag.ensures.begun in
+    let asked : Asked = record { server = c.id.result; program = c.in_ok-copy.field-0 } in (
+      asked,
+      c.id.ensures.value,
+      c.in_ok-copy.ensures,
+      record {
+        tag = c.ask-tag.result;
+        tag_is = c.ask-tag.ensures.tag;
+        counts = subst HasCounts begun c.ask.ensures.counts;
+        writes = subst (λ (p : Program). Writes core c.ask-tag.result (write_need self.session) p c.ask.result c.ask.new.server.core) (sym c.in_ok-copy.ensures)
+            (subst (λ (t : Told). Writes core c.ask-tag.result (write_need t) c.args.program c.ask.result c.ask.new.server.core) begun c.ask.ensures.answer);
+        begun = subst (λ (t : Told). Begins self t (Some asked) core.id (accepted_as c.ask.result) (accepted_of c.ask.result) c.ask.new.self) begun c.ask.ensures.answered;
+        honest = c.ask.ensures.honest;
+        spends = c.ask.ensures.spends;
+      },
+    )
