@@ -2,7 +2,7 @@
    says how, in words by threes: a call, the number of it, counted from 1 on, and what becomes of it. Calls of journals are `read`, `append`, `sync`
    and `cut`, and `folder` is the sync of another file: each may `fail`, or `wait` until the pipe GATE was opened and closed. So may a `tell`, a write
    to the standard output, of which `tell 0 short` has each take one byte. A `reply` accepts a Write, and may come `ahead`, as if of the Write
-   behind that, or `bad`, as no frame. */
+   behind that, or `bad`, as no frame. A `connect` may `fail`, as if nobody listened there. */
 #define _GNU_SOURCE
 #include <dlfcn.h>
 #include <errno.h>
@@ -27,7 +27,7 @@
 static int calls = -1;
 static const char *meddle = "", *gate = "";
 static char is_journal[FILES];
-static atomic_int reads, appends, syncs, cuts, folders, replies, tells;
+static atomic_int reads, appends, syncs, cuts, folders, replies, tells, connects;
 
 #define REAL(name) ((__typeof__(&name))dlsym(RTLD_NEXT, #name))
 
@@ -148,6 +148,10 @@ int ftruncate64(int file, off64_t size) { return cut(file, size); }
 
 int connect(int file, const struct sockaddr *address, socklen_t size) {
     note("connect\n");
+    if (fails("connect", &connects)) {
+        errno = ECONNREFUSED;
+        return -1;
+    }
     return REAL(connect)(file, address, size);
 }
 

@@ -8,6 +8,7 @@ import time
 import traceback
 
 import frames
+import net_again
 import net_calls
 import net_device
 import net_faults
@@ -83,7 +84,7 @@ def examples(checks, program, room, folder):
             expected = (2, "", text_of(path + ".errors"))
         for way in ("file", "input"):
             own = fresh(room, "%s-%s" % (name, way))
-            if name == "again":
+            if name == "second_run":
                 run(program, own, text_of(os.path.join(folder, "two_servers.jsonl")))
             told = run(program, own, "", path + ".jsonl") if way == "file" else run(program, own, text_of(path + ".jsonl"))
             checks.that("the script %s, as %s" % (name, way), told, expected)
@@ -102,7 +103,7 @@ def helps(checks, program, room):
 
 def at_random(checks, program, room, reopens):
     """2,000 operations of 8 sessions at 4 servers in 5 phases, with pulls beside them."""
-    times, refused = [], 0
+    times, refused, agains = [], 0, 0
     for number in range(RUNS):
         seed = number // RUNS_A_SCRIPT + (100 if reopens else 0)
         made, text = net_script.at_random(seed, reopens)
@@ -111,12 +112,14 @@ def at_random(checks, program, room, reopens):
         status, output, errors = run(program, folder, text)
         times.append(time.monotonic() - begin)
         name = "run %d of 2,000 operations%s" % (number, ", with reopenings" if reopens else "")
-        checks.that(name, (status, errors, net_told.wrong_in(made, output)), (0, "", None))
-        refused += output.count(" refused behind ")
+        wrong, made_again = net_told.look(made, output)
+        checks.that(name, (status, errors, wrong), (0, "", None))
+        refused, agains = refused + output.count(" refused behind "), agains + made_again
     middle = statistics.median(times)
     print("net: %d operations%s: %.2f s in the middle of %d runs, %d a second; %d refused in all" %
           (net_script.OPERATIONS, " with reopenings" if reopens else "", middle, RUNS, net_script.OPERATIONS / middle, refused))
     checks.that("some operations are refused, and most are not", 0 < refused < RUNS * net_script.OPERATIONS // 2, True)
+    checks.that("some Writes are made as they are asked again", agains > 0, True)
 
 
 def goes_on(checks, program, room):
@@ -169,6 +172,7 @@ def groups_of(folder, number):
     groups = [meets, helps, goes_on, counts_runs]
     groups += [net_faults.folders, net_faults.journals, net_faults.torn, net_faults.old, net_faults.held, net_faults.at_once, net_faults.places, net_faults.files]
     groups += [net_verdicts.of_journals, net_verdicts.of_replies, net_verdicts.surveys, net_waits.phases, net_waits.short, net_waits.down]
+    groups += [net_again.lost_replies, net_again.failed_journals, net_again.many_agains, net_again.no_connection]
     groups += [net_output.bytes_told, net_calls.connections, net_calls.batches, net_calls.all_sessions]
     groups += [net_device.reads, net_device.starts, net_device.writes, net_device.power, net_memory.memory, net_long.long_phase]
     by_name = {group.__name__: group for group in groups}
@@ -176,6 +180,7 @@ def groups_of(folder, number):
     by_name["random"] = lambda *given: at_random(*given, False)
     by_name["random_reopened"] = lambda *given: at_random(*given, True)
     by_name["kills"] = lambda *given: net_kill.kills(*given, number)
+    by_name["kills_of_agains"] = lambda *given: net_again.kills_of_agains(*given, number)
     return by_name
 
 

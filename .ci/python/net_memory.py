@@ -7,12 +7,13 @@ from net_meddled import library
 from net_runs import fresh, put, script
 
 SCRIPT = script(["servers", 2, 100], ["session", 0, ["ryw"]], ["write", 0, 0, put("a", 1)], ["phase"], ["read", 0, 0, "a"],
-                ["write", 0, 0, put("a", 2)], ["totals"], ["judge"], ["totals"], ["survey"], ["reopen", 0], ["totals"], ["reopen", 1])
+                ["write", 0, 0, put("a", 2)], ["again", 0], ["totals"], ["judge"], ["totals"], ["survey"], ["reopen", 0], ["totals"], ["reopen", 1])
 TOTALS = r"totals reads \d writes \d refusals \d slips 0"
 # What stands in each line of a run, where the server, or the session itself, may lack memory behind the first.
 LINES = [r"0 wrote 0:1 clock 1 deps 0,0", r"0 (read a num 1 at 1,0|refused memory|lost)", r"0 (wrote 0:2 clock 2 deps 1,0|refused memory|lost)",
-         TOTALS, "clean", TOTALS, "survey 0 ryw ok mr ok wfr ok mw ok", "reopen refused (notdown|memory)", TOTALS, "reopen refused (notdown|memory)",
-         TOTALS, r"settled 0 accepted [12] adopted 0", "settled 1 accepted 0 adopted 0", "clean"]
+         r"0 (again none|wrote 0:2 clock 2 deps 1,0)", TOTALS, "clean", TOTALS, "survey 0 ryw ok mr ok wfr ok mw ok",
+         "reopen refused (notdown|memory)", TOTALS, "reopen refused (notdown|memory)", TOTALS, "settled 0 accepted 2 adopted 0",
+         "settled 1 accepted 0 adopted 0", "clean"]
 # Pulls, of which the second takes what the first one lacked memory for, and a read of what came.
 PULLS = script(["servers", 2, 100], ["session", 0, []], ["write", 0, 0, put("a", 1)], ["phase"], ["write", 0, 0, put("b", 2)], ["phase"],
                ["pull", 1, 0], ["phase"], ["pull", 1, 0], ["phase"], ["read", 0, 1, "b"])
@@ -82,6 +83,8 @@ def memory(checks, program, room):
     _, told = Wanting(program, room, "others").all()
     checks.that("that none hangs whose other threads lack memory", [number for number, run in enumerate(told, 1) if run[0] == "hangs"], [])
     checks.that("a run whose other threads lack memory: each line, or a fault", wrong_in(told, [MEMORY, NETWORK]), None)
+    once = [number for number, run in enumerate(told, 1) if run[0] != 0 or sum(line.startswith("0 wrote 0:2 ") for line in run[1]) == 1]
+    checks.that("that the Write which is asked again is told once", once, list(range(1, len(told) + 1)))
     checks.that("a session that lacks memory ends the run", lengths(told, MEMORY), [1])
     checks.that("the lines before a fault of the network", lengths(told, NETWORK), REOPENS)
     print("net: %d allocations of its other threads, each refused in turn" % len(told))

@@ -62,7 +62,9 @@ def program(order):
 
 
 def operation(order, session):
-    """An operation of the session, for the most part at its own server."""
+    """An operation of the session, for the most part at its own server; now and then its last Write again."""
+    if order.randrange(8) == 0:
+        return ("again", session)
     server = session % SERVERS if order.randrange(4) else order.randrange(SERVERS)
     if order.randrange(2):
         return ("write", session, server, program(order))

@@ -50,11 +50,11 @@ def own_program(program):
 
 
 class Seen:
-    """What a session has read and written so far, as vectors."""
+    """What a session has read and written so far, as vectors; and the server and the program of the Write that it may ask again."""
 
     def __init__(self, asks):
         zero = (0,) * SERVERS
-        self.asks, self.reads, self.writes = asks, zero, zero
+        self.asks, self.reads, self.writes, self.asked = asks, zero, zero, None
 
     def need(self, reading):
         """What its guarantees want of a server."""
@@ -71,7 +71,7 @@ class Told:
         self.script, self.lines, self.at = script, output.split("\n")[:-1], 0
         self.writes, self.sessions = {}, [Seen(asks) for asks in script.asks]
         self.reads, self.counts = [], {"reads": 0, "writes": 0, "refusals": 0}
-        self.accepted = [0] * SERVERS
+        self.accepted, self.agains = [0] * SERVERS, 0
 
     def next(self):
         need(self.at < len(self.lines), self.lines[-1:], "lines are missing")
@@ -80,8 +80,13 @@ class Told:
 
     def operation(self, operation):
         """The line of an operation: its guarantees are kept, and it is refused only for them."""
-        told, (word, session, server, what) = self.next(), operation
+        told, (word, session, *rest) = self.next(), operation
         seen = self.sessions[session]
+        if word == "again" and seen.asked is None:
+            need(told == "%d again none" % session, told, "there was nothing to ask again")
+            return
+        server, what = seen.asked if word == "again" else rest
+        seen.asked = None if word == "read" else (server, what)
         wanted = seen.need(word == "read")
         refused = BEHIND.fullmatch(told)
         if refused:
@@ -102,7 +107,8 @@ class Told:
         origin, seq, clock = (int(match.group(i)) for i in (2, 3, 4))
         need(origin == server and held[origin] == seq - 1 and (origin, seq) not in self.writes, told, "no such Write")
         self.writes[origin, seq] = (clock, origin, held, what)
-        seen.writes = join(seen.writes, tuple(seq if s == origin else 0 for s in range(SERVERS)))
+        seen.writes, seen.asked = join(seen.writes, tuple(seq if s == origin else 0 for s in range(SERVERS))), None
+        self.agains += word == "again"
         self.counts["writes"] += 1
         self.accepted[origin] += 1
 
@@ -165,8 +171,9 @@ class Told:
             need(clock == 1 + max((write[0] for write in past), default=0), name, "its clock isn't one above its past")
 
 
-def wrong_in(script, output):
-    """What is wrong with the output of a run of the script in a new folder; None where nothing is."""
+def look(script, output):
+    """What is wrong with the output of a run of the script in a new folder, None where nothing is; and how many Writes were made as they were
+    asked again."""
     try:
         told = Told(script, output)
         for sessions, pulls, rest in script.phases:
@@ -179,5 +186,10 @@ def wrong_in(script, output):
         told.ends()
         told.values()
     except Wrong as why:
-        return str(why)
-    return None
+        return str(why), 0
+    return None, told.agains
+
+
+def wrong_in(script, output):
+    """What is wrong with the output alone."""
+    return look(script, output)[0]

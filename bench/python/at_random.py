@@ -14,6 +14,7 @@ ABOUT = {
     "faults": {"write": 10, "read": 2, "pull": 4, "cut": 1, "resend": 1, "fuse": 4, "reopen": 4, "restart": 2, "log": 1},
     "losses": {"write": 8, "pull": 5, "resend": 2, "lose": 2, "restart": 3, "fuse": 1, "reopen": 2, "judge": 1, "log": 1},
     "sessions": {"write": 6, "read": 10, "pull": 3, "session": 2, "judge": 1, "survey": 1, "totals": 1, "phase": 1},
+    "retries": {"write": 8, "again": 8, "drop": 4, "read": 1, "pull": 4, "fuse": 2, "reopen": 2, "restart": 2, "lose": 1, "log": 1, "totals": 1},
 }
 
 # Lines that are no line of a script, or have no place in one, and some that look so.
@@ -30,6 +31,7 @@ WRONG = [
     '["entry",0,1,["mr"],0,"read","A",[0]]', '["entry",0,1,[],0,"read","a",[0,0]]', '["entry",0,1,[],0,"write",1,1,[0,0],0]', '["entry",0,1,[],0,"walk"]',
     '["held",0,[0,1,1,[0,0],{"update":[["del","A"]]}]]', '["held",0,[0,65537,1,[0,0],{}]]', '["held",0,[3,1,1,[0,0],{}]]', '["held",7,[0,1,1,[0,0],{}]]',
     '["write",0,0,{"update":[["put","a",["copy","A"]]]}]', '["write",0,0,{"check":[["atleast","a","1"]]}]', '["servers",0]', '["servers",1,65537]',
+    '["again",0]', '["again",1]', '["again",32]', '["again"]', '["again",0,0]', '["drop",0]', '["drop",1]', '["drop","0"]', '["drop",0,0]',
     '["phase",0]', '["resend",0]', '["read",0,0,"\\u0061"]', ' [ "log" , 0 ] \r', '["write",0,0,{"check":0,"check":[]}]',
 ]
 
@@ -122,6 +124,8 @@ class Maker:
             return line(word, self.server(), chance.choice([0, 1, 33, 90, 200, 10**9]))
         if word in ("log", "reopen", "restart"):
             return line(word, self.server())
+        if word in ("again", "drop"):
+            return line(word, chance.choice(self.sessions))
         return line(word)
 
     def script(self):

@@ -35,6 +35,8 @@ pub enum Command {
     Session(u8, Asks),
     Write(u8, u8, Program),
     Read(u8, u8, Key),
+    Again(u8),
+    Drop(u8),
     Log(u8),
     Fuse(u8, Fuse),
     Lose(u8, usize),
@@ -102,6 +104,8 @@ fn command(word: &str, behind: &[Json]) -> Read<Command> {
         ("read", [session, server, key]) => {
             Command::Read(session_of(session)?, server_of(server)?, key_of(key)?)
         }
+        ("again", [session]) => Command::Again(session_of(session)?),
+        ("drop", [session]) => Command::Drop(session_of(session)?),
         ("log", [server]) => Command::Log(server_of(server)?),
         ("fuse", [server, calls, kept]) => Command::Fuse(server_of(server)?, fuse(calls, kept)?),
         ("lose", [server, count]) => Command::Lose(

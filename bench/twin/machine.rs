@@ -9,6 +9,13 @@ use crate::server::{Server, Tag, WriteRefusal};
 use crate::write::{dominates, join, Vector, Write, SERVERS};
 use std::io;
 
+/// A Write that a session may ask again: its tag, where it was asked, and for what.
+struct Asked {
+    tag: Tag,
+    server: u8,
+    program: Program,
+}
+
 #[derive(Default)]
 struct Session {
     asks: Asks,
@@ -16,6 +23,9 @@ struct Session {
     tried: u32,
     read: Vector,
     wrote: Vector,
+    asked: Option<Asked>,
+    // Whether the reply to what it tries next is dropped.
+    drops: bool,
 }
 
 impl Session {
@@ -76,6 +86,8 @@ impl<W: io::Write> Machine<'_, W> {
             Command::Session(session, asks) => self.sessions[usize::from(session)].asks = asks,
             Command::Write(session, server, program) => self.write(session, server, program)?,
             Command::Read(session, server, key) => self.read(session, server, key)?,
+            Command::Again(session) => self.again(session)?,
+            Command::Drop(session) => self.sessions[usize::from(session)].drops = true,
             Command::Log(server) => self.log(server)?,
             Command::Fuse(server, fuse) => self.server(server).device.set_fuse(fuse),
             Command::Lose(server, count) => self.server(server).device.lose(count),
@@ -110,14 +122,15 @@ impl<W: io::Write> Machine<'_, W> {
         });
     }
 
-    /// Begins an operation, and tells whether the server answers.
-    fn begin(&mut self, session: u8, server: u8) -> io::Result<bool> {
-        self.sessions[usize::from(session)].tried += 1;
-        let is_stopped = self.server(server).is_stopped;
-        if is_stopped {
-            writeln!(self.output, "{session} lost")?;
-        }
-        Ok(!is_stopped)
+    /// Begins an operation, and tells whether a reply to it is dropped.
+    fn begin(&mut self, session: u8) -> bool {
+        let state = &mut self.sessions[usize::from(session)];
+        state.tried += 1;
+        std::mem::take(&mut state.drops)
+    }
+
+    fn lose(&mut self, session: u8) -> io::Result<()> {
+        writeln!(self.output, "{session} lost")
     }
 
     fn refuse(&mut self, session: u8, server: u8, refusal: WriteRefusal) -> io::Result<()> {
@@ -128,6 +141,7 @@ impl<W: io::Write> Machine<'_, W> {
             WriteRefusal::Behind => {
                 writeln!(output, "{session} refused behind at {}", List(vector))
             }
+            WriteRefusal::Used => writeln!(output, "{session} refused used"),
             WriteRefusal::Down => writeln!(output, "{session} refused down"),
             WriteRefusal::Full => writeln!(output, "{session} refused full"),
             WriteRefusal::Journal => writeln!(output, "{session} refused journal"),
@@ -135,18 +149,47 @@ impl<W: io::Write> Machine<'_, W> {
     }
 
     fn write(&mut self, session: u8, server: u8, program: Program) -> io::Result<()> {
-        if !self.begin(session, server)? {
-            return Ok(());
-        }
+        let is_dropped = self.begin(session);
         let state = &mut self.sessions[usize::from(session)];
-        let need = state.need_of_write();
+        state.asked = None;
         let tag = Tag {
             session,
             place: state.tried,
         };
-        let write = match self.servers[usize::from(server)].write(tag, &need, program) {
-            Ok(write) => write,
-            Err(refusal) => return self.refuse(session, server, refusal),
+        let asked = Asked {
+            tag,
+            server,
+            program,
+        };
+        self.ask(session, asked, is_dropped)
+    }
+
+    fn again(&mut self, session: u8) -> io::Result<()> {
+        let Some(asked) = self.sessions[usize::from(session)].asked.take() else {
+            return writeln!(self.output, "{session} again none");
+        };
+        let is_dropped = self.begin(session);
+        self.ask(session, asked, is_dropped)
+    }
+
+    /// Asks the Write at the place that was begun. Unless it is told as accepted, it may be asked again.
+    fn ask(&mut self, session: u8, asked: Asked, is_dropped: bool) -> io::Result<()> {
+        let state = &mut self.sessions[usize::from(session)];
+        let need = state.need_of_write();
+        let Asked { tag, server, .. } = asked;
+        let is_stopped = self.servers[usize::from(server)].is_stopped;
+        let replica = &mut self.servers[usize::from(server)];
+        let answer = (!is_stopped).then(|| replica.write(tag, &need, &asked.program));
+        let write = match answer {
+            Some(Ok(write)) if !is_dropped => write,
+            Some(Err(refusal)) if !is_dropped => {
+                state.asked = Some(asked);
+                return self.refuse(session, server, refusal);
+            }
+            _ => {
+                state.asked = Some(asked);
+                return self.lose(session);
+            }
         };
         let (wid, stamp, deps) = (write.wid, write.stamp(), write.deps);
         let wrote = &mut state.wrote[usize::from(wid.origin)];
@@ -160,10 +203,13 @@ impl<W: io::Write> Machine<'_, W> {
     }
 
     fn read(&mut self, session: u8, server: u8, key: Key) -> io::Result<()> {
-        if !self.begin(session, server)? {
-            return Ok(());
-        }
+        let is_dropped = self.begin(session);
+        let is_stopped = self.server(server).is_stopped;
         let state = &mut self.sessions[usize::from(session)];
+        state.asked = None;
+        if is_dropped || is_stopped {
+            return self.lose(session);
+        }
         let replica = &self.servers[usize::from(server)].replica;
         if !dominates(&replica.vector, &state.need_of_read()) {
             return self.refuse(session, server, WriteRefusal::Behind);

@@ -90,6 +90,7 @@ fn is_in_place(command: &Command, count: u8, is_open: &mut [bool; SESSIONS]) -> 
         Command::Write(session, server, _) | Command::Read(session, server, _) => {
             is_open[usize::from(*session)] && *server < count
         }
+        Command::Again(session) | Command::Drop(session) => is_open[usize::from(*session)],
         Command::Log(server)
         | Command::Fuse(server, _)
         | Command::Lose(server, _)

@@ -1,8 +1,10 @@
 //! A server: what it holds, behind its journal (docs/RECOVERY.md), and how it takes Writes from another (docs/ANTI-ENTROPY.md).
 
 use crate::journal::{self, Device, Journal, Opened};
+use crate::line::SESSIONS;
 use crate::program::{Database, Outcome, Program};
 use crate::write::{dominates, Stamp, Vector, Wid, Write, SERVERS};
+use std::collections::BTreeMap;
 
 /// What a server holds.
 #[derive(Default)]
@@ -14,6 +16,8 @@ pub struct Replica {
     outcomes: Vec<Outcome>,
     // For each server the places of its Writes, by their numbers.
     own: [Vec<u32>; SERVERS],
+    // The places of the Writes that have a tag.
+    tags: BTreeMap<Tag, u32>,
     clock: u32,
     pub vector: Vector,
     pub database: Database,
@@ -55,8 +59,11 @@ impl Replica {
         (!is_stamped).then_some("stamp")
     }
 
-    /// Holds the Write, which isn't applied yet.
-    fn add(&mut self, write: Write) {
+    /// Holds the Write, which isn't applied yet, under its tag.
+    fn add(&mut self, write: Write, tag: Option<Tag>) {
+        if let Some(tag) = tag {
+            self.tags.insert(tag, self.writes.len() as u32);
+        }
         let own = usize::from(write.wid.origin);
         self.own[own].push(self.writes.len() as u32);
         self.vector[own] = write.wid.seq;
@@ -111,6 +118,7 @@ pub struct Plan {
 }
 
 pub enum WriteRefusal {
+    Used,
     Down,
     Behind,
     Full,
@@ -152,8 +160,8 @@ pub struct Pulled {
     pub had: u32,
 }
 
-/// The tag under which a session asks for a Write: the session, and at which of its places it does. There is one run.
-#[derive(Clone, Copy)]
+/// The tag under which a session asks for a Write: the session, and at which of its places it does first. There is one run.
+#[derive(Clone, Copy, PartialEq, Eq, PartialOrd, Ord)]
 pub struct Tag {
     pub session: u8,
     pub place: u32,
@@ -162,7 +170,6 @@ pub struct Tag {
 // What a record of a journal begins with: of another server's Write, and of an own one, behind which comes the tag.
 const OTHERS: u8 = 0;
 const OWN: u8 = 1;
-const TAG_BYTES: usize = 9;
 const RUN: u32 = 1;
 
 impl Tag {
@@ -171,18 +178,32 @@ impl Tag {
         bytes.extend(RUN.to_be_bytes());
         bytes.extend(self.place.to_be_bytes());
     }
+
+    /// The tag that these bytes begin with, and what stands behind it.
+    fn decode(bytes: &[u8]) -> Option<(Tag, &[u8])> {
+        let (session, rest) = bytes.split_first()?;
+        let (run, rest) = rest.split_first_chunk::<4>()?;
+        let (place, rest) = rest.split_first_chunk::<4>()?;
+        let place = u32::from_be_bytes(*place);
+        let is_tag = usize::from(*session) < SESSIONS && *run == RUN.to_be_bytes() && place > 0;
+        let session = *session;
+        is_tag.then_some((Tag { session, place }, rest))
+    }
 }
 
-/// The Write of a record in the journal of this server.
-fn write_of(record: &[u8], id: u8) -> Option<Write> {
+/// The Write of a record in the journal of this server, and its tag, which its own have.
+fn write_of(record: &[u8], id: u8) -> Option<(Write, Option<Tag>)> {
     let (word, rest) = record.split_first()?;
-    let body = match *word {
-        OTHERS => rest,
-        OWN => rest.get(TAG_BYTES..)?,
+    let (tag, body) = match *word {
+        OTHERS => (None, rest),
+        OWN => {
+            let (tag, body) = Tag::decode(rest)?;
+            (Some(tag), body)
+        }
         _ => return None,
     };
     let write = Write::decode(body)?;
-    ((*word == OWN) == (write.wid.origin == id)).then_some(write)
+    (tag.is_some() == (write.wid.origin == id)).then_some((write, tag))
 }
 
 pub struct Server {
@@ -191,8 +212,8 @@ pub struct Server {
     pub device: Device,
     journal: Journal,
     pub replica: Replica,
-    // The Write whose entry may be in the journal, or not, and its record.
-    doubt: Option<(Write, Vec<u8>)>,
+    // The Write whose entry may be in the journal, or not, its tag, and its record.
+    doubt: Option<(Write, Option<Tag>, Vec<u8>)>,
     // Where a record is encoded.
     buffer: Vec<u8>,
     /// Whether its last start was refused. It has what it held before.
@@ -203,7 +224,10 @@ pub struct Server {
 fn replay(opened: &Opened, id: u8, plan: Plan) -> Result<Replica, &'static str> {
     let mut replica = Replica::default();
     for body in opened.bodies() {
-        let write = write_of(body, id).ok_or("record")?;
+        let (write, tag) = write_of(body, id).ok_or("record")?;
+        if tag.is_some_and(|tag| replica.tags.contains_key(&tag)) {
+            return Err("record");
+        }
         let is_own_past = write.wid.origin != id || write.deps == replica.vector;
         if replica.misfit(&write, plan.count).is_some() || !is_own_past {
             return Err("gap");
@@ -211,7 +235,7 @@ fn replay(opened: &Opened, id: u8, plan: Plan) -> Result<Replica, &'static str> 
         if replica.writes.len() >= plan.limit as usize {
             return Err("full");
         }
-        replica.add(write);
+        replica.add(write, tag);
     }
     replica.apply_added();
     Ok(replica)
@@ -239,21 +263,31 @@ impl Server {
     }
 
     /// Adds the Write to the journal, and then to what is held; or it is in doubt.
-    fn store(&mut self, write: Write, record: &[u8]) -> bool {
+    fn store(&mut self, write: Write, tag: Option<Tag>, record: &[u8]) -> bool {
         if self.journal.append(&mut self.device, record).is_err() {
-            self.doubt = Some((write, record.to_vec()));
+            self.doubt = Some((write, tag, record.to_vec()));
             return false;
         }
-        self.replica.add(write);
+        self.replica.add(write, tag);
         true
     }
 
+    /// Accepts the program; what is held under the tag is known, be the server down or full.
     pub fn write(
         &mut self,
         tag: Tag,
         need: &Vector,
-        program: Program,
+        program: &Program,
     ) -> Result<&Write, WriteRefusal> {
+        if let Some(at) = self.replica.tags.get(&tag) {
+            let write = &self.replica.writes[*at as usize];
+            let is_known = write.program == *program && dominates(&write.deps, need);
+            return if is_known {
+                Ok(write)
+            } else {
+                Err(WriteRefusal::Used)
+            };
+        }
         if self.doubt.is_some() {
             return Err(WriteRefusal::Down);
         }
@@ -270,14 +304,14 @@ impl Server {
             },
             clock: self.replica.clock + 1,
             deps: self.replica.vector,
-            program,
+            program: program.clone(),
         };
         let mut record = std::mem::take(&mut self.buffer);
         record.clear();
         record.push(OWN);
         tag.encode(&mut record);
         write.encode(&mut record);
-        let is_stored = self.store(write, &record);
+        let is_stored = self.store(write, Some(tag), &record);
         self.buffer = record;
         if !is_stored {
             return Err(WriteRefusal::Journal);
@@ -321,7 +355,7 @@ impl Server {
         record.clear();
         record.push(OTHERS);
         record.extend_from_slice(body);
-        let is_stored = self.store(write, &record);
+        let is_stored = self.store(write, None, &record);
         self.buffer = record;
         if !is_stored {
             return Err("journal");
@@ -352,7 +386,7 @@ impl Server {
 
     /// Opens the journal of a server that is down, and gives the Write in doubt that it adopted.
     pub fn reopen(&mut self) -> Result<Option<Wid>, &'static str> {
-        let Some((_, record)) = &self.doubt else {
+        let Some((_, _, record)) = &self.doubt else {
             return Err("notdown");
         };
         let opened = journal::open(&mut self.device, self.id).map_err(|_| "journal")?;
@@ -366,9 +400,9 @@ impl Server {
         }
         self.journal = opened.journal();
         let doubt = self.doubt.take().filter(|_| !behind.is_empty());
-        let adopted = doubt.as_ref().map(|(write, _)| write.wid);
-        if let Some((write, _)) = doubt {
-            self.replica.add(write);
+        let adopted = doubt.as_ref().map(|(write, ..)| write.wid);
+        if let Some((write, tag, _)) = doubt {
+            self.replica.add(write, tag);
             self.replica.apply_added();
         }
         Ok(adopted)

@@ -32,6 +32,10 @@ pub enum Answer {
     Lost {
         session: SessionId,
     },
+    /// The session has no Write to ask again, and tried nothing.
+    NotAgain {
+        session: SessionId,
+    },
     /// What the server holds: its Writes in stamp order, with their outcomes, and its vector.
     Logged {
         server: ServerId,

@@ -94,6 +94,30 @@ fn lines_at_their_borders(rt: HostRuntime) {
     }
 }
 
+/// Lines of one session that ask its last Write again, or drop the reply to what it tries next.
+const RETRIES: &str = r#"["again",0]
+["again",1] => out of place
+["again",31] => out of place
+["again",32] => bad shape
+["again",-1] => bad shape
+["again","0"] => bad shape
+["again"] => bad shape
+["again",0,0] => bad shape
+["drop",0]
+["drop",1] => out of place
+["drop",31] => out of place
+["drop",32] => bad shape
+["drop",null] => bad shape
+["drop"] => bad shape
+["drop",0,0] => bad shape"#;
+
+#[test]
+fn retries_at_their_borders(rt: HostRuntime) {
+    for row in RETRIES.lines() {
+        must_hold(&rt, is_so(&rt, rt.alloc(), BEGIN, row), row);
+    }
+}
+
 /// Lines that have one of two servers send its Writes to the other, or to itself; lines that ask for what was served; and lines of an audit
 /// file, which have no place in a script.
 const EXCHANGES: &str = r#"["pull",0,1]

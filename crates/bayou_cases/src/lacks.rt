@@ -58,6 +58,29 @@ fn replaced(
     text
 }
 
+/// The script, in which the Write of this line is asked first in the next line that asks it again: so where it wasn't asked in its own.
+fn asked_first(
+    rt: &impl Abort,
+    alloc: Global,
+    scene: &Scene<'_>,
+    session: &str,
+    write: &str,
+) -> Vec<u8> {
+    let again = format!(in alloc; "[\"again\",{session}]").expect(rt, "no memory");
+    let others = format!(in alloc; "[\"write\",{session},").expect(rt, "no memory");
+    let reads = format!(in alloc; "[\"read\",{session},").expect(rt, "no memory");
+    let mut text = Vec::new(alloc);
+    let mut is_asked = false;
+    for (number, line) in scene.script.lines().enumerate() {
+        let is_behind = number > scene.at && !is_asked;
+        let asks = is_behind && line == again.as_str();
+        let ends = line.starts_with(others.as_str()) || line.starts_with(reads.as_str());
+        is_asked = is_asked || asks || is_behind && ends;
+        put_all(rt, &mut text, &[if asks { write } else { line }]);
+    }
+    text
+}
+
 /// Puts the lines behind the text.
 fn put_all(rt: &impl Abort, text: &mut Vec<u8>, lines: &[&str]) {
     for line in lines {
@@ -200,8 +223,17 @@ fn is_write(rt: &impl Abort, alloc: Global, scene: &Scene<'_>, line: &str) -> bo
     };
     let journal = format!(in alloc; "{session} refused journal").expect(rt, "no memory");
     let failed = (journal.as_str(), journal.as_str());
-    goes_as_failing(rt, alloc, scene, line, (server, 1), failed)
-        || is_refusal(rt, alloc, scene, (session, server, program))
+    if goes_as_failing(rt, alloc, scene, line, (server, 1), failed) {
+        return true;
+    }
+    let script = asked_first(rt, alloc, scene, session, line);
+    let later = Scene {
+        script: str::from_utf8(script.as_slice()).unwrap_or(""),
+        at: scene.at,
+        before: scene.before,
+        given: scene.given,
+    };
+    is_refusal(rt, alloc, &later, (session, server, program))
 }
 
 /// Whether a Write was refused for want of memory.
@@ -345,7 +377,7 @@ fn has_lacked(rt: &impl Abort, alloc: Global, script: &str, given: &Given) -> bo
 
 /// Whether the run ended for want of memory behind some of the lines that are printed, or because a device had none as a server was started on
 /// it.
-fn has_ended(case: &Case, given: &Given) -> bool {
+pub fn has_ended(case: &Case, given: &Given) -> bool {
     let is_for_memory = given.errors.as_slice() == b"bayou: memory\n".as_slice();
     let is_for_device = given.errors.as_slice() == b"bayou: device\n".as_slice();
     let lines = given.output.as_slice();
@@ -386,6 +418,9 @@ static OWN: [Case; 1] = [Case {
 ["fuse",0,2,0]
 ["write",1,0,{"update":[["put","a",4]]}]
 ["reopen",0]
+["drop",1]
+["again",1]
+["again",1]
 ["log",0]
 ["restart",1]
 ["write",0,1,{"update":[["put","b",5]]}]
@@ -412,6 +447,8 @@ pulled 1 had 2
 clean
 1 refused journal
 reopened 0 adopted 0:3
+1 lost
+1 wrote 0:3 clock 4 deps 2,1,0
 log 0 0:1 clock 1 updated
 log 0 0:2 clock 2 updated
 log 0 1:1 clock 3 updated
@@ -421,8 +458,8 @@ restarted 1 holds 3 dropped 0
 0 wrote 1:2 clock 4 deps 2,1,0
 pulled 1 had 0
 restarted 1 holds 3 dropped 100
-judge refused forged 7
-totals reads 1 writes 4 refusals 3 slips 0
+judge refused forged 8
+totals reads 1 writes 5 refusals 3 slips 0
 ["servers",3]
 ["entry",31,1,[],2,"refused"]
 ["entry",1,1,[],0,"write",1,1,[0,0,0]]
@@ -431,6 +468,7 @@ totals reads 1 writes 4 refusals 3 slips 0
 ["entry",0,3,["ryw","mr","wfr","mw"],1,"read","a",[2,0,0]]
 ["entry",0,4,["ryw","mr","wfr","mw"],1,"write",1,3,[2,0,0]]
 ["entry",1,2,[],0,"refused"]
+["entry",1,4,[],0,"write",3,4,[2,1,0]]
 ["entry",0,5,["ryw","mr","wfr","mw"],1,"write",2,4,[2,1,0]]
 ["held",0,[0,1,1,[0,0,0],{"check":[],"merge":[],"update":[["put","a",1]]}]]
 ["held",0,[0,2,2,[1,0,0],{"check":[],"merge":[],"update":[["put","a",2]]}]]

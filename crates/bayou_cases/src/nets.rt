@@ -7,7 +7,7 @@ use std::process::Abort;
 const NO_NETWORK: &str = "bayou: network\n";
 
 /// Scripts, what is told of each on the errors, and the status. Nothing is printed for any of them.
-static NETS: [(&str, &str, u8); 13] = [
+static NETS: [(&str, &str, u8); 16] = [
     ("[\"servers\",4]\n", NO_NETWORK, 3),
     ("[\"servers\",5]\n", "bayou: line 1: out of place\n", 2),
     ("", "bayou: line 1: out of place\n", 2),
@@ -36,6 +36,21 @@ static NETS: [(&str, &str, u8); 13] = [
         "[\"servers\",2]\n[\"pull\",1,0,3]\n",
         "bayou: line 2: out of place\n",
         2,
+    ),
+    (
+        "[\"servers\",2]\n[\"session\",0,[]]\n[\"drop\",0]\n",
+        "bayou: line 3: out of place\n",
+        2,
+    ),
+    (
+        "[\"servers\",2]\n[\"again\",0]\n[\"session\",0,[]]\n",
+        "bayou: line 2: out of place\n",
+        2,
+    ),
+    (
+        "[\"servers\",2]\n[\"session\",0,[]]\n[\"write\",0,0,{}]\n[\"again\",0]\n",
+        NO_NETWORK,
+        3,
     ),
     ("[\"servers\",2]\n[\"pull\",1,0]\n", NO_NETWORK, 3),
     (

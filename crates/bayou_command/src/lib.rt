@@ -68,11 +68,12 @@ const NET_FORM: &str =
     r#"Each server listens on 127.0.0.1, at a port that the system picks, and keeps its journal in the file DIR/server-N.journal, N being its
 number. DIR must exist. A journal that isn't there is made; a second run in the same folder goes on from the journals that are there.
 
-The lines are those of bayou run (bayou run --help). What only servers in memory can do is out of place: fuse, lose, restart, resend,
-a pull with ITEMS, more than 4 servers. The line ["phase"] ends a phase, and so does the end of the script. In a phase
+The lines are those of bayou run (bayou run --help). What only servers in memory can do is out of place: drop, fuse, lose, restart,
+resend, a pull with ITEMS, more than 4 servers. The line ["phase"] ends a phase, and so does the end of the script. In a phase
   first      sessions are opened, as session lines say;
-  then       each session does its write and read lines in order, all sessions at once, and the pull lines are done in order beside
-             them: so a session may come before a pull that stands before its line, or behind it;
+  then       each session does its write, read and again lines in order, all sessions at once, and the pull lines are done in order
+             beside them: so a session may come before a pull that stands before its line, or behind it. A session keeps one
+             connection to each server; an again line opens a new one, which takes the place of the one that it had there;
   when all have ended, the other lines are done in order: log, reopen, totals, judge, survey and book.
 What a phase prints comes at its end: the lines of each session, by its number, then those of the pulls, then those of the rest.
 A phase that takes longer than a second is told of on standard error, where that is a terminal.
@@ -169,6 +170,12 @@ session (0 to 31), S a server. Below each form stands an example.
       ["write",0,0,{"update":[["put","room",1]]}]
   ["read",I,S,KEY]       session I reads a key at server S
       ["read",0,1,"room"]
+  ["drop",I]             drops the reply to the operation that session I tries next: `I lost` is printed, whatever the server did
+      ["drop",0]
+      ["write",0,0,{"update":[["put","desk",2]]}]
+  ["again",I]            session I asks its last Write again, at the same server, which makes no second one of it; nothing is asked where
+                         the session was told that it was accepted, or tried a read since
+      ["again",0]
   ["log",S]              lists the Writes that server S holds, in stamp order, each with what became of it
       ["log",0]
   ["fuse",S,CALL,KEPT]   the device of server S fails, once, at this call from now (1 to 1000); of an append's bytes the
@@ -208,7 +215,7 @@ Exit status: 0 the script was run; 1 a verdict (judge) was broken; 2 the script 
 survey was; 3 memory, a device as the script begins, the input or the output failed.
 
 Pages: docs/LANGUAGE.md (programs), docs/GUARANTEES.md (what a session may ask for), docs/FORMATS.md (lines in and out),
-docs/RECOVERY.md (fuse, reopen, restart), docs/ANTI-ENTROPY.md (pull, resend), docs/BOOK.md (totals, judge, survey, book),
+docs/RECOVERY.md (fuse, reopen, restart, again), docs/ANTI-ENTROPY.md (pull, resend), docs/BOOK.md (totals, judge, survey, book),
 docs/TROUBLE.md (what to do about each fault), examples/README.md (scripts)."#;
 
 /// Where an input comes from.

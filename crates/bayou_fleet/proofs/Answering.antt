@@ -17,14 +17,14 @@ AllZip-push R (a ∷ xs) (b ∷ ys) x y (first, all) one = (first, AllZip-push R
 -- one operation more was answered
 pub answered_more : (who now : SessionId) (all front rest left : List Operation) (operation : Operation) (before after : List Answer) (answer : Answer) (client : Sharing)
     → all ≡ front ++ left → left ≡ operation ∷ rest → AllZip (IsAnswerTo who) front before → after ≡ before ++ answer ∷ [] → now ≡ who
-    → AnswersAttempt now client.session operation.server operation.attempt answer
+    → AnswersAttempt now client.session client.asked operation.attempt answer
     → (done : List Operation) × (all ≡ done ++ rest) × AllZip (IsAnswerTo who) done after
 answered_more who now all front rest left operation before after answer client split cut told pushed same is = (
   front ++ operation ∷ [],
   split ∙ ap (λ (xs : List Operation). front ++ xs) cut ∙ sym (append_assoc front (operation ∷ []) rest),
   subst (λ (list : List Answer). AllZip (IsAnswerTo who) (front ++ operation ∷ []) list) (sym pushed)
       (AllZip-push (IsAnswerTo who) front before operation answer told
-      (client.session, subst (λ (w : SessionId). AnswersAttempt w client.session operation.server operation.attempt answer) same is)),
+      (client.session, client.asked, subst (λ (w : SessionId). AnswersAttempt w client.session client.asked operation.attempt answer) same is)),
 )
 
 All-one : {X : Type 0} (P : X → Type 0) (x : X) → P x → All P (x ∷ [])

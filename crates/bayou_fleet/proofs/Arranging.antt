@@ -11,7 +11,7 @@ use Rattle.bayou_fleet.specs.declared.phase.Closing.{Closing}
 use Rattle.bayou_fleet.specs.declared.phase.Opening.{Opening}
 use Rattle.bayou_fleet.specs.declared.phase.Pull.{Pull}
 use Rattle.bayou_script.specs.Phases.{is_opening, is_operation_of, is_pull, is_rest}
-use Rattle.bayou_text.specs.Said.{Said, attempt_said, operation_said, servers, session, write, read, log, fuse, lose, reopen, restart, pull, resend, totals, judge, survey, book, phase, entry, held}
+use Rattle.bayou_text.specs.Said.{Said, attempt_said, operation_said, servers, session, write, read, again, drop, log, fuse, lose, reopen, restart, pull, resend, totals, judge, survey, book, phase, entry, held}
 use Rattle.bayou_text.specs.declared.command.Attempt.{Attempt}
 use Rattle.bayou_text.specs.declared.command.Attempt.TheVariants as attempts
 use Rattle.bayou_text.specs.declared.command.Operation.{Operation}
@@ -32,6 +32,8 @@ kind (servers count most) = inr (inr (inl (record { opening_is = refl; pulling_i
 kind (session who asks) = inl (record { opening_is = refl; pulling_is = refl; resting_is = refl; operation_is = λ _. refl })
 kind (write who place program) = inr (inr (inr (who, record { opening_is = refl; pulling_is = refl; resting_is = refl; operation_is = λ _. refl })))
 kind (read who place key) = inr (inr (inr (who, record { opening_is = refl; pulling_is = refl; resting_is = refl; operation_is = λ _. refl })))
+kind (again who) = inr (inr (inr (who, record { opening_is = refl; pulling_is = refl; resting_is = refl; operation_is = λ _. refl })))
+kind (drop who) = inr (inr (inl (record { opening_is = refl; pulling_is = refl; resting_is = refl; operation_is = λ _. refl })))
 kind (log place) = inr (inr (inl (record { opening_is = refl; pulling_is = refl; resting_is = refl; operation_is = λ _. refl })))
 kind (fuse place calls kept) = inr (inr (inl (record { opening_is = refl; pulling_is = refl; resting_is = refl; operation_is = λ _. refl })))
 kind (lose place count) = inr (inr (inl (record { opening_is = refl; pulling_is = refl; resting_is = refl; operation_is = λ _. refl })))
@@ -119,8 +121,9 @@ put_own openings operations pulls closings who command old new coming lines ther
 
 -- an operation is its session's
 pub own_operation : (operation : Operation) → IsTrue (is_operation_of operation.session.index (operation_said operation))
-own_operation operation = of_attempt operation.session.index operation.server.index operation.attempt
+own_operation operation = of_attempt operation.session.index operation.attempt
   where
-    of_attempt : (who place : ℕ) (attempt : Attempt) → IsTrue (is_operation_of who (attempt_said who place attempt))
-    of_attempt who place (attempts.Write program) = search (rules, tests)
-    of_attempt who place (attempts.Read key) = search (rules, tests)
+    of_attempt : (who : ℕ) (attempt : Attempt) → IsTrue (is_operation_of who (attempt_said who attempt))
+    of_attempt who (attempts.Write place program) = search (rules, tests)
+    of_attempt who (attempts.Read place key) = search (rules, tests)
+    of_attempt who attempts.Again = search (rules, tests)

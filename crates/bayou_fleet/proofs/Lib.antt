@@ -1,3 +1,4 @@
 mod Arranging
+mod Asking
 mod Leading
 pub mod Answering

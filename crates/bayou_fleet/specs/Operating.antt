@@ -1,11 +1,13 @@
--- What a session of a run is told of its operations (Terry et al. 1994): of a Write by the server that it names, of a read by any, and of nothing
--- below its need. Each may be told as refused or lost, whatever the server did.
-use Rattle.std.specs.Prelude.{◌≡◌, ℕ, List}
+-- What a session of a run is told of its operations (Terry et al. 1994; that a Write may be asked again is this project's own): of a Write by the
+-- server that it names, of a Write asked again by the server that was asked, of a read by any, and of nothing below its need. Each may be told
+-- as refused or lost, whatever the server did.
+use Rattle.std.specs.Prelude.{◌≡◌, ◌≢◌, ℕ, List, Option, None, Some, slice_get}
 use Rattle.bayou_answers.specs.declared.answer.Answer.{Answer}
-use Rattle.bayou_answers.specs.declared.answer.Answer.TheVariants.{Done, Wrote, Read, Refused, Lost, Logged, Stopped, Recovered, Exchanged, Counted, Judged, Surveyed, Booked}
+use Rattle.bayou_answers.specs.declared.answer.Answer.TheVariants.{Done, Wrote, Read, Refused, Lost, NotAgain, Logged, Stopped, Recovered, Exchanged, Counted, Judged, Surveyed, Booked}
 use Rattle.bayou_base.specs.declared.server.ServerId.{ServerId}
 use Rattle.bayou_base.specs.declared.session.SessionId.{SessionId}
 use Rattle.bayou_base.specs.Vector.{Dominates}
+use Rattle.bayou_client.specs.declared.client.Asked.{Asked}
 use Rattle.bayou_session.specs.Needs.{Told, read_need, write_need}
 use Rattle.bayou_text.specs.declared.command.Attempt.{Attempt}
 use Rattle.bayou_text.specs.declared.command.Attempt.TheVariants as attempt
@@ -15,6 +17,7 @@ use Rattle.bayou_text.specs.declared.command.Operation.{Operation}
 abbrev pub IsUnserved : SessionId → Answer → Type 0
 IsUnserved who (Refused session refusal) = session ≡ who
 IsUnserved who (Lost session) = session ≡ who
+IsUnserved who (NotAgain session) = ⊥
 IsUnserved who Done = ⊥
 IsUnserved who (Wrote session accepted) = ⊥
 IsUnserved who (Read session key seen) = ⊥
@@ -38,10 +41,21 @@ abbrev pub AnswersRead : SessionId → Told → List ℕ → Answer → Type 0
 AnswersRead who told key (Read session asked seen) = (session ≡ who) × (asked ≡ key) × Dominates seen.vector (read_need told)
 AnswersRead who told key answer = IsUnserved who answer
 
-abbrev pub AnswersAttempt : SessionId → Told → ServerId → Attempt → Answer → Type 0
-AnswersAttempt who told server (attempt.Write program) answer = AnswersWrite who told server answer
-AnswersAttempt who told server (attempt.Read key) answer = AnswersRead who told key answer
+-- A Write of the server that was asked for it before, as of a Write; or none. Where the session has nothing to ask again, it is told just that.
+abbrev pub AnswersAgain : SessionId → Told → Option Asked → Answer → Type 0
+AnswersAgain who told (Some asked) answer = AnswersWrite who told asked.server answer
+AnswersAgain who told None answer = answer ≡ NotAgain who
 
--- the answer to an operation of this session for some need: which need it had then isn't said
+-- every link but the one at this place is as it was
+abbrev pub KeepsOthers : {Link : Type 0} → (at : ℕ) → (old new : List Link) → Type 0
+KeepsOthers at old new = (other : ℕ) → other ≢ at → slice_get new other ≡ slice_get old other
+
+abbrev pub AnswersAttempt : SessionId → Told → Option Asked → Attempt → Answer → Type 0
+AnswersAttempt who told asked (attempt.Write server program) answer = AnswersWrite who told server answer
+AnswersAttempt who told asked (attempt.Read server key) answer = AnswersRead who told key answer
+AnswersAttempt who told asked attempt.Again answer = AnswersAgain who told asked answer
+
+-- the answer to an operation of this session for some need, and for something that it may ask again, or nothing: which need it had then,
+-- whether there was something to ask again, and at which server, isn't said
 abbrev pub IsAnswerTo : SessionId → Operation → Answer → Type 0
-IsAnswerTo who operation answer = (told : Told) × AnswersAttempt who told operation.server operation.attempt answer
+IsAnswerTo who operation answer = (told : Told) × (asked : Option Asked) × AnswersAttempt who told asked operation.attempt answer

@@ -3,8 +3,9 @@
 //! Nodes (`bayou_node`) differ in their ledgers, so each server of a run is of a type of its own: [`FourServers`] has a [`Seat`] for each
 //! that there is, and is seen as a [`Fleet`], in which a server is named by its index. A [`Network`] is a fleet with its listeners, and the
 //! book of what is served. A [`RunSession`] is a session that may be opened, with its share of the book; an [`OpenSession`] has a link to each
-//! server, which it keeps for the run. The commands of a [`Phase`] go on side by side, in threads: [`run_together`] has each session do its
-//! operations in order, and all pulls in order beside them; [`Inquiry::answer`] does what closes the phase, one by one, when these have ended.
+//! server, which it keeps for the run, but that it asks a Write again over a new one, which it keeps from then on. The commands of a [`Phase`]
+//! go on side by side, in threads: [`run_together`] has each session do its operations in order, and all pulls in order beside them;
+//! [`Inquiry::answer`] does what closes the phase, one by one, when these have ended.
 //!
 //! What a command is answered is an `Answer` (`bayou_answers`); how it is printed isn't known here. A caller owes that each command
 //! stands where it may. It isn't promised that a thread gets on, or that a reply arrives: an operation without one is told as lost.

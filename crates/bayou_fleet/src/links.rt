@@ -20,15 +20,28 @@ pub(crate) fn reach<T: Sockets>(rt: &T, address: SocketAddr) -> Option<TcpStream
     Some(stream)
 }
 
-// A link to whoever listens there.
-fn link_to<T: Sockets>(rt: &T, address: SocketAddr) -> Result<SocketLink, FleetFault> {
-    let Some(writer) = reach(rt, address) else {
-        return Err(FleetFault::Network);
-    };
+// A link to whoever listens there, if one comes about.
+fn link_to<T: Sockets>(rt: &T, address: SocketAddr) -> Option<SocketLink> {
+    let writer = reach(rt, address)?;
     let Ok(reader) = writer.try_clone() else {
-        return Err(FleetFault::Network);
+        return None;
     };
-    Ok(Link::new(reader, writer))
+    Some(Link::new(reader, writer))
+}
+
+/// Puts a new link to the server in this link's place. Where none comes about, the link stays.
+pub(crate) fn renew<T: Sockets>(
+    rt: &T,
+    addresses: &[SocketAddr],
+    at: usize,
+    link: &mut SocketLink,
+) {
+    let Some(address) = addresses.get(at) else {
+        return;
+    };
+    if let Some(renewed) = link_to(rt, *address) {
+        *link = renewed;
+    }
 }
 
 /// A link to each server.
@@ -41,7 +54,10 @@ pub(crate) fn links_to<T: Sockets>(
 {
     let mut links = Vec::new(alloc);
     for address in addresses {
-        links.push(link_to(rt, *address)?)?;
+        let Some(link) = link_to(rt, *address) else {
+            return Err(FleetFault::Network);
+        };
+        links.push(link)?;
     }
     Ok(links)
 }

@@ -41,7 +41,7 @@ pub enum Closing {
 pub struct Phase {
     /// The sessions that are opened, which is done first.
     pub openings: Vec<Opening>,
-    /// What each session writes and reads, from session 0 on.
+    /// What each session writes, reads and asks again, from session 0 on.
     pub operations: VecDeque<Vec<Operation>>,
     pub pulls: Vec<Pull>,
     pub closings: VecDeque<Closing>,

@@ -1,12 +1,13 @@
 //! Sessions that reach the servers of a run over links.
-ghost use Rattle.std.specs.Prelude.{◌≡◌, ◌+◌, ◌<◌, ◌≤◌, IfOk, length, vec_capacity, vec_len};
-ghost use Rattle.bayou_fleet.specs.Operating.{AnswersAttempt, AnswersRead, AnswersWrite, IsAnswerTo, IsUnserved};
+ghost use Rattle.std.specs.Prelude.{◌≡◌, ◌+◌, ◌<◌, ◌≤◌, None, IfOk, IfSome, length, vec_capacity, vec_len};
+ghost use Rattle.bayou_fleet.specs.Operating.{AnswersAgain, AnswersAttempt, AnswersRead, AnswersWrite, IsAnswerTo, IsUnserved, KeepsOthers};
+ghost use Rattle.bayou_base.specs.declared.limits.TheConstants.{MAX_PLACES};
 ghost use Rattle.std.specs.List.{AllZip};
 ghost use Rattle.bayou_fleet.specs.Refusals.{RefusedAs, UnservedAs};
 ghost use Rattle.bayou_session.specs.Needs.{new_session};
 
 use crate::fault::FleetFault;
-use crate::links::{SocketLink, links_to};
+use crate::links::{SocketLink, links_to, renew};
 use bayou_answers::Answer;
 use bayou_audit::{AuditBook, Ledgers, Share};
 use bayou_base::{Asks, Key, ServerId, SessionId};
@@ -21,7 +22,7 @@ use std::alloc::{AllocError, Global};
 use std::net::SocketAddr;
 use std::sync::Wait;
 
-/// A session that was opened: with its share of the book, and with a link to each server, which it keeps.
+/// A session that was opened: with its share of the book, and with a link to each server, which it keeps until it asks a Write again there.
 #[derive(Drop)]
 pub struct OpenSession<K: Ledgers> {
     client: Client<K>,
@@ -141,29 +142,65 @@ impl<K: Ledgers> OpenSession<K> {
         }
     }
 
-    // Does an operation.
-    fn operate<T: Wait>(
+    // Asks the last Write once more, at the server that it was asked at: over a new connection, which the link there goes over from then on, or
+    // over the link as it is, where no connection comes about.
+    #[tactic(auto, using(crate::proofs::Asking::told_none, crate::proofs::Asking::nothing_asked, crate::proofs::Asking::told_unserved, crate::proofs::Asking::kept_all, crate::proofs::Asking::kept_others))]
+    fn again<T: Sockets + Wait>(
         &mut self,
         rt: &T,
         alloc: Global,
         book: &AuditBook<K>,
-        operation: Operation,
+        addresses: &[SocketAddr],
     ) -> Answer
-        ensures { AnswersAttempt self.old.who self.old.client.session operation.server operation.attempt result × (self.new.who ≡ self.old.who) }
+        ensures told { AnswersAgain self.old.who self.old.client.session self.old.client.asked result × (self.new.who ≡ self.old.who) }
+        ensures none { self.old.client.asked ≡ None → self.new ≡ self.old }
+        ensures full { self.old.client.session.begun ≡ MAX_PLACES → self.new ≡ self.old }
+        ensures others { IfSome self.old.client.asked (λ asked. KeepsOthers asked.server.index self.old.links.items self.new.links.items) }
     {
-        let server = operation.server;
-        match operation.attempt {
-            Attempt::Write(program) => self.write(rt, alloc, book, server, program),
-            Attempt::Read(key) => self.read(rt, alloc, book, server, key),
+        let who = self.who;
+        let Some(server) = self.client.asked_at() else {
+            return Answer::NotAgain { session: who };
+        };
+        let at = usize::from(server.index);
+        if at >= self.links.len() || self.client.left() == 0 {
+            return Answer::Lost { session: who };
+        }
+        let link = &mut self.links[at];
+        renew(rt, addresses, at, link);
+        match self.client.again(rt, alloc, book, link) {
+            Ok(accepted) => Answer::Wrote {
+                session: who,
+                accepted,
+            },
+            Err(fault) => unserved(who, fault),
         }
     }
 
-    /// Does these operations in order, and tells what each is answered.
-    pub(crate) fn operate_all<T: Wait>(
+    // Does an operation.
+    fn operate<T: Sockets + Wait>(
         &mut self,
         rt: &T,
         alloc: Global,
         book: &AuditBook<K>,
+        addresses: &[SocketAddr],
+        operation: Operation,
+    ) -> Answer
+        ensures { AnswersAttempt self.old.who self.old.client.session self.old.client.asked operation.attempt result × (self.new.who ≡ self.old.who) }
+    {
+        match operation.attempt {
+            Attempt::Write { server, program } => self.write(rt, alloc, book, server, program),
+            Attempt::Read { server, key } => self.read(rt, alloc, book, server, key),
+            Attempt::Again => self.again(rt, alloc, book, addresses),
+        }
+    }
+
+    /// Does these operations in order, and tells what each is answered. The servers are at these addresses.
+    pub(crate) fn operate_all<T: Sockets + Wait>(
+        &mut self,
+        rt: &T,
+        alloc: Global,
+        book: &AuditBook<K>,
+        addresses: &[SocketAddr],
         operations: Vec<Operation>,
     ) -> Result<Vec<Answer>, AllocError>
         ensures one_each { IfOk result (λ answers. vec_len answers ≡ vec_len operations) }
@@ -171,7 +208,7 @@ impl<K: Ledgers> OpenSession<K> {
     {
         let mut answers = Vec::with_capacity(alloc, operations.len())?;
         for operation in operations {
-            answers.push_reserved(self.operate(rt, alloc, book, operation));
+            answers.push_reserved(self.operate(rt, alloc, book, addresses, operation));
         }
         Ok(answers)
     }

@@ -9,7 +9,7 @@ use crate::phase::{Opening, Phase, Pull};
 use crate::pulls::pull_each;
 use crate::run_session::{OpenSession, RunSession};
 use bayou_answers::Answer;
-use bayou_audit::{AuditBook, Ledgers};
+use bayou_audit::Ledgers;
 use bayou_net::Sockets;
 use bayou_text::Operation;
 use std::alloc::{AllocError, Global};
@@ -37,15 +37,16 @@ enum Going<K: Ledgers> {
 type Pulling = JoinHandle<Result<Vec<Answer>, AllocError>>;
 
 // The session does its operations.
-fn operated<K: Ledgers, T: Wait>(
+fn operated<F: Fleet, K: Ledgers, T: Sockets + Wait>(
     rt: &T,
     alloc: Global,
-    book: &AuditBook<K>,
+    network: &Network<F, K>,
     session: OpenSession<K>,
     operations: Vec<Operation>,
 ) -> Done<K> {
     let mut session = session;
-    let answers = session.operate_all(rt, alloc, book, operations);
+    let addresses = network.addresses.as_slice();
+    let answers = session.operate_all(rt, alloc, &network.book, addresses, operations);
     Done { session, answers }
 }
 
@@ -71,7 +72,7 @@ where
             let started = scope.spawn(
                 move || -> Done<K>
                     requires { IsSend K.Slips.row × IsSend K.Reads.row × IsSend K.Writes.row × IsSend K.Refusals.row }
-                { operated(rt, alloc, &network.book, open, operations) },
+                { operated(rt, alloc, network, open, operations) },
             );
             match started {
                 Ok(thread) => Ok(Going::Operates(thread)),

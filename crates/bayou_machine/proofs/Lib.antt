@@ -5,3 +5,5 @@ pub mod Kept
 pub mod Standing
 pub mod Turned
 pub mod Operations
+pub mod Seated
+pub mod Tagged

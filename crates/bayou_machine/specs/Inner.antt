@@ -1,2 +1,4 @@
 pub mod Shares
 pub mod Sent
+pub mod Tagged
+pub mod Seated

@@ -4,4 +4,5 @@ pub mod Inner
 pub mod Laws
 pub mod Standing
 pub mod ScriptServer
+pub mod Seats
 pub mod Run

@@ -5,49 +5,55 @@ use Rattle.bayou_base.specs.declared.entry.Entry.{Entry}
 use Rattle.bayou_base.specs.declared.server.ServerId.{ServerId}
 use Rattle.bayou_base.specs.declared.session.SessionId.{SessionId}
 use Rattle.bayou_judge.specs.History.{lists_of}
-use Rattle.bayou_session.specs.declared.session.TheConstants.{FIRST_RUN}
-use Rattle.bayou_session.specs.Needs.{Told, new_session}
-use Rattle.bayou_text.specs.Said.{Said, servers, session, write, read, log, fuse, lose, reopen, restart, pull, resend, totals, judge, survey, book, phase, entry, held}
+use Rattle.bayou_text.specs.Said.{Said, servers, session, write, read, again, drop, log, fuse, lose, reopen, restart, pull, resend, totals, judge, survey, book, phase, entry, held}
 use Rattle.bayou_script.specs.declared.audit.AuditFile.{AuditFile}
 use Rattle.bayou_script.specs.Script.{Plan}
 use Rattle.bayou_answers.specs.declared.answer.Answer.{Answer}
-use Rattle.bayou_answers.specs.declared.answer.Answer.TheVariants.{Booked, Counted, Done, Recovered}
+use Rattle.bayou_answers.specs.declared.answer.Answer.TheVariants.{Booked, Counted, Done, NotAgain, Recovered}
 use Rattle.bayou_answers.specs.declared.answer.Recovery.{Recovery}
 use Rattle.bayou_machine.specs.declared.script_server.ScriptServer.{ScriptServer}
 use Rattle.bayou_machine.specs.Exchange.{Exchanges, own_counts, zero_counts}
 use Rattle.bayou_machine.specs.Filed.{Files, Filings, totals_filed, what_told}
-use Rattle.bayou_script.specs.Capacity.{operation_of, capacity_for}
-use Rattle.bayou_machine.specs.Standing.{HasBegun, Standing, StandsAt, dumps_of, session_of, with_server, with_session}
+use Rattle.bayou_script.specs.Capacity.{capacity_for}
+use Rattle.bayou_machine.specs.Seats.{Asked, Seat, new_seat}
+use Rattle.bayou_machine.specs.Standing.{HasBegun, Standing, StandsAt, asked_by, dumps_of, seat_of, tried_at, with_server, with_session}
 use Rattle.bayou_answers.specs.Verdicts.{IsSurveyOn, IsVerdictOn}
-use Rattle.bayou_machine.specs.ScriptServer.{IsFused, IsListed, IsRead, IsReopened, IsRestarted, IsShortened, IsWritten}
+use Rattle.bayou_machine.specs.ScriptServer.{IsFused, IsListed, IsRead, IsReopened, IsRestarted, IsShortened, IsWritten, IsWrittenAgain}
 
 -- the session is opened
 pub record Opens (old : Standing) (who : ℕ) (asks : Asks) (answer : Answer) (new : Standing) : Type 0 where
   pub name : SessionId
   pub is_named : name.index ≡ who
   pub answered : answer ≡ Done
-  pub only : new ≡ with_session old name (new_session name FIRST_RUN asks)
+  pub only : new ≡ with_session old name (new_seat name asks)
+
+-- The reply to the operation that the session tries next is to be dropped.
+pub record Drops (old : Standing) (who : ℕ) (answer : Answer) (new : Standing) : Type 0 where
+  pub name : SessionId
+  pub is_named : name.index ≡ who
+  pub answered : answer ≡ Done
+  pub only : new ≡ with_session old name (record (seat_of old name) { drops = true })
 
 -- The session tries an operation at the server: what that does to the two of them, it does to how the script stands, and nothing else.
-pub record Operates (Does : SessionId → ScriptServer → Told → Answer → ScriptServer → Told → Type 0) (old : Standing) (who place : ℕ) (answer : Answer) (new : Standing) : Type 0 where
+pub record Operates (Does : SessionId → ScriptServer → Seat → Answer → ScriptServer → Seat → Type 0) (old : Standing) (who place : ℕ) (answer : Answer) (new : Standing) : Type 0 where
   pub name : SessionId
   pub is_named : name.index ≡ who
   pub before : ScriptServer
   pub after : ScriptServer
-  pub told : Told
+  pub now : Seat
   pub stands : StandsAt old place before
-  pub does : Does name before (session_of old name) answer after told
-  pub only : new ≡ with_session (with_server old place after) name told
+  pub does : Does name before (seat_of old name) answer after now
+  pub only : new ≡ with_session (with_server old place after) name now
 
 -- The session asks something of the server, which stays as it is: only the session changes.
-pub record Queries (Does : SessionId → ScriptServer → Told → Answer → Told → Type 0) (old : Standing) (who place : ℕ) (answer : Answer) (new : Standing) : Type 0 where
+pub record Queries (Does : SessionId → ScriptServer → Seat → Answer → Seat → Type 0) (old : Standing) (who place : ℕ) (answer : Answer) (new : Standing) : Type 0 where
   pub name : SessionId
   pub is_named : name.index ≡ who
   pub replica : ScriptServer
-  pub told : Told
+  pub now : Seat
   pub stands : StandsAt old place replica
-  pub does : Does name replica (session_of old name) answer told
-  pub only : new ≡ with_session old name told
+  pub does : Does name replica (seat_of old name) answer now
+  pub only : new ≡ with_session old name now
 
 -- What is done to the server changes how the script stands, and nothing else.
 pub record Changes (Does : ServerId → ScriptServer → ScriptServer → Type 0) (old : Standing) (place : ℕ) (new : Standing) : Type 0 where
@@ -72,12 +78,19 @@ abbrev pub Recovers : (ServerId → ScriptServer → Recovery → ScriptServer �
 Recovers Does old place answer new =
     (recovery : Recovery) × (answer ≡ Recovered recovery) × Changes (λ name before after. Does name before recovery after) old place new
 
+-- The session asks its last Write again, where it asked it; or it has none to ask again, and nothing changes.
+abbrev pub AsksAgain : Option Asked → Standing → ℕ → Answer → Standing → Type 0
+AsksAgain None old who answer new = (name : SessionId) × (name.index ≡ who) × (answer ≡ NotAgain name) × (new ≡ old)
+AsksAgain (Some asked) old who answer new = Operates (λ name. IsWrittenAgain name asked.program) old who asked.server answer new
+
 -- From old, what a line says may get this answer and leave new. A log has no answer for want of memory, which ends the run.
 abbrev pub ScriptStep : Standing → Said → Answer → Standing → Type 0
 ScriptStep old (servers count limit) answer new = ⊥
 ScriptStep old (session who asks) answer new = Opens old who asks answer new
-ScriptStep old (write who place program) answer new = Operates (λ name. IsWritten name program) old who place answer new
+ScriptStep old (write who place program) answer new = Operates (λ name. IsWritten name place program) old who place answer new
 ScriptStep old (read who place key) answer new = Queries (λ name. IsRead name key) old who place answer new
+ScriptStep old (again who) answer new = AsksAgain (asked_by old who) old who answer new
+ScriptStep old (drop who) answer new = Drops old who answer new
 ScriptStep old (log place) answer new = (new ≡ old) × Sees (λ name replica. IsListed name replica answer) old place
 ScriptStep old (fuse place calls kept) answer new = (answer ≡ Done) × Changes (λ name before after. IsFused calls kept before after) old place new
 ScriptStep old (lose place count) answer new = (answer ≡ Done) × Changes (λ name before after. IsShortened count before after) old place new
@@ -107,6 +120,8 @@ TakesMemory (servers count limit) = ⊥
 TakesMemory (session who asks) = ⊥
 TakesMemory (write who server program) = ⊥
 TakesMemory (read who server key) = ⊥
+TakesMemory (again who) = ⊥
+TakesMemory (drop who) = ⊥
 TakesMemory (log server) = Unit {0}
 TakesMemory (fuse server calls kept) = ⊥
 TakesMemory (lose server count) = ⊥
@@ -139,7 +154,7 @@ pub record Tries (old : ScriptState) (who place : ℕ) (said : Said) (answer : A
   pub name : SessionId
   pub is_named : name.index ≡ who
   pub filed : List Entry
-  pub files : Files who place (session_of old.standing name) (what_told answer) filed
+  pub files : Files who place (seat_of old.standing name).told (what_told answer) filed
   pub only : new.book ≡ record old.book { entries = old.book.entries ++ filed }
 
 -- nothing is filed
@@ -175,7 +190,7 @@ Turn old totals answer new = (new ≡ old) × (answer ≡ Counted (totals_filed 
 Turn old judge answer new = (new ≡ old) × IsJudged old answer
 Turn old survey answer new = (new ≡ old) × IsSurveyed old answer
 Turn old book answer new = (new ≡ old) × IsBooked old answer
-Turn old said answer new = Does (operation_of said) old said answer new
+Turn old said answer new = Does (tried_at old.standing said) old said answer new
 
 -- what is said one after another may get these answers
 abbrev pub ScriptRun : ScriptState → List Said → List Answer → ScriptState → Type 0

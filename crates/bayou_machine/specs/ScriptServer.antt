@@ -1,6 +1,5 @@
 -- What a server of a script makes of each command, and what a session is told of it.
-use Rattle.std.specs.Prelude.{◌≡◌, ◌≢◌, ℕ, ◌+◌, ◌<◌, ◌⊎◌, List, Option, Result, Ok, Err, length}
-use Rattle.bayou_base.specs.declared.answer.Accepted.{Accepted}
+use Rattle.std.specs.Prelude.{◌≡◌, ◌≢◌, ℕ, ◌+◌, ◌<◌, ◌⊎◌, List, Result, Ok, Err, length, Bool, true, false, Some}
 use Rattle.bayou_base.specs.declared.answer.Seen.{Seen}
 use Rattle.bayou_base.specs.declared.limits.TheConstants.{MAX_PLACES}
 use Rattle.bayou_base.specs.declared.server.ServerId.{ServerId}
@@ -14,7 +13,6 @@ use Rattle.bayou_lang.specs.Writes.{count_of}
 use Rattle.bayou_log.specs.Listing.{listing_of}
 use Rattle.bayou_server.specs.declared.answer.Stopped.{Stopped as StoppedServer}
 use Rattle.bayou_server.specs.declared.answer.Written.{Written}
-use Rattle.bayou_server.specs.declared.answer.Written.TheVariants.{New, Known}
 use Rattle.bayou_server.specs.declared.fault.Behind.{Behind}
 use Rattle.bayou_server.specs.declared.fault.StartFault.{StartFault}
 use Rattle.bayou_server.specs.declared.fault.StartFault.TheVariants.{OutOfMemory}
@@ -26,9 +24,9 @@ use Rattle.bayou_server.specs.Server.{Holds, ServerState, holds_of, with_device}
 use Rattle.bayou_server.specs.Starts.{FailsToStart, Starts, StartsOn}
 use Rattle.bayou_server.specs.Stored.{OpensInCalls, ReopensJournal, StoresWrite}
 use Rattle.bayou_server.specs.Writes.{Writes}
-use Rattle.bayou_session.specs.Needs.{IsTagOf, Told, after_read, after_write, asks_first, one_place_more, read_need, write_need}
+use Rattle.bayou_session.specs.Needs.{IsTagOf, read_need, write_need}
 use Rattle.bayou_answers.specs.declared.answer.Answer.{Answer}
-use Rattle.bayou_answers.specs.declared.answer.Answer.TheVariants.{Done, Wrote, Read, Refused, Lost, Logged, Recovered, Exchanged, Counted, Judged, Surveyed, Booked}
+use Rattle.bayou_answers.specs.declared.answer.Answer.TheVariants.{Done, Wrote, Read, Refused, Lost, NotAgain, Logged, Recovered, Exchanged, Counted, Judged, Surveyed, Booked}
 use Rattle.bayou_answers.specs.declared.answer.Answer.TheVariants as answers
 use Rattle.bayou_answers.specs.declared.answer.Recovery.{Recovery}
 use Rattle.bayou_answers.specs.declared.answer.Recovery.TheVariants.{Reopened, NotReopened, NotRunning, Restarted, NotRestarted}
@@ -36,6 +34,7 @@ use Rattle.bayou_answers.specs.declared.fault.BeginFault.{BeginFault}
 use Rattle.bayou_answers.specs.declared.fault.BeginFault.TheVariants as faults
 use Rattle.bayou_machine.specs.declared.script_server.ScriptServer.{ScriptServer}
 use Rattle.bayou_machine.specs.declared.script_server.ScriptServer.TheVariants.{Running, Stopped}
+use Rattle.bayou_machine.specs.Seats.{Seat, asks_at, asks_once_more, begins_read, given_of, told_of_read, told_of_write}
 
 -- ---- servers on devices in memory
 
@@ -62,21 +61,6 @@ on_device (Stopped left) device = Stopped (record left { device = device })
 
 -- ---- operations of sessions
 
--- what the Write was given, be it made now or known from before
-abbrev pub given_of : Written → Accepted
-given_of (New accepted) = accepted
-given_of (Known accepted) = accepted
-
--- what a session is told of what its Write was answered, once it has asked at its place: nothing of a refusal
-abbrev pub told_of_write : Told → Result Written WriteFault → Told
-told_of_write told (Ok written) = after_write (asks_first told) (given_of written)
-told_of_write told (Err refusal) = asks_first told
-
--- and of what its read was answered, once it has begun its place
-abbrev pub told_of_read : Told → Result Seen Behind → Told
-told_of_read told (Ok seen) = after_read (one_place_more told) seen
-told_of_read told (Err behind) = one_place_more told
-
 abbrev pub write_answer : SessionId → Result Written WriteFault → Answer
 write_answer who (Ok written) = Wrote who (given_of written)
 write_answer who (Err refusal) = Refused who refusal
@@ -85,44 +69,57 @@ abbrev pub read_answer : SessionId → List ℕ → Result Seen Behind → Answe
 read_answer who key (Ok seen) = Read who key seen
 read_answer who key (Err behind) = Refused who (BehindNeed behind.vector)
 
--- No reply reaches a session that has no place left, nor one whose server is stopped: that one has begun the place.
-pub data GetsNoReply (who : SessionId) (begins : Told → Told) (replica : ScriptServer) (told : Told) (answer : Answer) (now : Told) : Type 0 where
-  no_place : told.begun ≡ MAX_PLACES → answer ≡ Lost who → now ≡ told → GetsNoReply who begins replica told answer now
-  stopped : (left : StoppedServer Memory) → replica ≡ Stopped left → told.begun < MAX_PLACES → answer ≡ Lost who → now ≡ begins told
-      → GetsNoReply who begins replica told answer now
+-- what is told of a reply: all of it, or that none came, where it is dropped
+abbrev pub reply_of : (drops : Bool) → SessionId → Answer → Answer
+reply_of true who answer = Lost who
+reply_of false who answer = answer
 
--- The server answers the session's Write, which has the tag of the place begun now, by what the session needs of it.
-pub record AnswersWrite (who : SessionId) (program : Program) (before : ScriptServer) (told : Told) (answer : Answer) (after : ScriptServer) (now : Told) : Type 0 where
+-- No reply reaches a session that has no place left, nor one whose server is stopped: that one has begun the place.
+pub data GetsNoReply (who : SessionId) (begins : Seat → Seat) (replica : ScriptServer) (seat : Seat) (answer : Answer) (now : Seat) : Type 0 where
+  no_place : seat.told.begun ≡ MAX_PLACES → answer ≡ Lost who → now ≡ seat → GetsNoReply who begins replica seat answer now
+  stopped : (left : StoppedServer Memory) → replica ≡ Stopped left → seat.told.begun < MAX_PLACES → answer ≡ Lost who → now ≡ begins seat
+      → GetsNoReply who begins replica seat answer now
+
+-- The server answers the session's Write, which has the tag of the place `number`, by what the session needs of it now.
+pub record AnswersWrite (who : SessionId) (number : ℕ) (program : Program) (begins : Seat → Seat) (before : ScriptServer) (seat : Seat) (answer : Answer) (after : ScriptServer) (now : Seat) : Type 0 where
   pub old : Serving
   pub new : Serving
   pub tag : Tag
   pub result : Result Written WriteFault
   pub was : before ≡ Running old
-  pub left : told.begun < MAX_PLACES
-  pub asked : IsTagOf told (told.begun + 1) tag
-  pub writes : Writes old.core tag (write_need told) program result new.core
+  pub left : seat.told.begun < MAX_PLACES
+  pub asked : IsTagOf seat.told number tag
+  pub writes : Writes old.core tag (write_need seat.told) program result new.core
   pub stores : StoresWrite memory_device old result new
   pub calls : LeadsTo 2 old.device new.device
-  pub answered : answer ≡ write_answer who result
+  pub answered : answer ≡ reply_of seat.drops who (write_answer who result)
   pub is : after ≡ Running new
-  pub told_of : now ≡ told_of_write told result
+  pub told_of : now ≡ told_of_write seat.drops (begins seat) result
 
-abbrev pub IsWritten : SessionId → Program → ScriptServer → Told → Answer → ScriptServer → Told → Type 0
-IsWritten who program before told answer after now =
-    (GetsNoReply who asks_first before told answer now × (after ≡ before)) ⊎ AnswersWrite who program before told answer after now
+-- the session tries a Write of the program at this server, under the tag of the place begun now
+abbrev pub IsWritten : SessionId → (place : ℕ) → Program → ScriptServer → Seat → Answer → ScriptServer → Seat → Type 0
+IsWritten who place program before seat answer after now =
+    (GetsNoReply who (asks_at place program) before seat answer now × (after ≡ before))
+    ⊎ AnswersWrite who (seat.told.begun + 1) program (asks_at place program) before seat answer after now
+
+-- it tries its last Write, which was of this program, again, under the tag that it had
+abbrev pub IsWrittenAgain : SessionId → Program → ScriptServer → Seat → Answer → ScriptServer → Seat → Type 0
+IsWrittenAgain who program before seat answer after now =
+    (GetsNoReply who asks_once_more before seat answer now × (after ≡ before))
+    ⊎ ((number : ℕ) × (seat.told.asked ≡ Some number) × AnswersWrite who number program asks_once_more before seat answer after now)
 
 -- The server answers the session's read, by what the session needs of it.
-pub record AnswersRead (who : SessionId) (key : List ℕ) (replica : ScriptServer) (told : Told) (answer : Answer) (now : Told) : Type 0 where
+pub record AnswersRead (who : SessionId) (key : List ℕ) (replica : ScriptServer) (seat : Seat) (answer : Answer) (now : Seat) : Type 0 where
   pub server : Serving
   pub result : Result Seen Behind
   pub runs : replica ≡ Running server
-  pub left : told.begun < MAX_PLACES
-  pub reads : Reads server.core (read_need told) key result
-  pub answered : answer ≡ read_answer who key result
-  pub told_of : now ≡ told_of_read told result
+  pub left : seat.told.begun < MAX_PLACES
+  pub reads : Reads server.core (read_need seat.told) key result
+  pub answered : answer ≡ reply_of seat.drops who (read_answer who key result)
+  pub told_of : now ≡ told_of_read seat.drops (begins_read seat) result
 
-abbrev pub IsRead : SessionId → List ℕ → ScriptServer → Told → Answer → Told → Type 0
-IsRead who key replica told answer now = GetsNoReply who one_place_more replica told answer now ⊎ AnswersRead who key replica told answer now
+abbrev pub IsRead : SessionId → List ℕ → ScriptServer → Seat → Answer → Seat → Type 0
+IsRead who key replica seat answer now = GetsNoReply who begins_read replica seat answer now ⊎ AnswersRead who key replica seat answer now
 
 -- ---- what is asked of servers alone
 
@@ -165,6 +162,7 @@ IsListed id replica (Wrote who accepted) = ⊥
 IsListed id replica (Read who key seen) = ⊥
 IsListed id replica (Refused who refusal) = ⊥
 IsListed id replica (Lost who) = ⊥
+IsListed id replica (NotAgain who) = ⊥
 IsListed id replica (Recovered recovery) = ⊥
 IsListed id replica (Exchanged exchange) = ⊥
 IsListed id replica (Counted totals) = ⊥

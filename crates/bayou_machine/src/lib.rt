@@ -1,7 +1,7 @@
 //! The machine of a script: its servers, its sessions, the book of what they were served, and what each command is answered.
 //!
 //! Callers see a [`Machine`] as a `ScriptState`: how the script stands (`Standing`: how many servers there are and how many Writes each may hold,
-//! where each of them stands, and the sessions that were opened), and its book (`Filings`: how many entries it may have, and what was filed). A server
+//! where each of them stands, and the sessions, each with what it may ask again), and its book (`Filings`: how many entries it may have, and what was filed). A server
 //! is a [`ScriptServer`], which serves on a device in memory, up or down, or is stopped. [`Machine::answer`] answers one command, as a relation
 //! (`Turn`) between the state before, the `Answer` (`bayou_answers`) and the state after: what the command names changes as the servers and
 //! sessions below promise, and nothing else, and of an operation just the entry of what its session was told is filed, behind what was. A
@@ -17,6 +17,7 @@ pub mod machine;
 mod parties;
 mod script_book;
 pub mod script_server;
+mod seat;
 
 pub use machine::Machine;
 pub use script_server::ScriptServer;

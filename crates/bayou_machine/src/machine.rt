@@ -51,16 +51,19 @@ impl<K: Ledgers> Machine<K> {
         Ok(Machine { parties, book })
     }
 
-    /// The session tries an operation at the server; what it is told is filed.
+    /// The session tries an operation; what it is told is filed.
     fn operate(&mut self, alloc: Global, operation: Operation) -> Answer
         requires served { IsTrue (is_served self.old.standing.count (operation_said operation)) }
         requires room { length self.old.book.entries < self.old.book.capacity }
         ensures { Turn self.old (operation_said operation) result self.new }
     {
-        let (who, server) = (operation.session, operation.server);
+        let who = operation.session;
         let session = self.parties.session(who);
+        let tried = self.parties.server_of(&operation);
         let answer = self.parties.operate(alloc, operation);
-        self.book.file(who, &session, server, &answer);
+        if let Some(server) = tried {
+            self.book.file(who, &session, server, &answer);
+        }
         answer
     }
 
@@ -124,6 +127,10 @@ impl<K: Ledgers> Machine<K> {
                 Ok(Answer::Done)
             }
             Command::Operation(operation) => Ok(self.operate(alloc, operation)),
+            Command::Drop(session) => {
+                self.parties.drop_next(session);
+                Ok(Answer::Done)
+            }
             Command::Trial(trial) => Ok(self.parties.put_through(alloc, trial)),
             Command::Exchange(exchange) => {
                 Ok(Answer::Exchanged(self.parties.exchange(alloc, exchange)))

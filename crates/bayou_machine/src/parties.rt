@@ -1,11 +1,14 @@
 //! The servers and the sessions of a script.
 ghost use Rattle.std.specs.Prelude.{◌≡◌, ◌<◌, ◌≤◌, ℕ, IfOk, IfErr, IsTrue, List, length};
+ghost use Rattle.std.specs.Option.{option_map};
 ghost use Rattle.bayou_script.specs.Script.{is_served};
-ghost use Rattle.bayou_base.specs.declared.limits.TheConstants.{SERVERS as SERVERS_NUMBER};
+ghost use Rattle.bayou_base.specs.declared.limits.TheConstants.{SERVERS as SERVERS_NUMBER, SESSIONS as SESSIONS_NUMBER};
+ghost use Rattle.bayou_machine.specs.Inner.Seated.{AreUnopened};
 ghost use Rattle.bayou_answers.specs.declared.answer.Answer.TheVariants.{Done, Exchanged, Recovered};
-ghost use Rattle.bayou_text.specs.Said.{attempt_said, exchange_said, fuse, log, lose, operation_said, pull, read, reopen, resend, restart, session, trial_said, write};
+ghost use Rattle.bayou_text.specs.Said.{again, attempt_said, drop, exchange_said, fuse, log, lose, operation_said, pull, read, reopen, resend, restart, session, trial_said, write};
 
 use crate::script_server::ScriptServer;
+use crate::seat::Seat;
 use arrayvec::ArrayVec;
 use bayou_answers::{Answer, BeginFault, Recovery, Transfer};
 use bayou_base::{Asks, Key, SERVERS, SESSIONS, ServerId, SessionId, Vector};
@@ -13,7 +16,7 @@ use bayou_lang::{RestingProgram, RestingWrite};
 use bayou_peer::cut_after;
 use bayou_peer::meeting::an_answer_is_short;
 use bayou_script::Servers;
-use bayou_session::{FIRST_RUN, Session};
+use bayou_session::Session;
 use bayou_text::{Attempt, Exchange, Extent, Operation, PlannedFailure, Trial, TrialKind};
 use std::alloc::{AllocError, Global};
 use std::marker::Model;
@@ -24,25 +27,38 @@ pub(crate) struct Parties {
     plan: Servers,
     // One for each server of the plan.
     servers: Vec<ScriptServer>,
-    sessions: [Option<Session>; SESSIONS],
+    // One for each session that there may be.
+    seats: Vec<Seat>,
 }
 
 impl Model for Parties {
     ghost use Rattle.std.specs.Prelude.{◌≡◌, length};
+    ghost use Rattle.bayou_machine.specs.Inner.Seated.{AreSeats};
     ghost use Rattle.bayou_machine.specs.Standing.{Standing};
 
     ghost Value = { Standing };
 
-    ghost view = { λ p. record { count = p.plan.count; limit = p.plan.limit; servers = p.servers.items; sessions = p.sessions } };
+    ghost view = { λ p. record { count = p.plan.count; limit = p.plan.limit; servers = p.servers.items; sessions = p.seats.items } };
 
-    ghost invariant = { λ p. length p.servers.items ≡ p.plan.count };
+    ghost invariant = { λ p. (length p.servers.items ≡ p.plan.count) × AreSeats p.plan.count p.seats.items };
+}
+
+/// The sessions that there may be, none of which was opened.
+fn unopened(alloc: Global) -> Result<Vec<Seat>, AllocError>
+    ensures { IfOk result (λ seats. AreUnopened SESSIONS_NUMBER seats.items) }
+{
+    let mut seats = Vec::with_capacity(alloc, SESSIONS)?;
+    for index in 0..SESSIONS as u8 {
+        seats.push(Seat::new(SessionId { index }, Asks::default()))?;
+    }
+    Ok(seats)
 }
 
 impl Parties {
     ghost use Rattle.bayou_machine.specs.Exchange.{Exchanges};
     ghost use Rattle.bayou_machine.specs.declared.script_server.ScriptServer.{ScriptServer as Stood};
     ghost use Rattle.bayou_judge.specs.History.{lent_lists, lists_of};
-    ghost use Rattle.bayou_machine.specs.Standing.{FailsToBegin, HasBegun, StandsAt, dumps_of, session_of};
+    ghost use Rattle.bayou_machine.specs.Standing.{FailsToBegin, HasBegun, StandsAt, dumps_of, seat_of, tried_at};
     ghost use Rattle.bayou_machine.specs.Run.{ScriptStep};
 
     /// The servers of a script as it begins, each on an empty device.
@@ -57,17 +73,24 @@ impl Parties {
         Ok(Parties {
             plan,
             servers,
-            sessions: [None; SESSIONS],
+            seats: unopened(alloc)?,
         })
     }
 
-    /// The session of this name. One that wasn't opened asks for nothing; no script uses it.
+    /// The session of this name, as what it was told. One that wasn't opened asks for nothing; no script uses it.
     pub(crate) fn session(&self, who: SessionId) -> Session
-        ensures { result ≡ session_of self.now who }
+        ensures { result ≡ (seat_of self.now who).told }
     {
-        match self.sessions[usize::from(who.index)] {
-            Some(session) => session,
-            None => Session::new(who, FIRST_RUN, Asks::default()),
+        self.seats[usize::from(who.index)].session()
+    }
+
+    /// The server at which the session tries the operation: `None` where it has no Write to ask again.
+    pub(crate) fn server_of(&self, operation: &Operation) -> Option<ServerId>
+        ensures { option_map (λ server. (operation.now.session.index, server.index)) result ≡ tried_at self.now (operation_said operation.now) }
+    {
+        match &operation.attempt {
+            Attempt::Write { server, .. } | Attempt::Read { server, .. } => Some(*server),
+            Attempt::Again => self.seats[usize::from(operation.session.index)].asked_at(),
         }
     }
 
@@ -107,7 +130,14 @@ impl Parties {
     pub(crate) fn open(&mut self, who: SessionId, asks: Asks)
         ensures { ScriptStep self.old (session who.index asks) Done self.new }
     {
-        self.sessions[usize::from(who.index)] = Some(Session::new(who, FIRST_RUN, asks));
+        self.seats[usize::from(who.index)] = Seat::new(who, asks);
+    }
+
+    /// Has the reply dropped to the operation that the session tries next.
+    pub(crate) fn drop_next(&mut self, who: SessionId)
+        ensures { ScriptStep self.old (drop who.index) Done self.new }
+    {
+        self.seats[usize::from(who.index)].drop_next();
     }
 
     /// What the server holds. It may want memory that it has no answer for.
@@ -128,37 +158,40 @@ impl Parties {
         requires { server.index < self.old.count }
         ensures { ScriptStep self.old (write who.index server.index program) result self.new }
     {
-        let mut session = self.session(who);
+        let seat = &mut self.seats[usize::from(who.index)];
         let at = &mut self.servers[usize::from(server.index)];
-        let answer = at.write(alloc, who, &mut session, program);
-        self.sessions[usize::from(who.index)] = Some(session);
-        answer
+        at.write(alloc, server, who, seat, program)
+    }
+
+    fn again(&mut self, alloc: Global, who: SessionId) -> Answer
+        ensures { ScriptStep self.old (again who.index) result self.new }
+    {
+        let seat = &mut self.seats[usize::from(who.index)];
+        let Some(server) = seat.asked_at() else {
+            return Answer::NotAgain { session: who };
+        };
+        self.servers[usize::from(server.index)].again(alloc, who, seat)
     }
 
     fn read(&mut self, who: SessionId, server: ServerId, key: Key) -> Answer
         requires { server.index < self.old.count }
         ensures { ScriptStep self.old (read who.index server.index key) result self.new }
     {
-        let mut session = self.session(who);
-        let answer = self.servers[usize::from(server.index)].read(who, &mut session, key);
-        self.sessions[usize::from(who.index)] = Some(session);
-        answer
+        let seat = &mut self.seats[usize::from(who.index)];
+        self.servers[usize::from(server.index)].read(who, seat, key)
     }
 
-    /// The session tries the operation at the server.
+    /// The session tries the operation.
     #[tactic(auto, unfolding(bayou_script::specs::Script::are_servers))]
     pub(crate) fn operate(&mut self, alloc: Global, operation: Operation) -> Answer
         requires { IsTrue (is_served self.old.count (operation_said operation)) }
         ensures { ScriptStep self.old (operation_said operation) result self.new }
     {
-        let Operation {
-            session,
-            server,
-            attempt,
-        } = operation;
+        let Operation { session, attempt } = operation;
         match attempt {
-            Attempt::Write(program) => self.write(alloc, session, server, program),
-            Attempt::Read(key) => self.read(session, server, key),
+            Attempt::Write { server, program } => self.write(alloc, session, server, program),
+            Attempt::Read { server, key } => self.read(session, server, key),
+            Attempt::Again => self.again(alloc, session),
         }
     }
 

@@ -45,6 +45,7 @@ fn what_of(answer: &Answer) -> Option<What>
         Answer::Refused { .. } => Some(What::Refused),
         Answer::Done
         | Answer::Lost { .. }
+        | Answer::NotAgain { .. }
         | Answer::Logged { .. }
         | Answer::Stopped { .. }
         | Answer::Recovered(_)

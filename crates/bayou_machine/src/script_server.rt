@@ -1,14 +1,19 @@
 //! A server of a script, and what it makes of each command.
-ghost use Rattle.std.specs.Prelude.{◌≡◌, ◌<◌, IfOk, IfErr};
-ghost use Rattle.bayou_machine.specs.ScriptServer.{given_of};
+ghost use Rattle.std.specs.Prelude.{◌≡◌, ◌<◌, IfOk, IfErr, IfSome, IsSome, ℕ};
+ghost use Rattle.bayou_base.specs.declared.limits.TheConstants.{MAX_PLACES};
+ghost use Rattle.bayou_device.specs.Memory.{LeadsTo};
+ghost use Rattle.bayou_device.specs.MemoryDevice.{memory_device};
+ghost use Rattle.bayou_server.specs.Stored.{StoresWrite};
+ghost use Rattle.bayou_server.specs.Writes.{Writes};
+ghost use Rattle.bayou_session.specs.Needs.{IsTagOf};
 
+use crate::seat::Seat;
 use bayou_answers::{Answer, BeginFault, Recovery};
-use bayou_base::{Accepted, Key, ServerId, SessionId};
+use bayou_base::{Key, ServerId, SessionId, Tag, Vector};
 use bayou_device::{MemoryDevice, OpenGate};
 use bayou_lang::{RestingProgram, RestingWrite};
 use bayou_script::Servers;
 use bayou_server::{NotStarted, Server, StartFault, Stopped, WriteFault, Written};
-use bayou_session::Session;
 use bayou_text::PlannedFailure;
 use std::alloc::{AllocError, Global};
 
@@ -21,17 +26,27 @@ pub enum ScriptServer {
     Stopped(Stopped<MemoryDevice<OpenGate>>),
 }
 
-// What the Write was given, be it made now or known from before.
-fn given(written: Written) -> Accepted
-    ensures { result ≡ given_of written }
+// What the server answers a Write of the program, which is copied for it: what is asked may be asked again.
+fn written(
+    alloc: Global,
+    server: &mut Server<MemoryDevice<OpenGate>>,
+    tag: Tag,
+    need: &Vector,
+    program: &RestingProgram,
+) -> Result<Written, WriteFault>
+    ensures writes { Writes server.old.core tag need.now program.now result server.new.core }
+    ensures stores { StoresWrite memory_device server.old result server.new }
+    ensures calls { LeadsTo 2 server.old.device server.new.device }
 {
-    match written {
-        Written::New(accepted) | Written::Known(accepted) => accepted,
+    match program.copy(alloc) {
+        Ok(program) => server.write(alloc, tag, need, program),
+        Err(_) => server.answer_without_memory(tag, need, program),
     }
 }
 
 impl ScriptServer {
-    ghost use Rattle.bayou_machine.specs.ScriptServer.{IsBeginFault, IsBegun, IsFused, IsListed, IsRead, IsReopened, IsRestarted, IsShortened, IsWritten, device_of, held_at_last, held_by};
+    ghost use Rattle.bayou_machine.specs.Inner.Tagged.{AnswersTag};
+    ghost use Rattle.bayou_machine.specs.ScriptServer.{IsBeginFault, IsBegun, IsFused, IsListed, IsRead, IsReopened, IsRestarted, IsShortened, IsWritten, IsWrittenAgain, device_of, held_at_last, held_by};
 
     /// A server that is started first, on an empty device.
     pub(crate) fn begin(alloc: Global, servers: Servers, id: ServerId) -> Result<Self, BeginFault>
@@ -52,64 +67,72 @@ impl ScriptServer {
         }
     }
 
-    /// The session tries a Write, under a tag of its own. It is told nothing of a refusal.
-    pub(crate) fn write(
+    // Answers what the session asks at the place that it has begun.
+    fn reply(
         &mut self,
         alloc: Global,
         who: SessionId,
-        session: &mut Session,
-        program: RestingProgram,
+        seat: &mut Seat,
+        drops: bool,
+        tag: Tag,
     ) -> Answer
-        ensures { IsWritten who program self.old session.old result self.new session.new }
+        requires { IsSome seat.old.asked }
+        ensures { IfSome seat.old.asked (λ asked. AnswersTag who tag drops asked.program self.old seat.old result self.new seat.new) }
     {
-        if session.left() == 0 {
-            return Answer::Lost { session: who };
-        }
-        let tag = session.ask();
         let ScriptServer::Running(server) = self else {
             return Answer::Lost { session: who };
         };
-        match server.write(alloc, tag, &session.need_write(), program) {
-            Ok(written) => {
-                let accepted = given(written);
-                session.wrote(&accepted);
-                Answer::Wrote {
-                    session: who,
-                    accepted,
-                }
-            }
-            Err(refusal) => Answer::Refused {
-                session: who,
-                refusal,
-            },
-        }
+        let need = seat.session().need_write();
+        let reply = written(alloc, server, tag, &need, seat.program());
+        seat.hear_write(who, drops, reply)
     }
 
-    /// The session tries a read. It is told nothing of a refusal.
-    pub(crate) fn read(&self, who: SessionId, session: &mut Session, key: Key) -> Answer
-        ensures { IsRead who key self.now session.old result session.new }
+    /// The session tries a Write at the server, which has this name, under a tag of its own.
+    pub(crate) fn write(
+        &mut self,
+        alloc: Global,
+        id: ServerId,
+        who: SessionId,
+        seat: &mut Seat,
+        program: RestingProgram,
+    ) -> Answer
+        ensures { IsWritten who id.index program self.old seat.old result self.new seat.new }
     {
-        if session.left() == 0 {
+        if seat.session().left() == 0 {
             return Answer::Lost { session: who };
         }
-        session.begin();
+        let drops = seat.drops();
+        let tag = seat.ask(id, program);
+        self.reply(alloc, who, seat, drops, tag)
+    }
+
+    /// The session tries the Write again that it asked last, under the tag that it had.
+    pub(crate) fn again(&mut self, alloc: Global, who: SessionId, seat: &mut Seat) -> Answer
+        requires { IsSome seat.old.asked }
+        ensures { IfSome seat.old.asked (λ asked. IsWrittenAgain who asked.program self.old seat.old result self.new seat.new) }
+    {
+        if seat.session().left() == 0 {
+            return Answer::Lost { session: who };
+        }
+        let drops = seat.drops();
+        let tag = seat.again();
+        self.reply(alloc, who, seat, drops, tag)
+    }
+
+    /// The session tries a read.
+    pub(crate) fn read(&self, who: SessionId, seat: &mut Seat, key: Key) -> Answer
+        ensures { IsRead who key self.now seat.old result seat.new }
+    {
+        if seat.session().left() == 0 {
+            return Answer::Lost { session: who };
+        }
+        let drops = seat.drops();
+        seat.begin();
         let ScriptServer::Running(server) = self else {
             return Answer::Lost { session: who };
         };
-        match server.read(&session.need_read(), &key) {
-            Ok(seen) => {
-                session.saw(&seen);
-                Answer::Read {
-                    session: who,
-                    key,
-                    seen,
-                }
-            }
-            Err(behind) => Answer::Refused {
-                session: who,
-                refusal: WriteFault::Behind(behind.vector),
-            },
-        }
+        let reply = server.read(&seat.session().need_read(), &key);
+        seat.hear_read(who, drops, key, reply)
     }
 
     /// Lists what the server holds, unless it is stopped.

@@ -149,6 +149,36 @@ fn trials(rt: HostRuntime) {
     all_agree(&rt, rt.alloc(), TRIALS);
 }
 
+/// Commands that ask a session's last Write again, or drop the reply to what it tries next.
+const RETRIES: &str = r#"["again",0]
+["again",31]
+["again",32] => !BadShape(Number)
+["again",-1] => !BadShape(Number)
+["again",1.0] => !BadShape(Number)
+["again","0"] => !BadShape(Number)
+["again","again"] => !BadShape(Number)
+["again",[]] => !BadShape(Number)
+["again"] => !BadShape(Arity)
+["again",0,0] => !BadShape(Arity)
+["again",32,0] => !BadShape(Arity)
+["drop",0]
+["drop",31]
+["drop",32] => !BadShape(Number)
+["drop",-1] => !BadShape(Number)
+["drop",1.0] => !BadShape(Number)
+["drop","0"] => !BadShape(Number)
+["drop",null] => !BadShape(Number)
+["drop"] => !BadShape(Arity)
+["drop",0,0] => !BadShape(Arity)
+["Again",0] => !BadShape(Command)
+["drops",0] => !BadShape(Command)
+["retry",0] => !BadShape(Command)"#;
+
+#[test]
+fn retries(rt: HostRuntime) {
+    all_agree(&rt, rt.alloc(), RETRIES);
+}
+
 /// Commands that have a server send its Writes to another.
 const EXCHANGES: &str = r#"["pull",1,0]
 ["pull",7,7]
@@ -329,6 +359,8 @@ const FORMS: &str = r#"["servers",1]
 ["write",0,0,{"check":[["equals","a",1],["atleast","b",-2]],"merge":[{"ops":[["put","a",["plus","b",3]]],"when":[["absent","c"]]},{"ops":[],"when":[]}],"update":[["del","c"],["put","b",["copy","a"]]]}]
 ["write",0,0,{"check":[["equals","a","x"],["absent","b"]],"merge":[{"ops":[["del","a"],["put","b","y"]],"when":[["equals","a",1]]}],"update":[["put","a","\u0000\""]]}]
 ["read",3,7,"a"]
+["again",3]
+["drop",31]
 ["log",7]
 ["fuse",7,1000,8192]
 ["lose",0,1000000000]

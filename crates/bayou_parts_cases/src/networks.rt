@@ -29,7 +29,7 @@ fn is_told<T: Drop>(answer: Result<T, InputRefusal>, expected: &str) -> bool {
 }
 
 /// Scripts, what `bayou run` tells of each, and what is told of it over a network.
-static SCRIPTS: [(&str, &str, &str); 17] = [
+static SCRIPTS: [(&str, &str, &str); 23] = [
     (r#"["servers",4]"#, "", ""),
     (r#"["servers",5]"#, "", "line 1: out of place"),
     (r#"["servers",8,1]"#, "", "line 1: out of place"),
@@ -72,6 +72,36 @@ static SCRIPTS: [(&str, &str, &str); 17] = [
         "[\"servers\",2]\n[\"session\",0,[\"ryw\"]]\n[\"write\",0,1,{}]\n[\"read\",0,0,\"a\"]\n",
         "",
         "",
+    ),
+    (
+        "[\"servers\",1]\n[\"session\",3,[]]\n[\"again\",3]\n[\"write\",3,0,{}]\n[\"again\",3]\n[\"again\",3]\n",
+        "",
+        "",
+    ),
+    (
+        "[\"servers\",1]\n[\"session\",3,[]]\n[\"drop\",3]\n[\"again\",3]\n",
+        "",
+        "line 3: out of place",
+    ),
+    (
+        "[\"servers\",1]\n[\"session\",3,[]]\n[\"again\",4]\n",
+        "line 3: out of place",
+        "line 3: out of place",
+    ),
+    (
+        "[\"servers\",1]\n[\"session\",3,[]]\n[\"drop\",4]\n",
+        "line 3: out of place",
+        "line 3: out of place",
+    ),
+    (
+        "[\"servers\",1]\n[\"again\",3]\n[\"session\",3,[]]\n",
+        "line 2: out of place",
+        "line 2: out of place",
+    ),
+    (
+        "[\"servers\",1]\n[\"drop\",32]\n",
+        "line 2: bad shape",
+        "line 2: bad shape",
     ),
     (
         "[\"servers\",1]\n[\"read\",0,0,\"a\"]\n[\"fuse\",0,1,0]\n",
@@ -146,7 +176,7 @@ fn has_phases(alloc: Global, text: &str, expected: &str) -> bool {
 }
 
 /// Scripts, and the parts of each phase: sessions that are opened, operations by session, pulls, and the rest.
-static PHASES: [(&str, &str); 6] = [
+static PHASES: [(&str, &str); 7] = [
     (r#"["servers",2]"#, ""),
     ("[\"servers\",2]\n[\"phase\"]", "|"),
     (
@@ -160,6 +190,10 @@ static PHASES: [(&str, &str); 6] = [
     (
         "[\"servers\",2]\n[\"session\",0,[]]\n[\"write\",0,0,{}]\n[\"phase\"]\n[\"pull\",1,0]\n[\"phase\"]\n[\"read\",0,1,\"a\"]\n",
         "O0|P|0|",
+    ),
+    (
+        "[\"servers\",2]\n[\"session\",0,[]]\n[\"session\",1,[]]\n[\"write\",0,0,{}]\n[\"again\",1]\n[\"again\",0]\n[\"phase\"]\n[\"again\",1]\n",
+        "OO010|1|",
     ),
     (
         "[\"servers\",2]\n[\"log\",0]\n[\"reopen\",0]\n[\"totals\"]\n[\"judge\"]\n[\"survey\"]\n[\"book\"]\n[\"phase\"]\n[\"pull\",0,1]\n[\"phase\"]\n",
@@ -187,7 +221,7 @@ fn capacity_there(alloc: Global, text: &str) -> Option<usize> {
 }
 
 /// Scripts, and how many operations they try, or one where they try none.
-static PLACES: [(&str, usize); 3] = [
+static PLACES: [(&str, usize); 5] = [
     (r#"["servers",2]"#, 1),
     (
         "[\"servers\",2]\n[\"session\",0,[]]\n[\"write\",0,0,{}]\n[\"pull\",1,0]\n[\"log\",0]\n[\"book\"]\n[\"phase\"]",
@@ -195,6 +229,11 @@ static PLACES: [(&str, usize); 3] = [
     ),
     (
         "[\"servers\",2]\n[\"session\",0,[]]\n[\"write\",0,0,{}]\n[\"read\",0,0,\"a\"]\n[\"read\",0,1,\"a\"]\n",
+        3,
+    ),
+    ("[\"servers\",2]\n[\"session\",0,[]]\n[\"again\",0]\n", 1),
+    (
+        "[\"servers\",2]\n[\"session\",0,[]]\n[\"write\",0,0,{}]\n[\"again\",0]\n[\"phase\"]\n[\"again\",0]\n[\"pull\",1,0]\n",
         3,
     ),
 ];

@@ -19,7 +19,7 @@ use Rattle.bayou_server.specs.declared.fault.StartFault.TheVariants as starting
 use Rattle.bayou_server.specs.declared.fault.WriteFault.{WriteFault}
 use Rattle.bayou_server.specs.declared.fault.WriteFault.TheVariants as writing
 use Rattle.bayou_answers.specs.declared.answer.Answer.{Answer}
-use Rattle.bayou_answers.specs.declared.answer.Answer.TheVariants.{Done, Wrote, Read, Refused, Lost, Logged, Stopped, Recovered, Exchanged, Counted, Judged, Surveyed, Booked}
+use Rattle.bayou_answers.specs.declared.answer.Answer.TheVariants.{Done, Wrote, Read, Refused, Lost, NotAgain, Logged, Stopped, Recovered, Exchanged, Counted, Judged, Surveyed, Booked}
 use Rattle.bayou_frames.specs.declared.fault.ChannelFault.TheVariants as streams
 use Rattle.bayou_peer.specs.declared.fault.PullFault.{PullFault}
 use Rattle.bayou_peer.specs.declared.fault.PullFault.TheVariants as pulling
@@ -106,6 +106,7 @@ lines_text (Wrote session accepted) = []
 lines_text (Read session key seen) = []
 lines_text (Refused session refusal) = []
 lines_text (Lost session) = []
+lines_text (NotAgain session) = []
 lines_text (Stopped server) = []
 lines_text (Recovered recovery) = []
 lines_text (Exchanged transfer) = []
@@ -171,6 +172,7 @@ last_text servers (Read session key seen) =
 last_text servers (Refused session refusal) =
     decimal session.index ++ (codes " refused " ++ (refusal_text servers refusal ++ codes "\n"))
 last_text servers (Lost session) = decimal session.index ++ codes " lost\n"
+last_text servers (NotAgain session) = decimal session.index ++ codes " again none\n"
 last_text servers (Logged server listing vector) =
     codes "log " ++ (decimal server.index ++ (codes " at " ++ (counts_text servers vector ++ codes "\n")))
 last_text servers (Stopped server) = codes "stopped " ++ (decimal server.index ++ codes "\n")

@@ -52,6 +52,7 @@ impl Ended {
             | Answer::Read { .. }
             | Answer::Refused { .. }
             | Answer::Lost { .. }
+            | Answer::NotAgain { .. }
             | Answer::Logged { .. }
             | Answer::Stopped { .. }
             | Answer::Recovered(_)

@@ -304,6 +304,10 @@ pub fn last_line(alloc: Global, servers: u8, answer: &Answer) -> Result<String, 
             let session = session.index;
             format!(in alloc; "{session} lost\n")
         }
+        Answer::NotAgain { session } => {
+            let session = session.index;
+            format!(in alloc; "{session} again none\n")
+        }
         Answer::Logged { server, vector, .. } => {
             let server = server.index;
             let counts = Counts { vector, servers };

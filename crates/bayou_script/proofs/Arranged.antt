@@ -4,7 +4,7 @@ use Rattle.std.specs.List.{filter, flat_map, list_all, onto_first, range_with_le
 use Rattle.std.proofs.lemmas.Bool.{cases_eq, eq-eqb, ltb-true, ne_eqb}
 use Rattle.std.proofs.lemmas.List.Elements.{filter-append}
 use Rattle.bayou_base.specs.declared.limits.TheConstants.{SESSIONS}
-use Rattle.bayou_text.specs.Said.{Said, servers, session, write, read, log, fuse, lose, reopen, restart, pull, resend, totals, judge, survey, book, phase, entry, held}
+use Rattle.bayou_text.specs.Said.{Said, servers, session, write, read, again, drop, log, fuse, lose, reopen, restart, pull, resend, totals, judge, survey, book, phase, entry, held}
 use Rattle.bayou_script.proofs.Phased.{goes_on}
 use Rattle.bayou_script.proofs.Told.{both_left, both_right}
 use Rattle.bayou_script.specs.Phases.{arranged, arranged_phase, ends_phase, has_session, is_operation_of, is_opening, is_pull, is_rest, operations_of, opens_of, phases_of, pulls_of, rest_of}
@@ -133,6 +133,8 @@ count_line holds (session who asks) xs within = record {
 }
 count_line holds (write who place program) xs within = count_operation holds _ who xs refl (λ _. refl) (ltb-true _ _ within) refl refl
 count_line holds (read who place key) xs within = count_operation holds _ who xs refl (λ _. refl) (ltb-true _ _ within) refl refl
+count_line holds (again who) xs within = count_operation holds _ who xs refl (λ _. refl) (ltb-true _ _ within) refl refl
+count_line holds (drop who) xs within = count_rest holds _ xs refl (λ _. refl) refl refl
 count_line holds (log place) xs within = count_rest holds _ xs refl (λ _. refl) refl refl
 count_line holds (fuse place calls kept) xs within = count_rest holds _ xs refl (λ _. refl) refl refl
 count_line holds (lose place count) xs within = count_rest holds _ xs refl (λ _. refl) refl refl

@@ -22,9 +22,10 @@ use Rattle.bayou_script.specs.Script.{has_place, is_behind, script_order, use_of
 abbrev IsBehind : Said → Type 0
 IsBehind told = (front : List Said) → has_place front told ≡ is_behind front (use_of told)
 
-operation_behind : (who place : ℕ) (tried : Attempt) → IsBehind (attempt_said who place tried)
-operation_behind who place (attempt.Write program) front = refl
-operation_behind who place (attempt.Read key) front = refl
+operation_behind : (who : ℕ) (tried : Attempt) → IsBehind (attempt_said who tried)
+operation_behind who (attempt.Write place program) front = refl
+operation_behind who (attempt.Read place key) front = refl
+operation_behind who attempt.Again front = refl
 
 trial_behind : (place : ℕ) (how : TrialKind) → IsBehind (trial_kind_said place how)
 trial_behind place (kind.Fuse failure) front = refl
@@ -45,7 +46,8 @@ question_behind question.Book front = refl
 
 pub command_behind : (asked : Command) → IsBehind (command_said asked)
 command_behind (command.Session who asks) front = refl
-command_behind (command.Operation operation) front = operation_behind _ _ operation.attempt front
+command_behind (command.Operation operation) front = operation_behind _ operation.attempt front
+command_behind (command.Drop who) front = refl
 command_behind (command.Trial trial) front = trial_behind _ trial.kind front
 command_behind (command.Exchange exchange) front = exchange_behind _ _ exchange.extent front
 command_behind (command.Question what) front = question_behind what front

@@ -1,12 +1,13 @@
 -- What a book of a script's operations has to hold.
 use Rattle.std.specs.Prelude.{ℕ, List, Option, None, Some, filter, length, max}
 use Rattle.std.specs.Option.{is_some}
-use Rattle.bayou_text.specs.Said.{Said, write, read}
+use Rattle.bayou_text.specs.Said.{Said, write, read, again}
 
--- the session that tries an operation, and the server at which it does
-abbrev pub operation_of : Said → Option (ℕ × ℕ)
-operation_of (write who place program) = Some (who, place)
-operation_of (read who place key) = Some (who, place)
+-- the session that tries an operation
+abbrev pub operation_of : Said → Option ℕ
+operation_of (write who place program) = Some who
+operation_of (read who place key) = Some who
+operation_of (again who) = Some who
 operation_of _ = None
 
 -- how many operations are tried

@@ -1,5 +1,5 @@
 -- What a command is by its kind, whichever of the kind it is.
-use Rattle.std.specs.Prelude.{◌≡◌, ◌==◌, ℕ, false, true, None, Some}
+use Rattle.std.specs.Prelude.{◌≡◌, ◌==◌, ℕ, false, true, [], ◌∷◌, None, Some}
 use Rattle.bayou_text.specs.Said.{attempt_said, extent_said, question_said, trial_kind_said}
 use Rattle.bayou_text.specs.declared.command.Attempt.{Attempt}
 use Rattle.bayou_text.specs.declared.command.Extent.{Extent}
@@ -8,19 +8,21 @@ use Rattle.bayou_text.specs.declared.command.TrialKind.{TrialKind}
 use Rattle.bayou_script.specs.Network.{runs_over_network}
 use Rattle.bayou_script.specs.Phases.{ends_phase, is_operation_of, is_opening, is_pull, is_rest}
 use Rattle.bayou_script.specs.Capacity.{operation_of}
-use Rattle.bayou_script.specs.Script.{at_server, is_audit, of_servers, of_session, use_of}
+use Rattle.bayou_script.specs.Script.{at_server, is_audit, of_servers, use_of}
 
--- what an operation of this session at this server is
-pub record IsOperation (who place : ℕ) (tried : Attempt) : Type 0 where
-  pub uses : use_of (attempt_said who place tried) ≡ of_session who place
-  pub no_audit : is_audit (attempt_said who place tried) ≡ false
-  pub goes_on : ends_phase (attempt_said who place tried) ≡ false
-  pub no_opening : is_opening (attempt_said who place tried) ≡ false
-  pub own : (number : ℕ) → is_operation_of number (attempt_said who place tried) ≡ (who == number)
-  pub no_pull : is_pull (attempt_said who place tried) ≡ false
-  pub no_rest : is_rest (attempt_said who place tried) ≡ false
-  pub claims : operation_of (attempt_said who place tried) ≡ Some (who, place)
-  pub runs : runs_over_network (attempt_said who place tried) ≡ true
+-- what an operation of this session is
+pub record IsOperation (who : ℕ) (tried : Attempt) : Type 0 where
+  pub starts_none : (use_of (attempt_said who tried)).starts ≡ None
+  pub opens_none : (use_of (attempt_said who tried)).opens ≡ []
+  pub speaks : (use_of (attempt_said who tried)).sessions ≡ who ∷ []
+  pub no_audit : is_audit (attempt_said who tried) ≡ false
+  pub goes_on : ends_phase (attempt_said who tried) ≡ false
+  pub no_opening : is_opening (attempt_said who tried) ≡ false
+  pub own : (number : ℕ) → is_operation_of number (attempt_said who tried) ≡ (who == number)
+  pub no_pull : is_pull (attempt_said who tried) ≡ false
+  pub no_rest : is_rest (attempt_said who tried) ≡ false
+  pub claims : operation_of (attempt_said who tried) ≡ Some who
+  pub runs : runs_over_network (attempt_said who tried) ≡ true
 
 -- what a trial of this server is
 pub record IsTrial (place : ℕ) (how : TrialKind) : Type 0 where

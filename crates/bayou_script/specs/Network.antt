@@ -3,16 +3,17 @@ use Rattle.std.specs.Prelude.{ℕ, ◌≤◌, Bool, true, false, not, ◌&&◌, 
 use Rattle.std.specs.List.{list_all}
 use Rattle.std.specs.Option.{is_some}
 use Rattle.bayou_base.specs.declared.limits.TheConstants.{NET_SERVERS}
-use Rattle.bayou_text.specs.Said.{Said, servers, fuse, lose, restart, pull, resend}
+use Rattle.bayou_text.specs.Said.{Said, servers, drop, fuse, lose, restart, pull, resend}
 use Rattle.bayou_script.specs.declared.fault.InputRefusal.{InputRefusal}
 use Rattle.bayou_script.specs.declared.fault.ScriptFault.{ScriptFault}
 use Rattle.bayou_script.specs.Order.{IsRefusedBy, Order, RefusedBy}
 use Rattle.bayou_script.specs.Script.{IsScript, Plan, script_order}
 
--- Whether servers over a network can be asked this: there are few of them; the device of each is a file, which neither fails nor
--- loses bytes by a plan; each is started once; and of a pull neither the offer nor the end is chosen.
+-- Whether servers over a network can be asked this: there are few of them; no reply is lost by a plan; the device of each is a file,
+-- which neither fails nor loses bytes by one; each is started once; and of a pull neither the offer nor the end is chosen.
 abbrev pub runs_over_network : Said → Bool
 runs_over_network (servers count most) = nat_le count NET_SERVERS
+runs_over_network (drop who) = false
 runs_over_network (fuse place calls kept) = false
 runs_over_network (lose place count) = false
 runs_over_network (restart place) = false

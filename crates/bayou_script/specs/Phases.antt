@@ -2,7 +2,7 @@
 use Rattle.std.specs.Prelude.{if◌then◌else◌, ℕ, ◌==◌, Bool, true, false, List, [], ◌∷◌, ◌++◌, IsTrue, nat_lt}
 use Rattle.std.specs.List.{filter, flat_map, onto_first, range_with_len}
 use Rattle.bayou_base.specs.declared.limits.TheConstants.{SESSIONS}
-use Rattle.bayou_text.specs.Said.{Said, session, write, read, pull, phase}
+use Rattle.bayou_text.specs.Said.{Said, session, write, read, again, pull, phase}
 use Rattle.bayou_script.specs.declared.phases.Part.{Part}
 use Rattle.bayou_script.specs.declared.phases.Part.TheVariants.{Opens, Operation, Pull, Rest}
 
@@ -20,10 +20,11 @@ abbrev pub is_opening : Said → Bool
 is_opening (session who asks) = true
 is_opening other = false
 
--- whether this session writes or reads
+-- whether this session writes, reads, or asks a Write again
 abbrev pub is_operation_of : ℕ → Said → Bool
 is_operation_of number (write who place program) = who == number
 is_operation_of number (read who place key) = who == number
+is_operation_of number (again who) = who == number
 is_operation_of number other = false
 
 abbrev pub is_pull : Said → Bool
@@ -35,6 +36,7 @@ abbrev pub is_rest : Said → Bool
 is_rest (session who asks) = false
 is_rest (write who place program) = false
 is_rest (read who place key) = false
+is_rest (again who) = false
 is_rest (pull to source cut) = false
 is_rest other = true
 
@@ -42,7 +44,7 @@ is_rest other = true
 abbrev pub opens_of : List Said → List Said
 opens_of lines = filter is_opening lines
 
--- what this session writes and reads
+-- what this session writes, reads and asks again
 abbrev pub operations_of : ℕ → List Said → List Said
 operations_of number lines = filter (is_operation_of number) lines
 
@@ -64,10 +66,11 @@ arranged_phase lines = opens_of lines
 abbrev pub arranged : List Said → List Said
 arranged lines = flat_map arranged_phase (phases_of lines)
 
--- whether a session that writes or reads is one that there may be
+-- whether a session that tries something is one that there may be
 abbrev pub has_session : Said → Bool
 has_session (write who place program) = nat_lt who SESSIONS
 has_session (read who place key) = nat_lt who SESSIONS
+has_session (again who) = nat_lt who SESSIONS
 has_session other = true
 
 -- the part of its phase that a line is of

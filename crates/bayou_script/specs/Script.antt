@@ -3,7 +3,7 @@ use Rattle.std.specs.Prelude.{◌≡◌, if◌then◌else◌, ℕ, ◌==◌, Boo
 use Rattle.std.specs.List.{list_all, list_any}
 use Rattle.std.specs.Option.{is_some}
 use Rattle.bayou_base.specs.declared.limits.TheConstants.{DEFAULT_LIMIT, MAX_LINES}
-use Rattle.bayou_text.specs.Said.{Said, servers, session, write, read, log, fuse, lose, reopen, restart, pull, resend, totals, judge, survey, book, phase, entry, held}
+use Rattle.bayou_text.specs.Said.{Said, servers, session, write, read, again, drop, log, fuse, lose, reopen, restart, pull, resend, totals, judge, survey, book, phase, entry, held}
 use Rattle.bayou_script.specs.declared.fault.InputRefusal.{InputRefusal}
 use Rattle.bayou_script.specs.declared.fault.ScriptFault.{ScriptFault}
 use Rattle.bayou_script.specs.Order.{InOrderBy, IsRefusedBy, Order, RefusedBy}
@@ -20,8 +20,11 @@ pub record Use : Type 0 where
 abbrev pub at_server : ℕ → Use
 at_server place = record { starts = None; opens = []; sessions = []; servers = place ∷ [] }
 
-abbrev pub of_session : ℕ → ℕ → Use
-of_session who place = record { starts = None; opens = []; sessions = who ∷ []; servers = place ∷ [] }
+abbrev pub of_session : ℕ → Use
+of_session who = record { starts = None; opens = []; sessions = who ∷ []; servers = [] }
+
+abbrev pub of_session_at : ℕ → ℕ → Use
+of_session_at who place = record { starts = None; opens = []; sessions = who ∷ []; servers = place ∷ [] }
 
 abbrev pub of_servers : ℕ → ℕ → Use
 of_servers to source = record { starts = None; opens = []; sessions = []; servers = to ∷ source ∷ [] }
@@ -32,8 +35,10 @@ of_none = record { starts = None; opens = []; sessions = []; servers = [] }
 abbrev pub use_of : Said → Use
 use_of (servers count limit) = record { starts = Some count; opens = []; sessions = []; servers = [] }
 use_of (session who asks) = record { starts = None; opens = who ∷ []; sessions = []; servers = [] }
-use_of (write who place program) = of_session who place
-use_of (read who place key) = of_session who place
+use_of (write who place program) = of_session_at who place
+use_of (read who place key) = of_session_at who place
+use_of (again who) = of_session who
+use_of (drop who) = of_session who
 use_of (log place) = at_server place
 use_of (fuse place calls kept) = at_server place
 use_of (lose place count) = at_server place

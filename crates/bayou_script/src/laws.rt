@@ -51,7 +51,7 @@ pub fn all_that_was_said_is_arranged()
 
 /// Commands of a kind are alike in what they use, in which part of a phase they are, and in whether they claim room in the book.
 pub fn commands_of_a_kind_are_alike()
-    ensures operations { (who place : ℕ) (tried : Attempt) → IsOperation who place tried }
+    ensures operations { (who : ℕ) (tried : Attempt) → IsOperation who tried }
     ensures trials { (place : ℕ) (how : TrialKind) → IsTrial place how }
     ensures exchanges { (to source : ℕ) (much : Extent) → IsExchange to source much }
     ensures questions { (what : Question) → IsQuestion what }

@@ -12,7 +12,7 @@ use bayou_text::{Command, Exchange, Extent, Operation, Question, Trial, TrialKin
 pub enum NetworkCommand {
     /// Opens a session that asks for these guarantees.
     Session { session: SessionId, asks: Asks },
-    /// A session tries to write or to read at a server.
+    /// A session tries to write, to read, or to write again.
     Operation(Operation),
     /// The server `to` takes what it lacks of the Writes that the server `from` holds.
     Pull { to: ServerId, from: ServerId },
@@ -55,6 +55,7 @@ impl NetworkCommand {
         match command {
             Command::Session { session, asks } => Some(NetworkCommand::Session { session, asks }),
             Command::Operation(operation) => Some(NetworkCommand::Operation(operation)),
+            Command::Drop(_) => None,
             Command::Trial(trial) => of_trial(trial),
             Command::Exchange(exchange) => of_exchange(exchange),
             Command::Question(question) => Some(NetworkCommand::Question(question)),

@@ -1,12 +1,12 @@
 //! What a command uses.
-ghost use Rattle.std.specs.Prelude.{◌≡◌, None};
-ghost use Rattle.bayou_text.specs.Said.{command_said, question_said};
+ghost use Rattle.std.specs.Prelude.{◌≡◌, None, Some};
+ghost use Rattle.bayou_text.specs.Said.{command_said, operation_said, question_said};
 ghost use Rattle.bayou_script.specs.declared.uses.UsedServers.TheVariants.{At, Between, Nowhere};
 ghost use Rattle.bayou_script.specs.Inner.Using.{AreUses};
 ghost use Rattle.bayou_script.specs.Script.{use_of};
 
 use bayou_base::{ServerId, SessionId};
-use bayou_text::{Command, Question};
+use bayou_text::{Attempt, Command, Operation, Question};
 
 /// The servers that a command speaks to.
 #[derive(Clone, Copy)]
@@ -38,6 +38,17 @@ fn at_server(session: Option<SessionId>, server: ServerId) -> Uses
     }
 }
 
+/// Of a command that speaks for a session, and to no server that it names.
+fn of_session(session: SessionId) -> Uses
+    ensures { result ≡ record { opens = None; session = Some session; servers = Nowhere } }
+{
+    Uses {
+        opens: None,
+        session: Some(session),
+        servers: UsedServers::Nowhere,
+    }
+}
+
 /// Of a command that has a server send Writes to another.
 fn between(to: ServerId, from: ServerId) -> Uses
     ensures { result ≡ record { opens = None; session = None; servers = Between to from } }
@@ -57,6 +68,18 @@ fn nothing() -> Uses
         opens: None,
         session: None,
         servers: UsedServers::Nowhere,
+    }
+}
+
+/// What the operation uses.
+fn used_by_operation(operation: &Operation) -> Uses
+    ensures { AreUses result (use_of (operation_said operation.now)) }
+{
+    match &operation.attempt {
+        Attempt::Write { server, .. } | Attempt::Read { server, .. } => {
+            at_server(Some(operation.session), *server)
+        }
+        Attempt::Again => of_session(operation.session),
     }
 }
 
@@ -80,7 +103,8 @@ pub(crate) fn used_by(command: &Command) -> Uses
             session: None,
             servers: UsedServers::Nowhere,
         },
-        Command::Operation(operation) => at_server(Some(operation.session), operation.server),
+        Command::Operation(operation) => used_by_operation(operation),
+        Command::Drop(session) => of_session(*session),
         Command::Trial(trial) => at_server(None, trial.server),
         Command::Exchange(exchange) => between(exchange.to, exchange.from),
         Command::Question(question) => used_by_question(*question),

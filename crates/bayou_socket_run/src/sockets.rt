@@ -24,6 +24,7 @@ use bayou_node::Desks;
 use bayou_print::{Ended, RunFault, Waiting};
 use bayou_script::{NetworkCommand, NetworkScript, Servers, capacity_for};
 use bayou_streams::Output;
+use bayou_text::Attempt;
 use std::alloc::{AllocError, Global};
 use std::collections::VecDeque;
 use std::fs::{File, Files};
@@ -330,11 +331,21 @@ where
     )
 }
 
-/// How many connections each server is reached by at the most: one by each session, one by each pull, and one for the rest.
+/// Whether the command may open a connection of its own to a server.
+fn connects(command: &NetworkCommand) -> bool {
+    match command {
+        NetworkCommand::Session { .. } | NetworkCommand::Pull { .. } => true,
+        NetworkCommand::Operation(operation) => matches!(&operation.attempt, Attempt::Again),
+        NetworkCommand::Reopen(_) | NetworkCommand::Question(_) | NetworkCommand::Phase => false,
+    }
+}
+
+/// How many connections each server is reached by at the most: one by each session, one by each pull, one by each Write that is asked again,
+/// and one for the rest.
 fn connections_for(commands: &VecDeque<NetworkCommand>) -> u32 {
     let mut connections: u32 = 1;
     for at in 0..commands.len() {
-        if let NetworkCommand::Session { .. } | NetworkCommand::Pull { .. } = &commands[at] {
+        if connects(&commands[at]) {
             connections = connections.saturating_add(1);
         }
     }

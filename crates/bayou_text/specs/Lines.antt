@@ -13,7 +13,7 @@ use Rattle.bayou_text.specs.Audit.{entry_in, held_in}
 use Rattle.bayou_text.specs.Numbers.{count_in, limit_in, session_in, server_in, calls_in, kept_in, lost_in, cut_in}
 use Rattle.bayou_text.specs.Programs.{program_in}
 use Rattle.bayou_text.specs.Reading.{Parsed, ◌>>=◌, worded}
-use Rattle.bayou_text.specs.Said.{Said, servers, session, write, read, log, fuse, lose, reopen, restart, pull, resend, totals, judge, survey, book, phase}
+use Rattle.bayou_text.specs.Said.{Said, servers, session, write, read, again, drop, log, fuse, lose, reopen, restart, pull, resend, totals, judge, survey, book, phase}
 use Rattle.bayou_text.specs.Values.{key_in}
 
 -- ["servers", count] and ["servers", count, limit], behind the word
@@ -50,6 +50,11 @@ reading_in (who ∷ place ∷ key ∷ []) = do
   name ← key_in key
   Ok (read n at name)
 reading_in _ = Err (BadShape Arity)
+
+-- ["again", session] and ["drop", session]
+unfoldable pub session_alone_in : List Data → Parsed ℕ
+session_alone_in (who ∷ []) = session_in who
+session_alone_in _ = Err (BadShape Arity)
 
 -- ["log", server], ["reopen", server] and ["restart", server]
 unfoldable pub alone_in : List Data → Parsed ℕ
@@ -125,6 +130,13 @@ exchange_of word parts =
     else (if bytes_eq word (codes "resend") then resending_in parts
     else asked_of word parts)
 
+-- what a session does about a reply that it doesn't get
+unfoldable pub retry_of : List ℕ → List Data → Parsed Said
+retry_of word parts =
+    if bytes_eq word (codes "again") then (session_alone_in parts >>= λ who. Ok (again who))
+    else (if bytes_eq word (codes "drop") then (session_alone_in parts >>= λ who. Ok (drop who))
+    else exchange_of word parts)
+
 abbrev pub command_of : List ℕ → List Data → Parsed Said
 command_of word parts =
     if bytes_eq word (codes "servers") then servers_in parts
@@ -132,7 +144,7 @@ command_of word parts =
     else (if bytes_eq word (codes "write") then writing_in parts
     else (if bytes_eq word (codes "read") then reading_in parts
     else (if bytes_eq word (codes "log") then (alone_in parts >>= λ at. Ok (log at))
-    else exchange_of word parts))))
+    else retry_of word parts))))
 
 -- the words of audit files, and those of scripts
 abbrev pub spoken_of : List ℕ → List Data → Parsed Said

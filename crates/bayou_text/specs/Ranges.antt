@@ -5,7 +5,7 @@ use Rattle.bayou_base.specs.declared.entry.What.{What}
 use Rattle.bayou_base.specs.declared.entry.What.TheVariants as what
 use Rattle.bayou_base.specs.declared.limits.TheConstants.{MAX_WRITES, SERVERS, MAX_FUSE_CALLS, MAX_FUSE_KEPT, MAX_LOST_BYTES}
 use Rattle.bayou_base.specs.declared.server.ServerId.{ServerId}
-use Rattle.bayou_text.specs.Said.{Said, servers, session, write, read, log, fuse, lose, reopen, restart, pull, resend, totals, judge, survey, book, phase, entry, held}
+use Rattle.bayou_text.specs.Said.{Said, servers, session, write, read, again, drop as drop_line, log, fuse, lose, reopen, restart, pull, resend, totals, judge, survey, book, phase, entry, held}
 
 abbrev pub IsCount : ℕ → Type 0
 IsCount count = (1 ≤ count) × (count ≤ SERVERS)
@@ -35,6 +35,8 @@ IsReadable (servers count limit) = IsCount count × IfSome limit IsLimit
 IsReadable (session who asks) = ⊤
 IsReadable (write who place program) = ⊤
 IsReadable (read who place key) = ⊤
+IsReadable (again who) = ⊤
+IsReadable (drop_line who) = ⊤
 IsReadable (log place) = ⊤
 IsReadable (fuse place calls kept) = IsFuse calls kept
 IsReadable (lose place count) = count ≤ MAX_LOST_BYTES

@@ -28,6 +28,8 @@ pub data Said : Type 0 where
   session : ℕ → Asks → Said
   write : ℕ → ℕ → Program → Said
   read : ℕ → ℕ → List ℕ → Said
+  again : ℕ → Said
+  drop : ℕ → Said
   log : ℕ → Said
   fuse : ℕ → ℕ → ℕ → Said
   lose : ℕ → ℕ → Said
@@ -43,13 +45,14 @@ pub data Said : Type 0 where
   entry : Entry → Option ℕ → Said
   held : ℕ → Write → ℕ → Said
 
--- what this session tries at this server
-abbrev pub attempt_said : ℕ → ℕ → Attempt → Said
-attempt_said who place (attempt.Write program) = write who place program
-attempt_said who place (attempt.Read key) = read who place key
+-- what this session tries
+abbrev pub attempt_said : ℕ → Attempt → Said
+attempt_said who (attempt.Write place program) = write who place.index program
+attempt_said who (attempt.Read place key) = read who place.index key
+attempt_said who attempt.Again = again who
 
 abbrev pub operation_said : Operation → Said
-operation_said operation = attempt_said operation.session.index operation.server.index operation.attempt
+operation_said operation = attempt_said operation.session.index operation.attempt
 
 -- what this server is put through
 abbrev pub trial_kind_said : ℕ → TrialKind → Said
@@ -81,6 +84,7 @@ question_said question.Book = book
 abbrev pub command_said : Command → Said
 command_said (command.Session who asks) = session who.index asks
 command_said (command.Operation operation) = operation_said operation
+command_said (command.Drop who) = drop who.index
 command_said (command.Trial trial) = trial_said trial
 command_said (command.Exchange exchange) = exchange_said exchange
 command_said (command.Question question) = question_said question

@@ -18,7 +18,7 @@ use Rattle.bayou_lang.specs.declared.program.Cond.TheVariants.{Equals, Absent, A
 use Rattle.bayou_lang.specs.declared.program.Alt.{Alt}
 use Rattle.bayou_lang.specs.declared.program.Program.{Program}
 use Rattle.bayou_lang.specs.declared.write.Write.{Write}
-use Rattle.bayou_text.specs.Said.{Said, servers, session, write, read, log, fuse, lose, reopen, restart, pull, resend, totals, judge, survey, book, phase, entry, held}
+use Rattle.bayou_text.specs.Said.{Said, servers, session, write, read, again, drop, log, fuse, lose, reopen, restart, pull, resend, totals, judge, survey, book, phase, entry, held}
 
 -- an array that begins with a word
 abbrev pub form : List ℕ → List Data → Data
@@ -106,6 +106,8 @@ line_json (session who asks) = form (codes "session") (count_json who ∷ asks_j
 line_json (write who place program) = form (codes "write")
     (count_json who ∷ count_json place ∷ program_json program ∷ [])
 line_json (read who place key) = form (codes "read") (count_json who ∷ count_json place ∷ string key ∷ [])
+line_json (again who) = form (codes "again") (count_json who ∷ [])
+line_json (drop who) = form (codes "drop") (count_json who ∷ [])
 line_json (log place) = form (codes "log") (count_json place ∷ [])
 line_json (fuse place calls kept) = form (codes "fuse")
     (count_json place ∷ count_json calls ∷ count_json kept ∷ [])

@@ -28,7 +28,7 @@ use Rattle.bayou_lang.specs.declared.write.Write.{Write}
 use Rattle.bayou_lang.specs.Ranges.{IsKey}
 use Rattle.bayou_text.specs.Ranges.{IsCount, IsLimit, IsFuse}
 use Rattle.bayou_text.specs.Reading.{names}
-use Rattle.bayou_text.specs.Said.{Said, servers, session, write, read, log, fuse, lose, reopen, restart, pull, resend, totals, judge, survey, book, phase, entry, held}
+use Rattle.bayou_text.specs.Said.{Said, servers, session, write, read, again, drop, log, fuse, lose, reopen, restart, pull, resend, totals, judge, survey, book, phase, entry, held}
 use Rattle.bayou_text.specs.Spelling.{form, count_json}
 
 -- an integer, and no other number: 1.0 isn't one
@@ -168,6 +168,13 @@ pub record AtServer (word : List ℕ) (Is : Data → Type 0) (d : Data) (who pla
   pub place_in_range : place < SERVERS
   pub last_is : Is last_data
 
+-- an array of exactly a word and a session
+pub record SessionAloneIs (word : List ℕ) (d : Data) (who : ℕ) : Type 0 where
+  pub who_data : Data
+  pub form_is : d ≡ form word (who_data ∷ [])
+  pub who_is : NumberIs who_data who
+  pub who_in_range : who < SESSIONS
+
 -- an array of exactly a word and a server
 pub record ServerIs (word : List ℕ) (d : Data) (place : ℕ) : Type 0 where
   pub place_data : Data
@@ -293,6 +300,8 @@ LineIs d (servers count (Some limit)) = LimitedIs d count limit
 LineIs d (session who asks) = SessionIs d who asks
 LineIs d (write who place program) = AtServer (codes "write") (λ last. ProgramIs last program) d who place
 LineIs d (read who place key) = AtServer (codes "read") (λ last. KeyIs last key) d who place
+LineIs d (again who) = SessionAloneIs (codes "again") d who
+LineIs d (drop who) = SessionAloneIs (codes "drop") d who
 LineIs d (log place) = ServerIs (codes "log") d place
 LineIs d (fuse place calls kept) = FuseIs d place calls kept
 LineIs d (lose place count) = LossIs d place count

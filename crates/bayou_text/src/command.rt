@@ -18,8 +18,10 @@ pub struct PlannedFailure {
 pub enum Command {
     /// Opens a session that asks for these guarantees.
     Session { session: SessionId, asks: Asks },
-    /// A session tries to write or to read at a server.
+    /// A session tries to write, to read, or to write again.
     Operation(Operation),
+    /// The next operation that the session tries is to get no reply, whatever becomes of it.
+    Drop(SessionId),
     /// What a server's device, or its journal, is put through.
     Trial(Trial),
     /// A server is to take Writes from another.
@@ -30,21 +32,28 @@ pub enum Command {
     Phase,
 }
 
-/// What a session tries at a server.
+/// What a session tries.
 #[derive(Debug, Drop)]
 pub struct Operation {
     pub session: SessionId,
-    pub server: ServerId,
     pub attempt: Attempt,
 }
 
 /// What is tried.
 #[derive(Debug, Drop)]
 pub enum Attempt {
-    /// It writes.
-    Write(RestingProgram),
-    /// It reads the key.
-    Read(Key),
+    /// It writes at the server.
+    Write {
+        server: ServerId,
+        program: RestingProgram,
+    },
+    /// It reads the key at the server.
+    Read {
+        server: ServerId,
+        key: Key,
+    },
+    /// It asks its last Write again, at the server that it asked then.
+    Again,
 }
 
 /// What a server is put through.

@@ -11,9 +11,9 @@ use crate::command::{Attempt, Command, Operation, Question};
 use crate::line::{Line, LineFault, Shape};
 use crate::read::asks::asks_in;
 use crate::read::audit::{entry_in, held_in};
-use crate::read::exchange::exchange_in;
 use crate::read::number::{count_in, limit_in, server_in, session_in};
 use crate::read::program::program_in;
+use crate::read::retry::retry_in;
 use crate::read::spelled::spelled_entry;
 use crate::read::spelled_held::spelled_held;
 use crate::read::spelled_operation::spelled_operation;
@@ -31,6 +31,7 @@ mod glance;
 mod number;
 mod part;
 mod program;
+mod retry;
 mod spelled;
 mod spelled_held;
 mod spelled_operation;
@@ -125,7 +126,7 @@ fn command_in(alloc: Global, word: &str, parts: &[Value]) -> Result<Line, LineFa
     if word == "log" {
         return Ok(Line::Command(Command::Question(Question::Log(alone_in(parts)?))));
     }
-    exchange_in(word, parts)
+    retry_in(word, parts)
 }
 
 #[tactic(auto, unfolding(crate::specs::Lines::servers_in))]
@@ -167,8 +168,10 @@ fn writing_in(alloc: Global, parts: &[Value]) -> Result<Line, LineFault>
     };
     Ok(Line::Command(Command::Operation(Operation {
         session: session_in(session)?,
-        server: server_in(server)?,
-        attempt: Attempt::Write(program_in(alloc, program)?),
+        attempt: Attempt::Write {
+            server: server_in(server)?,
+            program: program_in(alloc, program)?,
+        },
     })))
 }
 
@@ -181,8 +184,10 @@ fn reading_in(parts: &[Value]) -> Result<Line, LineFault>
     };
     Ok(Line::Command(Command::Operation(Operation {
         session: session_in(session)?,
-        server: server_in(server)?,
-        attempt: Attempt::Read(key_in(key)?),
+        attempt: Attempt::Read {
+            server: server_in(server)?,
+            key: key_in(key)?,
+        },
     })))
 }
 

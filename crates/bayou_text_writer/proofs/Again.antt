@@ -43,7 +43,7 @@ use Rattle.bayou_text.specs.declared.line.Line.TheVariants as line
 use Rattle.bayou_text.specs.Laws.Lines.{asks_found, line_read, listed_items, program_found}
 use Rattle.bayou_text_writer.proofs.Vectors.{vector_spelled}
 use Rattle.bayou_text.specs.Asks.{asks_in}
-use Rattle.bayou_text.specs.Lines.{line_in, servers_in, opening_in, writing_in, reading_in, alone_in, fusing_in, losing_in, trial_of, bare_in, asked_of, pulling_in, resending_in, exchange_of}
+use Rattle.bayou_text.specs.Lines.{line_in, servers_in, opening_in, writing_in, reading_in, session_alone_in, alone_in, fusing_in, losing_in, trial_of, bare_in, asked_of, pulling_in, resending_in, exchange_of, retry_of}
 use Rattle.bayou_text.specs.Numbers.{number_in, session_in, server_in, integer_in}
 use Rattle.bayou_text.specs.Parts.{named_in, keyed_in, term_in, op_in, cond_in}
 use Rattle.bayou_text.specs.Programs.{few_in, alt_in, program_in}
@@ -221,15 +221,15 @@ held_spelled place item n kept cut = record {
 
 -- ---- commands
 
-operation_again : (who : SessionId) (place : ServerId) (tried : Attempt) → IsAttempt tried
-    → line_in (line_json (attempt_said who.index place.index tried)) ≡ Ok (attempt_said who.index place.index tried)
-unfolding line_in writing_in reading_in
-operation_again who place (attempt.Write program) kept = rw (session_again who, server_again place, program_again program kept)
-operation_again who place (attempt.Read key) kept = rw (session_again who, server_again place, key_again key kept)
+operation_again : (who : SessionId) (tried : Attempt) → IsAttempt tried → line_in (line_json (attempt_said who.index tried)) ≡ Ok (attempt_said who.index tried)
+unfolding line_in writing_in reading_in session_alone_in retry_of
+operation_again who (attempt.Write place program) kept = rw (session_again who, server_again place, program_again program kept)
+operation_again who (attempt.Read place key) kept = rw (session_again who, server_again place, key_again key kept)
+operation_again who attempt.Again kept = rw (session_again who)
 
 trial_again : (place : ServerId) (how : TrialKind) → IsTrialKind how → IsReadable (trial_kind_said place.index how)
     → line_in (line_json (trial_kind_said place.index how)) ≡ Ok (trial_kind_said place.index how)
-unfolding line_in alone_in fusing_in losing_in trial_of asked_of exchange_of
+unfolding line_in alone_in fusing_in losing_in trial_of asked_of exchange_of retry_of
 trial_again place (kind.Fuse failure) fits readable = rw (
   server_again place,
   number_again 1 MAX_FUSE_CALLS failure.calls readable.0.0 readable.0.1,
@@ -244,7 +244,7 @@ trial_again place kind.Restart kept readable = rw (server_again place)
 
 exchange_again : (to source : ServerId) (much : Extent) → IsReadable (extent_said to.index source.index much)
     → line_in (line_json (extent_said to.index source.index much)) ≡ Ok (extent_said to.index source.index much)
-unfolding line_in pulling_in resending_in exchange_of
+unfolding line_in pulling_in resending_in exchange_of retry_of
 exchange_again to source (extent.Lacking None) readable = rw (server_again to, server_again source)
 exchange_again to source (extent.Lacking (Some items)) readable = rw (
   server_again to,
@@ -254,7 +254,7 @@ exchange_again to source (extent.Lacking (Some items)) readable = rw (
 exchange_again to source extent.All readable = rw (server_again to, server_again source)
 
 question_again : (what : Question) → line_in (line_json (question_said what)) ≡ Ok (question_said what)
-unfolding line_in alone_in bare_in asked_of exchange_of
+unfolding line_in alone_in bare_in asked_of exchange_of retry_of
 question_again (question.Log place) = rw (server_again place)
 question_again question.Totals = refl
 question_again question.Judge = refl
@@ -262,9 +262,10 @@ question_again question.Survey = refl
 question_again question.Book = refl
 
 command_again : (asked : Command) → IsCommand asked → IsReadable (command_said asked) → line_in (line_json (command_said asked)) ≡ Ok (command_said asked)
-unfolding line_in opening_in bare_in asked_of exchange_of
+unfolding line_in opening_in bare_in asked_of session_alone_in exchange_of retry_of
 command_again (command.Session who asks) kept readable = rw (session_again who, asks_again asks)
-command_again (command.Operation operation) kept readable = operation_again operation.session operation.server operation.attempt kept
+command_again (command.Operation operation) kept readable = operation_again operation.session operation.attempt kept
+command_again (command.Drop who) kept readable = rw (session_again who)
 command_again (command.Trial trial) kept readable = trial_again trial.server trial.kind kept readable
 command_again (command.Exchange exchange) kept readable = exchange_again exchange.to exchange.from exchange.extent readable
 command_again (command.Question what) kept readable = question_again what

@@ -301,8 +301,15 @@ told_size told (what.Write wid stamp deps) n place kept =
 
 -- ---- commands
 
-operation_size : (who : SessionId) (place : ServerId) (tried : Attempt) → IsAttempt tried → size (line_json (attempt_said who.index place.index tried)) ≤ MAX_LINE_BYTES
-operation_size who place (attempt.Write program) kept =
+session_size : (word : List ℕ) (who : SessionId) → length word ≤ 7 → size (form word (count_json who.index ∷ [])) ≤ MAX_LINE_BYTES
+session_size word who short = omega (
+  arith,
+  form_one word (count_json who.index),
+  count_size who.index (omega (arith, who.in_range)),
+)
+
+operation_size : (who : SessionId) (tried : Attempt) → IsAttempt tried → size (line_json (attempt_said who.index tried)) ≤ MAX_LINE_BYTES
+operation_size who (attempt.Write place program) kept =
     omega (
       arith,
       form_three (codes "write") (count_json who.index) (count_json place.index) (program_json program),
@@ -310,7 +317,7 @@ operation_size who place (attempt.Write program) kept =
       count_size place.index (omega (arith, place.in_range)),
       program_size program kept,
     )
-operation_size who place (attempt.Read key) kept =
+operation_size who (attempt.Read place key) kept =
     omega (
       arith,
       form_three (codes "read") (count_json who.index) (count_json place.index) (string key),
@@ -318,6 +325,7 @@ operation_size who place (attempt.Read key) kept =
       count_size place.index (omega (arith, place.in_range)),
       key_size key kept,
     )
+operation_size who attempt.Again kept = session_size (codes "again") who (lit≤ tt)
 
 trial_size : (place : ServerId) (how : TrialKind) → IsTrialKind how → size (line_json (trial_kind_said place.index how)) ≤ MAX_LINE_BYTES
 trial_size place (kind.Fuse failure) fits =
@@ -377,7 +385,8 @@ command_size (command.Session who asks) kept =
       count_size who.index (omega (arith, who.in_range)),
       asks_size asks,
     )
-command_size (command.Operation operation) kept = operation_size operation.session operation.server operation.attempt kept
+command_size (command.Operation operation) kept = operation_size operation.session operation.attempt kept
+command_size (command.Drop who) kept = session_size (codes "drop") who (lit≤ tt)
 command_size (command.Trial trial) kept = trial_size trial.server trial.kind kept
 command_size (command.Exchange exchange) kept = exchange_size exchange.to exchange.from exchange.extent kept
 command_size (command.Question what) kept = question_size what

@@ -20,7 +20,7 @@ use Rattle.bayou_lang.specs.declared.program.Cond.TheVariants.{Equals, Absent, A
 use Rattle.bayou_lang.specs.declared.program.Alt.{Alt}
 use Rattle.bayou_lang.specs.declared.program.Program.{Program}
 use Rattle.bayou_lang.specs.declared.write.Write.{Write}
-use Rattle.bayou_text.specs.Said.{Said, servers, session, write, read, log, fuse, lose, reopen, restart, pull, resend, totals, judge, survey, book, phase, entry, held}
+use Rattle.bayou_text.specs.Said.{Said, servers, session, write, read, again, drop, log, fuse, lose, reopen, restart, pull, resend, totals, judge, survey, book, phase, entry, held}
 use Rattle.bayou_text.specs.Spelling.{form, word_if, count_json, value_json, term_json, op_json, cond_json, alt_json, program_json, asks_json, list_json, vector_json, head_json, told_json, write_json, line_json}
 
 -- no float, and at most so deep
@@ -196,6 +196,8 @@ line_plain (read who place key) =
       count 7 who,
       (count 7 place, (text 7 key, tt)),
     )
+line_plain (again who) = formed 7 _ (count_json who ∷ []) (count 7 who, tt)
+line_plain (drop who) = formed 7 _ (count_json who ∷ []) (count 7 who, tt)
 line_plain (log place) = server_plain (codes "log") place
 line_plain (fuse place calls kept) =
     formed 7 _ (count_json place ∷ count_json calls ∷ count_json kept ∷ []) (

@@ -5,12 +5,13 @@ use Rattle.std.proofs.Math.Bool.{cond}
 use Rattle.bayou_base.specs.declared.entry.Entry.{Entry}
 use Rattle.bayou_base.specs.declared.entry.What.{What}
 use Rattle.bayou_session.specs.Needs.{Told}
-use Rattle.bayou_text.specs.Said.{Said, servers, session, write, read, log, fuse, lose, reopen, restart, pull, resend, totals, judge, survey, book, phase, entry, held}
+use Rattle.bayou_text.specs.Said.{Said, servers, session, write, read, again, drop, log, fuse, lose, reopen, restart, pull, resend, totals, judge, survey, book, phase, entry, held}
 use Rattle.bayou_answers.specs.declared.answer.Answer.{Answer}
 use Rattle.bayou_machine.specs.Filed.{Files, Filings, what_told}
 use Rattle.bayou_script.specs.Capacity.{operation_of, operations}
-use Rattle.bayou_machine.specs.Standing.{Standing, session_of}
-use Rattle.bayou_machine.specs.Run.{Leaves, ScriptRun, ScriptState, ScriptStep, Tries, Turn}
+use Rattle.bayou_machine.specs.Seats.{Asked}
+use Rattle.bayou_machine.specs.Standing.{Standing, asked_by, seat_of, tried_at}
+use Rattle.bayou_machine.specs.Run.{AsksAgain, Does, Leaves, ScriptRun, ScriptState, ScriptStep, Tries, Turn}
 
 -- a run goes on by one step
 pub Run-more : (old mid new : ScriptState) (done : List Said) (answers : List Answer) (said : Said) (answer : Answer) → ScriptRun old done answers mid
@@ -21,12 +22,18 @@ Run-more old mid new (first ∷ done) (given ∷ answers) said answer (next, tak
 Run-more old mid new [] (given ∷ answers) said answer run step = absurd run
 Run-more old mid new (first ∷ done) [] said answer run step = absurd run
 
+again-count : (asked : Option Asked) (old new : Standing) (who : ℕ) (answer : Answer) → AsksAgain asked old who answer new → new.count ≡ old.count
+again-count None old new who answer (name, is_named, is, same) = ap (λ standing. standing.count) same
+again-count (Some asked) old new who answer step = ap (λ standing. standing.count) step.only
+
 -- no step changes how many servers there are
 pub ScriptStep-count : (old new : Standing) (said : Said) (answer : Answer) → ScriptStep old said answer new → new.count ≡ old.count
 ScriptStep-count old new (servers count limit) answer step = absurd step
 ScriptStep-count old new (session who asks) answer step = ap (λ standing. standing.count) step.only
 ScriptStep-count old new (write who place program) answer step = ap (λ standing. standing.count) step.only
 ScriptStep-count old new (read who place key) answer step = ap (λ standing. standing.count) step.only
+ScriptStep-count old new (again who) answer step = again-count (asked_by old who) old new who answer step
+ScriptStep-count old new (drop who) answer step = ap (λ standing. standing.count) step.only
 ScriptStep-count old new (log place) answer step = ap (λ standing. standing.count) step.0
 ScriptStep-count old new (fuse place calls kept) answer step = let change = step.1 in ap (λ standing. standing.count) change.only
 ScriptStep-count old new (lose place count) answer step = let change = step.1 in ap (λ standing. standing.count) change.only
@@ -61,7 +68,7 @@ tried old new who place said answer one tries = record {
     one,
     ap (λ (book : Filings). length book.entries) tries.only,
     length-append old.book.entries tries.filed,
-    filed_one who place (session_of old.standing tries.name) (what_told answer) tries.filed tries.files,
+    filed_one who place (seat_of old.standing tries.name).told (what_told answer) tries.filed tries.files,
   );
 }
 
@@ -79,11 +86,17 @@ stays old new said none same = record {
   filed = omega (arith, none, ap (λ (state : ScriptState). length state.book.entries) same);
 }
 
+again_moves : (op : Option (ℕ × ℕ)) (old new : ScriptState) (who : ℕ) (answer : Answer) → Does op old (again who) answer new → Moves old new (again who)
+again_moves None old new who answer turn = left old new (again who) answer turn
+again_moves (Some (same, place)) old new who answer turn = tried old new same place (again who) answer refl turn
+
 pub Turn-moves : (old new : ScriptState) (said : Said) (answer : Answer) → Turn old said answer new → Moves old new said
 Turn-moves old new (servers count limit) answer turn = left old new _ answer turn
 Turn-moves old new (session who asks) answer turn = left old new _ answer turn
 Turn-moves old new (write who place program) answer turn = tried old new who place _ answer refl turn
 Turn-moves old new (read who place key) answer turn = tried old new who place _ answer refl turn
+Turn-moves old new (again who) answer turn = again_moves (tried_at old.standing (again who)) old new who answer turn
+Turn-moves old new (drop who) answer turn = left old new _ answer turn
 Turn-moves old new (log place) answer turn = left old new _ answer turn
 Turn-moves old new (fuse place calls kept) answer turn = left old new _ answer turn
 Turn-moves old new (lose place count) answer turn = left old new _ answer turn
@@ -107,7 +120,7 @@ one_and said others false = omega arith
 pub operations-first : (said : Said) (others : List Said) → operations (said ∷ others) ≡ operations (said ∷ []) + operations others
 operations-first said others = one_and said (filter (λ (s : Said). is_some (operation_of s)) others) (is_some (operation_of said))
 
-tried_one : (said : Said) (op : Option (ℕ × ℕ)) → op ≢ None → length (cond (is_some op) (said ∷ []) []) ≡ 1
+tried_one : (said : Said) (op : Option ℕ) → op ≢ None → length (cond (is_some op) (said ∷ []) []) ≡ 1
 tried_one said None some = absurd (some refl)
 tried_one said (Some op) some = refl
 

@@ -6,7 +6,7 @@ use Rattle.bayou_lang.specs.declared.eval.Outcome.{Outcome}
 use Rattle.bayou_lang.specs.declared.eval.Outcome.TheVariants.{Updated, Merged, Nothing}
 use Rattle.bayou_log.specs.declared.listing.Listed.{Listed}
 use Rattle.bayou_answers.specs.declared.answer.Answer.{Answer}
-use Rattle.bayou_answers.specs.declared.answer.Answer.TheVariants.{Done, Wrote, Read, Refused, Lost, Logged, Stopped, Recovered, Exchanged, Counted, Judged, Surveyed, Booked}
+use Rattle.bayou_answers.specs.declared.answer.Answer.TheVariants.{Done, Wrote, Read, Refused, Lost, NotAgain, Logged, Stopped, Recovered, Exchanged, Counted, Judged, Surveyed, Booked}
 use Rattle.bayou_answers.specs.declared.answer.Transfer.{Transfer}
 use Rattle.bayou_answers.specs.declared.answer.Transfer.TheVariants.{NotRunning as NothingRuns, Ended}
 use Rattle.bayou_answers.specs.declared.answer.Recovery.{Recovery}
@@ -101,6 +101,7 @@ last_ends servers (Read session key seen) =
     ends_is _
     (behind (decimal session.index) _ (behind (codes " read ") _ (behind key _ (behind (codes " ") _ (behind (value_text seen.value) _ (behind (codes " at ") _ (behind (counts_text servers seen.vector) _ feed)))))))
 last_ends servers (Refused session refusal) = ends_is _ (behind (decimal session.index) _ (behind (codes " refused ") _ (behind (refusal_text servers refusal) _ feed)))
+last_ends servers (NotAgain session) = ends_is _ (behind (decimal session.index) _ (record { front = codes " again none"; split = refl }))
 last_ends servers (Lost session) = ends_is _ (behind (decimal session.index) _ (record { front = codes " lost"; split = refl }))
 last_ends servers (Logged server listing vector) = ends_is _ (behind (codes "log ") _ (behind (decimal server.index) _ (behind (codes " at ") _ (behind (counts_text servers vector) _ feed))))
 last_ends servers (Stopped server) = ends_is _ (behind (codes "stopped ") _ (behind (decimal server.index) _ feed))

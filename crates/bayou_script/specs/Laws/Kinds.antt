@@ -10,9 +10,11 @@ use Rattle.bayou_text.specs.declared.command.TrialKind.{TrialKind}
 use Rattle.bayou_text.specs.declared.command.TrialKind.TheVariants as kind
 use Rattle.bayou_script.specs.Kinds.{IsExchange, IsOperation, IsQuestion, IsTrial}
 
-pub operation_is : (who place : ℕ) (tried : Attempt) → IsOperation who place tried
-operation_is who place (attempt.Write program) = record {
-  uses = refl;
+pub operation_is : (who : ℕ) (tried : Attempt) → IsOperation who tried
+operation_is who (attempt.Write place program) = record {
+  starts_none = refl;
+  opens_none = refl;
+  speaks = refl;
   no_audit = refl;
   goes_on = refl;
   no_opening = refl;
@@ -22,8 +24,23 @@ operation_is who place (attempt.Write program) = record {
   claims = refl;
   runs = refl;
 }
-operation_is who place (attempt.Read key) = record {
-  uses = refl;
+operation_is who (attempt.Read place key) = record {
+  starts_none = refl;
+  opens_none = refl;
+  speaks = refl;
+  no_audit = refl;
+  goes_on = refl;
+  no_opening = refl;
+  own = λ number. refl;
+  no_pull = refl;
+  no_rest = refl;
+  claims = refl;
+  runs = refl;
+}
+operation_is who attempt.Again = record {
+  starts_none = refl;
+  opens_none = refl;
+  speaks = refl;
   no_audit = refl;
   goes_on = refl;
   no_opening = refl;

@@ -12,7 +12,7 @@ use Rattle.bayou_script.specs.Plan.{network_plan_of}
 
 pub command_runs : (command : NetworkCommand) → runs_over_network (network_said command) ≡ true
 command_runs (network.Session who asks) = refl
-command_runs (network.Operation operation) = (operation_is operation.session.index operation.server.index operation.attempt).runs
+command_runs (network.Operation operation) = (operation_is operation.session.index operation.attempt).runs
 command_runs (network.Pull to source) = refl
 command_runs (network.Reopen place) = refl
 command_runs (network.Question question) = (question_is question).runs

@@ -223,7 +223,6 @@ pub(crate) fn guess_held(alloc: Global, bytes: &[u8]) -> Option<GuessedHeld> {
 #[derive(Drop)]
 pub(crate) struct GuessedOperation {
     pub(crate) session: SessionId,
-    pub(crate) server: ServerId,
     pub(crate) attempt: Attempt,
     /// Whether the empty members of a program stand in the line.
     pub(crate) is_whole: bool,
@@ -241,14 +240,14 @@ pub(crate) fn guess_operation(alloc: Global, bytes: &[u8]) -> Option<GuessedOper
     glance.skip();
     let (attempt, is_whole) = if is_write {
         let (program, is_whole) = glance.update(alloc)?;
-        (Attempt::Write(program), is_whole)
+        (Attempt::Write { server, program }, is_whole)
     } else {
         glance.skip();
-        (Attempt::Read(glance.key()?), false)
+        let key = glance.key()?;
+        (Attempt::Read { server, key }, false)
     };
     Some(GuessedOperation {
         session,
-        server,
         attempt,
         is_whole,
     })

@@ -142,19 +142,18 @@ pub(crate) fn spelled_operation(alloc: Global, bytes: &[u8]) -> Option<Line>
         return None;
     };
     let session = guess.session;
-    let server = guess.server;
     let is_spelled = match &guess.attempt {
-        Attempt::Read(key) => is_read(alloc, bytes, session, server, key),
-        Attempt::Write(program) => {
-            is_write(alloc, bytes, session, server, program, guess.is_whole)
+        Attempt::Read { server, key } => is_read(alloc, bytes, session, *server, key),
+        Attempt::Write { server, program } => {
+            is_write(alloc, bytes, session, *server, program, guess.is_whole)
         }
+        Attempt::Again => false,
     };
     if !is_spelled {
         return None;
     }
     Some(Line::Command(Command::Operation(Operation {
         session,
-        server,
         attempt: guess.attempt,
     })))
 }

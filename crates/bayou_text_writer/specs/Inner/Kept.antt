@@ -19,8 +19,9 @@ use Rattle.bayou_text.specs.declared.line.Line.TheVariants as line
 
 -- what an operation keeps by its type
 abbrev pub IsAttempt : Attempt → Type 0
-IsAttempt (attempt.Write program) = IsProgram program
-IsAttempt (attempt.Read key) = IsKey key
+IsAttempt (attempt.Write place program) = IsProgram program
+IsAttempt (attempt.Read place key) = IsKey key
+IsAttempt attempt.Again = ⊤
 
 -- what a trial keeps
 abbrev pub IsTrialKind : TrialKind → Type 0
@@ -38,6 +39,7 @@ IsExtent extent.All = ⊤
 abbrev pub IsCommand : Command → Type 0
 IsCommand (command.Session who asks) = ⊤
 IsCommand (command.Operation operation) = IsAttempt operation.attempt
+IsCommand (command.Drop who) = ⊤
 IsCommand (command.Trial trial) = IsTrialKind trial.kind
 IsCommand (command.Exchange exchange) = IsExtent exchange.extent
 IsCommand (command.Question question) = ⊤

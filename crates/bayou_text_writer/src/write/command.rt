@@ -6,7 +6,7 @@ ghost use Rattle.bayou_text.specs.Spelling as spelling;
 ghost use Rattle.bayou_text_writer.specs.Inner.Kept.{IsAttempt, IsCommand, IsExtent, IsTrialKind};
 
 use crate::write::asks::asks_json;
-use crate::write::numbers::{between_json, numbers_json, server_json};
+use crate::write::numbers::{between_json, numbers_json, server_json, session_json};
 use crate::write::program::program_json;
 use bayou_base::{ServerId, SessionId};
 use bayou_text::{Attempt, Command, Exchange, Extent, Operation, Question, Trial, TrialKind};
@@ -31,11 +31,18 @@ fn operation_json(alloc: Global, operation: &Operation) -> Result<Value, AllocEr
     ensures spelling { IfOk result (λ json. view json ≡ spelling.line_json (operation_said operation.now)) }
     ensures kept { OnOk result (IsAttempt operation.now.attempt) }
 {
-    let (word, last) = match &operation.attempt {
-        Attempt::Write(program) => ("write", program_json(alloc, program)?),
-        Attempt::Read(key) => ("read", Value::try_from_str(alloc, key.as_str())?),
-    };
-    at_server_json(alloc, word, operation.session, operation.server, last)
+    let session = operation.session;
+    match &operation.attempt {
+        Attempt::Write { server, program } => {
+            let program = program_json(alloc, program)?;
+            at_server_json(alloc, "write", session, *server, program)
+        }
+        Attempt::Read { server, key } => {
+            let key = Value::try_from_str(alloc, key.as_str())?;
+            at_server_json(alloc, "read", session, *server, key)
+        }
+        Attempt::Again => session_json(alloc, "again", session),
+    }
 }
 
 fn trial_json(alloc: Global, trial: Trial) -> Result<Value, AllocError>
@@ -101,6 +108,7 @@ pub(crate) fn command_json(alloc: Global, command: &Command) -> Result<Value, Al
             json!(in alloc; ["session", session.index, asks])
         }
         Command::Operation(operation) => operation_json(alloc, operation),
+        Command::Drop(session) => session_json(alloc, "drop", *session),
         Command::Trial(trial) => trial_json(alloc, *trial),
         Command::Exchange(exchange) => exchange_json(alloc, *exchange),
         Command::Question(question) => question_json(alloc, *question),

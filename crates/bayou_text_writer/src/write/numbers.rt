@@ -3,7 +3,7 @@ ghost use Rattle.std.specs.Prelude.{◌≡◌, ◌∷◌, [], IfOk, map};
 ghost use Rattle.serde_json.specs.View.{view};
 ghost use Rattle.bayou_text.specs.Spelling as spelling;
 
-use bayou_base::ServerId;
+use bayou_base::{ServerId, SessionId};
 use serde_json::Value;
 use std::alloc::{AllocError, Global};
 
@@ -24,6 +24,17 @@ pub(crate) fn server_json(alloc: Global, word: &str, server: ServerId) -> Result
     ensures { IfOk result (λ json. view json ≡ spelling.form word.now (spelling.count_json server.index ∷ [])) }
 {
     numbers_json(alloc, word, &[u64::from(server.index)])
+}
+
+/// The spelling of a command that takes a session alone.
+pub(crate) fn session_json(
+    alloc: Global,
+    word: &str,
+    session: SessionId,
+) -> Result<Value, AllocError>
+    ensures { IfOk result (λ json. view json ≡ spelling.form word.now (spelling.count_json session.index ∷ [])) }
+{
+    numbers_json(alloc, word, &[u64::from(session.index)])
 }
 
 /// The spelling of a command that takes two servers alone.

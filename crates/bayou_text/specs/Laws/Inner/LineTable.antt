@@ -11,13 +11,13 @@ use Rattle.bayou_text.specs.Laws.Inner.Readers.{bound, there, word_or, worded_of
 use Rattle.bayou_text.specs.Laws.Inner.AuditTable.{entry_found, held_found, told_read, held_read}
 use Rattle.bayou_text.specs.Asks.{asks_in}
 use Rattle.bayou_text.specs.Audit.{entry_in, held_in}
-use Rattle.bayou_text.specs.Lines.{servers_in, opening_in, writing_in, reading_in, alone_in, fusing_in, losing_in, trial_of, bare_in, asked_of, pulling_in, resending_in, exchange_of, command_of, spoken_of, line_in, text_line}
+use Rattle.bayou_text.specs.Lines.{servers_in, opening_in, writing_in, reading_in, session_alone_in, alone_in, fusing_in, losing_in, trial_of, bare_in, asked_of, pulling_in, resending_in, exchange_of, retry_of, command_of, spoken_of, line_in, text_line}
 use Rattle.bayou_text.specs.Numbers.{count_in, limit_in, session_in, server_in, calls_in, kept_in, lost_in, cut_in}
 use Rattle.bayou_text.specs.Programs.{program_in}
 use Rattle.bayou_text.specs.Reading.{◌>>=◌, worded}
-use Rattle.bayou_text.specs.Said.{Said, servers, session, write, read, log, fuse, lose, reopen, restart, pull, resend, totals, judge, survey, book, phase, entry, held}
+use Rattle.bayou_text.specs.Said.{Said, servers, session, write, read, again, drop, log, fuse, lose, reopen, restart, pull, resend, totals, judge, survey, book, phase, entry, held}
 use Rattle.bayou_text.specs.Spelling.{form}
-use Rattle.bayou_text.specs.Table.{BetweenIs, NumberIs, AtServer, ServerIs, ProgramIs, KeyIs, LineIs, Spells}
+use Rattle.bayou_text.specs.Table.{BetweenIs, NumberIs, AtServer, ServerIs, SessionAloneIs, ProgramIs, KeyIs, LineIs, Spells}
 use Rattle.bayou_text.specs.Values.{key_in}
 
 servers_found : (d : Data) (parts : List Data) (s : Said) → d ≡ form (codes "servers") parts
@@ -307,6 +307,34 @@ exchange_found d word parts s is e = elim (word_or d word (codes "pull") parts (
   ]
 ]
 
+session_alone_found : (word : List ℕ) (d : Data) (parts : List Data) (who : ℕ) → d ≡ form word parts
+    → session_alone_in parts ≡ Ok who → SessionAloneIs word d who
+unfolding session_alone_in
+session_alone_found word d [] who is e = absurd (cc)
+session_alone_found word d (w ∷ []) who is e =
+    let numbered = number_found 0 (SESSIONS - 1) w who e in
+    record { who_data = w; form_is = is; who_is = numbered.0; who_in_range = omega (arith, numbered.1) }
+session_alone_found word d (w ∷ other ∷ more) who is e = absurd (cc)
+
+session_line : (word : List ℕ) (d : Data) (parts : List Data) (what : ℕ → Said) (s : Said)
+    → ((n : ℕ) → SessionAloneIs word d n → LineIs d (what n)) → d ≡ form word parts
+    → (session_alone_in parts >>= λ who. Ok (what who)) ≡ Ok s → LineIs d s
+session_line word d parts what s line_is is e =
+    let who = bound (session_alone_in parts) (λ n. Ok (what n)) s e in
+    let same : what who.0 ≡ s = cc in
+    subst (λ (l : Said). LineIs d l) same (line_is who.0 (session_alone_found word d parts who.0 is who.1))
+
+retry_found : (d : Data) (word : List ℕ) (parts : List Data) (s : Said) → d ≡ form word parts
+    → retry_of word parts ≡ Ok s → LineIs d s
+unfolding retry_of
+retry_found d word parts s is e = elim (word_or d word (codes "again") parts (session_alone_in parts >>= λ who. Ok (again who)) _ s is e) [
+  | inl h ↦ session_line (codes "again") d parts again s (λ n h. h) h.0 h.1
+  | inr h ↦ elim (word_or d word (codes "drop") parts (session_alone_in parts >>= λ who. Ok (drop who)) (exchange_of word parts) s is h) [
+    | inl i ↦ session_line (codes "drop") d parts drop s (λ n h. h) i.0 i.1
+    | inr i ↦ exchange_found d word parts s is i
+  ]
+]
+
 command_found : (d : Data) (word : List ℕ) (parts : List Data) (s : Said) → d ≡ form word parts
     → command_of word parts ≡ Ok s → LineIs d s
 command_found d word parts s is e = elim
@@ -320,9 +348,9 @@ command_found d word parts s is e = elim
             | inl k ↦ reading_found d parts s k.0 k.1
             | inr k ↦ elim
                 (word_or d word (codes "log") parts (alone_in parts >>= λ at. Ok (log at))
-                (exchange_of word parts) s is k) [
+                (retry_of word parts) s is k) [
                   | inl l ↦ server_line (codes "log") d parts log s (λ n h. h) l.0 l.1
-                  | inr l ↦ exchange_found d word parts s is l
+                  | inr l ↦ retry_found d word parts s is l
                 ]
           ]
         ]
@@ -358,8 +386,13 @@ alone_read : (place : Data) (n : ℕ) (what : ℕ → Said) → NumberIs place n
 unfolding alone_in
 alone_read place n what is low = rw (server_read place n is low)
 
+session_alone_read : (who : Data) (n : ℕ) (what : ℕ → Said) → NumberIs who n → n < SESSIONS
+    → (session_alone_in (who ∷ []) >>= λ m. Ok (what m)) ≡ Ok (what n)
+unfolding session_alone_in
+session_alone_read who n what is low = rw (session_read who n is low)
+
 pub line_read : (d : Data) (s : Said) → LineIs d s → line_in d ≡ Ok s
-unfolding servers_in opening_in writing_in reading_in fusing_in losing_in trial_of bare_in asked_of pulling_in resending_in exchange_of
+unfolding servers_in opening_in writing_in reading_in fusing_in losing_in trial_of bare_in asked_of pulling_in resending_in exchange_of retry_of
 line_read d (servers count None) is =
     rw is.form_is (formed _ (is.count_data ∷ []) _
     (rw (number_read 1 SERVERS is.count_data count is.count_is is.count_in_range.0 is.count_in_range.1)))
@@ -389,6 +422,12 @@ line_read d (read who place key) is =
       server_read is.place_data place is.place_is is.place_in_range,
       key_read is.last_data key is.last_is,
     )))
+line_read d (again who) is =
+    rw is.form_is (formed _ (is.who_data ∷ []) _
+    (session_alone_read is.who_data who again is.who_is is.who_in_range))
+line_read d (drop who) is =
+    rw is.form_is (formed _ (is.who_data ∷ []) _
+    (session_alone_read is.who_data who drop is.who_is is.who_in_range))
 line_read d (log place) is =
     rw is.form_is (formed _ (is.place_data ∷ []) _
     (alone_read is.place_data place log is.place_is is.place_in_range))

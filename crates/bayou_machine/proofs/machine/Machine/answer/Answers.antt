@@ -8,4 +8,4 @@ pub returns-in-Trial : goal.returns-in-Trial
 returns-in-Trial g c =
     let trial = c.in-Trial.trial in
     rw (c.in-Trial.is, ← c.self-in-Trial.view_is)
-    (left_turn _ _ (trial_said trial) c.put_through.result (trial_is_none trial.server.index trial.kind) c.put_through.ensures refl)
+    (left_turn _ _ (trial_said trial) c.put_through.result (trial_is_none c.self-in-Trial.inside.parties trial.server.index trial.kind) c.put_through.ensures refl)

@@ -10,4 +10,4 @@ returns-clause-one_each c =
     let same : c.self.inside.servers.items ≡ servers = ap (λ standing. standing.servers) c.self.view_is in
     let all : length servers ≤ at = omega (arith, c.loop-server-test.false, ap length c.deref-server-items.ensures.value, ap length same) in
     one_dump_each c.loop-server.dumps.items (take at servers) c.loop-server.invariant ∙ ap length (take_all at servers all)
-    ∙ sym (ap length same) ∙ c.self.invariant ∙ ap (λ standing. standing.count) c.self.view_is
+    ∙ sym (ap length same) ∙ c.self.invariant.0 ∙ ap (λ standing. standing.count) c.self.view_is

@@ -6,5 +6,5 @@ returns c = record {
   name = c.args.who;
   is_named = refl;
   answered = refl;
-  only = rw (← c.self.view_is, c.from.ensures, c.new.ensures.value) refl;
+  only = rw (← c.self.view_is, c.from.ensures, c.new.ensures) refl;
 }

@@ -15,7 +15,7 @@ returns c =
         before = c.index_mut.result.now;
         after = c.reopen.new.self;
         stands = stands_at c.self.inside.servers.items c.args.self.now.servers c.self.inside.plan.count place c.from.result c.index_mut.result.now
-            (ap (λ standing. standing.servers) c.self.view_is) c.self.invariant c.from.ensures within c.index_mut.ensures.value;
+            (ap (λ standing. standing.servers) c.self.view_is) c.self.invariant.0 c.from.ensures within c.index_mut.ensures.value;
         does = c.reopen.ensures;
         only = rw (← c.self.view_is, c.from.ensures) refl;
       },

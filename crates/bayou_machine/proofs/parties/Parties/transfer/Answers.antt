@@ -23,9 +23,9 @@ returns-in-Stopped c counts_of same =
       sender = get_or replicas c.args.from.index before;
       after = before;
       exchange = NotRunning;
-      takes = stands_at replicas c.args.self.now.servers c.self.inside.plan.count c.args.to.index c.from.result before servers c.self.invariant c.from.ensures
+      takes = stands_at replicas c.args.self.now.servers c.self.inside.plan.count c.args.to.index c.from.result before servers c.self.invariant.0 c.from.ensures
           (omega (arith, count, c.requires.to)) c.index.ensures;
-      sends = one_stands replicas c.args.self.now.servers c.self.inside.plan.count c.args.from.index before servers c.self.invariant (omega (arith, count, c.requires.from));
+      sends = one_stands replicas c.args.self.now.servers c.self.inside.plan.count c.args.from.index before servers c.self.invariant.0 (omega (arith, count, c.requires.from));
       answered = refl;
       does = (inl (c.in-Stopped.field-0, c.in-Stopped.is), refl);
       only = same_machine c.args.self.now replicas c.args.to.index c.from.result before servers c.from.ensures c.index.ensures;
@@ -38,7 +38,7 @@ returns-in-Err c counts_of same =
     let count : c.self.inside.plan.count ≡ c.args.self.now.count = ap (λ standing. standing.count) c.self.view_is in
     let before = c.index.result.now in
     let sender = c.index_mut.result.now in
-    let takes = stands_at replicas c.args.self.now.servers c.self.inside.plan.count c.args.to.index c.from.result before servers c.self.invariant c.from.ensures
+    let takes = stands_at replicas c.args.self.now.servers c.self.inside.plan.count c.args.to.index c.from.result before servers c.self.invariant.0 c.from.ensures
     (omega (arith, count, c.requires.to)) c.index.ensures in
     record {
       before = before;
@@ -46,12 +46,12 @@ returns-in-Err c counts_of same =
       after = before;
       exchange = c.in-Err.transfer;
       takes = takes;
-      sends = stands_at replicas c.args.self.now.servers c.self.inside.plan.count c.args.from.index c.from-2.result sender servers c.self.invariant c.from-2.ensures
+      sends = stands_at replicas c.args.self.now.servers c.self.inside.plan.count c.args.from.index c.from-2.result sender servers c.self.invariant.0 c.from-2.ensures
           (omega (arith, count, c.requires.from)) c.index_mut.ensures.value;
       answered = refl;
       does = subst (λ counts. IsExchanged counts c.args.cut before sender c.in-Err.transfer before) (sym (same before takes))
           (no_answer c.args.counts.now c.args.cut before sender c.in-Err.transfer c.in_default.field-0 c.in_default.is c.in-Err.ensures.none);
-      only = ap (λ (list : List ScriptServer). record { count = c.self.inside.plan.count; limit = c.self.inside.plan.limit; servers = list; sessions = c.self.inside.sessions })
+      only = ap (λ (list : List ScriptServer). record { count = c.self.inside.plan.count; limit = c.self.inside.plan.limit; servers = list; sessions = c.self.inside.seats.items })
           (put_same replicas c.from-2.result sender c.answer.new.self c.index_mut.ensures.value c.answer.ensures.same) ∙ c.self.view_is
           ∙ same_machine c.args.self.now replicas c.args.to.index c.from.result before servers c.from.ensures c.index.ensures;
     }
@@ -81,7 +81,7 @@ returns c counts_of same =
     put_same replicas c.from-2.result sender c.answer.new.self c.index_mut.ensures.value c.answer.ensures.same in
     let found : before ≡ get_or replicas c.from-3.result before =
     subst (λ (list : List ScriptServer). before ≡ get_or list c.from-3.result before) kept c.index_mut-2.ensures.value in
-    let takes = stands_at replicas c.args.self.now.servers c.self.inside.plan.count c.args.to.index c.from-3.result before servers c.self.invariant c.from-3.ensures
+    let takes = stands_at replicas c.args.self.now.servers c.self.inside.plan.count c.args.to.index c.from-3.result before servers c.self.invariant.0 c.from-3.ensures
     (omega (arith, count, c.requires.to)) found in
     let (other, is, sends) = c.in-Ok.ensures.sent in
     let sent : List Write = lacking_of c.args.counts.now other.core.held in
@@ -99,11 +99,11 @@ returns c counts_of same =
       after = after;
       exchange = c.take_from.result;
       takes = takes;
-      sends = stands_at replicas c.args.self.now.servers c.self.inside.plan.count c.args.from.index c.from-2.result sender servers c.self.invariant c.from-2.ensures
+      sends = stands_at replicas c.args.self.now.servers c.self.inside.plan.count c.args.from.index c.from-2.result sender servers c.self.invariant.0 c.from-2.ensures
           (omega (arith, count, c.requires.from)) c.index_mut.ensures.value;
       answered = refl;
       does = subst (λ counts. IsExchanged counts c.args.cut before sender c.take_from.result after) (sym (same before takes))
           (given c.args.counts.now c.args.cut before sender after c.take_from.result other is taken);
-      only = ap (λ (list : List ScriptServer). record { count = c.self.inside.plan.count; limit = c.self.inside.plan.limit; servers = set list c.from-3.result after; sessions = c.self.inside.sessions }) kept
+      only = ap (λ (list : List ScriptServer). record { count = c.self.inside.plan.count; limit = c.self.inside.plan.limit; servers = set list c.from-3.result after; sessions = c.self.inside.seats.items }) kept
           ∙ (rw (← c.self.view_is, c.from-3.ensures) refl);
     }

@@ -1,23 +1,39 @@
-use Rattle.std.proofs.Common.{◌≡◌, ◌<◌, ap, arith, refl, subst}
-use Rattle.bayou_session.specs.Needs.{Told}
+use Rattle.std.proofs.Common.{◌≡◌, ◌<◌, ◌∙◌, ap, arith, length-set, refl, subst, sym}
 use Rattle.bayou_machine.specs.ScriptServer.{IsWritten}
+use Rattle.bayou_machine.specs.Seats.{Seat}
+use Rattle.bayou_machine.specs.Standing.{Standing}
+use Rattle.bayou_machine.proofs.Seated.{asked_within, found_seat, put_seat}
 use Rattle.bayou_machine.proofs.Standing.{stands_at}
+use Rattle.bayou_machine.proofs.Tagged.{written_within}
 use Rattle.bayou_machine.proofs.parties.Parties.write.Goals as goal
+
+pub invariant_of-self : goal.invariant_of-self
+invariant_of-self c =
+    let count : c.self.inside.plan.count ≡ c.args.self.now.count = ap (λ (standing : Standing). standing.count) c.self.view_is in
+    let seat = c.index_mut-seat.result.now in
+    let old = asked_within c.self.inside.seats.items c.self.inside.plan.count c.from.result seat c.self.invariant.1 (omega (arith, c.from.ensures, c.args.who.in_range)) c.index_mut-seat.ensures.value in (
+      length-set c.self.inside.servers.items c.from-2.result c.write.new.self ∙ c.self.invariant.0,
+      put_seat c.self.inside.plan.count c.self.inside.seats.items c.from.result c.write.new.seat c.self.invariant.1
+          (written_within (λ asked. asked.server < c.self.inside.plan.count) c.args.who c.args.server.index c.args.program c.index_mut-at.result.now c.write.new.self seat c.write.new.seat c.write.result
+          c.write.ensures old (omega (arith, count, c.requires))),
+    )
 
 pub returns : goal.returns
 returns c =
     let place = c.args.server.index in
-    let count : c.self.inside.plan.count ≡ c.args.self.now.count = ap (λ standing. standing.count) c.self.view_is in
+    let seats = c.self.inside.seats.items in
+    let same : seats ≡ c.args.self.now.sessions = ap (λ (standing : Standing). standing.sessions) c.self.view_is in
+    let count : c.self.inside.plan.count ≡ c.args.self.now.count = ap (λ (standing : Standing). standing.count) c.self.view_is in
     let within : place < c.self.inside.plan.count = omega (arith, c.requires) in
+    let found = found_seat c.args.self.now seats c.self.inside.plan.count c.from.result c.args.who c.index_mut-seat.result.now same c.self.invariant.1 c.from.ensures c.index_mut-seat.ensures.value in
     record {
       name = c.args.who;
       is_named = refl;
       before = c.index_mut-at.result.now;
-      after = c.write-answer.new.self;
-      told = c.write-answer.new.session;
-      stands = stands_at c.self.inside.servers.items c.args.self.now.servers c.self.inside.plan.count place c.from.result c.index_mut-at.result.now
-          (ap (λ standing. standing.servers) c.self.view_is) c.self.invariant c.from.ensures within c.index_mut-at.ensures.value;
-      does = subst (λ (told : Told). IsWritten c.args.who c.args.program c.index_mut-at.result.now told c.write-answer.result c.write-answer.new.self c.write-answer.new.session)
-          c.session-session.ensures c.write-answer.ensures;
+      after = c.write.new.self;
+      now = c.write.new.seat;
+      stands = stands_at c.self.inside.servers.items c.args.self.now.servers c.self.inside.plan.count place c.from-2.result c.index_mut-at.result.now
+          (ap (λ standing. standing.servers) c.self.view_is) c.self.invariant.0 c.from-2.ensures within c.index_mut-at.ensures.value;
+      does = subst (λ (seat : Seat). IsWritten c.args.who place c.args.program c.index_mut-at.result.now seat c.write.result c.write.new.self c.write.new.seat) (sym found) c.write.ensures;
       only = rw (← c.self.view_is, c.from.ensures, c.from-2.ensures) refl;
     }
