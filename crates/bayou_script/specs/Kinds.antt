@@ -1,20 +1,25 @@
 -- What a command is by its kind, whichever of the kind it is.
-use Rattle.std.specs.Prelude.{◌≡◌, ◌==◌, ℕ, false, true, [], ◌∷◌, None, Some}
+use Rattle.std.specs.Prelude.{◌≡◌, ◌==◌, ℕ, false, true, None, Some}
 use Rattle.bayou_text.specs.Said.{attempt_said, extent_said, question_said, trial_kind_said}
 use Rattle.bayou_text.specs.declared.command.Attempt.{Attempt}
+use Rattle.bayou_text.specs.declared.command.Attempt.TheVariants as attempt
 use Rattle.bayou_text.specs.declared.command.Extent.{Extent}
 use Rattle.bayou_text.specs.declared.command.Question.{Question}
 use Rattle.bayou_text.specs.declared.command.TrialKind.{TrialKind}
 use Rattle.bayou_script.specs.Network.{runs_over_network}
 use Rattle.bayou_script.specs.Phases.{ends_phase, is_operation_of, is_opening, is_pull, is_rest}
 use Rattle.bayou_script.specs.Capacity.{operation_of}
-use Rattle.bayou_script.specs.Script.{at_server, is_audit, of_servers, use_of}
+use Rattle.bayou_script.specs.Script.{Use, at_server, is_audit, of_servers, of_session, of_session_at, use_of}
+
+-- what an attempt of this session uses: the session, and the server that it names
+abbrev pub used_by : ℕ → Attempt → Use
+used_by who (attempt.Write place program) = of_session_at who place.index
+used_by who (attempt.Read place key) = of_session_at who place.index
+used_by who attempt.Again = of_session who
 
 -- what an operation of this session is
 pub record IsOperation (who : ℕ) (tried : Attempt) : Type 0 where
-  pub starts_none : (use_of (attempt_said who tried)).starts ≡ None
-  pub opens_none : (use_of (attempt_said who tried)).opens ≡ []
-  pub speaks : (use_of (attempt_said who tried)).sessions ≡ who ∷ []
+  pub uses : use_of (attempt_said who tried) ≡ used_by who tried
   pub no_audit : is_audit (attempt_said who tried) ≡ false
   pub goes_on : ends_phase (attempt_said who tried) ≡ false
   pub no_opening : is_opening (attempt_said who tried) ≡ false

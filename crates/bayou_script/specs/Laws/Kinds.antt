@@ -12,9 +12,7 @@ use Rattle.bayou_script.specs.Kinds.{IsExchange, IsOperation, IsQuestion, IsTria
 
 pub operation_is : (who : ℕ) (tried : Attempt) → IsOperation who tried
 operation_is who (attempt.Write place program) = record {
-  starts_none = refl;
-  opens_none = refl;
-  speaks = refl;
+  uses = refl;
   no_audit = refl;
   goes_on = refl;
   no_opening = refl;
@@ -25,9 +23,7 @@ operation_is who (attempt.Write place program) = record {
   runs = refl;
 }
 operation_is who (attempt.Read place key) = record {
-  starts_none = refl;
-  opens_none = refl;
-  speaks = refl;
+  uses = refl;
   no_audit = refl;
   goes_on = refl;
   no_opening = refl;
@@ -38,9 +34,7 @@ operation_is who (attempt.Read place key) = record {
   runs = refl;
 }
 operation_is who attempt.Again = record {
-  starts_none = refl;
-  opens_none = refl;
-  speaks = refl;
+  uses = refl;
   no_audit = refl;
   goes_on = refl;
   no_opening = refl;
