@@ -1,7 +1,10 @@
 //! Every limit of the program, each named once.
 
 /// How many servers there may be at the most: the counts of a vector.
-pub const SERVERS: usize = 8;
+pub const SERVERS: usize = 16;
+
+/// How many servers there were at the most before: the counts of a vector in the first two versions of a journal.
+pub const OLD_SERVERS: usize = 8;
 
 /// How many servers a script over a network starts at the most.
 pub const NET_SERVERS: usize = 4;
@@ -37,7 +40,7 @@ pub const MAX_LINES: u64 = 65_536;
 pub const MAX_LINE_BYTES: usize = 65_536;
 
 /// How many bytes an encoded Write has at the most: each list full, and each key, text and term as long as it may be.
-pub const MAX_WRITE_BYTES: usize = 5_812;
+pub const MAX_WRITE_BYTES: usize = 5_844;
 
 /// How many bytes a frame's length counts at the most: its kind and its payload.
 pub const MAX_FRAME_BYTES: usize = 8_192;

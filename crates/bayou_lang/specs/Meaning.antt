@@ -1,6 +1,6 @@
 -- What a program means: an update, its dependency check and its merge procedure (Terry et al. 1995). The conditions,
 -- terms and ops are this project's own.
-use Rattle.std.specs.Prelude.{ℕ, ◌+◌, ◌^◌, ℤ, pos, negsuc, ◌+ℤ◌, int_le, Bool, true, false, ◌&&◌, List, [], ◌∷◌, Option, None, Some, nat_eq, nat_lt, is_none, option_and_then, if◌then◌else◌}
+use Rattle.std.specs.Prelude.{ℕ, ◌+◌, ◌^◌, ℤ, pos, negsuc, ◌+ℤ◌, int_le, Bool, true, false, ◌&&◌, List, [], ◌∷◌, Option, None, Some, nat_eq, nat_le, nat_lt, is_none, option_and_then, if◌then◌else◌}
 use Rattle.std.specs.Option.{option_map, option_map_or}
 use Rattle.std.specs.Ordering.{int_eq}
 use Rattle.std.specs.Cmp.Lexicographic.{pointwise}
@@ -11,12 +11,12 @@ use Rattle.bayou_lang.specs.declared.program.Term.TheVariants.{Lit, Copy, Plus}
 use Rattle.bayou_lang.specs.declared.program.Op.{Op}
 use Rattle.bayou_lang.specs.declared.program.Op.TheVariants.{Put, Del}
 use Rattle.bayou_lang.specs.declared.program.Cond.{Cond}
-use Rattle.bayou_lang.specs.declared.program.Cond.TheVariants.{Equals, Absent, AtLeast}
+use Rattle.bayou_lang.specs.declared.program.Cond.TheVariants.{Equals, Absent, AtLeast, AtMost}
 use Rattle.bayou_lang.specs.declared.program.Alt.{Alt}
 use Rattle.bayou_lang.specs.declared.program.Program.{Program}
 use Rattle.bayou_lang.specs.declared.eval.Outcome.{Outcome}
 use Rattle.bayou_lang.specs.declared.eval.Outcome.TheVariants.{Updated, Merged, Nothing}
-use Rattle.bayou_lang.specs.Database.{Database, changed, value_at}
+use Rattle.bayou_lang.specs.Database.{Database, changed, number_with, value_at}
 
 -- whether two values are one
 abbrev pub same_value : Value → Value → Bool
@@ -30,11 +30,13 @@ abbrev pub is_at_least : ℤ → Value → Bool
 is_at_least number (Num a) = int_le number a
 is_at_least number (Text a) = false
 
--- Equals: the key is present with the value. Absent: the key is absent. AtLeast: the key has a number not less than this one.
+-- Equals: the key is present with the value. Absent: the key is absent. AtLeast: the key has a number not less than this one. AtMost: so
+-- many keys at the most that are present begin with the prefix.
 abbrev pub holds : Cond → Database → Bool
 holds (Equals key value) database = option_map_or (same_value value) (value_at database key) false
 holds (Absent key) database = is_none (value_at database key)
 holds (AtLeast key number) database = option_map_or (is_at_least number) (value_at database key) false
+holds (AtMost prefix most) database = nat_le (number_with prefix database) most
 
 -- every condition holds
 abbrev pub all_hold : List Cond → Database → Bool

@@ -60,6 +60,7 @@ fn holds<L: Look>(condition: &Cond, look: &L) -> bool
             Some(Value::Num(found)) => *number <= found,
             _ => false,
         },
+        Cond::AtMost(prefix, most) => look.number_with(prefix, *most) <= *most as usize,
     }
 }
 

@@ -1,5 +1,5 @@
 //! What the definitions come to, in the subject's own words: each law is the contract of a function that does nothing.
-ghost use Rattle.std.specs.Prelude.{◌≡◌, ℕ, ◌<◌, ◌==◌, ◌+◌, ◌&&◌, ℤ, ◌+ℤ◌, ◌≤ℤ◌, ◌↔◌, All, AllPairs, Any, List, [], ◌∷◌, ◌++◌, Option, None, Some, true, false, FitsSigned, drop, filter, is_some, length, slice_get, slice_index, take, if◌then◌else◌};
+ghost use Rattle.std.specs.Prelude.{◌≡◌, ℕ, ◌<◌, ◌≤◌, ◌==◌, ◌+◌, ◌&&◌, ℤ, ◌+ℤ◌, ◌≤ℤ◌, ◌↔◌, All, AllPairs, Any, List, [], ◌∷◌, ◌++◌, Option, None, Some, true, false, FitsSigned, drop, filter, is_some, length, slice_get, slice_index, take, if◌then◌else◌};
 ghost use Rattle.std.specs.Int.{w64};
 ghost use Rattle.bayou_base.specs.declared.limits.TheConstants.{SERVERS};
 ghost use Rattle.bayou_base.specs.declared.value.Value.{Value};
@@ -9,7 +9,7 @@ ghost use Rattle.bayou_base.specs.Order.{is_before};
 ghost use Rattle.bayou_base.specs.Vector.{Covers};
 ghost use Rattle.bayou_lang.specs.declared.eval.Outcome.TheVariants.{Updated, Merged, Nothing};
 ghost use Rattle.bayou_lang.specs.declared.program.Alt.{Alt};
-ghost use Rattle.bayou_lang.specs.declared.program.Cond.TheVariants.{Equals, Absent, AtLeast};
+ghost use Rattle.bayou_lang.specs.declared.program.Cond.TheVariants.{Equals, Absent, AtLeast, AtMost};
 ghost use Rattle.bayou_lang.specs.declared.program.Program.{Program};
 ghost use Rattle.bayou_lang.specs.declared.program.Term.TheVariants.{Plus};
 ghost use Rattle.bayou_lang.specs.declared.write.Write.{Write};
@@ -60,6 +60,11 @@ pub fn absent_asks_for_no_value()
 pub fn at_least_asks_for_a_number()
     ensures { (key : List ℕ) (number : ℤ) (database : Database) → (holds (AtLeast key number) database ≡ true)
         ↔ ((found : ℤ) × (value_at database key ≡ Some (Num found)) × (number ≤ℤ found)) }
+{}
+
+/// AtMost holds exactly where no more keys that are present begin so.
+pub fn at_most_asks_for_a_number_of_keys()
+    ensures { (prefix : List ℕ) (most : ℕ) (database : Database) → (holds (AtMost prefix most) database ≡ true) ↔ (number_with prefix database ≤ most) }
 {}
 
 /// Plus has a value exactly where the key has a number and the sum is an `i64`, and that value is the sum.

@@ -3,7 +3,7 @@ ghost use Rattle.bayou_lang.specs.Program.{program_fault};
 ghost use Rattle.bayou_base.specs.declared.limits.TheConstants.{MAX_CONDITIONS, MAX_OPS, MAX_ALTERNATIVES};
 
 use arrayvec::ArrayVec;
-use bayou_base::{Key, MAX_ALTERNATIVES, MAX_CONDITIONS, MAX_OPS, Value};
+use bayou_base::{Key, MAX_ALTERNATIVES, MAX_CONDITIONS, MAX_OPS, Prefix, Value};
 
 /// What a `Put` sets.
 #[derive(Clone, Debug, Drop, PartialEq, Eq)]
@@ -35,6 +35,8 @@ pub enum Cond {
     Absent(Key),
     /// The key has a number that isn't less than this one.
     AtLeast(Key, i64),
+    /// So many keys at the most that are present begin so.
+    AtMost(Prefix, u32),
 }
 
 /// An alternative of a merge procedure: the ops that are applied where the conditions hold.
@@ -159,6 +161,7 @@ impl Cond {
             Cond::Equals(key, value) => Cond::Equals(key.copy(), value.copy()),
             Cond::Absent(key) => Cond::Absent(key.copy()),
             Cond::AtLeast(key, number) => Cond::AtLeast(key.copy(), *number),
+            Cond::AtMost(prefix, most) => Cond::AtMost(prefix.copy(), *most),
         }
     }
 }

@@ -22,7 +22,7 @@ use Rattle.bayou_lang.specs.declared.program.Term.TheVariants.{Lit, Copy, Plus}
 use Rattle.bayou_lang.specs.declared.program.Op.{Op}
 use Rattle.bayou_lang.specs.declared.program.Op.TheVariants.{Put, Del}
 use Rattle.bayou_lang.specs.declared.program.Cond.{Cond}
-use Rattle.bayou_lang.specs.declared.program.Cond.TheVariants.{Equals, Absent, AtLeast}
+use Rattle.bayou_lang.specs.declared.program.Cond.TheVariants.{Equals, Absent, AtLeast, AtMost}
 use Rattle.bayou_lang.specs.declared.program.Alt.{Alt}
 use Rattle.bayou_lang.specs.declared.program.Program.{Program}
 use Rattle.bayou_lang.specs.declared.write.Write.{Write}
@@ -63,12 +63,19 @@ cond-decides : (a b : Cond) → Decides ((cond_eq.ghosts).eq a b) (a ≡ b)
 cond-decides (Equals a v) (Equals b w) = both _ _ (bytes_decides a b) (value-decides v w) (λ keys values. cc) (λ one. (cc, cc))
 cond-decides (Equals a v) (Absent b) = (λ e. cc, λ e. cc)
 cond-decides (Equals a v) (AtLeast b n) = (λ e. cc, λ e. cc)
+cond-decides (Equals a v) (AtMost b n) = (λ e. cc, λ e. cc)
 cond-decides (Absent a) (Equals b w) = (λ e. cc, λ e. cc)
 cond-decides (Absent a) (Absent b) = (λ e. ap Absent ((bytes_decides a b).0 e), λ e. let one : a ≡ b = cc in (bytes_decides a b).1 one)
 cond-decides (Absent a) (AtLeast b n) = (λ e. cc, λ e. cc)
+cond-decides (Absent a) (AtMost b n) = (λ e. cc, λ e. cc)
 cond-decides (AtLeast a m) (Equals b w) = (λ e. cc, λ e. cc)
 cond-decides (AtLeast a m) (Absent b) = (λ e. cc, λ e. cc)
 cond-decides (AtLeast a m) (AtLeast b n) = both _ _ (bytes_decides a b) (Decides-int_eq m n) (λ keys numbers. cc) (λ one. (cc, cc))
+cond-decides (AtLeast a m) (AtMost b n) = (λ e. cc, λ e. cc)
+cond-decides (AtMost a m) (Equals b w) = (λ e. cc, λ e. cc)
+cond-decides (AtMost a m) (Absent b) = (λ e. cc, λ e. cc)
+cond-decides (AtMost a m) (AtLeast b n) = (λ e. cc, λ e. cc)
+cond-decides (AtMost a m) (AtMost b n) = both _ _ (bytes_decides a b) (Decides-eqb m n) (λ prefixes numbers. cc) (λ one. (cc, cc))
 
 -- of two alternatives
 pub same_alternative-decides : (a b : Alt) → Decides (same_alternative a b) (a ≡ b)
