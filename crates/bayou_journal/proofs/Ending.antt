@@ -1,5 +1,5 @@
 -- Where a chain ends, what an opening adds behind it, and what it leaves of other chains.
-use Rattle.std.proofs.Common.{◌≡◌, inl, inr, ℕ, zero, suc, ◌+◌, ◌-◌, ◌<◌, ◌≤◌, List, [], ◌++◌, length, take, drop, refl, sym, ◌∙◌, ap, subst, get_or, arith, append_assoc, length-append}
+use Rattle.std.proofs.Common.{◌≡◌, ◌≢◌, ◌⊎◌, inl, inr, ℕ, zero, suc, ◌+◌, ◌-◌, ◌<◌, ◌≤◌, List, [], ◌++◌, length, take, drop, refl, sym, ◌∙◌, ap, subst, get_or, arith, append_assoc, length-append}
 use Rattle.std.proofs.Math.Seq.{take-append-add}
 use Rattle.std.proofs.lemmas.List.{take_at, append-nil}
 use Rattle.bayou_device.specs.Device.{BeginsWith}
@@ -7,7 +7,7 @@ use Rattle.bayou_journal.specs.Chain.{AreBodies, IsLongestChain, NoEntry, header
 use Rattle.bayou_journal.specs.Laws.Chain.{front_of_longest, journal-append, longest_is_one}
 use Rattle.bayou_journal.specs.Inner.Heads.{missing, missing_header, raised_link}
 use Rattle.bayou_journal.specs.Inner.Reads.{IsFound, IsRead}
-use Rattle.bayou_journal.specs.Opening.{FailsToAdd, FailsToOpen, Finds, IsNew, IsNewJournal, IsOldJournal, KeepsChains, mark_for, new_records}
+use Rattle.bayou_journal.specs.Opening.{FailsToAdd, FailsToOpen, Finds, IsNew, IsNewJournal, IsOfAnother, IsOldJournal, KeepsChains, mark_for, new_records}
 use Rattle.bayou_journal.specs.Versions.{AreLongest, IsVersionOf, Records, end_of, journal_of, raised, version_of}
 use Rattle.bayou_journal.specs.declared.format.TheConstants.{HEADER_BYTES, MAGIC_BYTES, NAME_BYTES, NEWEST_VERSION}
 use Rattle.bayou_journal.specs.declared.opened.Place.{Place}
@@ -62,7 +62,26 @@ finds_one server bytes one other dropped more (inr first) (inr second) =
     let same = same_longest server bytes one other first.rest second.rest first.longest second.longest in
     (same.0, first.behind ∙ ap length same.1 ∙ sym second.behind)
 
--- its version is one that there is, and its bodies have their sizes
+-- the header of the server's own journal is no other's
+pub not_other : (version server : ℕ) (bytes rest : List ℕ) → IsVersionOf server version → bytes ≡ header version server ++ rest → IsOfAnother server bytes → ⊥
+not_other version server bytes rest known split other = by other.another
+  where
+    heads : header other.version other.owner ++ other.begins.0 ≡ header version server ++ rest
+    heads = sym other.begins.1 ∙ split
+
+    same : other.owner ≡ server
+    same = tenth other.version version other.owner server other.begins.0 rest heads
+
+    has : IsVersionOf other.owner other.version
+    has =
+        subst (λ (v : ℕ). IsVersionOf other.owner v) (sym (ninth other.version version other.owner server other.begins.0 rest heads))
+        (subst (λ (o : ℕ). IsVersionOf o version) (sym same) known)
+
+    by : (other.owner ≢ server) ⊎ (¬ IsVersionOf other.owner other.version) → ⊥
+    by (inl differs) = differs same
+    by (inr unknown) = unknown has
+
+-- the server's journal may have its version, and its bodies have their sizes
 pub sizes_found : (server : ℕ) (bytes : List ℕ) (records : Records) (dropped : ℕ) → Finds server bytes records dropped → IsVersionOf server records.version × AreBodies records.bodies
 sizes_found server bytes records dropped (inl new) = subst (λ (r : Records). IsVersionOf server r.version × AreBodies r.bodies) (sym new.empty) (newest_of server, tt)
 sizes_found server bytes records dropped (inr old) = (old.longest.known, old.longest.chain.sizes)

@@ -14,7 +14,7 @@ use Rattle.bayou_journal.specs.Versions.{AreLongest, Body, IsVersionOf, Records,
 use Rattle.bayou_journal.specs.declared.fault.OpenFault.{OpenFault}
 use Rattle.bayou_journal.specs.declared.fault.OpenFault.TheVariants.{Device, NotAJournal, OtherServer, OutOfMemory}
 use Rattle.bayou_journal.specs.declared.format.TheConstants.{HEADER_BYTES, NEWEST_VERSION}
-use Rattle.bayou_journal.proofs.Ending.{begins_on, finds_one, new_begins_not, ninth, same_longest, sizes_found, tenth}
+use Rattle.bayou_journal.proofs.Ending.{begins_on, finds_one, new_begins_not, ninth, not_other, same_longest, sizes_found}
 use Rattle.bayou_journal.proofs.Heading.{is_new}
 use Rattle.bayou_journal.proofs.Raising.{Raising, is_pushed, is_raised, mark_is_body, marks, newest_of, raising, stays, tells-mark, told-append}
 use Rattle.bayou_journal.proofs.Tearing.{front_of_chain, no_entry, no_front, no_part, some_entry, tears_none, tears_one, with_body}
@@ -310,14 +310,12 @@ kept_passes d server bodies old new OutOfMemory keeps modelled was refused = tt
 kept_passes d server bodies old new NotAJournal keeps modelled was refused =
     let records = was.records in
     let front = begins_on (journal_of server records) (d.kept old) (d.content old) was.begins keeps in
-    (refused.1 modelled).no_journal records.version was.known (server ∷ (entries (first_link records.version server) records.bodies ++ front.0), front.1)
+    (refused.1 modelled).no_journal records.version was.known.0 (server ∷ (entries (first_link records.version server) records.bodies ++ front.0), front.1)
 kept_passes d server bodies old new OtherServer keeps modelled was refused =
     let records = was.records in
     let behind = entries (first_link records.version server) records.bodies in
     let front = begins_on (journal_of server records) (d.kept old) (d.content old) was.begins keeps in
-    let other = refused.1 modelled in
-    other.another (tenth other.version records.version other.owner server other.begins.0 (behind ++ front.0)
-    (sym other.begins.1 ∙ front.1 ∙ append_assoc (header records.version server) behind front.0))
+    not_other records.version server (d.content old) (behind ++ front.0) was.known (front.1 ∙ append_assoc (header records.version server) behind front.0) (refused.1 modelled)
 
 -- ---- what is told of an opening is one
 
@@ -332,6 +330,6 @@ opened_is_one d server old new next found others last end modelled one other =
 pub opens_nothing : {D : Type 0} (d : Ghosts D) (server : ℕ) (old new : D) (found : Found) (last : List ℕ) → d.is_modelled → d.content old ≡ [] → HasOpened d server old new found last → (found.bodies ≡ []) × (found.dropped ≡ 0)
 opens_nothing d server old new found last modelled none opened =
     let new_one : Finds server (d.content old) new_records 0 =
-    inl (record { front = (NEWEST_VERSION, newest_of server, (name NEWEST_VERSION, ap (λ (l : List ℕ). l ++ name NEWEST_VERSION) (sym none))); empty = refl; whole = sym (ap length none) }) in
+    inl (record { front = (NEWEST_VERSION, (newest_of server).0, (name NEWEST_VERSION, ap (λ (l : List ℕ). l ++ name NEWEST_VERSION) (sym none))); empty = refl; whole = sym (ap length none) }) in
     let same = finds_one server (d.content old) opened.records new_records found.dropped 0 (opened.finds modelled) new_one in
     (opened.tells ∙ ap bodies_in same.0, same.1)
