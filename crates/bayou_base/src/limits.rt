@@ -83,3 +83,6 @@ pub const MAX_ENTRIES: usize = 65_536;
 
 /// The greatest number that an offer, or a Write in flight between servers, has where all servers are one machine.
 pub const MAX_NUMBER: u32 = u32::MAX;
+
+/// How often one read of a patient reader waits at the most.
+pub const MAX_WAITS: u32 = 1_000_000;

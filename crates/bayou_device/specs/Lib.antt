@@ -1,3 +1,4 @@
+pub mod Careful
 pub mod Device
 pub mod Laws
 pub mod Memory

@@ -18,6 +18,8 @@
 
 pub mod channel;
 pub mod output;
+pub mod patient;
 
 pub use channel::{CountedChannel, StreamFault, Turn};
 pub use output::Output;
+pub use patient::{Patience, Patient};
