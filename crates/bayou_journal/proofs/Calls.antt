@@ -9,7 +9,7 @@ use Rattle.bayou_journal.specs.Opening.{Finds, IsForeign, IsNew, IsOfAnother, Op
 use Rattle.bayou_journal.specs.Versions.{AreLongest, Records, version_behind, version_of}
 use Rattle.bayou_journal.specs.declared.format.TheConstants.{NEWEST_VERSION}
 use Rattle.bayou_journal.specs.declared.opened.Place.{Place}
-use Rattle.bayou_journal.proofs.Ending.{Lacks, a_header, a_mark, finds_one, lacks, new_begins_not, ninth, tenth}
+use Rattle.bayou_journal.proofs.Ending.{Lacks, a_header, a_mark, finds_one, lacks, new_begins_not, ninth, not_other}
 use Rattle.bayou_journal.proofs.Raising.{lacks_none, newest_stays}
 
 -- any number of calls may be none, and calls follow calls
@@ -43,14 +43,13 @@ no_header version owner bytes new begins =
 pub not_foreign : (server : ℕ) (bytes : List ℕ) (records : Records) (dropped : ℕ) → Finds server bytes records dropped → IsForeign bytes → ⊥
 not_foreign server bytes records dropped (inl new) foreign = foreign.no_front new.front
 not_foreign server bytes records dropped (inr old) foreign =
-    foreign.no_journal records.version old.longest.known (server ∷ (entries (first_link records.version server) records.bodies ++ old.rest), old.longest.chain.split)
+    foreign.no_journal records.version old.longest.known.0 (server ∷ (entries (first_link records.version server) records.bodies ++ old.rest), old.longest.chain.split)
 
 pub not_of_another : (server : ℕ) (bytes : List ℕ) (records : Records) (dropped : ℕ) → Finds server bytes records dropped → IsOfAnother server bytes → ⊥
 not_of_another server bytes records dropped (inl new) other = no_header other.version other.owner bytes new.front other.begins
 not_of_another server bytes records dropped (inr old) other =
-    let behind = entries (first_link records.version server) records.bodies in
-    other.another (tenth other.version records.version other.owner server other.begins.0 (behind ++ old.rest)
-    (sym other.begins.1 ∙ old.longest.chain.split ∙ append_assoc (header records.version server) behind old.rest))
+    not_other records.version server bytes (entries (first_link records.version server) records.bodies ++ old.rest) old.longest.known
+    (old.longest.chain.split ∙ append_assoc (header records.version server) (entries (first_link records.version server) records.bodies) old.rest) other
 
 pub not_both : (server : ℕ) (bytes : List ℕ) → IsForeign bytes → IsOfAnother server bytes → ⊥
 not_both server bytes foreign other = foreign.no_journal other.version other.known (other.owner ∷ other.begins.0, other.begins.1)

@@ -9,7 +9,7 @@ use Rattle.bayou_device.specs.declared.device.Device.{Ghosts}
 use Rattle.bayou_journal.specs.Chain.{AreBodies, IsBody, NoEntry, chain_end, entries, entry, first_link, header, journal, last_link, link}
 use Rattle.bayou_journal.specs.Laws.Chain.{AreBodies-append, AreBodies-push, journal-append, journal-push, last_link-append}
 use Rattle.bayou_journal.specs.Honest.{BeginsWithBodies, GoesOnHonestly, HasCrashed, IsFrontOfHeader, IsHonest, IsHonestDevice, IsRecoverable, IsRecovered, KeepsBodies, OnlyTears}
-use Rattle.bayou_journal.specs.Versions.{Body, IsVersion, Records, bodies_in, body_in, end_of, journal_of, marked, version_of}
+use Rattle.bayou_journal.specs.Versions.{Body, IsVersionOf, Records, bodies_in, body_in, end_of, journal_of, marked, version_of}
 use Rattle.bayou_journal.proofs.Raising.{told-append, told-one, told-push}
 use Rattle.bayou_journal.proofs.Tearing.{no_entry, no_part}
 
@@ -19,7 +19,7 @@ honest_behind bodies None more none = ap (λ (l : List Body). bodies ++ l) none 
 honest_behind bodies (Some body) more (inl none) = inl (ap (λ (l : List Body). bodies ++ l) none ∙ append-nil bodies)
 honest_behind bodies (Some body) more (inr one) = inr (ap (λ (l : List Body). bodies ++ l) one)
 
-goes_on : (server : ℕ) (records : Records) (doubt : Option Body) (bytes tail : List ℕ) → IsVersion records.version → AreBodies records.bodies → bytes ≡ journal_of server records ++ tail → GoesOnHonestly server records doubt tail
+goes_on : (server : ℕ) (records : Records) (doubt : Option Body) (bytes tail : List ℕ) → IsVersionOf server records.version → AreBodies records.bodies → bytes ≡ journal_of server records ++ tail → GoesOnHonestly server records doubt tail
     → IsRecovered server (bodies_in records) doubt bytes
 goes_on server records doubt bytes tail known sizes split on =
     let version = records.version in
@@ -82,7 +82,7 @@ front_of_doubt server records body count is plain = by (cases_order count (lengt
     by (inr (inl short)) = part short
     by (inr (inr long)) = whole (omega (arith, long))
 
-pub kept_and_tail : {D : Type 0} (d : Ghosts D) (server : ℕ) (records : Records) (doubt : Option Body) (device : D) (tail : List ℕ) → IsVersion records.version → AreBodies records.bodies → d.kept device ≡ journal_of server records
+pub kept_and_tail : {D : Type 0} (d : Ghosts D) (server : ℕ) (records : Records) (doubt : Option Body) (device : D) (tail : List ℕ) → IsVersionOf server records.version → AreBodies records.bodies → d.kept device ≡ journal_of server records
     → d.content device ≡ d.kept device ++ tail → GoesOnHonestly server records doubt tail → IsHonestDevice d server (bodies_in records) doubt device
 kept_and_tail d server records doubt device tail known sizes keeps behind on = record {
   kept = inr (record { records = records; known = known; sizes = sizes; tells = refl; begins = ([], keeps ∙ sym (append-nil (journal_of server records))) });
@@ -90,7 +90,7 @@ kept_and_tail d server records doubt device tail known sizes keeps behind on = r
 }
 
 -- the body in doubt is kept too, as behind an opening that wasn't answered
-pub doubt_is_kept : {D : Type 0} (d : Ghosts D) (server : ℕ) (records : Records) (body : List ℕ) (device : D) (tail : List ℕ) → IsVersion records.version → AreBodies records.bodies → IsBody body
+pub doubt_is_kept : {D : Type 0} (d : Ghosts D) (server : ℕ) (records : Records) (body : List ℕ) (device : D) (tail : List ℕ) → IsVersionOf server records.version → AreBodies records.bodies → IsBody body
     → marked (version_of records) body ≡ None → d.kept device ≡ journal records.version server (records.bodies ++ body ∷ []) → d.content device ≡ d.kept device ++ tail
     → NoEntry (chain_end records.version server (records.bodies ++ body ∷ [])) tail → IsHonestDevice d server (bodies_in records) (Some (body_in (version_of records) body)) device
 doubt_is_kept d server records body device tail known sizes is plain keeps behind none = record {
@@ -121,14 +121,14 @@ crashed_honestly {D} d server bodies doubt old new keeps crash = record {
   recoverable = by keeps crash.begun;
 }
   where
-    goes : (records : Records) → IsVersion records.version → AreBodies records.bodies → bodies_in records ≡ bodies → BeginsWith (journal_of server records) (d.kept old) → IsRecoverable server bodies doubt (d.content new)
+    goes : (records : Records) → IsVersionOf server records.version → AreBodies records.bodies → bodies_in records ≡ bodies → BeginsWith (journal_of server records) (d.kept old) → IsRecoverable server bodies doubt (d.content new)
     goes records known sizes tells (more, split) =
         let behind : d.content new ≡ journal_of server records ++ (more ++ crash.tail) =
         crash.behind ∙ ap (λ (l : List ℕ). l ++ crash.tail) split ∙ append_assoc (journal_of server records) more crash.tail in
         inr (subst (λ (b : List Body). IsRecovered server b doubt (d.content new)) tells
         (goes_on server records doubt (d.content new) (more ++ crash.tail) known sizes behind (crash.none records more known sizes tells split)))
 
-    by : (bodies ≡ []) ⊎ BeginsWithBodies server bodies (d.kept old) → ((version : ℕ) × IsVersion version × BeginsWith (header version server) (d.kept old)) ⊎ IsFrontOfHeader server (d.kept old ++ crash.tail)
+    by : (bodies ≡ []) ⊎ BeginsWithBodies server bodies (d.kept old) → ((version : ℕ) × IsVersionOf server version × BeginsWith (header version server) (d.kept old)) ⊎ IsFrontOfHeader server (d.kept old ++ crash.tail)
         → IsRecoverable server bodies doubt (d.content new)
     by (inr was) begun = goes was.records was.known was.sizes was.tells was.begins
     by (inl none) (inl (version, known, (more, split))) =
@@ -137,8 +137,8 @@ crashed_honestly {D} d server bodies doubt old new keeps crash = record {
     by (inl none) (inr front) = inl (none, subst (IsFrontOfHeader server) (sym crash.behind) front)
 
 pub memory_crashes : (server : ℕ) (bodies : List Body) (doubt : Option Body) (tail : List ℕ) (old new : Memory) → new ≡ crashed tail old → kept_bytes new ≡ kept_bytes old
-    → ((records : Records) (more : List ℕ) → IsVersion records.version → AreBodies records.bodies → bodies_in records ≡ bodies → kept_bytes old ≡ journal_of server records ++ more → GoesOnHonestly server records doubt (more ++ tail))
-    → ((version : ℕ) × IsVersion version × BeginsWith (header version server) (kept_bytes old)) ⊎ IsFrontOfHeader server (kept_bytes old ++ tail)
+    → ((records : Records) (more : List ℕ) → IsVersionOf server records.version → AreBodies records.bodies → bodies_in records ≡ bodies → kept_bytes old ≡ journal_of server records ++ more → GoesOnHonestly server records doubt (more ++ tail))
+    → ((version : ℕ) × IsVersionOf server version × BeginsWith (header version server) (kept_bytes old)) ⊎ IsFrontOfHeader server (kept_bytes old ++ tail)
     → HasCrashed memory_device server bodies doubt old new
 memory_crashes server bodies doubt tail old new is kept none begun = record {
   as_kept = kept;

@@ -1,5 +1,5 @@
 -- Where a chain ends, what an opening adds behind it, and what it leaves of other chains.
-use Rattle.std.proofs.Common.{◌≡◌, inl, inr, ℕ, zero, suc, ◌+◌, ◌-◌, ◌<◌, ◌≤◌, List, [], ◌++◌, length, take, drop, refl, sym, ◌∙◌, ap, subst, get_or, arith, append_assoc, length-append}
+use Rattle.std.proofs.Common.{◌≡◌, ◌≢◌, ◌⊎◌, inl, inr, ℕ, zero, suc, ◌+◌, ◌-◌, ◌<◌, ◌≤◌, List, [], ◌++◌, length, take, drop, refl, sym, ◌∙◌, ap, subst, get_or, arith, append_assoc, length-append}
 use Rattle.std.proofs.Math.Seq.{take-append-add}
 use Rattle.std.proofs.lemmas.List.{take_at, append-nil}
 use Rattle.bayou_device.specs.Device.{BeginsWith}
@@ -7,11 +7,11 @@ use Rattle.bayou_journal.specs.Chain.{AreBodies, IsLongestChain, NoEntry, header
 use Rattle.bayou_journal.specs.Laws.Chain.{front_of_longest, journal-append, longest_is_one}
 use Rattle.bayou_journal.specs.Inner.Heads.{missing, missing_header, raised_link}
 use Rattle.bayou_journal.specs.Inner.Reads.{IsFound, IsRead}
-use Rattle.bayou_journal.specs.Opening.{FailsToAdd, FailsToOpen, Finds, IsNew, IsNewJournal, IsOldJournal, KeepsChains, mark_for, new_records}
-use Rattle.bayou_journal.specs.Versions.{AreLongest, IsVersion, Records, end_of, journal_of, raised, version_of}
+use Rattle.bayou_journal.specs.Opening.{FailsToAdd, FailsToOpen, Finds, IsNew, IsNewJournal, IsOfAnother, IsOldJournal, KeepsChains, mark_for, new_records}
+use Rattle.bayou_journal.specs.Versions.{AreLongest, IsVersionOf, Records, end_of, journal_of, raised, version_of}
 use Rattle.bayou_journal.specs.declared.format.TheConstants.{HEADER_BYTES, MAGIC_BYTES, NAME_BYTES, NEWEST_VERSION}
 use Rattle.bayou_journal.specs.declared.opened.Place.{Place}
-use Rattle.bayou_journal.proofs.Raising.{is_newest, is_raised}
+use Rattle.bayou_journal.proofs.Raising.{is_raised, newest_of}
 
 pub length-journal : (version server : ℕ) (bodies : List (List ℕ)) → HEADER_BYTES ≤ length (journal version server bodies)
 length-journal version server bodies = omega (arith, length-append (header version server) (entries (first_link version server) bodies))
@@ -62,9 +62,28 @@ finds_one server bytes one other dropped more (inr first) (inr second) =
     let same = same_longest server bytes one other first.rest second.rest first.longest second.longest in
     (same.0, first.behind ∙ ap length same.1 ∙ sym second.behind)
 
--- its version is one that there is, and its bodies have their sizes
-pub sizes_found : (server : ℕ) (bytes : List ℕ) (records : Records) (dropped : ℕ) → Finds server bytes records dropped → IsVersion records.version × AreBodies records.bodies
-sizes_found server bytes records dropped (inl new) = subst (λ (r : Records). IsVersion r.version × AreBodies r.bodies) (sym new.empty) (is_newest, tt)
+-- the header of the server's own journal is no other's
+pub not_other : (version server : ℕ) (bytes rest : List ℕ) → IsVersionOf server version → bytes ≡ header version server ++ rest → IsOfAnother server bytes → ⊥
+not_other version server bytes rest known split other = by other.another
+  where
+    heads : header other.version other.owner ++ other.begins.0 ≡ header version server ++ rest
+    heads = sym other.begins.1 ∙ split
+
+    same : other.owner ≡ server
+    same = tenth other.version version other.owner server other.begins.0 rest heads
+
+    has : IsVersionOf other.owner other.version
+    has =
+        subst (λ (v : ℕ). IsVersionOf other.owner v) (sym (ninth other.version version other.owner server other.begins.0 rest heads))
+        (subst (λ (o : ℕ). IsVersionOf o version) (sym same) known)
+
+    by : (other.owner ≢ server) ⊎ (¬ IsVersionOf other.owner other.version) → ⊥
+    by (inl differs) = differs same
+    by (inr unknown) = unknown has
+
+-- the server's journal may have its version, and its bodies have their sizes
+pub sizes_found : (server : ℕ) (bytes : List ℕ) (records : Records) (dropped : ℕ) → Finds server bytes records dropped → IsVersionOf server records.version × AreBodies records.bodies
+sizes_found server bytes records dropped (inl new) = subst (λ (r : Records). IsVersionOf server r.version × AreBodies r.bodies) (sym new.empty) (newest_of server, tt)
 sizes_found server bytes records dropped (inr old) = (old.longest.known, old.longest.chain.sizes)
 
 -- what an opening finds has each chain with which the bytes begin
@@ -192,7 +211,7 @@ fails_to_open may_leave server bytes places now last end new found left = by (la
     records : Records
     records = found.records
 
-    known : IsVersion records.version × AreBodies records.bodies
+    known : IsVersionOf server records.version × AreBodies records.bodies
     known = sizes_found server bytes records (length bytes - end) found.finds
 
     by : Lacks server bytes records now last end → FailsToAdd may_leave (missing server now last end) (take end bytes) new → FailsToOpen may_leave server bytes new
@@ -205,7 +224,7 @@ fails_to_open may_leave server bytes places now last end new found left = by (la
 
 -- ---- what is read is what an opening finds
 
-pub reads_chain : (version server : ℕ) (bytes : List ℕ) (places : List Place) (now : ℕ) (last rest : List ℕ) (end : ℕ) → IsVersion version → (read : IsRead version server bytes places now last rest) → NoEntry last rest
+pub reads_chain : (version server : ℕ) (bytes : List ℕ) (places : List Place) (now : ℕ) (last rest : List ℕ) (end : ℕ) → IsVersionOf server version → (read : IsRead version server bytes places now last rest) → NoEntry last rest
     → end + length rest ≡ length bytes → IsFound server bytes places now last end
 reads_chain version server bytes places now last rest end known read none size = record {
   records = record { version = version; bodies = read.bodies };

@@ -10,13 +10,13 @@ use Rattle.bayou_journal.specs.Laws.Chain.{AreBodies-push, chain_end-push, journ
 use Rattle.bayou_journal.specs.Honest.{BeginsWithBodies, HasJournal, IsHonest, IsHonestDevice, IsPassing, IsRecoverable, IsRecovered, IsWhole, OnlyTears, added_body, torn}
 use Rattle.bayou_journal.specs.Opened.{Found}
 use Rattle.bayou_journal.specs.Opening.{FailsToAdd, FailsToOpen, Finds, HasOpened, HasRefused, IsForeign, IsOfAnother, KeepsChains, mark_for, new_records}
-use Rattle.bayou_journal.specs.Versions.{AreLongest, Body, IsVersion, Records, bodies_in, body_in, end_of, journal_of, newest_mark, raised, told, version_of}
+use Rattle.bayou_journal.specs.Versions.{AreLongest, Body, IsVersionOf, Records, bodies_in, body_in, end_of, journal_of, newest_mark, raised, told, version_of}
 use Rattle.bayou_journal.specs.declared.fault.OpenFault.{OpenFault}
 use Rattle.bayou_journal.specs.declared.fault.OpenFault.TheVariants.{Device, NotAJournal, OtherServer, OutOfMemory}
 use Rattle.bayou_journal.specs.declared.format.TheConstants.{HEADER_BYTES, NEWEST_VERSION}
-use Rattle.bayou_journal.proofs.Ending.{begins_on, finds_one, new_begins_not, ninth, same_longest, sizes_found, tenth}
+use Rattle.bayou_journal.proofs.Ending.{begins_on, finds_one, new_begins_not, ninth, not_other, same_longest, sizes_found}
 use Rattle.bayou_journal.proofs.Heading.{is_new}
-use Rattle.bayou_journal.proofs.Raising.{Raising, is_newest, is_pushed, is_raised, mark_is_body, marks, raising, stays, tells-mark, told-append}
+use Rattle.bayou_journal.proofs.Raising.{Raising, is_pushed, is_raised, mark_is_body, marks, newest_of, raising, stays, tells-mark, told-append}
 use Rattle.bayou_journal.proofs.Tearing.{front_of_chain, no_entry, no_front, no_part, some_entry, tears_none, tears_one, with_body}
 
 pub the_same : (bodies : List Body) (doubt : Option Body) (found : List Body) → found ≡ bodies → IsHonest bodies doubt found
@@ -57,13 +57,13 @@ finds_honestly server bodies doubt bytes records dropped (inr was) (inr old) =
     subst (λ (r : Records). IsHonest bodies doubt (bodies_in r)) (same_longest server bytes was.records records was.rest old.rest was.longest old.longest).0 was.honest
 
 -- a journal and nothing else is its own longest chain
-pub whole_is_longest : (server : ℕ) (records : Records) → IsVersion records.version → AreBodies records.bodies → AreLongest server (journal_of server records) records []
+pub whole_is_longest : (server : ℕ) (records : Records) → IsVersionOf server records.version → AreBodies records.bodies → AreLongest server (journal_of server records) records []
 whole_is_longest server records known sizes = record {
   known = known;
   chain = record { split = sym (append-nil (journal_of server records)); sizes = sizes; longest = no_entry (end_of server records) };
 }
 
-pub whole_recovered : (server : ℕ) (bodies : List Body) (doubt : Option Body) (records : Records) (after : List ℕ) → IsVersion records.version → AreBodies records.bodies → IsHonest bodies doubt (bodies_in records)
+pub whole_recovered : (server : ℕ) (bodies : List Body) (doubt : Option Body) (records : Records) (after : List ℕ) → IsVersionOf server records.version → AreBodies records.bodies → IsHonest bodies doubt (bodies_in records)
     → after ≡ journal_of server records → IsRecovered server bodies doubt after
 whole_recovered server bodies doubt records after known sizes honest is = record {
   records = records;
@@ -82,11 +82,11 @@ finds_something server bodies doubt bytes (inl (none, (version, known, ([], fron
 finds_something server bodies doubt bytes (inl (none, (version, known, (x ∷ more, front)))) =
     let short : length bytes < HEADER_BYTES = omega (arith, ap length front, length-append bytes (x ∷ more)) in
     let same : take (length bytes) (header version server) ≡ bytes = ap (take (length bytes)) front ∙ take_at bytes (x ∷ more) (length bytes) refl in
-    (new_records, length bytes, inl (record { front = is_new version server bytes known (omega arith) same; empty = refl; whole = refl }))
+    (new_records, length bytes, inl (record { front = is_new version server bytes known.0 (omega arith) same; empty = refl; whole = refl }))
 finds_something server bodies doubt bytes (inr was) = (was.records, length was.rest, inr (record { rest = was.rest; longest = was.longest; behind = refl }))
 
 -- a front of one entry more behind it is none, or that entry
-pub torn_recovered : (server : ℕ) (bodies : List Body) (doubt : Option Body) (records : Records) (body : List ℕ) (count : ℕ) (after : List ℕ) → IsVersion records.version → AreBodies records.bodies → IsBody body
+pub torn_recovered : (server : ℕ) (bodies : List Body) (doubt : Option Body) (records : Records) (body : List ℕ) (count : ℕ) (after : List ℕ) → IsVersionOf server records.version → AreBodies records.bodies → IsBody body
     → IsHonest bodies doubt (bodies_in records) → IsHonest bodies doubt (bodies_in (with_body records body))
     → after ≡ journal_of server records ++ take count (entry (end_of server records) body) → IsRecovered server bodies doubt after
 torn_recovered server bodies doubt records body count after known sizes is without with is_after = by (cases_order count (length one))
@@ -113,9 +113,9 @@ torn_recovered server bodies doubt records body count after known sizes is witho
     by (inr (inr long)) = whole (omega (arith, long))
 
 -- what a failed append of the mark leaves
-mark_recovered : (server : ℕ) (bodies : List Body) (doubt : Option Body) (records : Records) (after : List ℕ) → IsVersion records.version → AreBodies records.bodies → IsHonest bodies doubt (bodies_in records)
+mark_recovered : (server : ℕ) (bodies : List Body) (doubt : Option Body) (records : Records) (after : List ℕ) → IsVersionOf server records.version → AreBodies records.bodies → IsHonest bodies doubt (bodies_in records)
     → FailsToAdd AddsFront (mark_for server records) (journal_of server records) after → IsRecovered server bodies doubt after
-mark_recovered server bodies doubt records after known sizes honest fails = by (raising server records known)
+mark_recovered server bodies doubt records after known sizes honest fails = by (raising server records known.0)
   where
     by : Raising server records → IsRecovered server bodies doubt after
     by (stays newest is none same) = whole_recovered server bodies doubt records after known sizes honest (tears_none (journal_of server records) (mark_for server records) after none fails)
@@ -129,7 +129,7 @@ pub stays_recoverable : (server : ℕ) (bodies : List Body) (doubt : Option Body
 stays_recoverable server bodies doubt before after was (inl left) = subst (λ (b : List ℕ). IsRecoverable server bodies doubt b) (sym (no_front before after left)) was
 stays_recoverable server bodies doubt before after (inl (none, front)) (inr (inl (new, left))) =
     let whole = header NEWEST_VERSION server in
-    inl (none, (NEWEST_VERSION, is_newest, (drop left.0 whole, sym (take-append-drop left.0 whole) ∙ ap (λ (l : List ℕ). l ++ drop left.0 whole) (sym left.1))))
+    inl (none, (NEWEST_VERSION, newest_of server, (drop left.0 whole, sym (take-append-drop left.0 whole) ∙ ap (λ (l : List ℕ). l ++ drop left.0 whole) (sym left.1))))
 stays_recoverable server bodies doubt before after (inr was) (inr (inl (new, left))) =
     absurd (new_begins_not before was.records.version server was.records.bodies new (was.rest, was.longest.chain.split))
 stays_recoverable server bodies doubt before after was (inr (inr (records, dropped, finds, left))) =
@@ -269,7 +269,7 @@ append_honestly d server bodies last body old new tears is whole fails keeps =
     }
 
 -- a torn journal is recoverable
-pub torn_recovers : (server : ℕ) (records : Records) (body : List ℕ) (count : ℕ) → IsVersion records.version → AreBodies records.bodies → IsBody body → version_of records ≡ NEWEST_VERSION
+pub torn_recovers : (server : ℕ) (records : Records) (body : List ℕ) (count : ℕ) → IsVersionOf server records.version → AreBodies records.bodies → IsBody body → version_of records ≡ NEWEST_VERSION
     → IsRecoverable server (bodies_in records) (Some (added_body body)) (torn records.version server records.bodies body count)
 torn_recovers server records body count known sizes is newest =
     inr (torn_recovered server (bodies_in records) (Some (added_body body)) records body count (torn records.version server records.bodies body count) known sizes is (inl refl)
@@ -310,14 +310,12 @@ kept_passes d server bodies old new OutOfMemory keeps modelled was refused = tt
 kept_passes d server bodies old new NotAJournal keeps modelled was refused =
     let records = was.records in
     let front = begins_on (journal_of server records) (d.kept old) (d.content old) was.begins keeps in
-    (refused.1 modelled).no_journal records.version was.known (server ∷ (entries (first_link records.version server) records.bodies ++ front.0), front.1)
+    (refused.1 modelled).no_journal records.version was.known.0 (server ∷ (entries (first_link records.version server) records.bodies ++ front.0), front.1)
 kept_passes d server bodies old new OtherServer keeps modelled was refused =
     let records = was.records in
     let behind = entries (first_link records.version server) records.bodies in
     let front = begins_on (journal_of server records) (d.kept old) (d.content old) was.begins keeps in
-    let other = refused.1 modelled in
-    other.another (tenth other.version records.version other.owner server other.begins.0 (behind ++ front.0)
-    (sym other.begins.1 ∙ front.1 ∙ append_assoc (header records.version server) behind front.0))
+    not_other records.version server (d.content old) (behind ++ front.0) was.known (front.1 ∙ append_assoc (header records.version server) behind front.0) (refused.1 modelled)
 
 -- ---- what is told of an opening is one
 
@@ -332,6 +330,6 @@ opened_is_one d server old new next found others last end modelled one other =
 pub opens_nothing : {D : Type 0} (d : Ghosts D) (server : ℕ) (old new : D) (found : Found) (last : List ℕ) → d.is_modelled → d.content old ≡ [] → HasOpened d server old new found last → (found.bodies ≡ []) × (found.dropped ≡ 0)
 opens_nothing d server old new found last modelled none opened =
     let new_one : Finds server (d.content old) new_records 0 =
-    inl (record { front = (NEWEST_VERSION, is_newest, (name NEWEST_VERSION, ap (λ (l : List ℕ). l ++ name NEWEST_VERSION) (sym none))); empty = refl; whole = sym (ap length none) }) in
+    inl (record { front = (NEWEST_VERSION, (newest_of server).0, (name NEWEST_VERSION, ap (λ (l : List ℕ). l ++ name NEWEST_VERSION) (sym none))); empty = refl; whole = sym (ap length none) }) in
     let same = finds_one server (d.content old) opened.records new_records found.dropped 0 (opened.finds modelled) new_one in
     (opened.tells ∙ ap bodies_in same.0, same.1)

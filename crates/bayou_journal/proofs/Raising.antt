@@ -8,7 +8,7 @@ use Rattle.bayou_journal.specs.Chain.{AreBodies, IsBody, entry, link}
 use Rattle.bayou_journal.specs.Laws.Chain.{AreBodies-push, chain_end-push, journal-push}
 use Rattle.bayou_journal.specs.Inner.Heads.{raised_link}
 use Rattle.bayou_journal.specs.Opening.{mark_for}
-use Rattle.bayou_journal.specs.Versions.{Body, IsVersion, Records, bodies_in, body_in, end_of, journal_of, marked, newest_mark, raised, told, version_behind, version_of}
+use Rattle.bayou_journal.specs.Versions.{Body, IsVersion, IsVersionOf, Records, bodies_in, body_in, end_of, journal_of, marked, newest_mark, raised, told, version_behind, version_of}
 use Rattle.bayou_journal.specs.declared.format.TheConstants.{NEWEST_VERSION}
 
 -- a body behind others is told behind them, in the version that these leave
@@ -63,6 +63,10 @@ marked-mark version before = grind arith
 pub is_newest : IsVersion NEWEST_VERSION
 is_newest = (omega arith, omega arith)
 
+-- which each server's journal may have
+pub newest_of : (server : ℕ) → IsVersionOf server NEWEST_VERSION
+newest_of server = (is_newest, λ before. absurd (omega (arith, before)))
+
 -- a body leads to no version that there isn't
 pub leads_within : (version : ℕ) (body : List ℕ) → IsVersion version → IsVersion (unwrap_or (marked version body) version)
 leads_within version [] known = known
@@ -116,19 +120,19 @@ newest-mark records before =
 pub record IsRaised (server : ℕ) (records : Records) : Type 0 where
   pub tells : bodies_in (raised records) ≡ bodies_in records
   pub newest : version_of (raised records) ≡ NEWEST_VERSION
-  pub known : IsVersion (raised records).version
+  pub known : IsVersionOf server (raised records).version
   pub sizes : AreBodies (raised records).bodies
   pub whole : journal_of server (raised records) ≡ journal_of server records ++ mark_for server records
   pub ends : raised_link (version_of records) (end_of server records) ≡ end_of server (raised records)
 
-pub is_raised : (server : ℕ) (records : Records) → IsVersion records.version → AreBodies records.bodies → IsRaised server records
-is_raised server records known sizes = by (raising server records known)
+pub is_raised : (server : ℕ) (records : Records) → IsVersionOf server records.version → AreBodies records.bodies → IsRaised server records
+is_raised server records known sizes = by (raising server records known.0)
   where
     by : Raising server records → IsRaised server records
     by (stays newest is none same) = record {
       tells = ap bodies_in is;
       newest = ap version_of is ∙ newest;
-      known = subst (λ (r : Records). IsVersion r.version) (sym is) known;
+      known = subst (λ (r : Records). IsVersionOf server r.version) (sym is) known;
       sizes = subst (λ (r : Records). AreBodies r.bodies) (sym is) sizes;
       whole = ap (journal_of server) is ∙ sym (append-nil (journal_of server records)) ∙ ap (λ (l : List ℕ). journal_of server records ++ l) (sym none);
       ends = same ∙ sym (ap (end_of server) is);
@@ -136,7 +140,7 @@ is_raised server records known sizes = by (raising server records known)
     by (marks before is mark next) = record {
       tells = ap bodies_in is ∙ tells-mark records before;
       newest = ap version_of is ∙ newest-mark records before;
-      known = subst (λ (r : Records). IsVersion r.version) (sym is) known;
+      known = subst (λ (r : Records). IsVersionOf server r.version) (sym is) known;
       sizes = subst (λ (r : Records). AreBodies r.bodies) (sym is) (AreBodies-push records.bodies newest_mark sizes mark_is_body);
       whole = ap (journal_of server) is ∙ journal-push records.version server records.bodies newest_mark ∙ ap (λ (l : List ℕ). journal_of server records ++ l) (sym mark);
       ends = next ∙ sym (ap (end_of server) is ∙ chain_end-push records.version server records.bodies newest_mark);

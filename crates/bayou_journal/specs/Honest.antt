@@ -4,7 +4,7 @@ use Rattle.bayou_device.specs.Device.{BeginsWith}
 use Rattle.bayou_device.specs.Memory.{AddsFront}
 use Rattle.bayou_device.specs.declared.device.Device.{Ghosts}
 use Rattle.bayou_journal.specs.Chain.{AreBodies, NoEntry, chain_end, entries, entry, header, journal, last_link}
-use Rattle.bayou_journal.specs.Versions.{AreLongest, Body, IsVersion, Records, bodies_in, body_in, end_of, journal_of, told, version_of}
+use Rattle.bayou_journal.specs.Versions.{AreLongest, Body, IsVersionOf, Records, bodies_in, body_in, end_of, journal_of, told, version_of}
 use Rattle.bayou_journal.specs.declared.fault.OpenFault.{OpenFault}
 use Rattle.bayou_journal.specs.declared.fault.OpenFault.TheVariants.{Device, NotAJournal, OtherServer, OutOfMemory}
 use Rattle.bayou_journal.specs.declared.format.TheConstants.{NEWEST_VERSION}
@@ -26,7 +26,7 @@ torn version server bodies body count = journal version server bodies ++ take co
 -- digest.
 pub record HasJournal (server : ℕ) (bodies : List Body) (last bytes : List ℕ) : Type 0 where
   pub records : Records
-  pub known : IsVersion records.version
+  pub known : IsVersionOf server records.version
   pub sizes : AreBodies records.bodies
   pub tells : bodies_in records ≡ bodies
   pub newest : version_of records ≡ NEWEST_VERSION
@@ -38,9 +38,9 @@ pub record IsWhole {D : Type 0} (d : Ghosts D) (server : ℕ) (bodies : List Bod
   pub has : HasJournal server bodies last (d.content device)
   pub synced : d.kept device ≡ d.content device
 
--- the bytes are a front of the header of the server's journal, in some version
+-- the bytes are a front of the header of the server's journal, in some version that it may have
 abbrev pub IsFrontOfHeader : ℕ → List ℕ → Type 0
-IsFrontOfHeader server bytes = (version : ℕ) × IsVersion version × BeginsWith bytes (header version server)
+IsFrontOfHeader server bytes = (version : ℕ) × IsVersionOf server version × BeginsWith bytes (header version server)
 
 -- the longest chain in the bytes tells the bodies that were added, or those and the one in doubt
 pub record IsRecovered (server : ℕ) (bodies : List Body) (doubt : Option Body) (bytes : List ℕ) : Type 0 where
@@ -56,7 +56,7 @@ IsRecoverable server bodies doubt bytes = ((bodies ≡ []) × IsFrontOfHeader se
 -- the bytes begin with the server's journal of some records, which tell these bodies
 pub record BeginsWithBodies (server : ℕ) (bodies : List Body) (bytes : List ℕ) : Type 0 where
   pub records : Records
-  pub known : IsVersion records.version
+  pub known : IsVersionOf server records.version
   pub sizes : AreBodies records.bodies
   pub tells : bodies_in records ≡ bodies
   pub begins : BeginsWith (journal_of server records) bytes
@@ -87,9 +87,9 @@ pub record HasCrashed {D : Type 0} (d : Ghosts D) (server : ℕ) (bodies : List 
   pub as_kept : d.kept new ≡ d.kept old
   pub tail : List ℕ
   pub behind : d.content new ≡ d.kept old ++ tail
-  pub none : (records : Records) (more : List ℕ) → IsVersion records.version → AreBodies records.bodies → bodies_in records ≡ bodies → d.kept old ≡ journal_of server records ++ more
+  pub none : (records : Records) (more : List ℕ) → IsVersionOf server records.version → AreBodies records.bodies → bodies_in records ≡ bodies → d.kept old ≡ journal_of server records ++ more
       → GoesOnHonestly server records doubt (more ++ tail)
-  pub begun : ((version : ℕ) × IsVersion version × BeginsWith (header version server) (d.kept old)) ⊎ IsFrontOfHeader server (d.kept old ++ tail)
+  pub begun : ((version : ℕ) × IsVersionOf server version × BeginsWith (header version server) (d.kept old)) ⊎ IsFrontOfHeader server (d.kept old ++ tail)
 
 -- The clauses say what the device holds, and a call that fails does no more than to tear: it adds no more than a front of its piece.
 pub record OnlyTears {D : Type 0} (d : Ghosts D) : Type 0 where

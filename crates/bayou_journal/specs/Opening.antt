@@ -4,7 +4,7 @@ use Rattle.bayou_device.specs.Device.{BeginsWith, Rose}
 use Rattle.bayou_device.specs.declared.device.Device.{Ghosts}
 use Rattle.bayou_journal.specs.Chain.{AreBodies, entry, header, journal, name}
 use Rattle.bayou_journal.specs.Opened.{Found}
-use Rattle.bayou_journal.specs.Versions.{AreLongest, IsVersion, Records, bodies_in, end_of, journal_of, newest_mark, raised, version_of}
+use Rattle.bayou_journal.specs.Versions.{AreLongest, IsVersion, IsVersionOf, Records, bodies_in, end_of, journal_of, newest_mark, raised, version_of}
 use Rattle.bayou_journal.specs.declared.format.TheConstants.{NEWEST_VERSION}
 use Rattle.bayou_journal.specs.declared.fault.OpenFault.{OpenFault}
 use Rattle.bayou_journal.specs.declared.fault.OpenFault.TheVariants.{Device, NotAJournal, OtherServer, OutOfMemory}
@@ -18,12 +18,12 @@ pub record IsForeign (bytes : List ℕ) : Type 0 where
   pub no_front : IsNew bytes → ⊥
   pub no_journal : (version : ℕ) → IsVersion version → BeginsWith (name version) bytes → ⊥
 
--- the bytes begin with the header of another server's journal
+-- the bytes begin with the header of another server's journal, or of one that there was not among the servers of its version
 pub record IsOfAnother (server : ℕ) (bytes : List ℕ) : Type 0 where
   pub version : ℕ
   pub owner : ℕ
   pub known : IsVersion version
-  pub another : owner ≢ server
+  pub another : (owner ≢ server) ⊎ (¬ IsVersionOf owner version)
   pub begins : BeginsWith (header version owner) bytes
 
 -- a journal that has no entry yet
@@ -74,7 +74,7 @@ pub record Unchanged {D : Type 0} (d : Ghosts D) (old new : D) : Type 0 where
 -- all of it synced; and the digest that the next entry stands behind.
 pub record HasOpened {D : Type 0} (d : Ghosts D) (server : ℕ) (old new : D) (found : Found) (last : List ℕ) : Type 0 where
   pub records : Records
-  pub known : IsVersion records.version
+  pub known : IsVersionOf server records.version
   pub sizes : AreBodies records.bodies
   pub finds : d.is_modelled → Finds server (d.content old) records found.dropped
   pub tells : found.bodies ≡ bodies_in records

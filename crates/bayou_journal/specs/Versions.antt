@@ -1,12 +1,17 @@
 -- Versions of a journal's format, and the marks that raise one within a chain: this project's own.
-use Rattle.std.specs.Prelude.{◌==◌, ℕ, ◌≤◌, List, [], ◌∷◌, ◌++◌, Option, None, Some, unwrap_or, nat_lt, nat_le, ◌&&◌, if◌then◌else◌}
+use Rattle.std.specs.Prelude.{◌==◌, ℕ, ◌<◌, ◌≤◌, List, [], ◌∷◌, ◌++◌, Option, None, Some, unwrap_or, nat_lt, nat_le, ◌&&◌, if◌then◌else◌}
 use Rattle.std.specs.Option.{option_map_or}
-use Rattle.bayou_journal.specs.declared.format.TheConstants.{FIRST_VERSION, NEWEST_VERSION}
+use Rattle.bayou_base.specs.declared.limits.TheConstants.{OLD_SERVERS}
+use Rattle.bayou_journal.specs.declared.format.TheConstants.{FIRST_VERSION, NEWEST_VERSION, WIDE_VERSION}
 use Rattle.bayou_journal.specs.Chain.{IsLongestChain, chain_end, journal}
 
 -- from the first to the newest
 abbrev pub IsVersion : ℕ → Type 0
 IsVersion version = (FIRST_VERSION ≤ version) × (version ≤ NEWEST_VERSION)
+
+-- a version that the journal of this server may have: before the wide version there were fewer servers
+abbrev pub IsVersionOf : (server version : ℕ) → Type 0
+IsVersionOf server version = IsVersion version × (version < WIDE_VERSION → server < OLD_SERVERS)
 
 -- The version that a body marks where the chain has this one: its one byte is a later version. Any other body marks none.
 abbrev pub marked : ℕ → List ℕ → Option ℕ
@@ -63,5 +68,5 @@ raised records =
 
 -- the bytes are the server's journal with these records and a rest at whose front no entry stands
 pub record AreLongest (server : ℕ) (bytes : List ℕ) (records : Records) (rest : List ℕ) : Type 0 where
-  pub known : IsVersion records.version
+  pub known : IsVersionOf server records.version
   pub chain : IsLongestChain records.version server bytes records.bodies rest

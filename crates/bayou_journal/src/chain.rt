@@ -6,12 +6,12 @@ ghost use Rattle.bayou_journal.specs.declared.format.TheConstants.{MAGIC_BYTES, 
 ghost use Rattle.bayou_journal.specs.Inner.Heads.{HasHead};
 ghost use Rattle.bayou_journal.specs.Inner.Reads.{IsFound, IsRead};
 ghost use Rattle.bayou_journal.specs.Opening.{IsForeign, IsOfAnother};
-ghost use Rattle.bayou_journal.specs.Versions.{IsVersion, marked};
+ghost use Rattle.bayou_journal.specs.Versions.{IsVersionOf, marked};
 
 use crate::fault::OpenFault;
 use crate::format::{
     DIGEST_BYTES, HEADER_BYTES, LENGTH_BYTES, MAGIC_BYTES, NAME_BYTES, NEWEST_VERSION, header_of,
-    is_version, link_of,
+    is_version, is_version_of, link_of,
 };
 use crate::opened::Place;
 use bayou_base::{MAX_BODY_BYTES, ServerId};
@@ -25,7 +25,7 @@ pub enum Head {
     New,
     // The server's own header, in this version.
     Own(u8),
-    // Another server's header.
+    // Another server's header, or that of one which its version knows nothing of.
     OfAnother,
     // Anything else.
     Foreign,
@@ -103,7 +103,7 @@ pub fn chain_of(
     server: ServerId,
     bytes: &[u8],
 ) -> Result<ReadChain, AllocError>
-    requires version { IsVersion version }
+    requires version { IsVersionOf server.index version }
     requires header { BeginsWith (header version server.index) bytes.now }
     ensures { IfOk result (λ chain. (rest : List ℕ) × IsRead version server.index bytes.now chain.places.items chain.version chain.last rest × NoEntry chain.last rest
         × (chain.end + length rest ≡ length bytes.now)) }
@@ -156,7 +156,7 @@ pub fn head_of(server: ServerId, bytes: &[u8]) -> Head
     }
     if bytes.len() < HEADER_BYTES {
         Head::New
-    } else if bytes[NAME_BYTES] == server.index {
+    } else if bytes[NAME_BYTES] == server.index && is_version_of(server, version) {
         Head::Own(version)
     } else {
         Head::OfAnother

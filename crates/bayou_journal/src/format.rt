@@ -1,9 +1,9 @@
 ghost use Rattle.std.specs.Prelude.{◌≡◌, ◌↔◌, ◌+◌, ◌<◌, ◌≤◌, ◌^◌, ◌++◌, IsTrue, length, vec_capacity, vec_len};
 ghost use Rattle.bayou_base.specs.declared.limits.TheConstants.{MAX_BODY_BYTES};
 ghost use Rattle.bayou_journal.specs.Chain;
-ghost use Rattle.bayou_journal.specs.Versions.{IsVersion};
+ghost use Rattle.bayou_journal.specs.Versions.{IsVersion, IsVersionOf};
 
-use bayou_base::{MAX_BODY_BYTES, ServerId};
+use bayou_base::{MAX_BODY_BYTES, OLD_SERVERS, ServerId};
 use sha2::{Digest, Sha256};
 
 /// What every journal begins with, before its version.
@@ -14,7 +14,10 @@ pub const FIRST_VERSION: u8 = 1;
 
 /// The version of new journals, and the one that bodies are added in. A journal of an earlier one is raised to it in place, behind a
 /// mark.
-pub const NEWEST_VERSION: u8 = 2;
+pub const NEWEST_VERSION: u8 = 3;
+
+/// The oldest version that is of as many servers as there are now: before it there were [`OLD_SERVERS`].
+pub const WIDE_VERSION: u8 = 3;
 
 /// How many bytes stand before the version: the magic bytes.
 pub const MAGIC_BYTES: usize = 8;
@@ -39,6 +42,14 @@ pub(crate) fn is_version(version: u8) -> bool
     ensures { IsTrue result ↔ IsVersion version }
 {
     FIRST_VERSION <= version && version <= NEWEST_VERSION
+}
+
+// Whether the journal of this server may have the version.
+pub(crate) fn is_version_of(server: ServerId, version: u8) -> bool
+    ensures { IsTrue result ↔ IsVersionOf server.index version }
+{
+    is_version(version)
+        && (WIDE_VERSION <= version || usize::from(server.index) < OLD_SERVERS)
 }
 
 /// The header of a server's journal in a version of the format.

@@ -8,7 +8,7 @@ ghost use Rattle.bayou_device.specs.MemoryDevice.{memory_device};
 ghost use Rattle.bayou_journal.specs.Honest.{BeginsWithBodies, GoesOnHonestly, HasCrashed, HasJournal, IsFrontOfHeader, IsHonest, IsHonestDevice, IsPassing, IsRecoverable, IsWhole, KeepsBodies, OnlyTears, added_body, torn};
 ghost use Rattle.bayou_journal.specs.Opened.{Found};
 ghost use Rattle.bayou_journal.specs.Opening.{FailsToAdd, FailsToOpen, Finds, HasOpened, HasRefused, IsForeign, IsOfAnother, KeepsChains};
-ghost use Rattle.bayou_journal.specs.Versions.{AreLongest, Body, IsVersion, Records, bodies_in, body_in, end_of, journal_of, marked, version_of};
+ghost use Rattle.bayou_journal.specs.Versions.{AreLongest, Body, IsVersionOf, Records, bodies_in, body_in, end_of, journal_of, marked, version_of};
 ghost use Rattle.bayou_journal.specs.declared.fault.OpenFault.{OpenFault};
 ghost use Rattle.bayou_journal.specs.declared.format.TheConstants.{NEWEST_VERSION};
 
@@ -21,7 +21,7 @@ pub fn longest_chain_is_one()
 
 /// A journal and nothing else is its own longest chain.
 pub fn a_whole_journal_is_its_longest_chain()
-    ensures { (server : ℕ) (records : Records) → IsVersion records.version → AreBodies records.bodies → AreLongest server (journal_of server records) records [] }
+    ensures { (server : ℕ) (records : Records) → IsVersionOf server records.version → AreBodies records.bodies → AreLongest server (journal_of server records) records [] }
 {}
 
 /// What the entries of a chain tell are bodies that an entry may carry.
@@ -79,7 +79,7 @@ pub fn a_fault_leaves_a_torn_journal()
 
 /// A torn journal is recoverable: no entry goes on in it but that of the body whose append tore it.
 pub fn a_torn_journal_is_recoverable()
-    ensures { (server : ℕ) (records : Records) (body : List ℕ) (count : ℕ) → IsVersion records.version → AreBodies records.bodies → IsBody body → version_of records ≡ NEWEST_VERSION
+    ensures { (server : ℕ) (records : Records) (body : List ℕ) (count : ℕ) → IsVersionOf server records.version → AreBodies records.bodies → IsBody body → version_of records ≡ NEWEST_VERSION
         → IsRecoverable server (bodies_in records) (Some (added_body body)) (torn records.version server records.bodies body count) }
 {}
 
@@ -138,9 +138,9 @@ pub fn what_is_kept_is_found<D: Device>()
 /// doubt, as in a front of its entry; or where that entry is kept too, and no other goes on from it. Nothing else of a device
 /// decides whether it is.
 pub fn what_stands_behind_the_kept_decides<D: Device>()
-    ensures honest { (server : ℕ) (records : Records) (doubt : Option Body) (device : D) (tail : List ℕ) → IsVersion records.version → AreBodies records.bodies → D.kept device ≡ journal_of server records
+    ensures honest { (server : ℕ) (records : Records) (doubt : Option Body) (device : D) (tail : List ℕ) → IsVersionOf server records.version → AreBodies records.bodies → D.kept device ≡ journal_of server records
         → D.content device ≡ D.kept device ++ tail → GoesOnHonestly server records doubt tail → IsHonestDevice D.Device server (bodies_in records) doubt device }
-    ensures doubt { (server : ℕ) (records : Records) (body : List ℕ) (device : D) (tail : List ℕ) → IsVersion records.version → AreBodies records.bodies → IsBody body
+    ensures doubt { (server : ℕ) (records : Records) (body : List ℕ) (device : D) (tail : List ℕ) → IsVersionOf server records.version → AreBodies records.bodies → IsBody body
         → marked (version_of records) body ≡ None → D.kept device ≡ journal records.version server (records.bodies ++ body ∷ [])
         → D.content device ≡ D.kept device ++ tail → NoEntry (chain_end records.version server (records.bodies ++ body ∷ [])) tail
         → IsHonestDevice D.Device server (bodies_in records) (Some (body_in (version_of records) body)) device }
@@ -163,9 +163,9 @@ pub fn a_crash_leaves_an_honest_device<D: Device>()
 /// What a crash of a device in memory does is a crash, where nothing goes on in what it leaves but the body in doubt.
 pub fn a_device_in_memory_crashes()
     ensures { (server : ℕ) (bodies : List Body) (doubt : Option Body) (tail : List ℕ) (old new : Memory) → new ≡ crashed tail old → kept_bytes new ≡ kept_bytes old
-        → ((records : Records) (more : List ℕ) → IsVersion records.version → AreBodies records.bodies → bodies_in records ≡ bodies → kept_bytes old ≡ journal_of server records ++ more
+        → ((records : Records) (more : List ℕ) → IsVersionOf server records.version → AreBodies records.bodies → bodies_in records ≡ bodies → kept_bytes old ≡ journal_of server records ++ more
         → GoesOnHonestly server records doubt (more ++ tail))
-        → ((version : ℕ) × IsVersion version × BeginsWith (header version server) (kept_bytes old)) ⊎ IsFrontOfHeader server (kept_bytes old ++ tail)
+        → ((version : ℕ) × IsVersionOf server version × BeginsWith (header version server) (kept_bytes old)) ⊎ IsFrontOfHeader server (kept_bytes old ++ tail)
         → HasCrashed memory_device server bodies doubt old new }
 {}
 

@@ -1,5 +1,5 @@
 -- What a journal stores of the Writes of a server and of their tags, and how the device stands after each call: this project's own.
-use Rattle.std.specs.Prelude.{◌≡◌, ◌==◌, ◌⊎◌, ◌↔◌, ℕ, List, [], ◌∷◌, ◌++◌, Some, IsSome, Result, Ok, Err, if◌then◌else◌}
+use Rattle.std.specs.Prelude.{◌≡◌, ◌==◌, ◌⊎◌, ◌↔◌, ℕ, List, [], ◌∷◌, ◌++◌, Some, IsSome, Result, Ok, Err, nat_lt, if◌then◌else◌}
 use Rattle.std.specs.List.{AllZip}
 use Rattle.bayou_device.specs.Device.{Rose}
 use Rattle.bayou_device.specs.declared.device.Device.{Ghosts}
@@ -8,7 +8,7 @@ use Rattle.bayou_journal.specs.Honest.{HasJournal, added_body}
 use Rattle.bayou_journal.specs.Opening.{FailsToAdd, HasOpened, HasRefused}
 use Rattle.bayou_journal.specs.Opening as journals
 use Rattle.bayou_journal.specs.Versions.{Body}
-use Rattle.bayou_journal.specs.declared.format.TheConstants.{FIRST_VERSION}
+use Rattle.bayou_journal.specs.declared.format.TheConstants.{FIRST_VERSION, WIDE_VERSION}
 use Rattle.bayou_journal.specs.declared.fault.OpenFault.TheVariants as opening
 use Rattle.bayou_lang.specs.declared.write.Write.{Write}
 use Rattle.bayou_wire.specs.Records.{SpellsRecord}
@@ -29,9 +29,10 @@ use Rattle.bayou_server.specs.declared.fault.WriteFault.TheVariants.{TagUsed, Do
 use Rattle.bayou_server.specs.Faults.{open_fault}
 use Rattle.bayou_server.specs.Server.{Core, ServerState, record_in_doubt, records, records_of}
 
--- The form of the records in a journal of this version: in the first they have no tags. The wide form is of no version yet.
+-- The form of the records in a journal of this version: in the first they have no tags, and before the wide version vectors have fewer
+-- counts.
 abbrev pub form_of : (version : ℕ) → Form
-form_of version = if version == FIRST_VERSION then Plain else Tagged
+form_of version = if version == FIRST_VERSION then Plain else (if nat_lt version WIDE_VERSION then Tagged else Wide)
 
 -- in a form that has tags a Write has one exactly where it is the server's own
 abbrev pub IsTagged : (server : ℕ) → Form → Record → Type 0

@@ -5,7 +5,7 @@ ghost use Rattle.bayou_wire.specs.declared.record.Record.{Record as Recorded};
 ghost use Rattle.bayou_server.specs.Stored.{IsBodyOf, IsTagged, form_of as form_in};
 
 use bayou_base::ServerId;
-use bayou_journal::format::FIRST_VERSION;
+use bayou_journal::format::{FIRST_VERSION, WIDE_VERSION};
 use bayou_wire::laws::bytes_are_of_one_record;
 use bayou_wire::{Form, Record, decode_record};
 use std::alloc::{AllocError, Global};
@@ -16,8 +16,10 @@ fn form_of(version: u8) -> Form
 {
     if version == FIRST_VERSION {
         Form::Plain
-    } else {
+    } else if version < WIDE_VERSION {
         Form::Tagged
+    } else {
+        Form::Wide
     }
 }
 

@@ -3,14 +3,14 @@ use Rattle.std.specs.Prelude.{◌==◌, ℕ, zero, suc, List, [], if◌then◌el
 use Rattle.bayou_device.specs.Device.{BeginsWith}
 use Rattle.bayou_journal.specs.Chain.{entry, header, link}
 use Rattle.bayou_journal.specs.Opening.{IsForeign, IsNew, IsOfAnother}
-use Rattle.bayou_journal.specs.Versions.{IsVersion, newest_mark}
+use Rattle.bayou_journal.specs.Versions.{IsVersionOf, newest_mark}
 use Rattle.bayou_journal.specs.declared.chain.Head.{Head}
 use Rattle.bayou_journal.specs.declared.chain.Head.TheVariants.{New, Own, OfAnother, Foreign}
 use Rattle.bayou_journal.specs.declared.format.TheConstants.{NEWEST_VERSION}
 
 abbrev pub HasHead : ℕ → List ℕ → Head → Type 0
 HasHead server bytes New = IsNew bytes
-HasHead server bytes (Own version) = IsVersion version × BeginsWith (header version server) bytes
+HasHead server bytes (Own version) = IsVersionOf server version × BeginsWith (header version server) bytes
 HasHead server bytes OfAnother = IsOfAnother server bytes
 HasHead server bytes Foreign = IsForeign bytes
 

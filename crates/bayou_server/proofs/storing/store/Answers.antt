@@ -1,7 +1,7 @@
 use Rattle.std.proofs.Common.{List, ℕ, ap, arith, length, refl, subst, sym}
 use Rattle.bayou_wire.specs.Laws.Records.{record_is}
 use Rattle.bayou_wire.specs.Records.{SpellsRecord}
-use Rattle.bayou_wire.specs.declared.record.Form.TheVariants.{Tagged}
+use Rattle.bayou_wire.specs.declared.record.Form.TheVariants.{Wide}
 use Rattle.bayou_server.specs.declared.holding.Holding.{Holding}
 use Rattle.bayou_server.specs.Inner.Fields.{core_of}
 use Rattle.bayou_server.proofs.Adding.{settled_stored, settled_stores, settled_together, Adds, Appends}
@@ -19,10 +19,10 @@ adds g c = record {
   together = c.requires.together;
   up = c.requires.may.up;
   may = stored_may_be_in_doubt (core_of c.args.holding.now c.args.id.index) c.args.write c.requires.may
-      (record_is Tagged c.in_ok-body.body.items (record { write = c.args.write; tag = c.args.tag }) c.in_ok-body.ensures.tagged);
+      (record_is Wide c.in_ok-body.body.items (record { write = c.args.write; tag = c.args.tag }) c.in_ok-body.ensures.spelling);
   its = (c.requires.tagged.new, c.requires.tagged.own.0);
   stands = record {
-    spelled = subst (λ (b : List ℕ). SpellsRecord Tagged b (record { write = c.args.write; tag = c.args.tag })) (sym c.deref.ensures.value) c.in_ok-body.ensures.tagged;
+    spelled = subst (λ (b : List ℕ). SpellsRecord Wide b (record { write = c.args.write; tag = c.args.tag })) (sym c.deref.ensures.value) c.in_ok-body.ensures.spelling;
     tagged = c.requires.tagged.own;
   };
   same_log = c.reserve.ensures.same;
