@@ -529,35 +529,32 @@ const TOO_EARLY: &str = "4241594f554a4e4c 0100
     0046 01 <tag> <0:1> <stamp> <old-none> <put>
     d4cd3fede7c56d633ffc4f0575a63658ec495f2b93ed7d8fa24504930d722894";
 
-/// Writes with a condition that counts keys, in the first version and in the second.
-const COUNTING: [&str; 2] = [
-    "4241594f554a4e4c 0100
+/// A Write with a condition that counts keys, in the first version and in the second.
+const COUNTING: &str = "4241594f554a4e4c 0100
     0042 <0:1> <stamp> <old-none> 01 04 00 00000000 010104726f6f6d0101000000000000000100
-    e3dcaeab35a28eb0742c85156e74d8383d1bb6ee20484348b7664cbb2cf1ada5",
-    "4241594f554a4e4c 0200
+    e3dcaeab35a28eb0742c85156e74d8383d1bb6ee20484348b7664cbb2cf1ada5";
+
+const COUNTING_TAGGED: &str = "4241594f554a4e4c 0200
     004c 01 <tag> <0:1> <stamp> <old-none> 01 04 00 00000000 010104726f6f6d0101000000000000000100
-    ab0cc193e323251b7dfab5a65a80e865cd400f60b527e3293b2e31eb1aa3cda2",
-];
+    ab0cc193e323251b7dfab5a65a80e865cd400f60b527e3293b2e31eb1aa3cda2";
 
-/// Writes with sixteen counts there.
-const TOO_WIDE: [&str; 2] = [
-    "4241594f554a4e4c 0100
+/// One with sixteen counts there.
+const TOO_WIDE: &str = "4241594f554a4e4c 0100
     005c <0:1> <stamp> <none> <put>
-    527617e800281d44a7d8e5ae686fe0efdc86b5f2e856b64b1d97ec926f55e2f6",
-    "4241594f554a4e4c 0200
-    0066 01 <tag> <0:1> <stamp> <none> <put>
-    9a364edaf22b31a4bf0f2cd8e92c0aca4450130b9d1474bae387913d0433476e",
-];
+    527617e800281d44a7d8e5ae686fe0efdc86b5f2e856b64b1d97ec926f55e2f6";
 
-/// Writes of server 8 there.
-const TOO_LATE: [&str; 2] = [
-    "4241594f554a4e4c 0100
+const TOO_WIDE_TAGGED: &str = "4241594f554a4e4c 0200
+    0066 01 <tag> <0:1> <stamp> <none> <put>
+    9a364edaf22b31a4bf0f2cd8e92c0aca4450130b9d1474bae387913d0433476e";
+
+/// One of server 8 there.
+const TOO_LATE: &str = "4241594f554a4e4c 0100
     003c 08 00000001 <stamp> <old-none> <put>
-    b800a48db3a4272481ff8f4d1a4ba79db09920054e7363ea5b03d8317c5be715",
-    "4241594f554a4e4c 0200
+    b800a48db3a4272481ff8f4d1a4ba79db09920054e7363ea5b03d8317c5be715";
+
+const TOO_LATE_TAGGED: &str = "4241594f554a4e4c 0200
     003d 00 08 00000001 <stamp> <old-none> <put>
-    c3e2ec123af7c2a3b01ed932f2c6b16e7e97cdbd002480fd566e84fb760b12db",
-];
+    c3e2ec123af7c2a3b01ed932f2c6b16e7e97cdbd002480fd566e84fb760b12db";
 
 /// Bytes with which no server starts that is the first of two, why, and how many bytes stand on the device then: a mark more where the chain
 /// was found.
@@ -593,12 +590,12 @@ static REFUSED: [(&str, StartFault, usize); 13] = [
         10,
     ),
     (TOO_EARLY, StartFault::BadRecord(0), 149),
-    (COUNTING[0], StartFault::BadRecord(0), 145),
-    (COUNTING[1], StartFault::BadRecord(0), 155),
-    (TOO_WIDE[0], StartFault::BadRecord(0), 171),
-    (TOO_WIDE[1], StartFault::BadRecord(0), 181),
-    (TOO_LATE[0], StartFault::BadRecord(0), 139),
-    (TOO_LATE[1], StartFault::BadRecord(0), 140),
+    (COUNTING, StartFault::BadRecord(0), 145),
+    (COUNTING_TAGGED, StartFault::BadRecord(0), 155),
+    (TOO_WIDE, StartFault::BadRecord(0), 171),
+    (TOO_WIDE_TAGGED, StartFault::BadRecord(0), 181),
+    (TOO_LATE, StartFault::BadRecord(0), 139),
+    (TOO_LATE_TAGGED, StartFault::BadRecord(0), 140),
 ];
 
 /// Whether no server starts on these bytes, for that fault, which leaves so many of them.
