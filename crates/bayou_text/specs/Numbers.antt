@@ -1,5 +1,5 @@
 -- Numbers: integers, each in the range of its place. What is no integer, as 1.0, is Number too.
-use Rattle.std.specs.Prelude.{ℕ, ℤ, ◌-◌, nat_le, ◌&&◌, Ok, Err, option_and_then, if◌then◌else◌}
+use Rattle.std.specs.Prelude.{ℕ, ℤ, ◌-◌, ◌^◌, nat_le, ◌&&◌, Ok, Err, option_and_then, if◌then◌else◌}
 use Rattle.std.specs.Option.{ok_or}
 use Rattle.serde_json.specs.Data.{Data}
 use Rattle.serde_json.specs.Find.{as_number, as_i64, as_u64}
@@ -62,6 +62,10 @@ clock_in = number_in 1 MAX_WRITES
 -- how many Writes of a server a vector counts
 abbrev pub tally_in : Data → Parsed ℕ
 tally_in = number_in 0 MAX_WRITES
+
+-- how many keys a condition lets begin with its prefix
+abbrev pub most_in : Data → Parsed ℕ
+most_in = number_in 0 (2 ^ 32 - 1)
 
 -- an integer of i64
 abbrev pub integer_in : Data → Parsed ℤ

@@ -10,12 +10,12 @@ use Rattle.bayou_lang.specs.declared.program.Term.TheVariants.{Lit, Copy, Plus}
 use Rattle.bayou_lang.specs.declared.program.Op.{Op}
 use Rattle.bayou_lang.specs.declared.program.Op.TheVariants.{Put, Del}
 use Rattle.bayou_lang.specs.declared.program.Cond.{Cond}
-use Rattle.bayou_lang.specs.declared.program.Cond.TheVariants.{Equals, Absent, AtLeast}
+use Rattle.bayou_lang.specs.declared.program.Cond.TheVariants.{Equals, Absent, AtLeast, AtMost}
 use Rattle.bayou_text.specs.declared.line.LineFault.TheVariants.{BadShape}
 use Rattle.bayou_text.specs.declared.line.Shape.TheVariants.{Arity, Form, Word}
-use Rattle.bayou_text.specs.Numbers.{integer_in}
+use Rattle.bayou_text.specs.Numbers.{integer_in, most_in}
 use Rattle.bayou_text.specs.Reading.{Parsed, ◌>>=◌, worded}
-use Rattle.bayou_text.specs.Values.{key_in, value_in}
+use Rattle.bayou_text.specs.Values.{key_in, prefix_in, value_in}
 
 -- behind a word: a key alone
 unfoldable pub named_in : List Data → Parsed (List ℕ)
@@ -76,11 +76,20 @@ at_least_in parts = do
   n ← integer_in named.1
   Ok (AtLeast named.0 n)
 
+-- ["atmost", prefix, n], behind its word
+unfoldable pub at_most_in : List Data → Parsed Cond
+at_most_in (prefix ∷ most ∷ []) = do
+  begin ← prefix_in prefix
+  n ← most_in most
+  Ok (AtMost begin n)
+at_most_in _ = Err (BadShape Arity)
+
 abbrev pub cond_of : List ℕ → List Data → Parsed Cond
 cond_of word parts =
     if bytes_eq word (codes "equals") then equals_in parts
     else (if bytes_eq word (codes "absent") then (named_in parts >>= λ key. Ok (Absent key))
-    else (if bytes_eq word (codes "atleast") then at_least_in parts else Err (BadShape Word)))
+    else (if bytes_eq word (codes "atleast") then at_least_in parts
+    else (if bytes_eq word (codes "atmost") then at_most_in parts else Err (BadShape Word))))
 
 unfoldable pub cond_in : Data → Parsed Cond
 cond_in d = ok_or (worded d) (BadShape Form) >>= λ parts. cond_of parts.0 parts.1

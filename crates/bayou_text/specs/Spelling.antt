@@ -14,7 +14,7 @@ use Rattle.bayou_lang.specs.declared.program.Term.TheVariants.{Lit, Copy, Plus}
 use Rattle.bayou_lang.specs.declared.program.Op.{Op}
 use Rattle.bayou_lang.specs.declared.program.Op.TheVariants.{Put, Del}
 use Rattle.bayou_lang.specs.declared.program.Cond.{Cond}
-use Rattle.bayou_lang.specs.declared.program.Cond.TheVariants.{Equals, Absent, AtLeast}
+use Rattle.bayou_lang.specs.declared.program.Cond.TheVariants.{Equals, Absent, AtLeast, AtMost}
 use Rattle.bayou_lang.specs.declared.program.Alt.{Alt}
 use Rattle.bayou_lang.specs.declared.program.Program.{Program}
 use Rattle.bayou_lang.specs.declared.write.Write.{Write}
@@ -39,11 +39,12 @@ abbrev pub op_json : Op → Data
 op_json (Put key term) = form (codes "put") (string key ∷ term_json term ∷ [])
 op_json (Del key) = form (codes "del") (string key ∷ [])
 
--- ["equals", key, value], ["absent", key] or ["atleast", key, n]
+-- ["equals", key, value], ["absent", key], ["atleast", key, n] or ["atmost", prefix, n]
 abbrev pub cond_json : Cond → Data
 cond_json (Equals key value) = form (codes "equals") (string key ∷ value_json value ∷ [])
 cond_json (Absent key) = form (codes "absent") (string key ∷ [])
 cond_json (AtLeast key n) = form (codes "atleast") (string key ∷ number (of_integer n) ∷ [])
+cond_json (AtMost prefix n) = form (codes "atmost") (string prefix ∷ number (unsigned n) ∷ [])
 
 -- the array of what each stands for
 abbrev pub list_json : {A : Type 0} → (A → Data) → List A → Data

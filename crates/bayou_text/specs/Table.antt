@@ -1,6 +1,6 @@
 -- The table of the lines (this project's own): which data spells which thing, member by member, with no word on how
 -- it is read.
-use Rattle.std.specs.Prelude.{◌≡◌, ◌-◌, ◌<◌, ◌≤◌, ◌⊎◌, ◌↔◌, ℕ, ℤ, List, [], ◌∷◌, ◌++◌, Option, None, Some, codes, length, map, replicate, IsTrue, IsUtf8}
+use Rattle.std.specs.Prelude.{◌≡◌, ◌-◌, ◌^◌, ◌<◌, ◌≤◌, ◌⊎◌, ◌↔◌, ℕ, ℤ, List, [], ◌∷◌, ◌++◌, Option, None, Some, codes, length, map, replicate, IsTrue, IsUtf8}
 use Rattle.std.specs.List.{AllByRecursion, AllZip, Contains}
 use Rattle.serde_json.specs.Data.{Data, Num, number, unsigned, string, array, object, Members}
 use Rattle.serde_json.specs.Find.{as_i64, get}
@@ -21,11 +21,11 @@ use Rattle.bayou_lang.specs.declared.program.Term.TheVariants.{Lit, Copy, Plus}
 use Rattle.bayou_lang.specs.declared.program.Op.{Op}
 use Rattle.bayou_lang.specs.declared.program.Op.TheVariants.{Put, Del}
 use Rattle.bayou_lang.specs.declared.program.Cond.{Cond}
-use Rattle.bayou_lang.specs.declared.program.Cond.TheVariants.{Equals, Absent, AtLeast}
+use Rattle.bayou_lang.specs.declared.program.Cond.TheVariants.{Equals, Absent, AtLeast, AtMost}
 use Rattle.bayou_lang.specs.declared.program.Alt.{Alt}
 use Rattle.bayou_lang.specs.declared.program.Program.{Program}
 use Rattle.bayou_lang.specs.declared.write.Write.{Write}
-use Rattle.bayou_lang.specs.Ranges.{IsKey}
+use Rattle.bayou_lang.specs.Ranges.{IsKey, IsPrefix}
 use Rattle.bayou_text.specs.Ranges.{IsCount, IsLimit, IsFuse}
 use Rattle.bayou_text.specs.Reading.{names}
 use Rattle.bayou_text.specs.Said.{Said, servers, session, write, read, again, drop, log, fuse, lose, reopen, restart, pull, resend, totals, judge, survey, book, phase, entry, held}
@@ -47,6 +47,10 @@ ValueIs d (Text text) = (d ≡ string text) × IsShort text
 -- a text that is a key
 abbrev pub KeyIs : Data → List ℕ → Type 0
 KeyIs d key = (d ≡ string key) × IsKey key
+
+-- a text that is a prefix
+abbrev pub PrefixIs : Data → List ℕ → Type 0
+PrefixIs d prefix = (d ≡ string prefix) × IsPrefix prefix
 
 -- an array of exactly a word and a key
 pub record NamedIs (word : List ℕ) (d : Data) (key : List ℕ) : Type 0 where
@@ -73,11 +77,21 @@ abbrev pub OpIs : Data → Op → Type 0
 OpIs d (Put key term) = KeyedIs (codes "put") (λ last. TermIs last term) d key
 OpIs d (Del key) = NamedIs (codes "del") d key
 
--- ["equals", key, value], ["absent", key] or ["atleast", key, n]
+-- ["atmost", prefix, n]
+pub record AtMostIs (d : Data) (prefix : List ℕ) (n : ℕ) : Type 0 where
+  pub prefix_data : Data
+  pub number_data : Data
+  pub form_is : d ≡ form (codes "atmost") (prefix_data ∷ number_data ∷ [])
+  pub prefix_is : PrefixIs prefix_data prefix
+  pub number_is : NumberIs number_data n
+  pub number_in_range : n < 2 ^ 32
+
+-- ["equals", key, value], ["absent", key], ["atleast", key, n] or ["atmost", prefix, n]
 abbrev pub CondIs : Data → Cond → Type 0
 CondIs d (Equals key value) = KeyedIs (codes "equals") (λ last. ValueIs last value) d key
 CondIs d (Absent key) = NamedIs (codes "absent") d key
 CondIs d (AtLeast key n) = KeyedIs (codes "atleast") (λ last. IntegerIs last n) d key
+CondIs d (AtMost prefix n) = AtMostIs d prefix n
 
 -- the members of the list that an object has under this name: none where it has no such member
 pub data MemberIs (name : List ℕ) (d : Data) (ds : List Data) : Type 0 where

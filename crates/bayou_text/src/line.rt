@@ -32,7 +32,7 @@ pub enum Shape {
     Number,
     /// A word within the line is unknown there.
     Word,
-    /// A key isn't a text.
+    /// A key or a prefix isn't a text.
     Name,
     /// A value is neither an integer of `i64` nor a text of a value's length.
     Worth,
@@ -49,7 +49,7 @@ pub enum LineFault {
     NotJson,
     /// The line is JSON that is no line.
     BadShape(Shape),
-    /// A text is no key.
+    /// A text is no key, or no prefix.
     Key(KeyFault),
     /// Lists make no program.
     Program(ProgramFault),

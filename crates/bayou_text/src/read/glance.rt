@@ -135,7 +135,7 @@ impl<'a> Glance<'a> {
         let mut counts = [0; SERVERS];
         let mut told = 0;
         for server in 0..SERVERS {
-            if self.rest.len() > 2 {
+            if matches!(self.rest, [b'[' | b',', ..]) {
                 counts[server] = self.next_number();
                 told = server as u8 + 1;
             }

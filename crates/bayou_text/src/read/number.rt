@@ -119,6 +119,13 @@ pub(crate) fn tally_in(json: &Value) -> Result<u32, LineFault>
     Ok(number_in(json, 0, MAX_WRITES as u64)? as u32)
 }
 
+/// How many keys a condition lets begin with its prefix.
+pub(crate) fn most_in(json: &Value) -> Result<u32, LineFault>
+    ensures { result ≡ grammar.most_in (view json.now) }
+{
+    Ok(number_in(json, 0, u64::from(u32::MAX))? as u32)
+}
+
 /// An integer of `i64`.
 pub(crate) fn integer_in(json: &Value) -> Result<i64, LineFault>
     ensures { result ≡ grammar.integer_in (view json.now) }

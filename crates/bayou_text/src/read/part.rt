@@ -4,8 +4,8 @@ ghost use Rattle.bayou_text.specs.Parts as grammar;
 ghost use Rattle.bayou_text.specs.Reading.{Answers};
 
 use crate::line::{LineFault, Shape};
-use crate::read::number::integer_in;
-use crate::read::value::{key_in, value_in, worded};
+use crate::read::number::{integer_in, most_in};
+use crate::read::value::{key_in, prefix_in, value_in, worded};
 use bayou_base::Key;
 use bayou_lang::{Cond, Op, Term};
 use serde_json::Value;
@@ -96,6 +96,17 @@ fn at_least_in(parts: &[Value]) -> Result<Cond, LineFault>
     Ok(Cond::AtLeast(key, integer_in(number)?))
 }
 
+/// A prefix, and how many keys may begin so.
+#[tactic(auto, unfolding(crate::specs::Parts::at_most_in))]
+fn at_most_in(parts: &[Value]) -> Result<Cond, LineFault>
+    ensures { result ≡ grammar.at_most_in (map view parts.now) }
+{
+    let [prefix, most] = parts else {
+        return Err(LineFault::BadShape(Shape::Arity));
+    };
+    Ok(Cond::AtMost(prefix_in(prefix)?, most_in(most)?))
+}
+
 #[tactic(auto, unfolding(crate::specs::Parts::cond_in))]
 pub(crate) fn cond_in(json: &Value) -> Result<Cond, LineFault>
     ensures { result ≡ grammar.cond_in (view json.now) }
@@ -111,6 +122,9 @@ pub(crate) fn cond_in(json: &Value) -> Result<Cond, LineFault>
     }
     if word == "atleast" {
         return at_least_in(parts);
+    }
+    if word == "atmost" {
+        return at_most_in(parts);
     }
     Err(LineFault::BadShape(Shape::Word))
 }

@@ -4,7 +4,7 @@ ghost use Rattle.bayou_text.specs.Reading.{headed, worded};
 ghost use Rattle.bayou_text.specs.Values as grammar;
 
 use crate::line::{LineFault, Shape};
-use bayou_base::{Key, Value as Stored};
+use bayou_base::{Key, Prefix, Value as Stored};
 use serde_json::Value;
 
 /// The word that a list begins with, and what stands behind it.
@@ -33,6 +33,18 @@ pub(crate) fn key_in(json: &Value) -> Result<Key, LineFault>
     };
     match Key::new(name) {
         Ok(key) => Ok(key),
+        Err(fault) => Err(LineFault::Key(fault)),
+    }
+}
+
+pub(crate) fn prefix_in(json: &Value) -> Result<Prefix, LineFault>
+    ensures { result ≡ grammar.prefix_in (view json.now) }
+{
+    let Some(text) = json.as_str() else {
+        return Err(LineFault::BadShape(Shape::Name));
+    };
+    match Prefix::new(text) {
+        Ok(prefix) => Ok(prefix),
         Err(fault) => Err(LineFault::Key(fault)),
     }
 }

@@ -1,5 +1,5 @@
 -- Parts of programs that are read are so spelled, by the table; and those that are so spelled are read.
-use Rattle.std.proofs.Common.{◌≡◌, inl, inr, ℕ, List, [], ◌∷◌, Option, None, Some, Ok, Err, codes, subst}
+use Rattle.std.proofs.Common.{◌≡◌, inl, inr, ℕ, ◌-◌, ◌<◌, ◌^◌, List, [], ◌∷◌, Option, None, Some, Ok, Err, codes, subst, arith}
 use Rattle.std.specs.Option.{option_map_or}
 use Rattle.serde_json.specs.Data.{Data, Items}
 use Rattle.serde_json.specs.Find.{as_array}
@@ -10,16 +10,16 @@ use Rattle.bayou_lang.specs.declared.program.Term.TheVariants.{Lit, Copy, Plus}
 use Rattle.bayou_lang.specs.declared.program.Op.{Op}
 use Rattle.bayou_lang.specs.declared.program.Op.TheVariants.{Put, Del}
 use Rattle.bayou_lang.specs.declared.program.Cond.{Cond}
-use Rattle.bayou_lang.specs.declared.program.Cond.TheVariants.{Equals, Absent, AtLeast}
+use Rattle.bayou_lang.specs.declared.program.Cond.TheVariants.{Equals, Absent, AtLeast, AtMost}
 use Rattle.bayou_text.specs.declared.line.LineFault.TheVariants.{BadShape}
 use Rattle.bayou_text.specs.declared.line.Shape.TheVariants.{Form, Word}
-use Rattle.bayou_text.specs.Laws.Inner.Readers.{bound, there, word_or, worded_of, key_found, key_read, value_found, value_read, integer_found, integer_read}
-use Rattle.bayou_text.specs.Numbers.{integer_in}
-use Rattle.bayou_text.specs.Parts.{named_in, keyed_in, plus_in, term_of, array_term_in, term_in, put_in, op_of, op_in, equals_in, at_least_in, cond_of, cond_in}
+use Rattle.bayou_text.specs.Laws.Inner.Readers.{bound, there, word_or, worded_of, key_found, key_read, prefix_found, prefix_read, value_found, value_read, integer_found, integer_read, number_found, number_read}
+use Rattle.bayou_text.specs.Numbers.{integer_in, most_in}
+use Rattle.bayou_text.specs.Parts.{named_in, keyed_in, plus_in, term_of, array_term_in, term_in, put_in, op_of, op_in, equals_in, at_least_in, at_most_in, cond_of, cond_in}
 use Rattle.bayou_text.specs.Reading.{◌>>=◌, worded}
 use Rattle.bayou_text.specs.Spelling.{form}
-use Rattle.bayou_text.specs.Table.{KeyIs, IntegerIs, ValueIs, NamedIs, KeyedIs, TermIs, OpIs, CondIs}
-use Rattle.bayou_text.specs.Values.{key_in, value_in}
+use Rattle.bayou_text.specs.Table.{KeyIs, PrefixIs, NumberIs, IntegerIs, ValueIs, NamedIs, KeyedIs, TermIs, OpIs, CondIs}
+use Rattle.bayou_text.specs.Values.{key_in, prefix_in, value_in}
 
 -- ---- what stands behind a word
 
@@ -203,15 +203,38 @@ at_least_found d parts c is e =
     (keyed_found (codes "atleast") (λ last. IntegerIs last n.0) d parts named.0 is named.1
     (integer_found named.0.1 n.0 n.1))
 
+at_most_found : (d : Data) (parts : List Data) (c : Cond) → d ≡ form (codes "atmost") parts
+    → at_most_in parts ≡ Ok c → CondIs d c
+unfolding at_most_in
+at_most_found d [] c is e = absurd (cc)
+at_most_found d (p ∷ []) c is e = absurd (cc)
+at_most_found d (p ∷ l ∷ []) c is e =
+    let prefix = bound (prefix_in p) (λ begin. most_in l >>= λ n. Ok (AtMost begin n)) c e in
+    let n = bound (most_in l) (λ n. Ok (AtMost prefix.0 n)) c prefix.2 in
+    let counted = number_found 0 (2 ^ 32 - 1) l n.0 n.1 in
+    let same : AtMost prefix.0 n.0 ≡ c = cc in
+    subst (λ (condition : Cond). CondIs d condition) same (record {
+      prefix_data = p;
+      number_data = l;
+      form_is = is;
+      prefix_is = prefix_found p prefix.0 prefix.1;
+      number_is = counted.0;
+      number_in_range = omega (arith, counted.1.1);
+    })
+at_most_found d (p ∷ l ∷ other ∷ more) c is e = absurd (cc)
+
 cond_of_is : (d : Data) (word : List ℕ) (parts : List Data) (c : Cond) → d ≡ form word parts
     → cond_of word parts ≡ Ok c → CondIs d c
 cond_of_is d word parts c is e = elim (word_or d word (codes "equals") parts (equals_in parts) _ c is e) [
   | inl h ↦ equals_found d parts c h.0 h.1
   | inr h ↦ elim (word_or d word (codes "absent") parts (named_in parts >>= λ key. Ok (Absent key)) _ c is h) [
     | inl k ↦ absent_found d parts c k.0 k.1
-    | inr k ↦ elim (word_or d word (codes "atleast") parts (at_least_in parts) (Err (BadShape Word)) c is k) [
+    | inr k ↦ elim (word_or d word (codes "atleast") parts (at_least_in parts) _ c is k) [
       | inl l ↦ at_least_found d parts c l.0 l.1
-      | inr l ↦ absurd (cc)
+      | inr l ↦ elim (word_or d word (codes "atmost") parts (at_most_in parts) (Err (BadShape Word)) c is l) [
+        | inl m ↦ at_most_found d parts c m.0 m.1
+        | inr m ↦ absurd (cc)
+      ]
     ]
   ]
 ]
@@ -237,8 +260,18 @@ at_least_read : (k l : Data) (key : List ℕ) (c : Cond) → KeyIs k key
 unfolding cond_in
 at_least_read k l key c is e = rw (keyed_read k l key is) e
 
+at_most_read : (p l : Data) (prefix : List ℕ) (n : ℕ) → PrefixIs p prefix → NumberIs l n → n < 2 ^ 32
+    → cond_in (form (codes "atmost") (p ∷ l ∷ [])) ≡ Ok (AtMost prefix n)
+unfolding cond_in at_most_in
+at_most_read p l prefix n is last low = rw (
+  prefix_read p prefix is,
+  number_read 0 (2 ^ 32 - 1) l n last (omega arith) (omega (arith, low)),
+)
+
 pub cond_read : (d : Data) (c : Cond) → CondIs d c → cond_in d ≡ Ok c
 cond_read d (Equals key v) is = rw is.form_is (equals_read is.key_data is.last_data key v is.key_is is.last_is)
 cond_read d (Absent key) is = rw is.form_is (absent_read is.key_data key is.key_is)
 cond_read d (AtLeast key n) is = rw is.form_is (at_least_read is.key_data is.last_data key (AtLeast key n)
     is.key_is (rw (integer_read is.last_data n is.last_is)))
+cond_read d (AtMost prefix n) is =
+    rw is.form_is (at_most_read is.prefix_data is.number_data prefix n is.prefix_is is.number_is is.number_in_range)

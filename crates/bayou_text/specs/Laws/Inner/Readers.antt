@@ -7,7 +7,7 @@ use Rattle.std.proofs.lemmas.Slice.Eq.{bytes_eq-Decides}
 use Rattle.serde_json.specs.Data.{Data, Num, null, boolean, number, unsigned, negative, float, string, array, object, Items, no_items, item, Members}
 use Rattle.serde_json.specs.Find.{as_i64, as_u64, as_str, as_number, as_array, as_object}
 use Rattle.serde_json.specs.View.{items_of}
-use Rattle.bayou_base.specs.Key.{key_fault}
+use Rattle.bayou_base.specs.Key.{key_fault, prefix_fault}
 use Rattle.bayou_base.specs.Text.{IsShort}
 use Rattle.bayou_base.specs.declared.asks.Asks.{Asks}
 use Rattle.bayou_base.specs.declared.key.KeyFault.{KeyFault}
@@ -21,8 +21,8 @@ use Rattle.bayou_text.specs.Asks.{is_ask, asked, asks_of, asks_in}
 use Rattle.bayou_text.specs.Numbers.{number_in, integer_in, within}
 use Rattle.bayou_text.specs.Reading.{Parsed, ◌>>=◌, listed, headed, worded, says}
 use Rattle.bayou_text.specs.Spelling.{form}
-use Rattle.bayou_text.specs.Table.{NumberIs, IntegerIs, ValueIs, KeyIs, IsAsk, AsksAre}
-use Rattle.bayou_text.specs.Values.{key_of, key_in, text_of, value_in}
+use Rattle.bayou_text.specs.Table.{NumberIs, IntegerIs, ValueIs, KeyIs, PrefixIs, IsAsk, AsksAre}
+use Rattle.bayou_text.specs.Values.{key_of, key_in, prefix_of, prefix_in, text_of, value_in}
 
 -- ---- steps
 
@@ -128,7 +128,7 @@ worded_of d parts e = form_of d parts (as_array d) refl
 pub worded_form : (word : List ℕ) (parts : List Data) → worded (form word parts) ≡ Some (word, parts)
 worded_form word parts = ap (λ ds. Some (word, ds)) (listed_items parts)
 
--- ---- numbers, keys and values
+-- ---- numbers, keys, prefixes and values
 
 within_of : (least most m n : ℕ) → within least most m ≡ Ok n → (m ≡ n) × ((least ≤ n) × (n ≤ most))
 within_of least most m n e = elim
@@ -184,6 +184,20 @@ key_found d key e =
 
 pub key_read : (d : Data) (key : List ℕ) → KeyIs d key → key_in d ≡ Ok key
 key_read d key is = rw is.0 (rw is.1)
+
+prefix_of_is : (text prefix : List ℕ) (o : Option KeyFault) → prefix_fault text ≡ o
+    → option_map_or (λ why. Err (fault.Key why)) o (Ok text) ≡ Ok prefix → (text ≡ prefix) × (prefix_fault prefix ≡ None)
+prefix_of_is text prefix None was e = let same : text ≡ prefix = cc in (same, sym (ap prefix_fault same) ∙ was)
+prefix_of_is text prefix (Some why) was e = absurd (cc)
+
+pub prefix_found : (d : Data) (prefix : List ℕ) → prefix_in d ≡ Ok prefix → PrefixIs d prefix
+prefix_found d prefix e =
+    let some = there prefix_of (as_str d) (fault.BadShape Name) prefix e in
+    let valid = prefix_of_is some.0 prefix (prefix_fault some.0) refl some.2 in
+    (string_of d some.0 some.1 ∙ ap string valid.0, valid.1)
+
+pub prefix_read : (d : Data) (prefix : List ℕ) → PrefixIs d prefix → prefix_in d ≡ Ok prefix
+prefix_read d prefix is = rw is.0 (rw is.1)
 
 text_of_is : (text : List ℕ) (v : Value) → text_of text ≡ Ok v → (v ≡ Text text) × IsShort text
 text_of_is text v e = elim
