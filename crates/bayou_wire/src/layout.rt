@@ -41,6 +41,8 @@ pub const COND_EQUALS: u8 = 1;
 pub const COND_ABSENT: u8 = 2;
 /// A condition that a key has a number that isn't less.
 pub const COND_AT_LEAST: u8 = 3;
+/// A condition that so many keys at the most begin so.
+pub const COND_AT_MOST: u8 = 4;
 
 /// No value, or no Write.
 pub const ABSENT: u8 = 0;
