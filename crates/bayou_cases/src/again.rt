@@ -224,7 +224,7 @@ static AGAINS: [Case; 13] = [
 ["log",0]
 ["judge"]
 "#,
-        output: "0 lost\nrestarted 0 holds 0 dropped 100\n0 wrote 0:1 clock 1 deps 0\nlog 0 0:1 clock 1 updated\nlog 0 at 1\nclean\n",
+        output: "0 lost\nrestarted 0 holds 0 dropped 132\n0 wrote 0:1 clock 1 deps 0\nlog 0 0:1 clock 1 updated\nlog 0 at 1\nclean\n",
         fault: "",
         status: 0,
     },

@@ -134,7 +134,7 @@ static AUDITS: [Case; 14] = [
     },
     Case {
         name: "no entry, and nothing held; a limit says nothing",
-        script: "[\"servers\",8,1]\n",
+        script: "[\"servers\",16,1]\n",
         output: "clean\n",
         fault: "",
         status: 0,
@@ -298,14 +298,14 @@ totals reads 0 writes 1 refusals 1 slips 0
 ["reopen",0]
 ["judge"]
 "#,
-        output: "0 wrote 0:1 clock 1 deps 0\nrestarted 0 holds 0 dropped 87\njudge refused forged 0\n1 refused journal\nreopened 0 adopted 0:1\nclean\n",
+        output: "0 wrote 0:1 clock 1 deps 0\nrestarted 0 holds 0 dropped 119\njudge refused forged 0\n1 refused journal\nreopened 0 adopted 0:1\nclean\n",
         fault: "",
         status: 2,
     },
     Case {
         name: "the book of nothing",
-        script: "[\"servers\",8]\n[\"book\"]\n[\"judge\"]\n[\"survey\"]\n",
-        output: "[\"servers\",8]\nclean\n",
+        script: "[\"servers\",16]\n[\"book\"]\n[\"judge\"]\n[\"survey\"]\n",
+        output: "[\"servers\",16]\nclean\n",
         fault: "",
         status: 0,
     },
@@ -402,7 +402,7 @@ const LINES: &str = r#"["entry",0,1,[],0,"refused"]
 ["entry",0,4294967296,[],0,"refused"] => bad shape
 ["entry",0,1,["RYW"],0,"refused"] => bad shape
 ["entry",0,1,[],2,"refused"] => out of place
-["entry",0,1,[],8,"refused"] => bad shape
+["entry",0,1,[],16,"refused"] => bad shape
 ["entry",0,1,[],0,"lost"] => bad shape
 ["entry",0,1,[],0,"refused",0] => bad shape
 ["entry",0,1,[],0] => bad shape
@@ -413,8 +413,8 @@ const LINES: &str = r#"["entry",0,1,[],0,"refused"]
 ["entry",0,1,[],0,"read","room",[]] => bad shape
 ["entry",0,1,[],0,"read","room",[0]] => out of place
 ["entry",0,1,[],0,"read","room",[0,0,0]] => out of place
-["entry",0,1,[],0,"read","room",[0,0,0,0,0,0,0,0]] => out of place
-["entry",0,1,[],0,"read","room",[0,0,0,0,0,0,0,0,0]] => bad shape
+["entry",0,1,[],0,"read","room",[0,0,0,0,0,0,0,0,0,0,0,0,0,0,0,0]] => out of place
+["entry",0,1,[],0,"read","room",[0,0,0,0,0,0,0,0,0,0,0,0,0,0,0,0,0]] => bad shape
 ["entry",0,1,[],0,"read","room",[0,-1]] => bad shape
 ["entry",0,1,[],0,"read","room",[0,65537]] => bad shape
 ["entry",0,1,[],0,"read","room",0] => bad shape
@@ -424,10 +424,12 @@ const LINES: &str = r#"["entry",0,1,[],0,"refused"]
 ["entry",0,1,[],0,"read",1,1,[0,0]] => bad shape
 ["held",0,[0,1,1,[0,0],{}]]
 ["held",1,[0,1,1,[0,0],{"check":[["absent","a"]]}]]
+["held",1,[0,1,1,[0,0],{"check":[["atmost","a/",2]]}]]
+["held",1,[0,1,1,[0,0],{"check":[["atmost","a/",-2]]}]] => bad shape
 ["held",2,[0,1,1,[0,0],{}]] => out of place
-["held",8,[0,1,1,[0,0],{}]] => bad shape
+["held",16,[0,1,1,[0,0],{}]] => bad shape
 ["held",0,[2,1,1,[0,0],{}]] => out of place
-["held",0,[8,1,1,[0,0],{}]] => bad shape
+["held",0,[16,1,1,[0,0],{}]] => bad shape
 ["held",0,[0,1,1,[0],{}]] => out of place
 ["held",0,[0,0,1,[0,0],{}]] => bad shape
 ["held",0,[0,1,0,[0,0],{}]] => bad shape
@@ -437,7 +439,7 @@ const LINES: &str = r#"["entry",0,1,[],0,"refused"]
 ["held",0,[0,1,1,[0,0],{"update":[["put","Room",1]]}]] => bad key
 ["held",0,[0,1,1,[0,0],{"merge":[{},{},{},{},{}]}]] => bad program
 ["servers",2] => out of place
-["servers",9] => bad shape
+["servers",17] => bad shape
 ["session",0,[]] => out of place
 ["write",0,0,{}] => out of place
 ["read",0,0,"a"] => out of place

@@ -22,17 +22,17 @@ const LINES: &str = r#"["session",31,[]]
 ["session",32,[]] => bad shape
 ["session",-1,[]] => bad shape
 ["session",1.0,[]] => bad shape
-["read",0,7,"x"] => out of place
-["read",0,8,"x"] => bad shape
+["read",0,15,"x"] => out of place
+["read",0,16,"x"] => bad shape
 ["read",32,0,"x"] => bad shape
 ["servers",0] => bad shape
 ["servers",1,0] => bad shape
 ["servers",1,65536] => out of place
 ["servers",1,65537] => bad shape
-["log",7] => out of place
-["log",8] => bad shape
-["servers",8] => out of place
-["servers",9] => bad shape
+["log",15] => out of place
+["log",16] => bad shape
+["servers",16] => out of place
+["servers",17] => bad shape
 ["fuse",0,1000,8192]
 ["fuse",0,0,0] => bad shape
 ["fuse",0,1001,0] => bad shape
@@ -65,6 +65,17 @@ const LINES: &str = r#"["session",31,[]]
 ["write",0,0,{"merge":[{},{},{},{}]}]
 ["write",0,0,{"merge":[{},{},{},{},{}]}] => bad program
 ["write",0,0,{"check":[0,0,0,0,0,0,0,0]}] => bad shape
+["write",0,0,{"check":[["atmost","",0]]}]
+["write",0,0,{"check":[["atmost","a",4294967295]]}]
+["write",0,0,{"check":[["atmost","a",4294967296]]}] => bad shape
+["write",0,0,{"check":[["atmost","a",-1]]}] => bad shape
+["write",0,0,{"check":[["atmost","a",1.0]]}] => bad shape
+["write",0,0,{"check":[["atmost","a","x"]]}] => bad shape
+["write",0,0,{"check":[["atmost","a"]]}] => bad shape
+["write",0,0,{"check":[["atmost",0,1]]}] => bad shape
+["write",0,0,{"check":[["atmost","A",-1]]}] => bad key
+["write",0,0,{"check":[["atmost","aaaaaaaaaaaaaaaaaaaaaaaaaaaaaaaa",0]]}]
+["write",0,0,{"check":[["atmost","aaaaaaaaaaaaaaaaaaaaaaaaaaaaaaaaa",0]]}] => bad key
 ["write",0,0,{"check":[0,0,0,0,0,0,0,0,0]}] => bad program
    => not JSON
 ["read",0,0,"x"], => not JSON
@@ -126,10 +137,10 @@ const EXCHANGES: &str = r#"["pull",0,1]
 ["pull",2,0] => out of place
 ["pull",0,2] => out of place
 ["pull",2,2] => out of place
-["pull",7,0] => out of place
-["pull",8,0] => bad shape
-["pull",0,8] => bad shape
-["pull",8,8] => bad shape
+["pull",15,0] => out of place
+["pull",16,0] => bad shape
+["pull",0,16] => bad shape
+["pull",16,16] => bad shape
 ["pull",1,0,0]
 ["pull",1,0,65536]
 ["pull",1,1,65536] => out of place
@@ -142,7 +153,7 @@ const EXCHANGES: &str = r#"["pull",0,1]
 ["resend",1,1] => out of place
 ["resend",2,0] => out of place
 ["resend",0,2] => out of place
-["resend",0,8] => bad shape
+["resend",0,16] => bad shape
 ["resend",1,0,1] => bad shape
 ["totals"]
 ["totals",0] => bad shape

@@ -50,7 +50,7 @@ static CASES: [Case; 13] = [
 ["lose",0,10]
 ["restart",0]
 "#,
-        output: "0 wrote 0:1 clock 1 deps 0\n0 wrote 0:2 clock 2 deps 1\n0 wrote 0:3 clock 3 deps 2\nrestarted 0 holds 2 dropped 103\nrestarted 0 holds 0 dropped 17\nrestarted 0 holds 0 dropped 0\n",
+        output: "0 wrote 0:1 clock 1 deps 0\n0 wrote 0:2 clock 2 deps 1\n0 wrote 0:3 clock 3 deps 2\nrestarted 0 holds 2 dropped 135\nrestarted 0 holds 0 dropped 81\nrestarted 0 holds 0 dropped 0\n",
         fault: "",
         status: 0,
     },
@@ -182,18 +182,18 @@ static CASES: [Case; 13] = [
         status: 0,
     },
     Case {
-        name: "eight servers, each with a Write of its own",
-        script: r#"["servers",8]
+        name: "sixteen servers, the last of which makes Writes",
+        script: r#"["servers",16]
 ["session",0,["ryw","mr","wfr","mw"]]
 ["session",1,[]]
-["write",1,7,{"update":[["put","a",1]]}]
-["write",0,7,{"update":[["put","a",2]]}]
+["write",1,15,{"update":[["put","a",1]]}]
+["write",0,15,{"update":[["put","a",2]]}]
 ["write",0,0,{"update":[["put","a",2]]}]
 ["read",1,0,"a"]
-["read",0,7,"a"]
-["log",7]
+["read",0,15,"a"]
+["log",15]
 "#,
-        output: "1 wrote 7:1 clock 1 deps 0,0,0,0,0,0,0,0\n0 wrote 7:2 clock 2 deps 0,0,0,0,0,0,0,1\n0 refused behind at 0,0,0,0,0,0,0,0\n1 read a none at 0,0,0,0,0,0,0,0\n0 read a num 2 at 0,0,0,0,0,0,0,2\nlog 7 7:1 clock 1 updated\nlog 7 7:2 clock 2 updated\nlog 7 at 0,0,0,0,0,0,0,2\n",
+        output: "1 wrote 15:1 clock 1 deps 0,0,0,0,0,0,0,0,0,0,0,0,0,0,0,0\n0 wrote 15:2 clock 2 deps 0,0,0,0,0,0,0,0,0,0,0,0,0,0,0,1\n0 refused behind at 0,0,0,0,0,0,0,0,0,0,0,0,0,0,0,0\n1 read a none at 0,0,0,0,0,0,0,0,0,0,0,0,0,0,0,0\n0 read a num 2 at 0,0,0,0,0,0,0,0,0,0,0,0,0,0,0,2\nlog 15 15:1 clock 1 updated\nlog 15 15:2 clock 2 updated\nlog 15 at 0,0,0,0,0,0,0,0,0,0,0,0,0,0,0,2\n",
         fault: "",
         status: 0,
     },

@@ -457,7 +457,7 @@ log 0 at 3,1,0
 restarted 1 holds 3 dropped 0
 0 wrote 1:2 clock 4 deps 2,1,0
 pulled 1 had 0
-restarted 1 holds 3 dropped 100
+restarted 1 holds 3 dropped 132
 judge refused forged 8
 totals reads 1 writes 5 refusals 3 slips 0
 ["servers",3]

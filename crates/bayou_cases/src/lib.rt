@@ -18,6 +18,8 @@ mod memory;
 #[cfg(test)]
 mod nets;
 #[cfg(test)]
+mod prefixes;
+#[cfg(test)]
 mod pulls;
 #[cfg(test)]
 mod scripts;

@@ -143,7 +143,7 @@ static CASES: [Case; 15] = [
 ["write",0,0,{"update":[["put","a",3]]}]
 ["resend",0,1]
 "#,
-        output: "0 wrote 0:1 clock 1 deps 0,0\n0 wrote 0:2 clock 2 deps 1,0\npulled 2 had 0\nrestarted 0 holds 1 dropped 100\npull fault ownlost\n0 wrote 0:2 clock 2 deps 1,0\npull fault conflict\n",
+        output: "0 wrote 0:1 clock 1 deps 0,0\n0 wrote 0:2 clock 2 deps 1,0\npulled 2 had 0\nrestarted 0 holds 1 dropped 132\npull fault ownlost\n0 wrote 0:2 clock 2 deps 1,0\npull fault conflict\n",
         fault: "",
         status: 0,
     },

@@ -142,7 +142,7 @@ static CASES: [Case; 35] = [
     },
     Case {
         name: "a fault of the line comes before its place",
-        script: "[\"servers\",1]\n[\"servers\",9]\n",
+        script: "[\"servers\",1]\n[\"servers\",17]\n",
         output: "",
         fault: "bayou: line 2: bad shape\n",
         status: 2,

@@ -125,7 +125,7 @@ const AUDIT_FORM: &str =
     r#"Each line is a JSON array, and an empty line is skipped. The first says how many servers there are; the others follow in any
 order. I is a session (0 to 31), S a server. Below each form stands an example.
 
-  ["servers",N]  ["servers",N,LIMIT]  there are servers 0 to N-1 (N 1 to 8); the limit says nothing here
+  ["servers",N]  ["servers",N,LIMIT]  there are servers 0 to N-1 (N 1 to 16); the limit says nothing here
       ["servers",2]
   ["entry",I,PLACE,ASKS,S,"write",SEQ,CLOCK,VECTOR]  server S accepted a Write of session I, which got the name S:SEQ and this
                          clock; before it the server held what VECTOR counts
@@ -162,7 +162,7 @@ const RUN_FORM: &str =
     r#"Each line is a JSON array, and an empty line is skipped. The first starts the servers; the others follow in any order. I is a
 session (0 to 31), S a server. Below each form stands an example.
 
-  ["servers",N]  ["servers",N,LIMIT]  starts servers 0 to N-1 (N 1 to 8); each holds LIMIT Writes at the most (4096)
+  ["servers",N]  ["servers",N,LIMIT]  starts servers 0 to N-1 (N 1 to 16); each holds LIMIT Writes at the most (4096)
       ["servers",2,100]
   ["session",I,ASKS]     opens session I, which asks for these guarantees: any of "ryw", "mr", "wfr", "mw"
       ["session",0,["ryw","mr"]]
@@ -205,10 +205,11 @@ session (0 to 31), S a server. Below each form stands an example.
 
 PROGRAM is {"check":[COND,..],"update":[OP,..],"merge":[{"when":[COND,..],"ops":[OP,..]},..]}; a list may be missing.
 Where every COND of check holds, update is applied, whole or not at all; else the first part of merge that fits.
-COND  ["equals",KEY,VALUE]  ["absent",KEY]  ["atleast",KEY,NUMBER]
+COND  ["equals",KEY,VALUE]  ["absent",KEY]  ["atleast",KEY,NUMBER]  ["atmost",PREFIX,COUNT]
 OP    ["put",KEY,TERM]  ["del",KEY]
 TERM  VALUE  ["copy",KEY]  ["plus",KEY,NUMBER]
-A KEY has 1 to 32 bytes of a-z 0-9 . _ - /; a VALUE is an integer, or a text of up to 32 bytes.
+A KEY has 1 to 32 bytes of a-z 0-9 . _ - /, a PREFIX of keys 0 to 32; a VALUE is an integer, or a text of up to 32 bytes. An atmost
+holds where at most COUNT (0 to 4294967295) keys that have a value begin with the PREFIX.
 
 Nothing is printed before the whole script was read and found good. What is wrong is told on standard error, in one line.
 Exit status: 0 the script was run; 1 a verdict (judge) was broken; 2 the script or the command line is refused, or a verdict or a

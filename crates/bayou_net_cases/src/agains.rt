@@ -20,9 +20,9 @@ use std::sync::ledger::Ledger;
 
 /// What the server did before a session's first Write is asked again there, what it then replies, and whether that is served. It did the Write
 /// itself, whose reply was lost; or it never had the request; or a Write of another program came under the same tag.
-const ROWS: &str = "003a 06 <tag-1> <none> <put-1> => 002a 12 00 00000001 00000001 <none> => served
- => 002a 12 00 00000001 00000001 <none> => served
-003a 06 <tag-1> <none> <put-2> => 0002 13 09 => refused";
+const ROWS: &str = "005a 06 <tag-1> <none> <put-1> => 004a 12 00 00000001 00000001 <none> => served
+ => 004a 12 00 00000001 00000001 <none> => served
+005a 06 <tag-1> <none> <put-2> => 0002 13 09 => refused";
 
 /// How it ends, and what the book then counts: reads, Writes and refusals.
 const SERVED: &str = "served 0 1 0";
@@ -30,7 +30,7 @@ const SERVED: &str = "served 0 1 0";
 const REFUSED: &str = "Refused 0 0 1";
 
 /// What is sent for the Write, each time.
-const WRITE: &str = "003a 06 <tag-1> <none> <put-1>";
+const WRITE: &str = "005a 06 <tag-1> <none> <put-1>";
 
 /// What the server replies to these bytes.
 fn reply_of(alloc: Global, server: &mut Server<Memory>, sent: &[u8]) -> Vec<u8> {

@@ -21,20 +21,20 @@ use std::sync::ledger::Blank;
 /// What is asked, one request behind the other: a Write, a read of it, a read that isn't served yet, one more Write, all Writes, those
 /// behind the first, a reopening, and what is no request.
 const REQUESTS: [&str; 8] = [
-    "003a 06 <tag-1> <none> <put-1>",
-    "0023 01 <one> 0161",
-    "0023 01 <two> 0161",
-    "003a 06 <tag-2> <one> <put-1>",
+    "005a 06 <tag-1> <none> <put-1>",
+    "0043 01 <one> 0161",
+    "0043 01 <two> 0161",
+    "005a 06 <tag-2> <one> <put-1>",
     "0001 04",
-    "0021 05 <one>",
+    "0041 05 <one>",
     "0001 03",
     "0002 13 05",
 ];
 
 /// How many bytes they are, and are replied to them.
-const SENT: u32 = 239;
+const SENT: u32 = 399;
 
-const REPLIED: u32 = 366;
+const REPLIED: u32 = 590;
 
 /// How streams move: at most so many bytes at a call, and which call of each fails, if any.
 #[derive(Clone, Copy)]

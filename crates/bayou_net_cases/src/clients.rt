@@ -17,48 +17,48 @@ use std::sync::ledger::Ledger;
 
 /// What a session that needs the first server's first Write sends and is replied, as it reads `a` or puts 1 there at the first server, how
 /// that ends, and what the book then counts: reads, Writes and refusals.
-const REPLIES: &str = "read 0022 11 00 <one> => served 1 0 0
-read 0022 11 00 <two> => served 1 0 0
-read 002a 11 01 0000000000000001 <one> => served 1 0 0
-read 0022 13 02 <none> => Refused 0 0 1
+const REPLIES: &str = "read 0042 11 00 <one> => served 1 0 0
+read 0042 11 00 <two> => served 1 0 0
+read 004a 11 01 0000000000000001 <one> => served 1 0 0
+read 0042 13 02 <none> => Refused 0 0 1
 read 0002 13 03 => Refused 0 0 1
 read 0002 13 09 => Refused 0 0 1
-read 0022 11 00 <none> => BadFrame 0 0 0
-read 002a 12 00 00000002 00000002 <one> => BadFrame 0 0 0
+read 0042 11 00 <none> => BadFrame 0 0 0
+read 004a 12 00 00000002 00000002 <one> => BadFrame 0 0 0
 read 0002 14 00 => BadFrame 0 0 0
 read 0005 16 00000000 => BadFrame 0 0 0
-read 003a 15 00 00000001 00000001 <none> <put-1> => BadFrame 0 0 0
-read 0023 01 <one> 0161 => BadFrame 0 0 0
+read 005a 15 00 00000001 00000001 <none> <put-1> => BadFrame 0 0 0
+read 0043 01 <one> 0161 => BadFrame 0 0 0
 read 0000 => BadFrame 0 0 0
 read  => Lost 0 0 0
-read 0022 => Lost 0 0 0
-read 002a 11 01 0000000000000001 <one-cut> => Lost 0 0 0
-write 002a 12 00 00000002 00000002 <one> => served 0 1 0
-write 002a 12 00 00000003 00000009 <two> => served 0 1 0
-write 0022 13 02 <none> => Refused 0 0 1
+read 0042 => Lost 0 0 0
+read 004a 11 01 0000000000000001 <one-cut> => Lost 0 0 0
+write 004a 12 00 00000002 00000002 <one> => served 0 1 0
+write 004a 12 00 00000003 00000009 <two> => served 0 1 0
+write 0042 13 02 <none> => Refused 0 0 1
 write 0002 13 03 => Refused 0 0 1
 write 0002 13 09 => Refused 0 0 1
 write 0002 13 0a => BadFrame 0 0 0
-write 002a 12 00 00000001 00000001 <none> => BadFrame 0 0 0
-write 002a 12 01 00000002 00000002 <one> => BadFrame 0 0 0
-write 0022 11 00 <one> => BadFrame 0 0 0
-write 002a 12 00 00000002 00000002 => Lost 0 0 0";
+write 004a 12 00 00000001 00000001 <none> => BadFrame 0 0 0
+write 004a 12 01 00000002 00000002 <one> => BadFrame 0 0 0
+write 0042 11 00 <one> => BadFrame 0 0 0
+write 004a 12 00 00000002 00000002 => Lost 0 0 0";
 
 /// The same of replies behind which more comes in one piece.
-const MORE: &str = "read 0022 11 00 <one> 00 => BadFrame 0 0 0
-read 0022 11 00 <one> 0002 13 03 => BadFrame 0 0 0
+const MORE: &str = "read 0042 11 00 <one> 00 => BadFrame 0 0 0
+read 0042 11 00 <one> 0002 13 03 => BadFrame 0 0 0
 read 0002 13 03 0002 13 03 => BadFrame 0 0 0
-write 002a 12 00 00000002 00000002 <one> 0022 11 00 <one> => BadFrame 0 0 0";
+write 004a 12 00 00000002 00000002 <one> 0042 11 00 <one> => BadFrame 0 0 0";
 
 /// What is sent for the two.
-const READ: &str = "0023 01 <one> 0161";
+const READ: &str = "0043 01 <one> 0161";
 
-const WRITE: &str = "003a 06 <tag-1> <one> <put-1>";
+const WRITE: &str = "005a 06 <tag-1> <one> <put-1>";
 
 /// What each begins with where it is the session's second operation.
-const SECOND_READ: &str = "0023 01";
+const SECOND_READ: &str = "0043 01";
 
-const SECOND_WRITE: &str = "003a 06 <tag-2>";
+const SECOND_WRITE: &str = "005a 06 <tag-2>";
 
 /// A session that asks for everything and has read from the first server's first Write.
 pub fn reader_before(rt: &impl Abort, id: SessionId) -> Session
@@ -378,31 +378,31 @@ static FAILING: [Failing; 4] = [
     Failing {
         is_read: true,
         is_of_reader: true,
-        calls: 36,
+        calls: 68,
     },
     Failing {
         is_read: true,
         is_of_reader: false,
-        calls: 37,
+        calls: 69,
     },
     Failing {
         is_read: false,
         is_of_reader: true,
-        calls: 44,
+        calls: 76,
     },
     Failing {
         is_read: false,
         is_of_reader: false,
-        calls: 60,
+        calls: 92,
     },
 ];
 
 /// What is sent for it, and what is replied where it is served.
 fn request_and_reply(rt: &impl Abort, alloc: Global, is_read: bool) -> (Vec<u8>, Vec<u8>) {
     let (request, reply) = if is_read {
-        (READ, "0022 11 00 <one>")
+        (READ, "0042 11 00 <one>")
     } else {
-        (WRITE, "002a 12 00 00000002 00000002 <one>")
+        (WRITE, "004a 12 00 00000002 00000002 <one>")
     };
     (bytes(rt, alloc, request), bytes(rt, alloc, reply))
 }
@@ -458,7 +458,7 @@ fn tells_nothing(tried: &Tried) -> bool {
 
 /// Whether an operation that the book has no room for isn't sent.
 fn is_full<R: Wait + Abort>(rt: &R, alloc: Global) -> bool {
-    let reply = bytes(rt, alloc, "0022 11 00 <one> 0022 11 00 <one>");
+    let reply = bytes(rt, alloc, "0042 11 00 <one> 0042 11 00 <one>");
     let mut writer = counting_writer(alloc, 0);
     let tried = tried_anew(rt, alloc, true, slow_reader(&reply, 1, 0), &mut writer, 1);
     tells_one(&tried) && is_sent(rt, alloc, &writer.bytes, true, false)
@@ -474,7 +474,7 @@ fn tells_one(tried: &Tried) -> bool {
 
 /// Whether a row holds, whatever pieces its request and its reply move in.
 fn holds_in_pieces<R: Wait + Abort>(rt: &R, alloc: Global, row: &str) -> bool {
-    row_holds(rt, alloc, row, 1) && row_holds(rt, alloc, row, 36) && row_holds(rt, alloc, row, 4096)
+    row_holds(rt, alloc, row, 1) && row_holds(rt, alloc, row, 68) && row_holds(rt, alloc, row, 4096)
 }
 
 #[test]

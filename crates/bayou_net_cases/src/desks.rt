@@ -47,8 +47,8 @@ impl<C: Clock> RequestGate for HoldingGate<'_, C> {
 
 /// Writes of 1 to `a`, at a server that needn't hold anything: two askings.
 const WRITES: [&str; 2] = [
-    "003a 06 <tag-1> <none> <put-1>",
-    "003a 06 <tag-2> <none> <put-1>",
+    "005a 06 <tag-1> <none> <put-1>",
+    "005a 06 <tag-2> <none> <put-1>",
 ];
 
 /// The desk, once a connection has sent the Write, if one of the two that came was accepted.
@@ -73,8 +73,8 @@ fn writes<L: Desks, G: RequestGate, R: Wait + Abort>(
 
 /// Whether the Write was accepted, as the first or as the second.
 fn is_accepted(alloc: Global, written: &[u8]) -> bool {
-    is_said(alloc, "002a 12 00 00000001 00000001 <none>", written)
-        || is_said(alloc, "002a 12 00 00000002 00000002 <one>", written)
+    is_said(alloc, "004a 12 00 00000001 00000001 <none>", written)
+        || is_said(alloc, "004a 12 00 00000002 00000002 <one>", written)
 }
 
 /// The same, if nobody had opened the gate till then, nor given up; then it is opened.

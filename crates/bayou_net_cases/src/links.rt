@@ -18,27 +18,27 @@ reopen 0006 13 06 00000001 => Refused
 reopen 0002 13 07 => Refused
 reopen 0005 16 00000000 => BadFrame
 reopen 0001 03 => BadFrame
-reopen 003a 15 00 00000001 00000001 <none> <put-1> => BadFrame
+reopen 005a 15 00 00000001 00000001 <none> <put-1> => BadFrame
 reopen 0007 14 01 00 00000000 => BadFrame
 reopen  => Lost
 reopen 0002 14 => Lost
 dump 0005 16 00000000 => none
-dump 003a 15 00 00000001 00000001 <none> <put-1> 0005 16 00000001 => one
-dump 003a 15 00 00000001 00000001 <none> <put-1> 003a 15 00 00000002 00000002 <one> <put-1> 0005 16 00000002 => two
-dump 003a 15 00 00000001 00000001 <none> <put-1> 0005 16 00000002 => BadFrame
+dump 005a 15 00 00000001 00000001 <none> <put-1> 0005 16 00000001 => one
+dump 005a 15 00 00000001 00000001 <none> <put-1> 005a 15 00 00000002 00000002 <one> <put-1> 0005 16 00000002 => two
+dump 005a 15 00 00000001 00000001 <none> <put-1> 0005 16 00000002 => BadFrame
 dump 0005 16 00000001 => BadFrame
 dump 0002 13 08 => Refused
-dump 003a 15 00 00000001 00000001 <none> <put-1> 0002 13 08 => BadFrame
-dump 0022 11 00 <none> => BadFrame
-dump 003a 15 00 00000001 00000001 <none> <put-1> 2001 => BadFrame
-dump 003a 15 00 00000001 00000001 <none> <put-1> => Lost
-dump 003a 15 00 00000001 00000001 <none> <put-1> 0005 16 000000 => Lost";
+dump 005a 15 00 00000001 00000001 <none> <put-1> 0002 13 08 => BadFrame
+dump 0042 11 00 <none> => BadFrame
+dump 005a 15 00 00000001 00000001 <none> <put-1> 2001 => BadFrame
+dump 005a 15 00 00000001 00000001 <none> <put-1> => Lost
+dump 005a 15 00 00000001 00000001 <none> <put-1> 0005 16 000000 => Lost";
 
 /// A reply that tells of an adopted Write, in 9 bytes.
 const REOPENED: &str = "0007 14 01 00 00000001";
 
 /// A reply of an Item and an End, in 67 bytes.
-const DUMPED: &str = "003a 15 00 00000001 00000001 <none> <put-1> 0005 16 00000001";
+const DUMPED: &str = "005a 15 00 00000001 00000001 <none> <put-1> 0005 16 00000001";
 
 fn fault_word(fault: LinkFault) -> &'static str {
     match fault {
@@ -118,7 +118,7 @@ fn row_holds(rt: &impl Abort, alloc: Global, row: &str, most: usize) -> bool {
 
 /// Whether a row holds, whatever pieces its reply comes in.
 fn holds_in_pieces(rt: &impl Abort, alloc: Global, row: &str) -> bool {
-    row_holds(rt, alloc, row, 1) && row_holds(rt, alloc, row, 36) && row_holds(rt, alloc, row, 4096)
+    row_holds(rt, alloc, row, 1) && row_holds(rt, alloc, row, 68) && row_holds(rt, alloc, row, 4096)
 }
 
 #[test]
@@ -139,7 +139,7 @@ static FAILING: [Failing; 4] = [
     Failing {
         is_dump: true,
         is_of_reader: true,
-        calls: 67,
+        calls: 99,
     },
     Failing {
         is_dump: true,

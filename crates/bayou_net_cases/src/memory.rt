@@ -48,12 +48,12 @@ struct Replies {
 
 fn made_replies(alloc: Global) -> Option<Replies> {
     Some(Replies {
-        seen: bytes_of(alloc, "002a 11 01 0000000000000001 <one>")?,
-        accepted: bytes_of(alloc, "002a 12 00 00000002 00000002 <one>")?,
+        seen: bytes_of(alloc, "004a 11 01 0000000000000001 <one>")?,
+        accepted: bytes_of(alloc, "004a 12 00 00000002 00000002 <one>")?,
         reopened: bytes_of(alloc, "0007 14 01 00 00000001")?,
         dumped: bytes_of(
             alloc,
-            "003a 15 00 00000001 00000001 <none> <put-1> 0005 16 00000001",
+            "005a 15 00 00000001 00000001 <none> <put-1> 0005 16 00000001",
         )?,
     })
 }

@@ -144,15 +144,15 @@ fn diary_of(rt: &impl Abort, alloc: Global, sent: &[u8], most: usize) -> Option<
     if is_done { Some(diary.get()) } else { None }
 }
 
-/// Two Writes of 1 to `a`, of 60 bytes each.
-const WRITES: &str = "003a 06 <tag-1> <none> <put-1> 003a 06 <tag-2> <none> <put-1>";
+/// Two Writes of 1 to `a`, of 92 bytes each.
+const WRITES: &str = "005a 06 <tag-1> <none> <put-1> 005a 06 <tag-2> <none> <put-1>";
 
 /// A request that is read alone passes the gate behind its reading, and before its Write is added and its reply written. Of two that come at
 /// once the second passes it behind the reply to the first.
 #[test]
 fn a_gate_is_passed_behind_the_reading_and_before_the_doing(rt: HostRuntime) {
     let sent = bytes(&rt, rt.alloc(), WRITES);
-    let are_apart = diary_of(&rt, rt.alloc(), &sent, 60) == Some(123_412_341);
-    let are_together = diary_of(&rt, rt.alloc(), &sent, 120) == Some(12_342_341);
+    let are_apart = diary_of(&rt, rt.alloc(), &sent, 92) == Some(123_412_341);
+    let are_together = diary_of(&rt, rt.alloc(), &sent, 184) == Some(12_342_341);
     assert!(rt; are_apart && are_together);
 }

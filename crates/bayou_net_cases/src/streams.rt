@@ -12,39 +12,39 @@ use std::process::Abort;
 
 /// What a new server, which may hold two Writes, is sent, how serving ends, and what it writes. Nothing behind a fault is looked at.
 const STREAMS: &str = " => Ok(0)
-0023 01 <none> 0161 => Ok(1) 0022 11 00 <none>
-0023 01 <one> 0161 => Ok(1) 0022 13 02 <none>
-003a 06 <tag-1> <none> <put-1> => Ok(1) 002a 12 00 00000001 00000001 <none>
-003a 06 <tag-1> <one> <put-1> => Ok(1) 0022 13 02 <none>
-003a 06 <tag-1> <none> <put-1> 0023 01 <one> 0161 => Ok(2) 002a 12 00 00000001 00000001 <none> 002a 11 01 0000000000000001 <one>
-003a 06 <tag-1> <none> <put-1> 003a 06 <tag-2> <one> <put-1> 003a 06 <tag-3> <none> <put-1> => Ok(3) 002a 12 00 00000001 00000001 <none> 002a 12 00 00000002 00000002 <one> 0002 13 03
+0043 01 <none> 0161 => Ok(1) 0042 11 00 <none>
+0043 01 <one> 0161 => Ok(1) 0042 13 02 <none>
+005a 06 <tag-1> <none> <put-1> => Ok(1) 004a 12 00 00000001 00000001 <none>
+005a 06 <tag-1> <one> <put-1> => Ok(1) 0042 13 02 <none>
+005a 06 <tag-1> <none> <put-1> 0043 01 <one> 0161 => Ok(2) 004a 12 00 00000001 00000001 <none> 004a 11 01 0000000000000001 <one>
+005a 06 <tag-1> <none> <put-1> 005a 06 <tag-2> <one> <put-1> 005a 06 <tag-3> <none> <put-1> => Ok(3) 004a 12 00 00000001 00000001 <none> 004a 12 00 00000002 00000002 <one> 0002 13 03
 0001 03 => Ok(1) 0002 13 05
 0001 04 => Ok(1) 0005 16 00000000
-003a 06 <tag-1> <none> <put-1> 0001 04 => Ok(2) 002a 12 00 00000001 00000001 <none> 003a 15 00 00000001 00000001 <none> <put-1> 0005 16 00000001
-003a 06 <tag-1> <none> <put-1> 0021 05 <none> 0021 05 <one> => Ok(3) 002a 12 00 00000001 00000001 <none> 003a 15 00 00000001 00000001 <none> <put-1> 0005 16 00000001 0005 16 00000000
+005a 06 <tag-1> <none> <put-1> 0001 04 => Ok(2) 004a 12 00 00000001 00000001 <none> 005a 15 00 00000001 00000001 <none> <put-1> 0005 16 00000001
+005a 06 <tag-1> <none> <put-1> 0041 05 <none> 0041 05 <one> => Ok(3) 004a 12 00 00000001 00000001 <none> 005a 15 00 00000001 00000001 <none> <put-1> 0005 16 00000001 0005 16 00000000
 00 => Err(Cut)
-0023 01 <none> 01 => Err(Cut)
+0043 01 <none> 01 => Err(Cut)
 0001 03 00 => Err(Cut) 0002 13 05
 2001 => Err(BadFrame)
 0001 07 => Err(BadFrame)
-0031 02 <none> <put-1> => Err(BadFrame)
-003a 02 <tag-1> <none> <put-1> => Err(BadFrame)
-0031 06 <none> <put-1> => Err(BadFrame)
-003a 06 20 00000001 00000001 <none> <put-1> => Err(BadFrame)
-003a 06 00 00000000 00000001 <none> <put-1> => Err(BadFrame)
-003a 06 00 00000001 00000000 <none> <put-1> => Err(BadFrame)
-003a 06 1f ffffffff ffffffff <none> <put-1> => Ok(1) 002a 12 00 00000001 00000001 <none>
+0051 02 <none> <put-1> => Err(BadFrame)
+005a 02 <tag-1> <none> <put-1> => Err(BadFrame)
+0051 06 <none> <put-1> => Err(BadFrame)
+005a 06 20 00000001 00000001 <none> <put-1> => Err(BadFrame)
+005a 06 00 00000000 00000001 <none> <put-1> => Err(BadFrame)
+005a 06 00 00000001 00000000 <none> <put-1> => Err(BadFrame)
+005a 06 1f ffffffff ffffffff <none> <put-1> => Ok(1) 004a 12 00 00000001 00000001 <none>
 0000 => Err(BadFrame)
-0024 01 <none> 0161 00 => Err(BadFrame)
+0044 01 <none> 0161 00 => Err(BadFrame)
 0005 16 00000000 => Err(BadFrame)
 0002 14 00 => Err(BadFrame)
-0022 11 00 <none> => Err(BadFrame)
-002a 12 00 00000001 00000001 <none> => Err(BadFrame)
+0042 11 00 <none> => Err(BadFrame)
+004a 12 00 00000001 00000001 <none> => Err(BadFrame)
 0002 13 05 => Err(BadFrame)
-003a 15 00 00000001 00000001 <none> <put-1> => Err(BadFrame)
+005a 15 00 00000001 00000001 <none> <put-1> => Err(BadFrame)
 0001 03 0002 14 00 0001 03 => Err(BadFrame) 0002 13 05
-003d 06 <tag-1> <none> <put-room> 0026 01 <none> 04726f6f6d 0000 => Err(BadFrame) 002a 12 00 00000001 00000001 <none> 002a 11 01 0000000000000001 <one>
-003d 06 <tag-1> <none> <put-room> 0026 01 <none> 04726f6f6d 0005 16 00000001 => Err(BadFrame) 002a 12 00 00000001 00000001 <none> 002a 11 01 0000000000000001 <one>";
+005d 06 <tag-1> <none> <put-room> 0046 01 <none> 04726f6f6d 0000 => Err(BadFrame) 004a 12 00 00000001 00000001 <none> 004a 11 01 0000000000000001 <one>
+005d 06 <tag-1> <none> <put-room> 0046 01 <none> 04726f6f6d 0005 16 00000001 => Err(BadFrame) 004a 12 00 00000001 00000001 <none> 004a 11 01 0000000000000001 <one>";
 
 /// A reader that gives at most so many bytes at a call, and fails at the call of this number.
 #[derive(Clone, Copy)]
@@ -155,7 +155,7 @@ fn holds(rt: &impl Abort, alloc: Global, row: &str) -> bool {
     let (text, expected) = row.split_once(" => ").unwrap_or((row, row));
     let sent = bytes(rt, alloc, text);
     serves(rt, alloc, &sent, 1, expected)
-        && serves(rt, alloc, &sent, 36, expected)
+        && serves(rt, alloc, &sent, 68, expected)
         && serves(rt, alloc, &sent, 4096, expected)
 }
 
@@ -166,21 +166,21 @@ fn requests_are_answered_byte_for_byte(rt: HostRuntime) {
     }
 }
 
-/// A Write of the key `room`, and a read of it, asked twice, in 40 bytes each.
-const ROOM: &str = "003d 06 <tag-1> <none> <put-room>";
+/// A Write of the key `room`, and a read of it, asked twice, in 72 bytes each.
+const ROOM: &str = "005d 06 <tag-1> <none> <put-room>";
 
-const ROOM_TWICE: &str = "0026 01 <none> 04726f6f6d 0026 01 <none> 04726f6f6d";
+const ROOM_TWICE: &str = "0046 01 <none> 04726f6f6d 0046 01 <none> 04726f6f6d";
 
 /// Whether serving ends at the end of the input where that comes between two requests, and is cut else, with a reply to each whole one.
 fn ends_at(answer: Result<u32, ChannelFault>, written: &[u8], end: usize) -> bool {
     let (expected, count) = match end {
         0 => (Ok(0), 0),
-        40 => (Ok(1), 44),
-        80 => (Ok(2), 88),
-        1..40 => (Err(ChannelFault::Cut), 0),
-        _ => (Err(ChannelFault::Cut), 44),
+        72 => (Ok(1), 76),
+        144 => (Ok(2), 152),
+        1..72 => (Err(ChannelFault::Cut), 0),
+        _ => (Err(ChannelFault::Cut), 76),
     };
-    let begins_so = end < 40 || written.starts_with(&[0x00, 0x2a, 0x11]);
+    let begins_so = end < 72 || written.starts_with(&[0x00, 0x4a, 0x11]);
     answer == expected && written.len() == count && begins_so
 }
 
@@ -202,22 +202,22 @@ fn requests_may_be_cut_at_each_byte(rt: HostRuntime) {
         &mut CountedChannel::new(write.as_slice(), Vec::new(alloc)),
     );
     let reads = bytes(&rt, alloc, ROOM_TWICE);
-    for end in 0..81_usize {
+    for end in 0..145_usize {
         must_be_so(&rt, is_cut_at(alloc, server.as_mut(), &reads, end), end);
     }
 }
 
-/// A Write and a read of it, in 97 bytes.
-const TWO: &str = "003a 06 <tag-1> <none> <put-1> 0023 01 <one> 0161";
+/// A Write and a read of it, in 161 bytes.
+const TWO: &str = "005a 06 <tag-1> <none> <put-1> 0043 01 <one> 0161";
 
-/// How serving ends, and how many bytes of replies are written, where the call of the reader of this number fails, 33 bytes each. The Write
+/// How serving ends, and how many bytes of replies are written, where the call of the reader of this number fails, 55 bytes each. The Write
 /// is whole at the second call, and the read at the third.
 fn ends_as(answer: Result<u32, ChannelFault>, written: usize, fails_at: u32) -> bool {
     let (expected, count) = match fails_at {
         1 | 2 => (Err(ChannelFault::Read), 0),
-        3 => (Err(ChannelFault::Read), 44),
-        4 => (Err(ChannelFault::Read), 88),
-        _ => (Ok(2), 88),
+        3 => (Err(ChannelFault::Read), 76),
+        4 => (Err(ChannelFault::Read), 152),
+        _ => (Ok(2), 152),
     };
     answer == expected && written == count
 }
@@ -225,7 +225,7 @@ fn ends_as(answer: Result<u32, ChannelFault>, written: usize, fails_at: u32) -> 
 /// Whether serving two requests ends so.
 fn ends_reading(rt: &impl Abort, alloc: Global, fails_at: u32) -> bool {
     let sent = bytes(rt, alloc, TWO);
-    let mut channel = CountedChannel::new(slow_reader(&sent, 33, fails_at), Vec::new(alloc));
+    let mut channel = CountedChannel::new(slow_reader(&sent, 55, fails_at), Vec::new(alloc));
     let answer = served_over(alloc, begun(rt, alloc, 2).as_mut(), &mut channel);
     ends_as(answer, channel.into_parts().1.len(), fails_at)
 }
@@ -245,8 +245,8 @@ fn each_read_of_requests_may_fail(rt: HostRuntime) {
 fn replies_end_as(answer: Result<u32, ChannelFault>, writer: &Counting, fails_at: u32) -> bool {
     let (expected, count, calls) = match fails_at {
         1 => (Err(ChannelFault::Write), 0, 1),
-        2 => (Err(ChannelFault::Write), 44, 2),
-        _ => (Ok(2), 88, 2),
+        2 => (Err(ChannelFault::Write), 76, 2),
+        _ => (Ok(2), 152, 2),
     };
     answer == expected && writer.bytes.len() == count && writer.calls == calls
 }

@@ -4,35 +4,44 @@ use std::process::Abort;
 
 /// The tags of the first three places of the first session, in the first run; vectors that count nothing, the first server's first Write,
 /// and its first two; the second of these without its last byte; and the programs that put 1 and 2 at `a`, and 1 at `room`.
-static WORDS: [(&str, &str); 10] = [
-    ("<tag-1>", "000000000100000001"),
-    ("<tag-2>", "000000000100000002"),
-    ("<tag-3>", "000000000100000003"),
-    (
-        "<none>",
-        "0000000000000000000000000000000000000000000000000000000000000000",
-    ),
-    (
-        "<one>",
-        "0000000100000000000000000000000000000000000000000000000000000000",
-    ),
-    (
-        "<two>",
-        "0000000200000000000000000000000000000000000000000000000000000000",
-    ),
+static WORDS: [(&str, &[&str]); 10] = [
+    ("<tag-1>", &["000000000100000001"]),
+    ("<tag-2>", &["000000000100000002"]),
+    ("<tag-3>", &["000000000100000003"]),
+    ("<none>", &["00000000", ZEROS, ZEROS, ZEROS]),
+    ("<one>", &["00000001", ZEROS, ZEROS, ZEROS]),
+    ("<two>", &["00000002", ZEROS, ZEROS, ZEROS]),
     (
         "<one-cut>",
-        "00000001000000000000000000000000000000000000000000000000000000",
+        &[
+            "00000001",
+            ZEROS,
+            ZEROS,
+            "00000000000000000000000000000000000000",
+        ],
     ),
-    ("<put-1>", "00010101610101000000000000000100"),
-    ("<put-2>", "00010101610101000000000000000200"),
-    ("<put-room>", "00010104726f6f6d0101000000000000000100"),
+    ("<put-1>", &["00010101610101000000000000000100"]),
+    ("<put-2>", &["00010101610101000000000000000200"]),
+    ("<put-room>", &["00010104726f6f6d0101000000000000000100"]),
 ];
+
+/// Five counts of 0.
+const ZEROS: &str = "0000000000000000000000000000000000000000";
+
+/// The bytes that these say in hexadecimal, one behind the other.
+fn said_bytes(alloc: Global, said: &[&str]) -> Option<Vec<u8>> {
+    let mut bytes = Vec::new(alloc);
+    for part in said {
+        let behind = hex::decode(alloc, part).ok()?;
+        bytes.extend_from_slice(&behind).ok()?;
+    }
+    Some(bytes)
+}
 
 /// The bytes of a word: those of what it names, or those that it says in hexadecimal.
 fn word_bytes(alloc: Global, word: &str) -> Option<Vec<u8>> {
     match WORDS.iter().find(|(name, _)| *name == word) {
-        Some((_, said)) => hex::decode(alloc, said).ok(),
+        Some((_, said)) => said_bytes(alloc, said),
         None => hex::decode(alloc, word).ok(),
     }
 }

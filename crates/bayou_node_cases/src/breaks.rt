@@ -49,7 +49,7 @@ static ROWS: [Row; 8] = [
     Row {
         engine: Engine::Serve,
         held: 3,
-        sent: "0021 05 00000001 <zeros> <item-1>",
+        sent: "0041 05 00000001 <zeros> <item-1>",
     },
     Row {
         engine: Engine::Serve,
@@ -84,7 +84,7 @@ static ROWS: [Row; 8] = [
 ];
 
 /// How many bytes an Offer has.
-const OFFER_BYTES: u32 = 35;
+const OFFER_BYTES: u32 = 67;
 
 /// How streams move: at most so many bytes at a call, and which call of each fails, if any.
 #[derive(Clone, Copy)]

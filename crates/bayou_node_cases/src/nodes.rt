@@ -48,7 +48,7 @@ fn between<'a>(alloc: Global, sent: &'a [u8]) -> CountedChannel<&'a [u8], Vec<u8
 }
 
 fn serves<L: Desks, R: Wait + Abort>(rt: &R, alloc: Global, node: &Kept<L>) -> bool {
-    let offer = stream(rt, alloc, "0021 05 <none>");
+    let offer = stream(rt, alloc, "0041 05 <none>");
     let mut channel = between(alloc, &offer);
     let is_one = serve_offer(rt, alloc, node, &mut channel) == Ok(1);
     ends(
@@ -70,7 +70,7 @@ fn takes_again<L: Desks, R: Wait + Abort>(rt: &R, alloc: Global, node: &Kept<L>)
     let mut channel = between(alloc, &answer);
     let had = pull_from(rt, alloc, node, &Vector::zero(), &mut channel);
     let is_had = had == Ok(Pulled { taken: 0, had: 1 });
-    ends(alloc, &channel.into_parts().1, "0021 05 <none>", is_had)
+    ends(alloc, &channel.into_parts().1, "0041 05 <none>", is_had)
 }
 
 fn pulls<L: Desks, R: Wait + Abort>(rt: &R, alloc: Global, node: &Kept<L>) -> bool {
@@ -80,7 +80,7 @@ fn pulls<L: Desks, R: Wait + Abort>(rt: &R, alloc: Global, node: &Kept<L>) -> bo
     ends(
         alloc,
         &channel.into_parts().1,
-        "0021 05 00000001 <zeros>",
+        "0041 05 00000001 <zeros>",
         is_cut,
     )
 }

@@ -4,7 +4,7 @@ use crate::fakes::{EndlessReader, FakeReader, FakeWriter};
 use crate::fixtures::{Served, begun, holds, must_be_so, must_hold, vector};
 use crate::items::{Given, ITEM_BYTES, item, stream, write};
 use crate::takes;
-use bayou_base::Vector;
+use bayou_base::{SERVERS, Vector};
 use bayou_frames::ChannelFault;
 use bayou_peer::{
     PullFault, Pulled, answer_offer_on, cut_after, pull_from_on, pull_on, serve_offer_on,
@@ -76,7 +76,7 @@ fn takes_all(rt: &impl Abort, alloc: Global, server: &mut Served, origin: u8, co
 
 /// A server that took so many Writes of the second server, and then of the first.
 pub fn full(rt: &impl Abort, alloc: Global, index: u8, [first, second]: [u8; 2]) -> Box<Served> {
-    let mut server = begun(rt, alloc, (index, 8, 100)).expect(rt, "no server");
+    let mut server = begun(rt, alloc, (index, SERVERS as u8, 100)).expect(rt, "no server");
     let are_taken = takes_all(rt, alloc, server.as_mut(), 1, second)
         && takes_all(rt, alloc, server.as_mut(), 0, first);
     assert!(rt; are_taken);
@@ -156,8 +156,8 @@ fn writes_offer(rt: &impl Abort, alloc: Global, counted: u8, text: &str) -> bool
 #[test]
 fn a_pull_writes_its_offer(rt: HostRuntime) {
     let alloc = rt.alloc();
-    let is_so = writes_offer(&rt, alloc, 0, "0021 05 <none>")
-        && writes_offer(&rt, alloc, 1, "0021 05 00000001 <zeros>");
+    let is_so = writes_offer(&rt, alloc, 0, "0041 05 <none>")
+        && writes_offer(&rt, alloc, 1, "0041 05 00000001 <zeros>");
     assert!(rt; is_so);
 }
 
@@ -171,8 +171,8 @@ const STREAMS: &str = "<item-1> <item-2> 0005 16 00000002 => 2 Ok(Pulled { taken
 <item-1> <item-2> 0005 16 00000001 => 2 Err(Stream(BadFrame))
 <item-1> <item-2> 0005 16 00000003 => 2 Err(Stream(BadFrame))
 0005 16 00000001 => 0 Err(Stream(BadFrame))
-<item-1> 0022 11 00 <none> <item-2> => 1 Err(Stream(BadFrame))
-0021 05 <none> <item-1> => 0 Err(Stream(BadFrame))
+<item-1> 0042 11 00 <none> <item-2> => 1 Err(Stream(BadFrame))
+0041 05 <none> <item-1> => 0 Err(Stream(BadFrame))
 0001 03 <item-1> => 0 Err(Stream(BadFrame))
 <item-1> 00017f => 1 Err(Stream(BadFrame))
 <item-1> 2001 => 1 Err(Stream(BadFrame))
@@ -352,34 +352,39 @@ fn each_read_of_a_pull_may_fail(rt: HostRuntime) {
     }
 }
 
-/// A writer that takes ten bytes at a call, and fails at this one.
+/// How many bytes a writer of these tests takes at a call: a quarter of an Item, and no less than an End has.
+const PIECE_BYTES: usize = ITEM_BYTES / 4;
+
+/// A writer that takes so many bytes at a call, and fails at this one.
 pub fn failing(alloc: Global, fails_at: u32) -> FakeWriter {
     FakeWriter {
         bytes: Vec::new(alloc),
-        most: 10,
+        most: PIECE_BYTES,
         fails_at,
         calls: 0,
     }
 }
 
-/// How many bytes were written in tens before the call of this number.
-pub const fn tens_before(fails_at: u32) -> usize {
-    (fails_at as usize).saturating_sub(1).saturating_mul(10)
+/// How many bytes were written in such pieces before the call of this number.
+pub const fn pieces_before(fails_at: u32) -> usize {
+    (fails_at as usize)
+        .saturating_sub(1)
+        .saturating_mul(PIECE_BYTES)
 }
 
-/// Whether a pull, whose writer takes ten bytes at a call and fails at this one, ends there with nothing read or taken.
+/// Whether a pull, whose writer takes a piece at a call and fails at this one, ends there with nothing read or taken.
 fn ends_at_write(rt: &impl Abort, alloc: Global, sent: &[u8], offer: &[u8], fails_at: u32) -> bool {
     let mut puller = full(rt, alloc, 3, [0, 0]);
     let mut channel = CountedChannel::new(sent, failing(alloc, fails_at));
     let answer = pulled_over(alloc, puller.as_mut(), &mut channel);
     let (reader, writer) = channel.into_parts();
     let (expected, held, written, left) = match fails_at {
-        5 => (came(3, 0), 3, 35, 0),
+        4 => (came(3, 0), 3, 67, 0),
         _ => (
             Err(PullFault::Stream(ChannelFault::Write)),
             0,
-            tens_before(fails_at),
-            187,
+            pieces_before(fails_at),
+            3 * ITEM_BYTES + END_BYTES,
         ),
     };
     let is_written = offer.starts_with(&writer.bytes) && writer.bytes.len() == written;
@@ -387,19 +392,19 @@ fn ends_at_write(rt: &impl Abort, alloc: Global, sent: &[u8], offer: &[u8], fail
     answer == expected && is_written && is_held
 }
 
-/// An Offer takes four calls; the last doesn't come to it.
+/// An Offer of 67 bytes takes three calls; the last doesn't come to it.
 #[test]
 fn each_write_of_a_pull_may_fail(rt: HostRuntime) {
     let alloc = rt.alloc();
     let sent = stream(&rt, alloc, THREE);
-    let offer = stream(&rt, alloc, "0021 05 <none>");
-    for fails_at in 1..6_u32 {
+    let offer = stream(&rt, alloc, "0041 05 <none>");
+    for fails_at in 1..5_u32 {
         let is_so = ends_at_write(&rt, alloc, &sent, &offer, fails_at);
         must_be_so(&rt, is_so, fails_at as usize);
     }
 }
 
-/// Whether an answer, whose writer takes ten bytes at a call and fails at this one, ends there, with the front of it written and no
+/// Whether an answer, whose writer takes a piece at a call and fails at this one, ends there, with the front of it written and no
 /// Write lost.
 fn answers_up_to(
     rt: &impl Abort,
@@ -412,20 +417,20 @@ fn answers_up_to(
     let answer = answered_over(alloc, server, &Vector::zero(), &mut channel);
     let written = channel.into_parts().1.bytes;
     let (expected, count) = match fails_at {
-        20 => (Ok(3), 187),
-        _ => (Err(ChannelFault::Write), tens_before(fails_at)),
+        14 => (Ok(3), 3 * ITEM_BYTES + END_BYTES),
+        _ => (Err(ChannelFault::Write), pieces_before(fails_at)),
     };
     let is_written = whole.starts_with(&written) && written.len() == count;
     answer == expected && is_written && holds(rt, server, 3, 0)
 }
 
-/// Three Items take 18 calls, and the End one; the last doesn't come to it.
+/// Three Items take twelve calls, and the End one; the last doesn't come to it.
 #[test]
 fn each_write_of_an_answer_may_fail(rt: HostRuntime) {
     let alloc = rt.alloc();
     let whole = stream(&rt, alloc, THREE);
     let mut server = full(&rt, alloc, 2, [3, 0]);
-    for fails_at in 1..21_u32 {
+    for fails_at in 1..15_u32 {
         let is_so = answers_up_to(&rt, alloc, &mut server, &whole, fails_at);
         must_be_so(&rt, is_so, fails_at as usize);
     }
@@ -494,8 +499,8 @@ fn an_answer_is_cut_after_so_many_items(rt: HostRuntime) {
 
 /// A server that holds nothing, and once more where that was refused.
 fn begun_at_last(rt: &impl Abort, alloc: Global, index: u8) -> Result<Box<Served>, StartFault> {
-    match begun(rt, alloc, (index, 8, 100)) {
-        Err(_) => begun(rt, alloc, (index, 8, 100)),
+    match begun(rt, alloc, (index, SERVERS as u8, 100)) {
+        Err(_) => begun(rt, alloc, (index, SERVERS as u8, 100)),
         server => server,
     }
 }

@@ -169,18 +169,18 @@ fn a_write_is_taken_or_refused(rt: HostRuntime) {
     goes_anew(&rt, rt.alloc(), &TWO_STAND, 1);
 }
 
-/// The device call under a taken Write that fails, how much of its entry of 92 bytes is added, the Write that a reopening adopts, if
+/// The device call under a taken Write that fails, how much of its entry of 124 bytes is added, the Write that a reopening adopts, if
 /// any, and what `a` has then, and how many of the first server's Writes are held.
 type Failing = (u32, usize, Option<(u8, u32)>, i64, u32);
 
 static FAILING: [Failing; 7] = [
     (1, 0, None, 1, 1),
     (1, 50, None, 1, 1),
-    (1, 91, None, 1, 1),
-    (1, 92, Some((0, 2)), 2, 2),
+    (1, 123, None, 1, 1),
+    (1, 124, Some((0, 2)), 2, 2),
     (1, 200, Some((0, 2)), 2, 2),
     (2, 0, Some((0, 2)), 2, 2),
-    (2, 92, Some((0, 2)), 2, 2),
+    (2, 124, Some((0, 2)), 2, 2),
 ];
 
 /// Takes a Write, and one more at which the device fails, as the row of this number says. The Write in doubt is another server's; adopted

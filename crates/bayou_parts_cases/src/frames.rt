@@ -118,18 +118,18 @@ fn is_too_short_with_less(rt: &impl Abort, alloc: Global, bytes: &[u8]) -> bool 
     has_fault(rt, alloc, less, "!BadBody") && is_miscounted(rt, alloc, length, content, "!BadBody")
 }
 
-/// Frames of each kind. The program of the last has each form of condition, term and op.
-const FRAMES: &str = r#"0026 01 <none> 04726f6f6d => Read(<none>, "room")
-003d 06 00 00000001 00000001 <none> <put> => Write(<tag>, <none>, <put>)
+/// Frames of each kind. The program of the last but one has each form of condition, term and op, that of the last the longest prefix.
+const FRAMES: &str = r#"0046 01 <none> 04726f6f6d => Read(<none>, "room")
+005d 06 <tag> <none> <put> => Write(<tag>, <none>, <put>)
 0001 03 => Reopen
 0001 04 => Dump
-0021 05 <one> => Offer(<one>)
-0022 11 00 <none> => Seen(Seen { value: None, vector: <none> })
-002a 11 01fffffffffffffffe <none> => Seen(Seen { value: Some(Num(-2)), vector: <none> })
-0025 11 02026869 <none> => Seen(Seen { value: Some(Text("hi")), vector: <none> })
-002a 12 <0:1> <stamp> <none> => Accepted(Accepted { wid: <0:1>, stamp: <stamp>, deps: <none> })
+0041 05 <one> => Offer(<one>)
+0042 11 00 <none> => Seen(Seen { value: None, vector: <none> })
+004a 11 01fffffffffffffffe <none> => Seen(Seen { value: Some(Num(-2)), vector: <none> })
+0045 11 02026869 <none> => Seen(Seen { value: Some(Text("hi")), vector: <none> })
+004a 12 <0:1> <stamp> <none> => Accepted(Accepted { wid: <0:1>, stamp: <stamp>, deps: <none> })
 0002 13 01 => Refused(Down)
-0022 13 02 <one> => Refused(Behind(<one>))
+0042 13 02 <one> => Refused(Behind(<one>))
 0002 13 03 => Refused(LogFull)
 0002 13 04 => Refused(Journal)
 0002 13 05 => Refused(NotDown)
@@ -139,9 +139,10 @@ const FRAMES: &str = r#"0026 01 <none> 04726f6f6d => Read(<none>, "room")
 0002 13 09 => Refused(TagUsed)
 0002 14 00 => Reopened(None)
 0007 14 01 <0:1> => Reopened(Some(<0:1>))
-003d 15 <0:1> <stamp> <none> <put> => Item(Write { wid: <0:1>, stamp: <stamp>, deps: <none>, program: <put> })
+005d 15 <0:1> <stamp> <none> <put> => Item(Write { wid: <0:1>, stamp: <stamp>, deps: <none>, program: <put> })
 0005 16 00000001 => End(1)
-006d 06 1f 00000002 fffffffe <none> 03 010161010000000000000001 020162 030163fffffffffffffffe 04 01016401020178 010165020166 010167030168 0000000000000003 020169 01 01 02016a 01 02016b => Write(Tag { session: SessionId { index: 31 }, run: 2, number: 4294967294 }, <none>, Program { check: [Equals("a", Num(1)), Absent("b"), AtLeast("c", -2)], update: [Put("d", Lit(Text("x"))), Put("e", Copy("f")), Put("g", Plus("h", 3)), Del("i")], merge: [Alt { when: [Absent("j")], ops: [Del("k")] }] })"#;
+009e 06 1f 00000002 fffffffe <none> 04 010161010000000000000001 020162 030163fffffffffffffffe 0405726f6f6d2fffffffff 04 01016401020178 010165020166 010167030168 0000000000000003 020169 01 02 02016a 040000000000 01 02016b => Write(Tag { session: SessionId { index: 31 }, run: 2, number: 4294967294 }, <none>, Program { check: [Equals("a", Num(1)), Absent("b"), AtLeast("c", -2), AtMost("room/", 4294967295)], update: [Put("d", Lit(Text("x"))), Put("e", Copy("f")), Put("g", Plus("h", 3)), Del("i")], merge: [Alt { when: [Absent("j"), AtMost("", 0)], ops: [Del("k")] }] })
+0073 06 <tag> <none> 01 0420616161616161616161616161616161616161616161616161616161616161616100000001 00 00 => Write(<tag>, <none>, Program { check: [AtMost("aaaaaaaaaaaaaaaaaaaaaaaaaaaaaaaa", 1)], update: [], merge: [] })"#;
 
 /// Whether the bytes are read as a frame that prints itself so.
 fn is_read(rt: &impl Abort, alloc: Global, bytes: &[u8], printed: &str) -> bool {
@@ -166,7 +167,7 @@ const LENGTHS: &str = " => None
 00 => None
 0000 => Some(2)
 000103 => Some(3)
-003d15 => Some(63)
+005d15 => Some(95)
 2000 => Some(8194)
 ffff => Some(65537)";
 
@@ -193,31 +194,38 @@ ffff => !TooLong
 00017f => !BadKind
 000100 => !BadKind
 000102 => !BadKind
-0034 02 <none> <put> => !BadKind
-003d 02 00 00000001 00000001 <none> <put> => !BadKind
+0054 02 <none> <put> => !BadKind
+005d 02 <tag> <none> <put> => !BadKind
 000107 => !BadKind
 000110 => !BadKind
 000117 => !BadKind
 000101 => !BadBody
 000106 => !BadBody
-0034 06 <none> <put> => !BadBody
-003d 06 1f ffffffff ffffffff <none> <put> 00 => !Trailing
-003e 06 1f ffffffff ffffffff <none> <put> 00 => !Trailing
-003d 06 20 00000001 00000001 <none> <put> => !BadBody
-003d 06 ff 00000001 00000001 <none> <put> => !BadBody
-003d 06 00 00000000 00000001 <none> <put> => !BadBody
-003d 06 00 00000001 00000000 <none> <put> => !BadBody
+0054 06 <none> <put> => !BadBody
+005d 06 1f ffffffff ffffffff <none> <put> 00 => !Trailing
+005e 06 1f ffffffff ffffffff <none> <put> 00 => !Trailing
+005d 06 20 00000001 00000001 <none> <put> => !BadBody
+005d 06 ff 00000001 00000001 <none> <put> => !BadBody
+005d 06 00 00000000 00000001 <none> <put> => !BadBody
+005d 06 00 00000001 00000000 <none> <put> => !BadBody
 00020300 => !Trailing
 0003140000 => !Trailing
 00021402 => !BadBody
-0007140108000000 => !BadBody
-000714010800000001 => !BadBody
+0007140110000000 => !BadBody
+000714011000000001 => !BadBody
 000714010000000000 => !BadBody
 000714010000010001 => !BadBody
 00021300 => !BadBody
 0002130a => !BadBody
 0003130900 => !Trailing
-00051600000001ff => !Trailing";
+00051600000001ff => !Trailing
+0053 06 <tag> <none> 01 05 00 00000000 00 00 => !BadBody
+0053 06 <tag> <none> 01 00 00 00000000 00 00 => !BadBody
+0054 06 <tag> <none> 01 04 01 41 00000000 00 00 => !BadBody
+0074 06 <tag> <none> 01 04 21 616161616161616161616161616161616161616161616161616161616161616161 00000000 00 00 => !BadBody
+0052 06 <tag> <none> 01 04 00 000000 00 00 => !BadBody
+004c 06 <tag> <none> 01 04 => !BadBody
+0055 06 <tag> <none> 01 04 01 61 00000000 00 00 00 => !Trailing";
 
 #[test]
 fn faults_in_a_frames_place(rt: HostRuntime) {
@@ -225,19 +233,19 @@ fn faults_in_a_frames_place(rt: HostRuntime) {
 }
 
 /// A request to accept a Write, behind its length: its kind, its tag, its need and its program.
-const REQUEST: &str = "06 00 00000001 00000001 <none> <put>";
+const REQUEST: &str = "06 <tag> <none> <put>";
 
-/// Whether so many of these 61 bytes are no request, whether the length counts all of them or those that are there.
+/// Whether so many of these 93 bytes are no request, whether the length counts all of them or those that are there.
 fn is_cut(rt: &impl Abort, alloc: Global, content: &[u8], count: u16) -> bool {
     let (front, _) = content.split_at(usize::from(count).min(content.len()));
-    is_miscounted(rt, alloc, 61, front, "!BadBody")
+    is_miscounted(rt, alloc, 93, front, "!BadBody")
         && is_miscounted(rt, alloc, count, front, "!BadBody")
 }
 
 #[test]
 fn a_request_to_write_may_be_cut_at_each_byte(rt: HostRuntime) {
     let content = bytes_of(&rt, rt.alloc(), REQUEST);
-    for count in 0..61_u16 {
+    for count in 0..93_u16 {
         let is_so = is_cut(&rt, rt.alloc(), &content, count);
         must_be_so(&rt, is_so, usize::from(count));
     }
@@ -259,12 +267,15 @@ fn frames_of_the_greatest_length(rt: HostRuntime) {
     }
 }
 
-/// A Write of 60 bytes, and what is none.
+/// A Write of 92 bytes, and what is none: cut, too long, with eight counts, and of a server that there isn't.
 const WRITES: &str =
     "<0:1> <stamp> <none> <put> => Write { wid: <0:1>, stamp: <stamp>, deps: <none>, program: <put> }
 <0:1> <stamp> <none> 00010104726f6f6d01010000000000000001 => !BadBody
  => !BadBody
-<0:1> <stamp> <none> <put> 00 => !Trailing";
+<0:1> <stamp> <none> <put> 00 => !Trailing
+<0:1> <stamp> <old-none> <put> => !BadBody
+0f00000001 <stamp> <none> <put> => Write { wid: Wid { origin: ServerId { index: 15 }, seq: 1 }, stamp: Stamp { clock: 1, origin: ServerId { index: 15 } }, deps: <none>, program: <put> }
+1000000001 <stamp> <none> <put> => !BadBody";
 
 /// Whether the bytes are read as a Write that prints itself so, and are its spelling, or have the fault that is named.
 fn is_write(rt: &impl Abort, alloc: Global, bytes: &[u8], printed: &str) -> bool {
@@ -293,7 +304,7 @@ const OP: &[u8] =
 static LONGEST: [(&[u8], usize); 23] = [
     // its name, its stamp and its past
     (b"\0\0\0\0\x01\0\0\0\x01", 1),
-    (b"\0", 32),
+    (b"\0", 64),
     // the check and the update
     (b"\x08", 1),
     (CONDITION, 8),
@@ -361,5 +372,5 @@ fn is_spelling(rt: &impl Abort, alloc: Global, bytes: &[u8]) -> bool {
 #[test]
 fn the_longest_write(rt: HostRuntime) {
     let bytes = repeated(&rt, rt.alloc(), &LONGEST);
-    assert!(rt; bytes.len() == 5812 && is_spelling(&rt, rt.alloc(), &bytes));
+    assert!(rt; bytes.len() == 5844 && is_spelling(&rt, rt.alloc(), &bytes));
 }

@@ -12,19 +12,19 @@ type Memory = MemoryDevice<OpenGate>;
 /// What an opening finds: how many bodies there are, and how many bytes behind the chain are dropped.
 type Found = Result<(usize, usize), OpenFault>;
 
-/// The body of an entry: a Write of server 0 that puts 1 at the key `room`, behind its tag. Its entry has 104 bytes.
-const WRITE: &str = "01 00 00000001 00000001 <0:1> <stamp> <none> <put>";
+/// The body of an entry: a Write of server 0 that puts 1 at the key `room`, behind its tag. Its entry has 136 bytes.
+const WRITE: &str = "01 <tag> <0:1> <stamp> <none> <put>";
 
 /// The journal of server 0 with that body three times. The digests are those of `sha256sum`.
-const THREE: &str = "4241594f554a4e4c 0200
-    0046 01 00 00000001 00000001 <0:1> <stamp> <none> <put> bea4b836fb87f3eeb0c1843b420fd4d02483adb01004382c81e314d3d5b5dd13
-    0046 01 00 00000001 00000001 <0:1> <stamp> <none> <put> 8bb66929c4a20841c694a1cb980d26aed97e36ef4658749c27b0caf638ad70d0
-    0046 01 00 00000001 00000001 <0:1> <stamp> <none> <put> 7b21e37c1ed04eb342ad95007f47cf3429b939b4b0e3c85403f49aae9b4c7870";
+const THREE: &str = "4241594f554a4e4c 0300
+    0066 01 <tag> <0:1> <stamp> <none> <put> b7753d7eddeeec4afaeabd5d7b081f2e28ceaf6a35d4c6efb8574988d5ac7aca
+    0066 01 <tag> <0:1> <stamp> <none> <put> b08810b25263c1128184aec98bec9030b5ccaaf127d1edd916038854beac46a6
+    0066 01 <tag> <0:1> <stamp> <none> <put> ae58f0683874ab28c3cf6c2976e6c47cc516f7f9a8a3b66b204f529790d4c771";
 
 /// The journal of server 2 with the bodies 00 and 0102, as docs/FORMATS.md has it.
-const EXAMPLE: &str = "4241594f554a4e4c 0202
-    0001 00 bb0e46ca9ab5826b166f0d4ff3113b2644bc40db3732e4855a937ca9c81d9be7
-    0002 0102 5dd3bbb139f414f3c8f15e231d76b234f0016336627cb3061e7a94267683e9df";
+const EXAMPLE: &str = "4241594f554a4e4c 0302
+    0001 00 43d1161222cb85efaba938d2c9ba3de88aad750dea03dfebad484f0b210d3116
+    0002 0102 36b1d7eb34fb45a24f051e2a92e56870598393ea5f27e961b1d3725ed3c2cb93";
 
 fn device_of(bytes: Vec<u8>) -> Memory {
     MemoryDevice::with_bytes(bytes, OpenGate)
@@ -33,7 +33,7 @@ fn device_of(bytes: Vec<u8>) -> Memory {
 /// Whether the bodies found are these, each in the newest version.
 fn are_found(found: &Opened, bodies: &[&[u8]]) -> bool {
     for (at, body) in bodies.iter().enumerate() {
-        if at >= found.len() || found.body(at) != *body || found.version(at) != 2 {
+        if at >= found.len() || found.body(at) != *body || found.version(at) != 3 {
             return false;
         }
     }
@@ -106,7 +106,7 @@ fn bodies_are_found_again(rt: HostRuntime) {
 #[test]
 fn the_longest_body_is_found_again(rt: HostRuntime) {
     let longest = repeated(&rt, rt.alloc(), &[(b"\x07", 8192)]);
-    let is_found = match with_bodies(rt.alloc(), server_id(&rt, 7), &[b"\x09", &longest]) {
+    let is_found = match with_bodies(rt.alloc(), server_id(&rt, 15), &[b"\x09", &longest]) {
         Some(device) => device.bytes().len() == 8271,
         None => false,
     };
@@ -114,12 +114,12 @@ fn the_longest_body_is_found_again(rt: HostRuntime) {
 }
 
 /// Bodies of one byte each, which would mark a version if it were a later one than the chain's.
-static BYTES: [&[u8]; 4] = [b"\x00", b"\x01", b"\x02", b"\x03"];
+static BYTES: [&[u8]; 5] = [b"\x00", b"\x01", b"\x02", b"\x03", b"\x04"];
 
 #[test]
 fn no_body_marks_a_version(rt: HostRuntime) {
     let are_found = match with_bodies(rt.alloc(), server_id(&rt, 0), &BYTES) {
-        Some(device) => device.bytes().len() == 150,
+        Some(device) => device.bytes().len() == 185,
         None => false,
     };
     assert!(rt; are_found);
@@ -151,7 +151,7 @@ fn is_found(
 fn in_front(len: usize) -> (Found, usize) {
     match len.checked_sub(10) {
         None => (Ok((0, len)), 10),
-        Some(behind) => (Ok((behind / 104, behind % 104)), len - behind % 104),
+        Some(behind) => (Ok((behind / 136, behind % 136)), len - behind % 136),
     }
 }
 
@@ -173,8 +173,8 @@ fn is_journal(rt: &impl Abort, alloc: Global, server: ServerId, bytes: &[u8], le
 fn each_front_is_a_journal(rt: HostRuntime) {
     let server = server_id(&rt, 0);
     let bytes = bytes_of(&rt, rt.alloc(), THREE);
-    for len in 0..323 {
-        let is_so = bytes.len() == 322 && is_journal(&rt, rt.alloc(), server, &bytes, len);
+    for len in 0..419 {
+        let is_so = bytes.len() == 418 && is_journal(&rt, rt.alloc(), server, &bytes, len);
         must_be_so(&rt, is_so, len);
     }
 }
@@ -182,19 +182,32 @@ fn each_front_is_a_journal(rt: HostRuntime) {
 /// What an opening finds where the byte at this place was changed, and how many bytes it leaves.
 fn changed_at(at: usize) -> (Found, usize) {
     match at.checked_sub(10) {
-        None if at < 9 => (Err(OpenFault::NotAJournal), 322),
-        None => (Err(OpenFault::OtherServer), 322),
+        None if at < 9 => (Err(OpenFault::NotAJournal), 418),
+        None => (Err(OpenFault::OtherServer), 418),
         Some(behind) => {
             let (_, left) = in_front(at);
-            (Ok((behind / 104, 322_usize.saturating_sub(left))), left)
+            (Ok((behind / 136, 418_usize.saturating_sub(left))), left)
         }
     }
 }
 
-/// Changes the byte at this place.
+/// Server 9 has a journal of the newest version, and no older one.
+#[test]
+fn a_later_server_begins_a_journal(rt: HostRuntime) {
+    let header = bytes_of(&rt, rt.alloc(), "4241594f554a4e4c 0309");
+    let server = server_id(&rt, 9);
+    for len in 0..11 {
+        let front = header.get(..len).unwrap_or(&header);
+        let found = Ok((0, len % 10));
+        let is_so = is_found(&rt, rt.alloc(), server, front, found, &header);
+        must_be_so(&rt, is_so, len);
+    }
+}
+
+/// Changes the byte at this place, by its highest bit: another bit of the version may make an earlier one of it.
 fn change(bytes: &mut [u8], at: usize) {
     if let Some(byte) = bytes.get_mut(at) {
-        *byte ^= 1;
+        *byte ^= 128;
     }
 }
 
@@ -215,7 +228,7 @@ fn is_ended(rt: &impl Abort, alloc: Global, server: ServerId, bytes: &[u8], at: 
 fn a_changed_byte_ends_the_chain_before_it(rt: HostRuntime) {
     let server = server_id(&rt, 0);
     let mut bytes = bytes_of(&rt, rt.alloc(), THREE);
-    for at in 0..322 {
+    for at in 0..418 {
         change(&mut bytes, at);
         let is_so = is_ended(&rt, rt.alloc(), server, &bytes, at);
         must_be_so(&rt, is_so, at);
@@ -224,14 +237,24 @@ fn a_changed_byte_ends_the_chain_before_it(rt: HostRuntime) {
 }
 
 /// A server, bytes, and why they are no journal of its own.
-static FOREIGN: [(u8, &str, OpenFault); 8] = [
+static FOREIGN: [(u8, &str, OpenFault); 17] = [
     (0, "68656c6c6f", OpenFault::NotAJournal),
     (1, THREE, OpenFault::OtherServer),
     (1, "4241594f554a4e4c 0100", OpenFault::OtherServer),
+    // Earlier versions of a server that there wasn't then, whoever opens them; and a server that there isn't now.
+    (8, "4241594f554a4e4c 0108", OpenFault::OtherServer),
+    (9, "4241594f554a4e4c 0109", OpenFault::OtherServer),
+    (8, "4241594f554a4e4c 0208", OpenFault::OtherServer),
+    (9, "4241594f554a4e4c 0209", OpenFault::OtherServer),
+    (15, "4241594f554a4e4c 020f", OpenFault::OtherServer),
+    (0, "4241594f554a4e4c 0109", OpenFault::OtherServer),
+    (0, "4241594f554a4e4c 0209", OpenFault::OtherServer),
+    (15, "4241594f554a4e4c 0310", OpenFault::OtherServer),
+    (0, "4241594f554a4e4c 03ff", OpenFault::OtherServer),
     // Versions that there aren't, with no identifier behind them, with the server's, and with another's.
-    (0, "4241594f554a4e4c 03", OpenFault::NotAJournal),
-    (0, "4241594f554a4e4c 0300", OpenFault::NotAJournal),
-    (0, "4241594f554a4e4c 0301", OpenFault::NotAJournal),
+    (0, "4241594f554a4e4c 04", OpenFault::NotAJournal),
+    (0, "4241594f554a4e4c 0400", OpenFault::NotAJournal),
+    (0, "4241594f554a4e4c 0401", OpenFault::NotAJournal),
     (0, "4241594f554a4e4c 00", OpenFault::NotAJournal),
     (0, "4241594f554a4e4c 0000", OpenFault::NotAJournal),
 ];
@@ -254,12 +277,12 @@ fn foreign_bytes_are_refused(rt: HostRuntime) {
 /// are left; where that isn't said it is the append of a header, of which so many are added.
 static FAILING: [(usize, u32, Option<usize>); 12] = [
     // A whole journal: the read, the sync.
-    (322, 1, Some(322)),
-    (322, 2, Some(322)),
+    (418, 1, Some(418)),
+    (418, 2, Some(418)),
     // A torn one: the read, the cut, the sync.
-    (321, 1, Some(321)),
-    (321, 2, Some(321)),
-    (321, 3, Some(218)),
+    (417, 1, Some(417)),
+    (417, 2, Some(417)),
+    (417, 3, Some(282)),
     // Nothing: the read, the append, the sync.
     (0, 1, Some(0)),
     (0, 2, None),
@@ -414,13 +437,13 @@ static REOPENINGS: [Step; 27] = [
     Fuse(1, 0),
     Reopen(Err(OpenFault::Device)),
     DOWN,
-    Reopen(Ok((2, 103))),
+    Reopen(Ok((2, 135))),
     Append(Ok(())),
     Lose(1),
     Fuse(2, 0),
     Reopen(Err(OpenFault::Device)),
     DOWN,
-    Reopen(Ok((2, 103))),
+    Reopen(Ok((2, 135))),
     Append(Ok(())),
     Lose(1),
     Fuse(3, 0),
@@ -430,7 +453,7 @@ static REOPENINGS: [Step; 27] = [
     Append(Ok(())),
     Lose(1),
     Fuse(4, 0),
-    Reopen(Ok((2, 103))),
+    Reopen(Ok((2, 135))),
     FAULT,
 ];
 
@@ -441,7 +464,7 @@ fn each_device_call_of_a_reopening_may_fail(rt: HostRuntime) {
 }
 
 /// How many bytes at the front of that journal there are, and the first device call that no opening of them makes.
-static OPENINGS: [(usize, u32); 4] = [(322, 3), (321, 4), (0, 4), (5, 5)];
+static OPENINGS: [(usize, u32); 4] = [(418, 3), (417, 4), (0, 4), (5, 5)];
 
 #[test]
 fn a_later_fuse_waits_for_the_append(rt: HostRuntime) {
@@ -455,8 +478,8 @@ fn a_later_fuse_waits_for_the_append(rt: HostRuntime) {
 /// An append that fails with so many bytes of its entry added, or at its sync; and a reopening.
 fn failing_append(kept: usize) -> [Step; 5] {
     let (call, found) = match kept {
-        0..104 => (1, (3, kept)),
-        104 => (1, (4, 0)),
+        0..136 => (1, (3, kept)),
+        136 => (1, (4, 0)),
         _ => (2, (4, 0)),
     };
     [
@@ -471,7 +494,7 @@ fn failing_append(kept: usize) -> [Step; 5] {
 #[test]
 fn each_device_call_of_an_append_may_fail(rt: HostRuntime) {
     let bytes = bytes_of(&rt, rt.alloc(), THREE);
-    for kept in 0..106 {
+    for kept in 0..138 {
         all_go(&rt, rt.alloc(), &bytes, NEVER, &failing_append(kept));
     }
 }

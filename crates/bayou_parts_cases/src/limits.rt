@@ -3,8 +3,9 @@ use crate::fixtures::must_hold;
 use bayou_base::limits::*;
 
 /// The name of a limit, the limit, and its number.
-static LIMITS: [(&str, u64, u64); 23] = [
-    ("servers", SERVERS as u64, 8),
+static LIMITS: [(&str, u64, u64); 24] = [
+    ("servers", SERVERS as u64, 16),
+    ("servers that there were once", OLD_SERVERS as u64, 8),
     ("servers over a network", NET_SERVERS as u64, 4),
     ("sessions", SESSIONS as u64, 32),
     ("Writes of a log", MAX_WRITES as u64, 65_536),
@@ -20,7 +21,7 @@ static LIMITS: [(&str, u64, u64); 23] = [
     ("alternatives", MAX_ALTERNATIVES as u64, 4),
     ("lines", MAX_LINES as u64, 65_536),
     ("bytes of a line", MAX_LINE_BYTES as u64, 65_536),
-    ("bytes of a Write", MAX_WRITE_BYTES as u64, 5_812),
+    ("bytes of a Write", MAX_WRITE_BYTES as u64, 5_844),
     ("bytes of a frame", MAX_FRAME_BYTES as u64, 8_192),
     ("bytes of a body", MAX_BODY_BYTES as u64, 8_192),
     ("calls of a fuse", MAX_FUSE_CALLS as u64, 1_000),

@@ -64,8 +64,8 @@ const COMMANDS: &str = r#"["servers",1]
 ["servers",1,0] => !BadShape(Number)
 ["servers",1,65537] => !BadShape(Number)
 ["servers",0] => !BadShape(Number)
-["servers",8]
-["servers",9] => !BadShape(Number)
+["servers",16]
+["servers",17] => !BadShape(Number)
 ["servers",2,0,0] => !BadShape(Arity)
 ["servers"] => !BadShape(Arity)
 ["servers",1.0] => !BadShape(Number)
@@ -84,9 +84,9 @@ const COMMANDS: &str = r#"["servers",1]
 ["session",0,"ryw"] => !BadShape(Form)
 ["session",0,{}] => !BadShape(Form)
 ["session",0] => !BadShape(Arity)
-["read",0,7,"a.b_c-d/9"]
+["read",0,15,"a.b_c-d/9"]
 ["read",0,0,"\u0061"] => ["read",0,0,"a"]
-["read",0,8,"a"] => !BadShape(Number)
+["read",0,16,"a"] => !BadShape(Number)
 ["read",-1,0,"A"] => !BadShape(Number)
 ["read",0,-1,"A"] => !BadShape(Number)
 ["read",0,0,""] => !Key(Empty)
@@ -97,11 +97,11 @@ const COMMANDS: &str = r#"["servers",1]
 ["read",0,0,0] => !BadShape(Name)
 ["read",0,0,"a",0] => !BadShape(Arity)
 ["write",0,{}] => !BadShape(Arity)
-["write",0,8,[]] => !BadShape(Number)
-["log",7]
+["write",0,16,[]] => !BadShape(Number)
+["log",15]
 ["log"] => !BadShape(Arity)
 ["log",0,0] => !BadShape(Arity)
-["log",8] => !BadShape(Number)
+["log",16] => !BadShape(Number)
 ["totals"]
 ["totals",0] => !BadShape(Arity)
 ["Read",0,0,"a"] => !BadShape(Command)
@@ -119,28 +119,28 @@ fn commands(rt: HostRuntime) {
 }
 
 /// Commands that try one server.
-const TRIALS: &str = r#"["fuse",7,1,0]
+const TRIALS: &str = r#"["fuse",15,1,0]
 ["fuse",0,1000,8192]
-["fuse",8,1,0] => !BadShape(Number)
+["fuse",16,1,0] => !BadShape(Number)
 ["fuse",0,0,0] => !BadShape(Number)
 ["fuse",0,1001,0] => !BadShape(Number)
 ["fuse",0,1,8193] => !BadShape(Number)
 ["fuse",0,1,-1] => !BadShape(Number)
 ["fuse",0,1] => !BadShape(Arity)
 ["fuse",0,1,0,0] => !BadShape(Arity)
-["lose",7,0]
+["lose",15,0]
 ["lose",0,1000000000]
-["lose",8,0] => !BadShape(Number)
+["lose",16,0] => !BadShape(Number)
 ["lose",0,1000000001] => !BadShape(Number)
 ["lose",0,-1] => !BadShape(Number)
 ["lose",0] => !BadShape(Arity)
 ["lose",0,0,0] => !BadShape(Arity)
-["reopen",7]
-["reopen",8] => !BadShape(Number)
+["reopen",15]
+["reopen",16] => !BadShape(Number)
 ["reopen"] => !BadShape(Arity)
 ["reopen",0,0] => !BadShape(Arity)
-["restart",7]
-["restart",8] => !BadShape(Number)
+["restart",15]
+["restart",16] => !BadShape(Number)
 ["restart"] => !BadShape(Arity)
 ["restart",0,0] => !BadShape(Arity)"#;
 
@@ -181,21 +181,21 @@ fn retries(rt: HostRuntime) {
 
 /// Commands that have a server send its Writes to another.
 const EXCHANGES: &str = r#"["pull",1,0]
-["pull",7,7]
+["pull",15,15]
 ["pull",1,0,0]
 ["pull",0,1,65536]
 ["pull",1,0,65537] => !BadShape(Number)
 ["pull",1,0,-1] => !BadShape(Number)
 ["pull",1,0,1.0] => !BadShape(Number)
 ["pull",1,0,null] => !BadShape(Number)
-["pull",8,0] => !BadShape(Number)
-["pull",0,8] => !BadShape(Number)
+["pull",16,0] => !BadShape(Number)
+["pull",0,16] => !BadShape(Number)
 ["pull",1] => !BadShape(Arity)
 ["pull",1,0,1,1] => !BadShape(Arity)
 ["resend",1,0]
-["resend",7,7]
-["resend",8,0] => !BadShape(Number)
-["resend",0,8] => !BadShape(Number)
+["resend",15,15]
+["resend",16,0] => !BadShape(Number)
+["resend",0,16] => !BadShape(Number)
 ["resend",1] => !BadShape(Arity)
 ["resend",1,0,2] => !BadShape(Arity)
 ["offer",1,0] => !BadShape(Command)"#;
@@ -217,19 +217,20 @@ const ENTRIES: &str = r#"["judge"]
 ["phases"] => !BadShape(Command)
 ["entry",0,1,[],0,"write",1,1,[0,0]]
 ["entry",0,2,[],1,"read","room",[0,0]]
-["entry",31,4294967295,["ryw","mr","wfr","mw"],7,"refused"]
+["entry",31,4294967295,["ryw","mr","wfr","mw"],15,"refused"]
 ["entry",0,1,["mw","ryw","mw"],0,"refused"] => ["entry",0,1,["ryw","mw"],0,"refused"]
 ["entry",0,1,[],0,"read","a",[65536]]
-["entry",0,1,[],0,"write",65536,65536,[1,2,3,4,5,6,7,8]]
+["entry",0,1,[],0,"write",65536,65536,[1,2,3,4,5,6,7,8,9,10,11,12,13,14,15,16]]
+["entry",0,1,[],0,"write",1,1,[1,2,3,4,5,6,7,8]]
 ["entry"] => !BadShape(Arity)
-["entry",32,0,0,8] => !BadShape(Arity)
+["entry",32,0,0,16] => !BadShape(Arity)
 ["entry",0,1,[],0,"refused",0] => !BadShape(Arity)
 ["entry",0,1,[],0,"write",1,1,[0],0] => !BadShape(Arity)
-["entry",32,0,["x"],8,"x"] => !BadShape(Number)
-["entry",0,0,["x"],8,"x"] => !BadShape(Number)
+["entry",32,0,["x"],16,"x"] => !BadShape(Number)
+["entry",0,0,["x"],16,"x"] => !BadShape(Number)
 ["entry",0,4294967296,[],0,"refused"] => !BadShape(Number)
-["entry",0,1,["x"],8,"x"] => !BadShape(Word)
-["entry",0,1,[],8,"x"] => !BadShape(Number)
+["entry",0,1,["x"],16,"x"] => !BadShape(Word)
+["entry",0,1,[],16,"x"] => !BadShape(Number)
 ["entry",0,1,[],0,"read"] => !BadShape(Word)
 ["entry",0,1,[],0,0] => !BadShape(Word)
 ["entry",0,1,[],0,"write",0,0] => !BadShape(Word)
@@ -239,7 +240,7 @@ const ENTRIES: &str = r#"["judge"]
 ["entry",0,1,[],0,"read",0,0] => !BadShape(Name)
 ["entry",0,1,[],0,"read","a",0] => !BadShape(Form)
 ["entry",0,1,[],0,"read","a",[]] => !BadShape(Form)
-["entry",0,1,[],0,"read","a",[0,0,0,0,0,0,0,0,0]] => !BadShape(Form)
+["entry",0,1,[],0,"read","a",[0,0,0,0,0,0,0,0,0,0,0,0,0,0,0,0,0]] => !BadShape(Form)
 ["entry",0,1,[],0,"read","a",[0,65537]] => !BadShape(Number)
 ["entry",0,1,[],0,"read","a",[0,1.0]] => !BadShape(Number)
 ["entry",0,1,[],0,"write",0,0,0] => !BadShape(Number)
@@ -256,17 +257,17 @@ fn entries(rt: HostRuntime) {
 
 /// Writes that are held.
 const HELD: &str = r#"["held",0,[0,1,1,[0,0],{"check":[],"merge":[],"update":[["put","room",1]]}]]
-["held",7,[7,65536,65536,[0,1,2,3,4,5,6,65536],{"check":[],"merge":[],"update":[]}]]
+["held",15,[15,65536,65536,[0,1,2,3,4,5,6,7,8,9,10,11,12,13,14,65536],{"check":[],"merge":[],"update":[]}]]
 ["held",0,[1,2,3,[4],{}]] => ["held",0,[1,2,3,[4],{"check":[],"merge":[],"update":[]}]]
 ["held",0] => !BadShape(Arity)
-["held",8,0,0] => !BadShape(Arity)
-["held",8,0] => !BadShape(Number)
+["held",16,0,0] => !BadShape(Arity)
+["held",16,0] => !BadShape(Number)
 ["held",0,0] => !BadShape(Form)
 ["held",0,{}] => !BadShape(Form)
 ["held",0,[]] => !BadShape(Arity)
-["held",0,[8,0,0,0]] => !BadShape(Arity)
-["held",0,[8,0,0,0,0,0]] => !BadShape(Arity)
-["held",0,[8,0,0,0,0]] => !BadShape(Number)
+["held",0,[16,0,0,0]] => !BadShape(Arity)
+["held",0,[16,0,0,0,0,0]] => !BadShape(Arity)
+["held",0,[16,0,0,0,0]] => !BadShape(Number)
 ["held",0,[0,0,0,0,0]] => !BadShape(Number)
 ["held",0,[0,1,0,0,0]] => !BadShape(Number)
 ["held",0,[0,1,1,0,0]] => !BadShape(Form)
@@ -358,19 +359,20 @@ const FORMS: &str = r#"["servers",1]
 ["write",0,0,{"check":[],"merge":[],"update":[]}]
 ["write",0,0,{"check":[["equals","a",1],["atleast","b",-2]],"merge":[{"ops":[["put","a",["plus","b",3]]],"when":[["absent","c"]]},{"ops":[],"when":[]}],"update":[["del","c"],["put","b",["copy","a"]]]}]
 ["write",0,0,{"check":[["equals","a","x"],["absent","b"]],"merge":[{"ops":[["del","a"],["put","b","y"]],"when":[["equals","a",1]]}],"update":[["put","a","\u0000\""]]}]
-["read",3,7,"a"]
+["write",0,0,{"check":[["atmost","a/",4294967295]],"merge":[{"ops":[["del","a"]],"when":[["absent","a"],["atmost","",0]]}],"update":[["put","a",1]]}]
+["read",3,15,"a"]
 ["again",3]
 ["drop",31]
-["log",7]
-["fuse",7,1000,8192]
+["log",15]
+["fuse",15,1000,8192]
 ["lose",0,1000000000]
 ["reopen",0]
-["restart",7]
+["restart",15]
 ["pull",1,0]
 ["pull",1,0,2]
 ["resend",1,0]
 ["totals"]
-["servers",9] => !BadShape(Number)
+["servers",17] => !BadShape(Number)
 ["read",0,0,"A"] => !Key(BadByte(0))
 ["x"," => !NotJson
 ["write",0,0,{"update":[["put","a",["x"]]]}] => !BadShape(Word)

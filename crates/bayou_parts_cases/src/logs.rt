@@ -355,20 +355,24 @@ static RECEIVED: [(u8, u32, u32, [u32; 2]); 6] = [
     (0, 1, 1, [0, 0]),
     (0, 2, 2, [1, 0]),
     (1, 1, 1, [0, 0]),
-    (7, 1, 1, [0, 0]),
+    (15, 1, 1, [0, 0]),
     (1, 2, 2, [0, 1]),
     (0, 3, 3, [2, 2]),
 ];
 
 /// What a server with these counts of the first two servers lacks of them, that many at the most: the origins and the seqs.
 const LACKED: [([u32; 2], usize, &[(u8, u32)]); 7] = [
-    ([0, 0], 9, &[(0, 1), (1, 1), (7, 1), (0, 2), (1, 2), (0, 3)]),
-    ([0, 0], 4, &[(0, 1), (1, 1), (7, 1), (0, 2)]),
+    (
+        [0, 0],
+        9,
+        &[(0, 1), (1, 1), (15, 1), (0, 2), (1, 2), (0, 3)],
+    ),
+    ([0, 0], 4, &[(0, 1), (1, 1), (15, 1), (0, 2)]),
     ([0, 0], 1, &[(0, 1)]),
     ([0, 0], 0, &[]),
-    ([2, 0], 9, &[(1, 1), (7, 1), (1, 2), (0, 3)]),
-    ([2, 1], 2, &[(7, 1), (1, 2)]),
-    ([3, 2], 9, &[(7, 1)]),
+    ([2, 0], 9, &[(1, 1), (15, 1), (1, 2), (0, 3)]),
+    ([2, 1], 2, &[(15, 1), (1, 2)]),
+    ([3, 2], 9, &[(15, 1)]),
 ];
 
 /// Whether the Writes have these names.
@@ -411,6 +415,6 @@ fn tells_lacking(rt: &impl Abort, alloc: Global, log: &mut WriteLog) {
 
 #[test]
 fn what_is_lacking_comes_in_stamp_order(rt: HostRuntime) {
-    let mut log = empty_log(&rt, rt.alloc(), 8, 6);
+    let mut log = empty_log(&rt, rt.alloc(), SERVERS as u8, 6);
     tells_lacking(&rt, rt.alloc(), &mut log);
 }

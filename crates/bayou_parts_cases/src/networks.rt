@@ -29,10 +29,15 @@ fn is_told<T: Drop>(answer: Result<T, InputRefusal>, expected: &str) -> bool {
 }
 
 /// Scripts, what `bayou run` tells of each, and what is told of it over a network.
-static SCRIPTS: [(&str, &str, &str); 23] = [
+static SCRIPTS: [(&str, &str, &str); 24] = [
     (r#"["servers",4]"#, "", ""),
     (r#"["servers",5]"#, "", "line 1: out of place"),
-    (r#"["servers",8,1]"#, "", "line 1: out of place"),
+    (r#"["servers",16,1]"#, "", "line 1: out of place"),
+    (
+        r#"["servers",17]"#,
+        "line 1: bad shape",
+        "line 1: bad shape",
+    ),
     (
         "[\"servers\",1]\n[\"fuse\",0,1,0]",
         "",

@@ -4,20 +4,19 @@ use std::alloc::Global;
 use std::process::Abort;
 
 /// What the marks stand for among bytes: the vector that counts no Write, those that count the first one and the first two of server 0
-/// alone, the name of the Write 0:1, its clock, and a program that puts 1 at `room`. What is between digits goes.
-static AS_BYTES: [(&str, &str); 8] = [
-    (
-        "<none>",
-        "0000000000000000000000000000000000000000000000000000000000000000",
-    ),
-    (
-        "<one>",
-        "0000000100000000000000000000000000000000000000000000000000000000",
-    ),
-    (
-        "<two>",
-        "0000000200000000000000000000000000000000000000000000000000000000",
-    ),
+/// alone, the same with eight counts, as journals of earlier versions have them, and so many counts of 0; the name of the Write 0:1, its clock,
+/// and a program that puts 1 at `room`. What is between digits goes. A mark may stand for later ones.
+static AS_BYTES: [(&str, &str); 15] = [
+    ("<none>", "00000000 00000000 <fourteen>"),
+    ("<one>", "00000001 00000000 <fourteen>"),
+    ("<two>", "00000002 00000000 <fourteen>"),
+    ("<old-none>", "00000000 00000000 <six>"),
+    ("<old-one>", "00000001 00000000 <six>"),
+    ("<old-two>", "00000002 00000000 <six>"),
+    ("<fourteen>", "<six> <six> <two-counts>"),
+    ("<six>", "<two-counts> <two-counts> <two-counts>"),
+    ("<two-counts>", "00000000 00000000"),
+    ("<tag>", "00 00000001 00000001"),
     ("<0:1>", "0000000001"),
     ("<stamp>", "00000001"),
     ("<put>", "00010104726f6f6d0101000000000000000100"),
@@ -31,8 +30,14 @@ pub static AS_PRINTED: [(&str, &str); 6] = [
         "<tag>",
         "Tag { session: SessionId { index: 0 }, run: 1, number: 1 }",
     ),
-    ("<none>", "Vector { counts: [0, 0, 0, 0, 0, 0, 0, 0] }"),
-    ("<one>", "Vector { counts: [1, 0, 0, 0, 0, 0, 0, 0] }"),
+    (
+        "<none>",
+        "Vector { counts: [0, 0, 0, 0, 0, 0, 0, 0, 0, 0, 0, 0, 0, 0, 0, 0] }",
+    ),
+    (
+        "<one>",
+        "Vector { counts: [1, 0, 0, 0, 0, 0, 0, 0, 0, 0, 0, 0, 0, 0, 0, 0] }",
+    ),
     ("<0:1>", "Wid { origin: ServerId { index: 0 }, seq: 1 }"),
     (
         "<stamp>",

@@ -4,10 +4,11 @@ use bayou_base::{ServerId, SessionId, Stamp, Wid};
 use std::process::Abort;
 
 /// An index, and whether a server and a session may have it.
-static INDEXES: [(u8, bool, bool); 6] = [
+static INDEXES: [(u8, bool, bool); 7] = [
     (0, true, true),
-    (7, true, true),
-    (8, false, true),
+    (8, true, true),
+    (15, true, true),
+    (16, false, true),
     (31, false, true),
     (32, false, false),
     (255, false, false),

@@ -114,6 +114,36 @@ const CONDITIONS: &str = r#"["equals","a",1]
 ["atleast","A",null] => !Key(BadByte(0))
 ["atleast",0,null] => !BadShape(Name)
 ["AtLeast","a",1] => !BadShape(Word)
+["atmost","room/",1]
+["atmost","",0]
+["atmost","a",4294967295]
+["atmost","aaaaaaaaaaaaaaaaaaaaaaaaaaaaaaaa",0]
+["atmost","\u0061",2] => ["atmost","a",2]
+["atmost","a",4294967296] => !BadShape(Number)
+["atmost","a",-1] => !BadShape(Number)
+["atmost","a",1.0] => !BadShape(Number)
+["atmost","a",1e0] => !BadShape(Number)
+["atmost","a",-0] => !BadShape(Number)
+["atmost","a","1"] => !BadShape(Number)
+["atmost","a","x"] => !BadShape(Number)
+["atmost","a",null] => !BadShape(Number)
+["atmost","a",["copy","b"]] => !BadShape(Number)
+["atmost"] => !BadShape(Arity)
+["atmost","a"] => !BadShape(Arity)
+["atmost","A"] => !BadShape(Arity)
+["atmost","a",1,1] => !BadShape(Arity)
+["atmost","A",-1,1] => !BadShape(Arity)
+["atmost",0,1] => !BadShape(Name)
+["atmost",null,-1] => !BadShape(Name)
+["atmost",["a"],1] => !BadShape(Name)
+["atmost","A",1] => !Key(BadByte(0))
+["atmost","a A",-1] => !Key(BadByte(1))
+["atmost","room/A","x"] => !Key(BadByte(5))
+["atmost","aaaaaaaaaaaaaaaaaaaaaaaaaaaaaaaaa",1] => !Key(TooLong)
+["atmost","aaaaaaaaaaaaaaaaaaaaaaaaaaaaaaaaA",-1] => !Key(TooLong)
+["AtMost","a",1] => !BadShape(Word)
+["atmost","a",1],["x"],["atmost","A",1] => !BadShape(Word)
+["atmost","",0],["atmost","",0],["atmost","",0],["atmost","",0],["atmost","",0],["atmost","",0],["atmost","",0],["atmost","",0]
 ["present","a"] => !BadShape(Word)
 ["del","a"] => !BadShape(Word)
 [] => !BadShape(Form)
@@ -131,6 +161,8 @@ const ALTERNATIVES: &str = r#"{} => {"ops":[],"when":[]}
 {"ops":[["del","b"]]} => {"ops":[["del","b"]],"when":[]}
 {"when":0,"ops":[["del","b"]],"ops":[],"when":[["absent","a"]]} => {"ops":[],"when":[["absent","a"]]}
 {"when":[["x"]],"x":1} => !BadShape(Form)
+{"when":[["atmost","a/",3]]} => {"ops":[],"when":[["atmost","a/",3]]}
+{"when":[["atmost","a/",-3]],"ops":[["x"]]} => !BadShape(Number)
 {"check":[]} => !BadShape(Form)
 {"ops":[["x"]],"when":[["absent",0]]} => !BadShape(Name)
 {"ops":0,"when":[["x"]]} => !BadShape(Word)
@@ -151,6 +183,7 @@ const PROGRAMS: &str = r#"{} => {"check":[],"merge":[],"update":[]}
 {"check":[],"merge":[],"update":[]}
 {"update":[["put","a",1]]} => {"check":[],"merge":[],"update":[["put","a",1]]}
 {"check":[["equals","a",1],["atleast","b",-2]],"merge":[{"ops":[["put","a",["plus","b",3]]],"when":[["absent","c"]]},{"ops":[],"when":[]}],"update":[["del","c"],["put","b",["copy","a"]]]}
+{"check":[["atmost","room/",1]],"update":[["put","room/2","B"]]} => {"check":[["atmost","room/",1]],"merge":[],"update":[["put","room/2","B"]]}
 {"update":0,"update":[["put","a",1]]} => {"check":[],"merge":[],"update":[["put","a",1]]}
 {"update":[["put","a",1]],"update":[]} => {"check":[],"merge":[],"update":[]}
 {"update":[["put","A",1]],"x":1} => !BadShape(Form)

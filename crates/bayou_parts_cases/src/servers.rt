@@ -213,7 +213,7 @@ fn a_write_in_doubt_is_forgotten_or_adopted(rt: HostRuntime) {
     all_go_anew(&rt, rt.alloc(), &REPLACED);
 }
 
-/// The device call of a Write that fails, how much of its entry of 101 bytes is added, the seq of the Write that a reopening adopts,
+/// The device call of a Write that fails, how much of its entry of 133 bytes is added, the seq of the Write that a reopening adopts,
 /// if any, and how many Writes the server has then: the last of them put as much at `a`.
 type Failing = (u32, usize, Option<u32>, u32);
 
@@ -221,13 +221,13 @@ static FAILING: [Failing; 11] = [
     (1, 0, None, 1),
     (1, 1, None, 1),
     (1, 50, None, 1),
-    (1, 100, None, 1),
-    (1, 101, Some(2), 2),
+    (1, 132, None, 1),
+    (1, 133, Some(2), 2),
     (1, 200, Some(2), 2),
     (2, 0, Some(2), 2),
     (2, 1, Some(2), 2),
     (2, 50, Some(2), 2),
-    (2, 101, Some(2), 2),
+    (2, 133, Some(2), 2),
     (2, 200, Some(2), 2),
 ];
 
@@ -271,23 +271,23 @@ fn each_device_call_of_a_reopening_may_fail(rt: HostRuntime) {
 }
 
 /// The journal of server 0 with the body 00, which is no Write.
-const NO_WRITE: &str = "4241594f554a4e4c 0200
+const NO_WRITE: &str = "4241594f554a4e4c 0300
     0001 00
-    bec739f6b4205d85ade8feac54ca5d1d547f3a1c239031ff11203394282d2b0e";
+    23f0425e31ef0b523ca315eb8c6cdb64434e9ba38af6e84958ff4a4356cef737";
 
 /// The journal of server 0 with its second Write alone.
-const SECOND: &str = "4241594f554a4e4c 0200
-    0043 01 00 00000001 00000002 0000000002 00000002 <one> 00010101610101000000000000000200
-    81158b68d283e32945961e090bae94be2f3dacae2dd911f1debdce43108a6cad";
+const SECOND: &str = "4241594f554a4e4c 0300
+    0063 01 00 00000001 00000002 0000000002 00000002 <one> 00010101610101000000000000000200
+    9673e342ef02d23a64e28bea6b0dff494b6120cc2d7bd5c4ae7f90b2018ff8c7";
 
 /// The journal of server 0 with Writes that put 1, 2 and 3 at `a`.
-const THREE: &str = "4241594f554a4e4c 0200
-    0043 01 00 00000001 00000001 0000000001 00000001 <none> 00010101610101000000000000000100
-    6e1dcb3cf738a4dfd52acc94da375a263976ed6cd7ed389c74249d6264ea3486
-    0043 01 00 00000001 00000002 0000000002 00000002 <one> 00010101610101000000000000000200
-    58f7d3fdb5712ac3c4899e9159a898a10ec2987cda1c499a061f20fbe0a87031
-    0043 01 00 00000001 00000003 0000000003 00000003 <two> 00010101610101000000000000000300
-    5557effcf64e6b347302a3b7e3af504d3355344791c49728584ca7e312e21ae2";
+const THREE: &str = "4241594f554a4e4c 0300
+    0063 01 00 00000001 00000001 0000000001 00000001 <none> 00010101610101000000000000000100
+    e3244cedc227999729fa46f9072d9429bbad75481f5123d2c4aa329343dd47f0
+    0063 01 00 00000001 00000002 0000000002 00000002 <one> 00010101610101000000000000000200
+    16542a328aded35db7a253cf9cdac6358f5881ecd52029cc0bc367b51bf46b9f
+    0063 01 00 00000001 00000003 0000000003 00000003 <two> 00010101610101000000000000000300
+    27a0cd6d18d8baf586c79fc11afdcab092473d39666c716ebbb101a48b8934b6";
 
 /// A fuse that no start reaches.
 const NEVER: u32 = 1000;
@@ -304,7 +304,7 @@ static REFUSED: [(&str, u32, StartFault); 9] = [
         StartFault::Journal(JournalFault::NotAJournal),
     ),
     (
-        "4241594f554a4e4c 0201",
+        "4241594f554a4e4c 0301",
         NEVER,
         StartFault::Journal(JournalFault::OtherServer),
     ),
@@ -395,7 +395,7 @@ fn given_back(server: Box<Served>) -> (usize, usize) {
 fn tells_and_stops(rt: &impl Abort, alloc: Global, device: Memory) -> bool {
     let server = start(rt, alloc, 2, device).expect(rt, "no server");
     let are_told = tells_both(rt, alloc, &server);
-    given_back(server) == (2, 212) && are_told
+    given_back(server) == (2, 276) && are_told
 }
 
 #[test]

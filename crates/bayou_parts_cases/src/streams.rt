@@ -47,8 +47,8 @@ fn is_over(stream: &Stream, bytes: &[u8]) -> bool {
     stream.frames.is_between() && stream.given.as_slice() == bytes
 }
 
-/// An Item, which has 63 bytes, and the end behind it.
-const STREAM: &str = "003d 15 <0:1> <stamp> <none> <put> 0005 16 00000001";
+/// An Item, which has 95 bytes, and the end behind it.
+const STREAM: &str = "005d 15 <0:1> <stamp> <none> <put> 0005 16 00000001";
 
 /// Whether the frames come whole from the two pieces, and none is begun between them only where one ends there.
 fn comes_in_two(
@@ -60,7 +60,7 @@ fn comes_in_two(
 ) -> bool {
     let (front, back) = bytes.split_at(cut.min(bytes.len()));
     let is_front_fed = fed(rt, alloc, stream, front).is_ok();
-    let is_between = stream.frames.is_between() == matches!(cut, 0 | 63 | 70);
+    let is_between = stream.frames.is_between() == matches!(cut, 0 | 95 | 102);
     let is_back_fed = fed(rt, alloc, stream, back).is_ok();
     is_front_fed && is_between && is_back_fed && is_over(stream, bytes)
 }
@@ -89,8 +89,8 @@ fn comes_whole(rt: &impl Abort, alloc: Global, bytes: &[u8], cut: usize) -> bool
 #[test]
 fn a_stream_in_any_pieces(rt: HostRuntime) {
     let bytes = bytes_of(&rt, rt.alloc(), STREAM);
-    for cut in 0..71 {
-        let is_whole = bytes.len() == 70 && comes_whole(&rt, rt.alloc(), &bytes, cut);
+    for cut in 0..103 {
+        let is_whole = bytes.len() == 102 && comes_whole(&rt, rt.alloc(), &bytes, cut);
         must_be_so(&rt, is_whole, cut);
     }
 }

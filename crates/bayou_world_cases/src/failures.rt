@@ -139,12 +139,12 @@ static ROWS: [Row; 8] = [
     },
 ];
 
-/// The call that fails is the append of an entry of 104 bytes.
+/// The call that fails is the append of an entry of 136 bytes.
 static FRONTS: [Row; 2] = [
     // All of the entry was added: a reopening adopts it.
     Row {
         acts: &[
-            (Act::Fuse(0, 1, 104), Fused),
+            (Act::Fuse(0, 1, 136), Fused),
             (Act::Write(0, 0, 7), Doubted),
             (Act::Reopen(0), Up(Some((0, 1)))),
         ],
@@ -153,7 +153,7 @@ static FRONTS: [Row; 2] = [
     // One byte of it is missing: it is forgotten.
     Row {
         acts: &[
-            (Act::Fuse(0, 1, 103), Fused),
+            (Act::Fuse(0, 1, 135), Fused),
             (Act::Write(0, 0, 7), Doubted),
             (Act::Reopen(0), Up(None)),
         ],
