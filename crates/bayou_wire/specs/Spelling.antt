@@ -12,7 +12,7 @@ use Rattle.bayou_base.specs.declared.value.Value.TheVariants.{Num, Text}
 use Rattle.bayou_base.specs.declared.wid.Wid.{Wid}
 use Rattle.bayou_lang.specs.declared.program.Alt.{Alt}
 use Rattle.bayou_lang.specs.declared.program.Cond.{Cond}
-use Rattle.bayou_lang.specs.declared.program.Cond.TheVariants.{Equals, Absent, AtLeast}
+use Rattle.bayou_lang.specs.declared.program.Cond.TheVariants.{Equals, Absent, AtLeast, AtMost}
 use Rattle.bayou_lang.specs.declared.program.Op.{Op}
 use Rattle.bayou_lang.specs.declared.program.Op.TheVariants.{Put, Del}
 use Rattle.bayou_lang.specs.declared.program.Program.{Program}
@@ -39,7 +39,7 @@ u32_bytes n = to_be_bytes w32 n
 unfoldable pub i64_bytes : ℤ → List ℕ
 i64_bytes number = to_be_bytes w64 (cast_unsigned w64 number)
 
--- a key, or a text: its length, and its bytes
+-- a key, a prefix or a text: its length, and its bytes
 abbrev pub short_bytes : List ℕ → List ℕ
 short_bytes bytes = length bytes ∷ bytes
 
@@ -60,6 +60,7 @@ abbrev pub cond_bytes : Cond → List ℕ
 cond_bytes (Equals key value) = layout.COND_EQUALS ∷ (short_bytes key ++ value_bytes value)
 cond_bytes (Absent key) = layout.COND_ABSENT ∷ short_bytes key
 cond_bytes (AtLeast key number) = layout.COND_AT_LEAST ∷ (short_bytes key ++ i64_bytes number)
+cond_bytes (AtMost prefix most) = layout.COND_AT_MOST ∷ (short_bytes prefix ++ u32_bytes most)
 
 -- a list: the number of its members, and the members
 abbrev pub list_bytes : {T : Type 0} → (T → List ℕ) → List T → List ℕ

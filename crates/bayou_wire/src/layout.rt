@@ -1,16 +1,13 @@
 //! The facts of the layout, each named once: the first bytes of values, programs' parts and options, the kinds of frames and
 //! the codes of refusals. This is version 1 of the format. All integers are big-endian.
 
-use bayou_base::SERVERS;
+use bayou_base::{OLD_SERVERS, SERVERS};
 
 /// How many bytes a frame's length takes.
 pub const LENGTH_BYTES: usize = 2;
 
 /// How many bytes the tag of a Write takes.
 pub const TAG_BYTES: usize = 9;
-
-/// How many counts a vector had in the first two versions of a journal.
-pub const OLD_SERVERS: usize = 8;
 
 /// How many bytes stand before a Write's program in the first two versions of a journal: its name, its clock and its counts.
 pub const OLD_HEAD_BYTES: usize = 9 + 4 * OLD_SERVERS;
@@ -41,6 +38,8 @@ pub const COND_EQUALS: u8 = 1;
 pub const COND_ABSENT: u8 = 2;
 /// A condition that a key has a number that isn't less.
 pub const COND_AT_LEAST: u8 = 3;
+/// A condition that so many keys at the most begin so.
+pub const COND_AT_MOST: u8 = 4;
 
 /// No value, or no Write.
 pub const ABSENT: u8 = 0;

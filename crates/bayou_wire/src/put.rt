@@ -1,14 +1,14 @@
 //! Writers: each appends the one spelling of what it is given.
 ghost use Rattle.std.specs.Prelude.{◌≡◌, ◌<◌, ◌^◌, ◌++◌, ◌∷◌, [], ℕ, List, length, OnOk};
 ghost use Rattle.std.specs.List.{flat_map, AllByRecursion};
-ghost use Rattle.bayou_lang.specs.Ranges.{IsAlt, IsCond, IsI64, IsKey, IsOp, IsProgram, IsTerm, IsText, IsValue, IsWrite};
+ghost use Rattle.bayou_lang.specs.Ranges.{IsAlt, IsCond, IsI64, IsKey, IsOp, IsPrefix, IsProgram, IsTerm, IsText, IsValue, IsWrite};
 ghost use Rattle.bayou_wire.specs.Spelling.{accepted_bytes, alt_bytes, cond_bytes, i64_bytes, list_bytes, op_bytes, optional_value_bytes, optional_wid_bytes, payload_bytes, program_bytes, refusal_bytes, short_bytes, tag_bytes, term_bytes, u32_bytes, value_bytes, vector_bytes, wid_bytes, write_bytes, IsFrame, IsRefusal, IsTag};
 ghost use Rattle.bayou_base.specs.Vector.{AreCounts};
 ghost use Rattle.std.specs.Option.{IfSome};
 
 use crate::frame::{Frame, Refusal};
 use crate::layout::*;
-use bayou_base::{Key, Stamp, Tag, Text, Value, Vector, Wid};
+use bayou_base::{Key, Prefix, Stamp, Tag, Text, Value, Vector, Wid};
 use bayou_lang::{Alt, Cond, Op, Program, RestingAlt, RestingProgram, RestingWrite, Term, Write};
 use std::alloc::AllocError;
 
@@ -59,6 +59,12 @@ fn put_key(out: &mut Vec<u8>, key: &Key) -> Result<(), AllocError>
     ensures { OnOk result (IsKey key.now × (out.new.items ≡ out.old.items ++ short_bytes key.now)) }
 {
     put_short(out, key.as_str().as_bytes())
+}
+
+fn put_prefix(out: &mut Vec<u8>, prefix: &Prefix) -> Result<(), AllocError>
+    ensures { OnOk result (IsPrefix prefix.now × (out.new.items ≡ out.old.items ++ short_bytes prefix.now)) }
+{
+    put_short(out, prefix.as_str().as_bytes())
 }
 
 fn put_text(out: &mut Vec<u8>, text: &Text) -> Result<(), AllocError>
@@ -142,6 +148,11 @@ impl Spelled for Cond {
                 out.push(COND_AT_LEAST)?;
                 put_key(out, key)?;
                 put_i64(out, *number)
+            }
+            Cond::AtMost(prefix, most) => {
+                out.push(COND_AT_MOST)?;
+                put_prefix(out, prefix)?;
+                put_u32(out, *most)
             }
         }
     }

@@ -1,22 +1,23 @@
 //! Records: what a server keeps of a Write in its journal.
-ghost use Rattle.std.specs.Prelude.{◌≡◌, ◌+◌, ◌<◌, ◌≤◌, ◌++◌, IfOk, MatchOption, OnOk, length};
+ghost use Rattle.std.specs.Prelude.{◌≡◌, ◌+◌, ◌<◌, ◌≤◌, ◌++◌, ◌↔◌, IfOk, IsTrue, MatchOption, OnOk, length};
+ghost use Rattle.std.specs.List.{list_all};
 ghost use Rattle.std.specs.Option.{IfSome};
-ghost use Rattle.bayou_base.specs.declared.limits.TheConstants.{MAX_WRITE_BYTES};
+ghost use Rattle.bayou_base.specs.declared.limits.TheConstants.{MAX_WRITE_BYTES, OLD_SERVERS};
 ghost use Rattle.bayou_lang.specs.declared.write.Write.{Write as Written};
 ghost use Rattle.bayou_wire.specs.declared.layout.TheConstants.{TAG_BYTES};
-ghost use Rattle.bayou_wire.specs.declared.record.Form.TheVariants.{Tagged, Wide};
+ghost use Rattle.bayou_wire.specs.declared.record.Form.TheVariants.{Wide};
 ghost use Rattle.bayou_wire.specs.declared.record.Record.{Record as Recorded};
 ghost use Rattle.bayou_wire.specs.Inner.Reading.{Gives, SpellsIn, head_at, tagged_head_at};
-ghost use Rattle.bayou_wire.specs.Records.{SpellsOld, SpellsRecord, record_head, widened as widened_bytes};
+ghost use Rattle.bayou_wire.specs.Records.{SpellsOld, SpellsRecord, is_old_cond, is_old_program as has_old_conditions, record_head, widened as widened_bytes};
 ghost use Rattle.bayou_wire.specs.Spelling.{IsTag, SpellsWrite};
 
 use crate::encode::USUAL_BYTES;
-use crate::layout::{OLD_HEAD_BYTES, OLD_LACKED_BYTES, OLD_SERVERS, RECORD_OTHERS, RECORD_OWN};
+use crate::layout::{OLD_HEAD_BYTES, OLD_LACKED_BYTES, RECORD_OTHERS, RECORD_OWN};
 use crate::put::{put_resting_write, put_tag};
 use crate::resting::resting_write_of;
 use crate::take::tag_of;
-use bayou_base::Tag;
-use bayou_lang::RestingWrite;
+use bayou_base::{OLD_SERVERS, Tag};
+use bayou_lang::{Cond, RestingAlt, RestingProgram, RestingWrite};
 use std::alloc::{AllocError, Global};
 
 /// A Write that a server keeps, and the tag of its asking: that of a Write of the server's own, if it has one.
@@ -26,14 +27,14 @@ pub struct Record {
     pub tag: Option<Tag>,
 }
 
-/// How records are spelled.
+/// How records are spelled. In the first two forms a vector has [`OLD_SERVERS`] counts and no condition counts keys.
 #[derive(Clone, Copy, Debug, PartialEq, Eq)]
 pub enum Form {
-    /// The Write alone, which has no tag. Its vector has [`OLD_SERVERS`] counts.
+    /// The Write alone, which has no tag.
     Plain,
-    /// Whether there is a tag, the tag, and the Write. Its vector has [`OLD_SERVERS`] counts.
+    /// Whether there is a tag, the tag, and the Write.
     Tagged,
-    /// As [`Form::Tagged`], with all counts of the vector.
+    /// As [`Form::Tagged`], with all counts of the vector and all conditions.
     Wide,
 }
 
@@ -60,8 +61,6 @@ pub fn encode_record(
     write: &RestingWrite,
 ) -> Result<Vec<u8>, AllocError>
     ensures spelling { IfOk result (λ bytes. SpellsRecord Wide bytes.items (record { write = write.now; tag = tag })) }
-    // And in the form of before, while there are as many servers.
-    ensures tagged { IfOk result (λ bytes. SpellsRecord Tagged bytes.items (record { write = write.now; tag = tag })) }
     ensures size { IfOk result (λ bytes. (0 < length bytes.items) × (length bytes.items ≤ 1 + TAG_BYTES + MAX_WRITE_BYTES)) }
 {
     let mut bytes = Vec::with_capacity(alloc, USUAL_BYTES)?;
@@ -119,7 +118,46 @@ fn widened(alloc: Global, bytes: &[u8]) -> Result<Vec<u8>, AllocError>
     Ok(wide)
 }
 
-// The Write that the bytes spell with the old counts, all of them, if there is one. The bytes are copied, since counts are put in.
+// Whether the first two forms know the condition.
+fn is_old_condition(condition: &Cond) -> bool
+    ensures { result ≡ is_old_cond condition.now }
+{
+    match condition {
+        Cond::Equals(_, _) | Cond::Absent(_) | Cond::AtLeast(_, _) => true,
+        Cond::AtMost(_, _) => false,
+    }
+}
+
+fn are_old_conditions(conditions: &[Cond]) -> bool
+    ensures { result ≡ list_all is_old_cond conditions.now }
+{
+    conditions.iter().all(is_old_condition)
+}
+
+fn are_old_alternatives(alternatives: &[RestingAlt]) -> bool
+    ensures { result ≡ list_all (λ alt. list_all is_old_cond alt.when.items) alternatives.now }
+{
+    alternatives
+        .iter()
+        .all(|alt| are_old_conditions(alt.when()))
+}
+
+// Whether they know each condition of the program.
+fn is_old_program(program: &RestingProgram) -> bool
+    ensures { result ≡ has_old_conditions program.now }
+{
+    are_old_conditions(program.check()) && are_old_alternatives(program.merge())
+}
+
+// Whether one of the old servers accepted the Write, and each of its conditions is an old one.
+fn is_old_write(write: &RestingWrite) -> bool
+    ensures { IsTrue result ↔ ((write.now.wid.origin.index < OLD_SERVERS) × IsTrue (has_old_conditions write.now.program)) }
+{
+    usize::from(write.wid().origin.index) < OLD_SERVERS && is_old_program(write.program())
+}
+
+// The Write that the bytes spell with the old counts and conditions, all of them, if there is one. The bytes are copied, since counts are put
+// in.
 fn old_write(alloc: Global, bytes: &[u8]) -> Result<Option<RestingWrite>, AllocError>
     ensures { IfOk result (λ given. MatchOption given ((write : Written) → ¬ (SpellsOld bytes.now write)) (λ write. SpellsOld bytes.now write)) }
 {
@@ -127,7 +165,7 @@ fn old_write(alloc: Global, bytes: &[u8]) -> Result<Option<RestingWrite>, AllocE
     let Some(write) = whole_write(alloc, &wide)? else {
         return Ok(None);
     };
-    if usize::from(write.wid().origin.index) < OLD_SERVERS {
+    if is_old_write(&write) {
         Ok(Some(write))
     } else {
         Ok(None)

@@ -3,12 +3,12 @@
 ghost use Rattle.std.specs.Prelude.{◌≡◌, ℕ, ◌≤◌, List, Option, length};
 ghost use Rattle.std.specs.Int.{w16, w32, w64};
 ghost use Rattle.bayou_base.specs.declared.limits.TheConstants.{SERVERS};
-ghost use Rattle.bayou_wire.specs.Inner.Reading.{Gives, accepted_at, alt_at, byte_at, cond_at, i64_at, key_at, list_at, number_at, op_at, program_at, accepted_of as accepted_of_parts, server_of as server_of_index, session_of as session_of_index, tag_of as tag_of_parts, tag_at, vector_of as vector_of_counts, wid_of as wid_of_parts, short_at, term_at, text_at, times, value_at, vector_at, wid_at, write_at};
+ghost use Rattle.bayou_wire.specs.Inner.Reading.{Gives, accepted_at, alt_at, byte_at, cond_at, i64_at, key_at, list_at, number_at, op_at, prefix_at, program_at, accepted_of as accepted_of_parts, server_of as server_of_index, session_of as session_of_index, tag_of as tag_of_parts, tag_at, vector_of as vector_of_counts, wid_of as wid_of_parts, short_at, term_at, text_at, times, value_at, vector_at, wid_at, write_at};
 
 use crate::layout::*;
 use arrayvec::ArrayVec;
 use bayou_base::{
-    Accepted, Key, SERVERS, ServerId, SessionId, Stamp, Tag, Text, Value, Vector, Wid,
+    Accepted, Key, Prefix, SERVERS, ServerId, SessionId, Stamp, Tag, Text, Value, Vector, Wid,
 };
 use bayou_lang::{Alt, Cond, Op, Program, Term, Write};
 
@@ -115,6 +115,22 @@ pub(crate) fn key_of(bytes: &[u8]) -> Option<(Key, &[u8])>
         return None;
     };
     Some((key, rest))
+}
+
+#[tactic(auto, unfolding(crate::specs::Inner::Reading::prefix_at))]
+fn prefix_of(bytes: &[u8]) -> Option<(Prefix, &[u8])>
+    ensures { Gives (λ x. (x.0, x.1.now)) result (prefix_at bytes.now) }
+{
+    let Some((text, rest)) = short_of(bytes) else {
+        return None;
+    };
+    let Ok(text) = str::from_utf8(text) else {
+        return None;
+    };
+    let Ok(prefix) = Prefix::new(text) else {
+        return None;
+    };
+    Some((prefix, rest))
 }
 
 #[tactic(auto, unfolding(crate::specs::Inner::Reading::text_at))]
@@ -239,6 +255,15 @@ impl Member for Cond {
                     return None;
                 };
                 Some((Cond::AtLeast(key, number), rest))
+            }
+            [COND_AT_MOST, rest @ ..] => {
+                let Some((prefix, rest)) = prefix_of(rest) else {
+                    return None;
+                };
+                let Some((most, rest)) = u32_of(rest) else {
+                    return None;
+                };
+                Some((Cond::AtMost(prefix, most), rest))
             }
             _ => None,
         }

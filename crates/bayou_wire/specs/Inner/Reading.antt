@@ -4,7 +4,7 @@ use Rattle.std.specs.List.{AllByRecursion, list_all}
 use Rattle.std.specs.Prelude.{refl, ◌≡◌, ℕ, zero, suc, ◌<◌, ◌≤◌, ℤ, Bool, true, false, List, [], ◌∷◌, ◌++◌, Option, None, Some, Result, Ok, Err, option_and_then, length, take, drop, nat_lt, nat_le, ◌==◌, is_none, ◌||◌, if◌then◌else◌}
 use Rattle.std.specs.Int.{Width, w32, w64, byte_len, from_be_bytes, cast_signed}
 use Rattle.std.specs.Str.{is_utf8}
-use Rattle.bayou_base.specs.Key.{key_fault}
+use Rattle.bayou_base.specs.Key.{key_fault, prefix_fault}
 use Rattle.bayou_base.specs.declared.limits.TheConstants.{MAX_TEXT_BYTES, MAX_CONDITIONS, MAX_OPS, MAX_ALTERNATIVES, SERVERS, SESSIONS, MAX_WRITES}
 use Rattle.bayou_base.specs.declared.value.Value.{Value}
 use Rattle.bayou_base.specs.declared.value.Value.TheVariants.{Num, Text}
@@ -16,7 +16,7 @@ use Rattle.bayou_base.specs.declared.tag.Tag.{Tag}
 use Rattle.bayou_base.specs.declared.wid.Wid.{Wid}
 use Rattle.bayou_lang.specs.declared.program.Alt.{Alt}
 use Rattle.bayou_lang.specs.declared.program.Cond.{Cond}
-use Rattle.bayou_lang.specs.declared.program.Cond.TheVariants.{Equals, Absent, AtLeast}
+use Rattle.bayou_lang.specs.declared.program.Cond.TheVariants.{Equals, Absent, AtLeast, AtMost}
 use Rattle.bayou_lang.specs.declared.program.Op.{Op}
 use Rattle.bayou_lang.specs.declared.program.Op.TheVariants.{Put, Del}
 use Rattle.bayou_lang.specs.declared.program.Program.{Program}
@@ -89,6 +89,9 @@ short_at (len ∷ bytes) = if nat_lt (length bytes) len then None else Some (tak
 unfoldable pub key_at : List ℕ → Read (List ℕ)
 key_at bytes = short_at bytes >>= λ key. if is_none (key_fault key.0) then Some key else None
 
+unfoldable pub prefix_at : List ℕ → Read (List ℕ)
+prefix_at bytes = short_at bytes >>= λ prefix. if is_none (prefix_fault prefix.0) then Some prefix else None
+
 unfoldable pub text_at : List ℕ → Read (List ℕ)
 text_at bytes = short_at bytes >>= λ text. if is_utf8 text.0 then (if nat_le (length text.0) MAX_TEXT_BYTES then Some text else None) else None
 
@@ -116,7 +119,8 @@ cond_at [] = None
 cond_at (tag ∷ bytes) =
     if tag == layout.COND_EQUALS then made (λ p. Equals p.0 p.1) (both key_at value_at) bytes
     else (if tag == layout.COND_ABSENT then made Absent key_at bytes
-    else (if tag == layout.COND_AT_LEAST then made (λ p. AtLeast p.0 p.1) (both key_at i64_at) bytes else None))
+    else (if tag == layout.COND_AT_LEAST then made (λ p. AtLeast p.0 p.1) (both key_at i64_at) bytes
+    else (if tag == layout.COND_AT_MOST then made (λ p. AtMost p.0 p.1) (both prefix_at (number_at w32)) bytes else None)))
 
 -- the number of members, and the members
 unfoldable pub list_at : {T : Type 0} → ℕ → (List ℕ → Read T) → List ℕ → Read (List T)

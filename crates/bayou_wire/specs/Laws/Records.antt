@@ -1,16 +1,16 @@
 -- Laws of records in their spelling.
 use Rattle.std.proofs.Common.{◌≡◌, ℕ, ◌+◌, ◌<◌, ◌≤◌, cond, List, [], ◌∷◌, ◌++◌, length, length-append, take, drop, replicate, take-append-drop, Option, None, Some, Result, Ok, refl, sym, ap, subst, ◌∙◌, arith}
-use Rattle.std.specs.Prelude.{◌==◌, IfSome}
+use Rattle.std.specs.Prelude.{◌==◌, IfSome, IsTrue}
 use Rattle.std.proofs.Math.Seq.{drop-append_seam}
 use Rattle.std.proofs.lemmas.Option.{none-some, same_Some}
 use Rattle.std.proofs.lemmas.List.{length-replicate, length-take-le, take_at}
-use Rattle.bayou_base.specs.declared.limits.TheConstants.{MAX_WRITE_BYTES}
+use Rattle.bayou_base.specs.declared.limits.TheConstants.{MAX_WRITE_BYTES, OLD_SERVERS}
 use Rattle.bayou_base.specs.declared.tag.Tag.{Tag}
 use Rattle.bayou_lang.specs.Ranges.{IsWrite}
 use Rattle.bayou_lang.specs.declared.write.Write.{Write}
 use Rattle.bayou_wire.specs.declared.fault.DecodeFault.{DecodeFault}
 use Rattle.bayou_wire.specs.declared.layout.TheConstants as layout
-use Rattle.bayou_wire.specs.declared.layout.TheConstants.{OLD_HEAD_BYTES, OLD_LACKED_BYTES, OLD_SERVERS, TAG_BYTES}
+use Rattle.bayou_wire.specs.declared.layout.TheConstants.{OLD_HEAD_BYTES, OLD_LACKED_BYTES, TAG_BYTES}
 use Rattle.bayou_wire.specs.declared.record.Form.{Form}
 use Rattle.bayou_wire.specs.declared.record.Form.TheVariants.{Plain, Tagged, Wide}
 use Rattle.bayou_wire.specs.declared.record.Record.{Record}
@@ -19,7 +19,7 @@ use Rattle.bayou_wire.specs.Laws.Inner.Formats.{IsBytes, IsFormat, case_takes, m
 use Rattle.bayou_wire.specs.Laws.Inner.Fronts.{one_write_answer}
 use Rattle.bayou_wire.specs.Laws.Inner.Payloads.{bare_takes, link}
 use Rattle.bayou_wire.specs.Laws.Inner.Sizes.{written_size, write_size_least}
-use Rattle.bayou_wire.specs.Records.{SpellsOld, SpellsRecord, record_head, widened}
+use Rattle.bayou_wire.specs.Records.{SpellsOld, SpellsRecord, is_old_program, record_head, widened}
 use Rattle.bayou_wire.specs.Spelling.{IsTag, SpellsWrite}
 
 -- ---- what stands before the Write
@@ -45,6 +45,13 @@ tagged_head_format = record { takes = takes; again = again }
     again (Some tag) rest is = made_again (λ tag. Some tag) tag_format tag rest is
 
 -- ---- Writes of the first two forms
+
+one_write : (bytes : List ℕ) (a b : Write) → SpellsWrite bytes a → SpellsWrite bytes b → a ≡ b
+one_write bytes a b is other =
+    let one : Result Write DecodeFault = Ok a in
+    let two : Result Write DecodeFault = Ok b in
+    let same : one ≡ two = one_write_answer bytes one two is other in
+    cc
 
 -- the bytes of a widened one are those that it has, and those that it lacks
 length-widened : (bytes : List ℕ) → length (widened bytes) ≡ OLD_LACKED_BYTES + length bytes
@@ -94,12 +101,12 @@ old_once : (a b : List ℕ) (write : Write) → SpellsOld a write → SpellsOld 
 old_once a b write is other =
     widened_once a b (omega (arith, old_size a write is)) (omega (arith, old_size b write other)) (is.wide.spelled ∙ sym other.wide.spelled)
 
--- while there are as many servers as there were, nothing is put in
-pub spells_old : (bytes : List ℕ) (write : Write) → SpellsWrite bytes write → SpellsOld bytes write
-spells_old bytes write spells = record {
-  wide = subst (λ b. SpellsWrite b write) (sym (take-append-drop OLD_HEAD_BYTES bytes)) spells;
-  origin = write.wid.origin.in_range;
-}
+-- where the Write that is read isn't one of the first two forms, none is
+pub no_old_write : (bytes : List ℕ) (write : Write) → SpellsWrite (widened bytes) write
+    → ¬ ((write.wid.origin.index < OLD_SERVERS) × IsTrue (is_old_program write.program)) → (other : Write) → SpellsOld bytes other → ⊥
+no_old_write bytes write spells not_old other old =
+    not_old (subst (λ (w : Write). (w.wid.origin.index < OLD_SERVERS) × IsTrue (is_old_program w.program)) (one_write (widened bytes) other write old.wide spells)
+    (old.origin, old.conditions))
 
 -- ---- records
 
@@ -136,13 +143,6 @@ no_write form bytes rest tag head none given spells =
     let read = read_of form bytes given spells in
     let same : (tag, rest) ≡ (given.tag, read.0) = same_Some (tag, rest) (given.tag, read.0) (sym head ∙ read.1) in
     none given.write (subst (λ front. SpellsIn form front given.write) (sym (ap (λ (p : Option Tag × List ℕ). p.1) same)) read.2)
-
-one_write : (bytes : List ℕ) (a b : Write) → SpellsWrite bytes a → SpellsWrite bytes b → a ≡ b
-one_write bytes a b is other =
-    let one : Result Write DecodeFault = Ok a in
-    let two : Result Write DecodeFault = Ok b in
-    let same : one ≡ two = one_write_answer bytes one two is other in
-    cc
 
 one_write_in : (form : Form) (bytes : List ℕ) (a b : Write) → SpellsIn form bytes a → SpellsIn form bytes b → a ≡ b
 one_write_in Plain bytes a b is other = one_write (widened bytes) a b is.wide other.wide
@@ -183,14 +183,6 @@ pub record_is : (form : Form) (bytes : List ℕ) (given : Record) → SpellsReco
 record_is Plain bytes given spells = spells.1.wide.is
 record_is Tagged bytes given spells = spells.1.2.wide.is
 record_is Wide bytes given spells = spells.1.2.is
-
--- while there are as many servers as there were, a Write is a plain record
-pub plain_record : (bytes : List ℕ) (write : Write) → SpellsWrite bytes write → SpellsRecord Plain bytes (record { write = write; tag = None })
-plain_record bytes write spells = (refl, spells_old bytes write spells)
-
--- and a wide record is a tagged one
-pub tagged_record : (bytes : List ℕ) (given : Record) → SpellsRecord Wide bytes given → SpellsRecord Tagged bytes given
-tagged_record bytes given spells = (spells.0, (spells.1.0, spells.1.1, spells_old spells.1.0 given.write spells.1.2))
 
 -- a record has one spelling in a form
 pub one_spelling : (form : Form) (a b : List ℕ) (given : Record) → SpellsRecord form a given → SpellsRecord form b given → a ≡ b

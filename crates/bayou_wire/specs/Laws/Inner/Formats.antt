@@ -12,7 +12,7 @@ use Rattle.std.proofs.lemmas.List.Sums.{AllPass-from_list_all, list_all-from_All
 use Rattle.std.proofs.lemmas.Nat.{be_bytes_4, be_bytes_8, from_be_bytes-to_be_bytes_4, from_be_bytes-to_be_bytes_8}
 use Rattle.std.proofs.lemmas.Option.{none-some, same_Some, option_and_then_some}
 use Rattle.std.proofs.lemmas.Str.{IsUtf8-from_is_utf8, is_utf8-from_IsUtf8}
-use Rattle.bayou_base.specs.Key.{key_fault}
+use Rattle.bayou_base.specs.Key.{key_fault, prefix_fault}
 use Rattle.bayou_base.specs.Vector.{AreCounts}
 use Rattle.bayou_base.specs.declared.answer.Accepted.{Accepted}
 use Rattle.bayou_base.specs.declared.key.KeyFault.{KeyFault}
@@ -23,7 +23,7 @@ use Rattle.bayou_base.specs.declared.value.Value.TheVariants.{Num, Text}
 use Rattle.bayou_base.specs.declared.wid.Wid.{Wid}
 use Rattle.bayou_lang.specs.declared.program.Alt.{Alt}
 use Rattle.bayou_lang.specs.declared.program.Cond.{Cond}
-use Rattle.bayou_lang.specs.declared.program.Cond.TheVariants.{Equals, Absent, AtLeast}
+use Rattle.bayou_lang.specs.declared.program.Cond.TheVariants.{Equals, Absent, AtLeast, AtMost}
 use Rattle.bayou_lang.specs.declared.program.Op.{Op}
 use Rattle.bayou_lang.specs.declared.program.Op.TheVariants.{Put, Del}
 use Rattle.bayou_lang.specs.declared.program.Program.{Program}
@@ -31,10 +31,10 @@ use Rattle.bayou_lang.specs.declared.program.Term.{Term}
 use Rattle.bayou_lang.specs.declared.program.Term.TheVariants.{Lit, Copy, Plus}
 use Rattle.bayou_lang.specs.declared.write.Write.{Write}
 use Rattle.bayou_wire.specs.declared.layout.TheConstants as layout
-use Rattle.bayou_lang.specs.Ranges.{IsKey, IsText, IsI64, IsValue, IsTerm, IsOp, IsCond, AreAtMost, IsAlt, IsProgram, IsWrite}
+use Rattle.bayou_lang.specs.Ranges.{IsKey, IsPrefix, IsText, IsI64, IsValue, IsTerm, IsOp, IsCond, AreAtMost, IsAlt, IsProgram, IsWrite}
 use Rattle.bayou_wire.specs.Laws.Inner.Vectors.{vector_bytes-is}
 use Rattle.bayou_wire.specs.Spelling.{u32_bytes, i64_bytes, short_bytes, value_bytes, term_bytes, op_bytes, cond_bytes, list_bytes, alt_bytes, program_bytes, vector_bytes, wid_bytes, tag_bytes, accepted_bytes, write_bytes, IsTag}
-use Rattle.bayou_wire.specs.Inner.Reading.{Read, ◌>>=◌, both, made, times, byte_at, number_at, i64_at, short_at, key_at, text_at, value_at, term_at, op_at, cond_at, list_at, alt_at, program_at, vector_of, vector_at, server_of, wid_of, wid_at, session_of, tag_of, tag_at, accepted_of, accepted_at, write_at}
+use Rattle.bayou_wire.specs.Inner.Reading.{Read, ◌>>=◌, both, made, times, byte_at, number_at, i64_at, short_at, key_at, prefix_at, text_at, value_at, term_at, op_at, cond_at, list_at, alt_at, program_at, vector_of, vector_at, server_of, wid_of, wid_at, session_of, tag_of, tag_at, accepted_of, accepted_at, write_at}
 use Rattle.bayou_wire.specs.Laws.Inner.Readers.{server_of-is, wid_of-is, accepted_of-is, server_of-from, wid_of-from, session_of-is, session_of-from, tag_of-is, tag_of-from, accepted_of-from}
 
 abbrev pub IsBytes : List ℕ → Type 0
@@ -233,20 +233,32 @@ is_none-true : (fault : Option KeyFault) → is_none fault ≡ true → fault �
 is_none-true None e = refl
 is_none-true (Some f) e = absurd cc
 
-pub key_format : IsFormat IsKey short_bytes key_at
-unfolding key_at
-key_format = record { takes = takes; again = again }
+-- what has no fault, and is read where it has none
+faultless_format : (fault : List ℕ → Option KeyFault)
+    → IsFormat (λ text. fault text ≡ None) short_bytes (λ bytes. short_at bytes >>= λ text. cond (is_none (fault text.0)) (Some text) None)
+faultless_format fault = record { takes = takes; again = again }
   where
-    takes : (bytes : List ℕ) (x : List ℕ × List ℕ) → IsBytes bytes → key_at bytes ≡ Some x → IsKey x.0 × (bytes ≡ short_bytes x.0 ++ x.1)
+    at : List ℕ → Read (List ℕ)
+    at bytes = short_at bytes >>= λ text. cond (is_none (fault text.0)) (Some text) None
+
+    takes : (bytes : List ℕ) (x : List ℕ × List ℕ) → IsBytes bytes → at bytes ≡ Some x → (fault x.0 ≡ None) × (bytes ≡ short_bytes x.0 ++ x.1)
     takes bytes x fits e =
-        option_and_then_some (λ (key : List ℕ × List ℕ). cond (is_none (key_fault key.0)) (Some key) None) (short_at bytes) x e (λ key one same.
-        elim (chosen (is_none (key_fault key.0)) (Some key) None (Some x) same) [
-          | inl h ↦ subst (λ (v : List ℕ × List ℕ). IsKey v.0 × (bytes ≡ short_bytes v.0 ++ v.1)) (same_Some key x h.1) (is_none-true (key_fault key.0) h.0, short_takes bytes key one)
+        option_and_then_some (λ (text : List ℕ × List ℕ). cond (is_none (fault text.0)) (Some text) None) (short_at bytes) x e (λ text one same.
+        elim (chosen (is_none (fault text.0)) (Some text) None (Some x) same) [
+          | inl h ↦ subst (λ (v : List ℕ × List ℕ). (fault v.0 ≡ None) × (bytes ≡ short_bytes v.0 ++ v.1)) (same_Some text x h.1) (is_none-true (fault text.0) h.0, short_takes bytes text one)
           | inr h ↦ absurd (none-some x h.1)
         ])
 
-    again : (key rest : List ℕ) → IsKey key → key_at (short_bytes key ++ rest) ≡ Some (key, rest)
-    again key rest is = rw (short_again key rest, is) refl
+    again : (text rest : List ℕ) → fault text ≡ None → at (short_bytes text ++ rest) ≡ Some (text, rest)
+    again text rest is = rw (short_again text rest, is) refl
+
+pub key_format : IsFormat IsKey short_bytes key_at
+unfolding key_at
+key_format = record { takes = (faultless_format key_fault).takes; again = (faultless_format key_fault).again }
+
+pub prefix_format : IsFormat IsPrefix short_bytes prefix_at
+unfolding prefix_at
+prefix_format = record { takes = (faultless_format prefix_fault).takes; again = (faultless_format prefix_fault).again }
 
 text_test : List ℕ × List ℕ → Option (List ℕ × List ℕ)
 text_test text = cond (nat_le (length text.0) MAX_TEXT_BYTES) (Some text) None
@@ -354,18 +366,25 @@ cond_format = record { takes = takes; again = again }
     least : IsFormat (λ (p : List ℕ × ℤ). IsKey p.0 × IsI64 p.1) (λ p. short_bytes p.0 ++ i64_bytes p.1) (both key_at i64_at)
     least = both_format key_format i64_format
 
+    most : IsFormat (λ (p : List ℕ × ℕ). IsPrefix p.0 × (p.1 < 2 ^ 32)) (λ p. short_bytes p.0 ++ u32_bytes p.1) (both prefix_at (number_at w32))
+    most = both_format prefix_format u32_format
+
     takes : (bytes : List ℕ) (x : Cond × List ℕ) → IsBytes bytes → cond_at bytes ≡ Some x → IsCond x.0 × (bytes ≡ cond_bytes x.0 ++ x.1)
     takes [] x fits e = absurd (none-some x e)
     takes (tag ∷ bytes) x fits e =
-        let third : Read Cond = cond (tag == layout.COND_AT_LEAST) (made (λ p. AtLeast p.0 p.1) (both key_at i64_at) bytes) None in
+        let fourth : Read Cond = cond (tag == layout.COND_AT_MOST) (made (λ p. AtMost p.0 p.1) (both prefix_at (number_at w32)) bytes) None in
+        let third : Read Cond = cond (tag == layout.COND_AT_LEAST) (made (λ p. AtLeast p.0 p.1) (both key_at i64_at) bytes) fourth in
         let second : Read Cond = cond (tag == layout.COND_ABSENT) (made Absent key_at bytes) third in
         elim (chosen (tag == layout.COND_EQUALS) (made (λ p. Equals p.0 p.1) (both key_at value_at) bytes) second (Some x) e) [
           | inl h ↦ case_takes IsCond cond_bytes layout.COND_EQUALS (λ p. Equals p.0 p.1) equals (λ y is. is) (λ y. refl) tag bytes x fits h.0 h.1
           | inr h ↦ elim (chosen (tag == layout.COND_ABSENT) (made Absent key_at bytes) third (Some x) h.1) [
             | inl absent ↦ case_takes IsCond cond_bytes layout.COND_ABSENT Absent key_format (λ y is. is) (λ y. refl) tag bytes x fits absent.0 absent.1
-            | inr k ↦ elim (chosen (tag == layout.COND_AT_LEAST) (made (λ p. AtLeast p.0 p.1) (both key_at i64_at) bytes) None (Some x) k.1) [
+            | inr k ↦ elim (chosen (tag == layout.COND_AT_LEAST) (made (λ p. AtLeast p.0 p.1) (both key_at i64_at) bytes) fourth (Some x) k.1) [
               | inl more ↦ case_takes IsCond cond_bytes layout.COND_AT_LEAST (λ p. AtLeast p.0 p.1) least (λ y is. is) (λ y. refl) tag bytes x fits more.0 more.1
-              | inr other ↦ absurd (none-some x other.1)
+              | inr l ↦ elim (chosen (tag == layout.COND_AT_MOST) (made (λ p. AtMost p.0 p.1) (both prefix_at (number_at w32)) bytes) None (Some x) l.1) [
+                | inl few ↦ case_takes IsCond cond_bytes layout.COND_AT_MOST (λ p. AtMost p.0 p.1) most (λ y is. is) (λ y. refl) tag bytes x fits few.0 few.1
+                | inr other ↦ absurd (none-some x other.1)
+              ]
             ]
           ]
         ]
@@ -374,6 +393,7 @@ cond_format = record { takes = takes; again = again }
     again (Equals key value) rest is = made_again (λ p. Equals p.0 p.1) equals (key, value) rest is
     again (Absent key) rest is = made_again Absent key_format key rest is
     again (AtLeast key number) rest is = made_again (λ p. AtLeast p.0 p.1) least (key, number) rest is
+    again (AtMost prefix number) rest is = made_again (λ p. AtMost p.0 p.1) most (prefix, number) rest is
 
 -- ---- lists
 

@@ -1,17 +1,17 @@
 -- What stands at the front of bytes, as the readers find it.
 use Rattle.std.proofs.Common.{◌≡◌, ℕ, zero, suc, ◌-◌, ◌+◌, ◌<◌, ◌≤◌, Bool, true, false, cond, List, [], ◌∷◌, ◌++◌, length, get_or, All, Option, None, Some, refl, sym, ap, subst, ◌∙◌, append_assoc, arith, inl, inr}
-use Rattle.std.specs.Prelude.{◌↔◌, is_none, nat_le, nat_lt, not, position, IsSome, IfSome, IsUtf8}
+use Rattle.std.specs.Prelude.{◌==◌, ◌↔◌, is_none, nat_le, nat_lt, not, position, IsSome, IfSome, IsUtf8}
 use Rattle.std.specs.Coded.{×_prop, le_prop}
 use Rattle.std.specs.List.{list_all, prefix_len}
 use Rattle.std.specs.Str.{IsAscii, is_utf8}
 use Rattle.std.proofs.Math.Nat.{ℕ_set}
-use Rattle.std.proofs.lemmas.Bool.{cases_lt, lt-ltb, ltb-true, ltb-false, leb-true, leb-false, le-leb}
+use Rattle.std.proofs.lemmas.Bool.{cases_lt, eqb-true, lt-ltb, ltb-true, ltb-false, leb-true, leb-false, le-leb}
 use Rattle.std.proofs.lemmas.Bool.Decides.{nat_tests}
 use Rattle.std.proofs.lemmas.List.{append-nil, get_or_past}
 use Rattle.std.proofs.lemmas.List.Sums.{prefix_len_passes, AllPass-from_list_all, list_all-from_AllPass}
 use Rattle.std.proofs.lemmas.Option.{none-some, same_Some, some_pair_parts, option_and_then_some}
 use Rattle.std.proofs.lemmas.Str.{IsUtf8-from_ascii, IsUtf8-from_is_utf8, is_utf8-from_IsUtf8}
-use Rattle.bayou_base.specs.Key.{key_fault, is_key_byte}
+use Rattle.bayou_base.specs.Key.{key_fault, prefix_fault, is_key_byte}
 use Rattle.bayou_base.specs.Text.{IsShort}
 use Rattle.bayou_base.specs.declared.answer.Accepted.{Accepted}
 use Rattle.bayou_base.specs.declared.limits.TheConstants.{MAX_TEXT_BYTES, MAX_WRITES, SERVERS, SESSIONS}
@@ -23,7 +23,7 @@ use Rattle.bayou_base.specs.declared.wid.Wid.{Wid}
 use Rattle.bayou_lang.specs.declared.program.Program.{Program}
 use Rattle.bayou_lang.specs.declared.write.Write.{Write}
 use Rattle.bayou_lang.specs.Laws.Equality.{server-ext, session-ext, stamp-ext}
-use Rattle.bayou_wire.specs.Inner.Reading.{Read, ◌>>=◌, short_at, key_at, text_at, times, server_if, server_of, placed_if, placed, wid_of, session_if, session_of, counted_if, counted, tag_of, accepted_of, vector_of, accepted_at, program_at, write_at}
+use Rattle.bayou_wire.specs.Inner.Reading.{Read, ◌>>=◌, short_at, key_at, prefix_at, text_at, times, server_if, server_of, placed_if, placed, wid_of, session_if, session_of, counted_if, counted, tag_of, accepted_of, vector_of, accepted_at, program_at, write_at}
 
 -- ---- keys and texts
 
@@ -44,6 +44,16 @@ key_is_ascii key fault i =
       | inr le ↦ rw (get_or_past key i 0 le) (omega arith)
     ]
 
+empty_is_ascii : (text : List ℕ) → length text ≡ 0 → IsAscii text
+empty_is_ascii text none i = rw (get_or_past text i 0 (omega (arith, none))) (omega arith)
+
+prefix_is_ascii : (prefix : List ℕ) → prefix_fault prefix ≡ None → IsAscii prefix
+prefix_is_ascii prefix fault =
+    elim (length prefix == 0) as (λ empty. (length prefix == 0) ≡ empty → cond empty None (key_fault prefix) ≡ None → IsAscii prefix) [
+      | true ↦ λ empty _. empty_is_ascii prefix (eqb-true (length prefix) 0 empty)
+      | false ↦ λ _ fault. key_is_ascii prefix fault
+    ] refl fault
+
 abbrev chosen : Bool → List ℕ → List ℕ → Read (List ℕ)
 chosen test front rest = cond test (Some (front, rest)) None
 
@@ -52,6 +62,14 @@ unfolding key_at
 key_at-not_utf8 bytes name rest read broken =
     rw read (elim (key_fault name) as (λ f. key_fault name ≡ f → chosen (is_none f) name rest ≡ None) [
       | None ↦ λ fault. absurd (broken (IsUtf8-from_ascii name (key_is_ascii name fault)))
+      | Some f ↦ λ _. refl
+    ] refl)
+
+pub prefix_at-not_utf8 : (bytes text rest : List ℕ) → short_at bytes ≡ Some (text, rest) → ¬ (IsUtf8 text) → prefix_at bytes ≡ None
+unfolding prefix_at
+prefix_at-not_utf8 bytes text rest read broken =
+    rw read (elim (prefix_fault text) as (λ f. prefix_fault text ≡ f → chosen (is_none f) text rest ≡ None) [
+      | None ↦ λ fault. absurd (broken (IsUtf8-from_ascii text (prefix_is_ascii text fault)))
       | Some f ↦ λ _. refl
     ] refl)
 

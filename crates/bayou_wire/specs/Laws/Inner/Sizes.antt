@@ -13,7 +13,7 @@ use Rattle.bayou_base.specs.declared.value.Value.TheVariants.{Num, Text}
 use Rattle.bayou_base.specs.declared.wid.Wid.{Wid}
 use Rattle.bayou_lang.specs.declared.program.Alt.{Alt}
 use Rattle.bayou_lang.specs.declared.program.Cond.{Cond}
-use Rattle.bayou_lang.specs.declared.program.Cond.TheVariants.{Equals, Absent, AtLeast}
+use Rattle.bayou_lang.specs.declared.program.Cond.TheVariants.{Equals, Absent, AtLeast, AtMost}
 use Rattle.bayou_lang.specs.declared.program.Op.{Op}
 use Rattle.bayou_lang.specs.declared.program.Op.TheVariants.{Put, Del}
 use Rattle.bayou_lang.specs.declared.program.Program.{Program}
@@ -25,12 +25,15 @@ use Rattle.bayou_wire.specs.declared.frame.Frame.TheVariants as frames
 use Rattle.bayou_wire.specs.declared.frame.Refusal.{Refusal}
 use Rattle.bayou_wire.specs.declared.frame.Refusal.TheVariants as refusals
 use Rattle.bayou_wire.specs.declared.layout.TheConstants.{LENGTH_BYTES, TAG_BYTES}
-use Rattle.bayou_lang.specs.Ranges.{IsKey, IsValue, IsTerm, IsOp, IsCond, AreAtMost, IsAlt, IsProgram, IsWrite}
+use Rattle.bayou_lang.specs.Ranges.{IsKey, IsPrefix, IsValue, IsTerm, IsOp, IsCond, AreAtMost, IsAlt, IsProgram, IsWrite}
 use Rattle.bayou_wire.specs.Laws.Inner.Vectors.{length-vector_bytes}
-use Rattle.bayou_wire.specs.Spelling.{i64_bytes, short_bytes, value_bytes, term_bytes, op_bytes, cond_bytes, list_bytes, alt_bytes, program_bytes, vector_bytes, tag_bytes, accepted_bytes, write_bytes, optional_value_bytes, optional_wid_bytes, refusal_bytes, payload_bytes, IsRefusal, IsFrame, SpellsFrame}
+use Rattle.bayou_wire.specs.Spelling.{i64_bytes, u32_bytes, short_bytes, value_bytes, term_bytes, op_bytes, cond_bytes, list_bytes, alt_bytes, program_bytes, vector_bytes, tag_bytes, accepted_bytes, write_bytes, optional_value_bytes, optional_wid_bytes, refusal_bytes, payload_bytes, IsRefusal, IsFrame, SpellsFrame}
 
 pub key_is_short : (key : List ℕ) → IsKey key → length key ≤ MAX_KEY_BYTES
 key_is_short key is = grind (arith, nat_tests)
+
+pub prefix_is_short : (prefix : List ℕ) → IsPrefix prefix → length prefix ≤ MAX_KEY_BYTES
+prefix_is_short prefix is = grind (arith, nat_tests)
 
 length-i64_bytes : (number : ℤ) → length (i64_bytes number) ≡ 8
 unfolding i64_bytes
@@ -53,6 +56,7 @@ cond_size : (condition : Cond) → IsCond condition → length (cond_bytes condi
 cond_size (Equals key value) is = omega (arith, key_is_short key is.0, value_size value is.1, length-append key (value_bytes value))
 cond_size (Absent key) is = omega (arith, key_is_short key is)
 cond_size (AtLeast key number) is = omega (arith, key_is_short key is.0, length-append key (i64_bytes number), length-i64_bytes number)
+cond_size (AtMost prefix most) is = omega (arith, prefix_is_short prefix is.0, length-append prefix (u32_bytes most))
 
 members_size : {T : Type 0} (Is : T → Type 0) (spelling : T → List ℕ) (size : ℕ) → ((x : T) → Is x → length (spelling x) ≤ size)
     → (members : List T) → AllByRecursion Is members → length (flat_map spelling members) ≤ length members * size
@@ -122,7 +126,7 @@ optional_value_size : (value : Option Value) → IfSome value IsValue → length
 optional_value_size None is = omega arith
 optional_value_size (Some value) is = value_size value is
 
-refusal_size : (refusal : Refusal) → IsRefusal refusal → length (refusal_bytes refusal) ≤ 33
+refusal_size : (refusal : Refusal) → IsRefusal refusal → length (refusal_bytes refusal) ≤ SERVERS * 4 + 1
 refusal_size refusals.Down is = omega arith
 refusal_size (refusals.Behind vector) is = omega (arith, length-vector_bytes vector)
 refusal_size refusals.LogFull is = omega arith
