@@ -21,7 +21,7 @@ use Rattle.bayou_lang.specs.declared.program.Term.TheVariants.{Lit, Copy, Plus}
 use Rattle.bayou_lang.specs.declared.program.Op.{Op}
 use Rattle.bayou_lang.specs.declared.program.Op.TheVariants.{Put, Del}
 use Rattle.bayou_lang.specs.declared.program.Cond.{Cond}
-use Rattle.bayou_lang.specs.declared.program.Cond.TheVariants.{Equals, Absent, AtLeast}
+use Rattle.bayou_lang.specs.declared.program.Cond.TheVariants.{Equals, Absent, AtLeast, AtMost}
 use Rattle.bayou_lang.specs.declared.program.Alt.{Alt}
 use Rattle.bayou_lang.specs.declared.program.Program.{Program}
 use Rattle.bayou_lang.specs.declared.write.Write.{Write}
@@ -45,22 +45,25 @@ use Rattle.bayou_text_writer.proofs.Vectors.{vector_spelled}
 use Rattle.bayou_text.specs.Asks.{asks_in}
 use Rattle.bayou_text.specs.Lines.{line_in, servers_in, opening_in, writing_in, reading_in, session_alone_in, alone_in, fusing_in, losing_in, trial_of, bare_in, asked_of, pulling_in, resending_in, exchange_of, retry_of}
 use Rattle.bayou_text.specs.Numbers.{number_in, session_in, server_in, integer_in}
-use Rattle.bayou_text.specs.Parts.{named_in, keyed_in, term_in, op_in, cond_in}
+use Rattle.bayou_text.specs.Parts.{named_in, keyed_in, at_most_in, term_in, op_in, cond_in}
 use Rattle.bayou_text.specs.Programs.{few_in, alt_in, program_in}
-use Rattle.bayou_lang.specs.Ranges.{IsKey, IsValue, IsTerm, IsOp, IsCond, AreAtMost, IsAlt, IsProgram, IsWrite}
+use Rattle.bayou_lang.specs.Ranges.{IsKey, IsPrefix, IsValue, IsTerm, IsOp, IsCond, AreAtMost, IsAlt, IsProgram, IsWrite}
 use Rattle.bayou_text.specs.Ranges.{IsCutTo, IsToldBy, IsReadable}
 use Rattle.bayou_text_writer.specs.Inner.Kept.{IsAttempt, IsCommand, IsLine, IsTrialKind, IsWhat}
 use Rattle.bayou_text.specs.Reading.{Parsed, listed, all_in}
 use Rattle.bayou_text.specs.Said.{attempt_said, command_said, entry, extent_said, held, question_said, said, trial_kind_said}
 use Rattle.bayou_text.specs.Table.{EntryIs, ToldIs, HeldIs}
 use Rattle.bayou_text.specs.Spelling.{count_json, value_json, term_json, op_json, cond_json, alt_json, program_json, asks_json, vector_json, head_json, told_json, held_json, line_json}
-use Rattle.bayou_text.specs.Values.{key_in, value_in}
+use Rattle.bayou_text.specs.Values.{key_in, prefix_in, value_in}
 
 number_again : (least most n : ℕ) → least ≤ n → n ≤ most → number_in least most (count_json n) ≡ Ok n
 number_again least most n low high = grind (arith, tests)
 
 key_again : (key : List ℕ) → IsKey key → key_in (string key) ≡ Ok key
 key_again key valid = rw valid
+
+prefix_again : (prefix : List ℕ) → IsPrefix prefix → prefix_in (string prefix) ≡ Ok prefix
+prefix_again prefix valid = rw valid
 
 value_again : (v : Value) → IsValue v → value_in (value_json v) ≡ Ok v
 value_again (Num (pos n)) fits = let small : n < 2 ^ 63 = omega (arith, fits) in grind (arith, tests)
@@ -90,10 +93,14 @@ op_again (Put key t) kept = rw (key_again key kept.0) (rw (term_again t kept.1))
 op_again (Del key) kept = rw (key_again key kept)
 
 cond_again : (c : Cond) → IsCond c → cond_in (cond_json c) ≡ Ok c
-unfolding cond_in named_in keyed_in
+unfolding cond_in named_in keyed_in at_most_in
 cond_again (Equals key v) kept = rw (key_again key kept.0) (rw (value_again v kept.1))
 cond_again (Absent key) kept = rw (key_again key kept)
 cond_again (AtLeast key n) kept = rw (key_again key kept.0) (rw (integer_again n kept.1))
+cond_again (AtMost prefix n) kept = rw (
+  prefix_again prefix kept.0,
+  number_again 0 (2 ^ 32 - 1) n (omega arith) (omega (arith, kept.1)),
+)
 
 -- ---- lists
 

@@ -13,7 +13,7 @@ use Rattle.bayou_base.specs.declared.asks.Asks.{Asks}
 use Rattle.bayou_base.specs.declared.entry.Entry.{Entry}
 use Rattle.bayou_base.specs.declared.entry.What.{What}
 use Rattle.bayou_base.specs.declared.entry.What.TheVariants as what
-use Rattle.bayou_base.specs.declared.limits.TheConstants.{MAX_KEY_BYTES, MAX_CONDITIONS, MAX_OPS, MAX_ALTERNATIVES, MAX_LINE_BYTES, MAX_WRITES}
+use Rattle.bayou_base.specs.declared.limits.TheConstants.{MAX_KEY_BYTES, MAX_CONDITIONS, MAX_OPS, MAX_ALTERNATIVES, MAX_LINE_BYTES, MAX_WRITES, SERVERS}
 use Rattle.bayou_base.specs.declared.server.ServerId.{ServerId}
 use Rattle.bayou_base.specs.declared.session.SessionId.{SessionId}
 use Rattle.bayou_base.specs.declared.value.Value.{Value}
@@ -23,7 +23,7 @@ use Rattle.bayou_lang.specs.declared.program.Term.TheVariants.{Lit, Copy, Plus}
 use Rattle.bayou_lang.specs.declared.program.Op.{Op}
 use Rattle.bayou_lang.specs.declared.program.Op.TheVariants.{Put, Del}
 use Rattle.bayou_lang.specs.declared.program.Cond.{Cond}
-use Rattle.bayou_lang.specs.declared.program.Cond.TheVariants.{Equals, Absent, AtLeast}
+use Rattle.bayou_lang.specs.declared.program.Cond.TheVariants.{Equals, Absent, AtLeast, AtMost}
 use Rattle.bayou_lang.specs.declared.program.Alt.{Alt}
 use Rattle.bayou_lang.specs.declared.program.Program.{Program}
 use Rattle.bayou_lang.specs.declared.write.Write.{Write}
@@ -42,7 +42,7 @@ use Rattle.bayou_text.specs.declared.command.TrialKind.{TrialKind}
 use Rattle.bayou_text.specs.declared.command.TrialKind.TheVariants as kind
 use Rattle.bayou_text.specs.declared.line.Line.{Line}
 use Rattle.bayou_text.specs.declared.line.Line.TheVariants as line
-use Rattle.bayou_lang.specs.Ranges.{IsKey, IsValue, IsTerm, IsOp, IsCond, IsAlt, AreAtMost, IsProgram, IsWrite}
+use Rattle.bayou_lang.specs.Ranges.{IsKey, IsPrefix, IsValue, IsTerm, IsOp, IsCond, IsAlt, AreAtMost, IsProgram, IsWrite}
 use Rattle.bayou_text_writer.specs.Inner.Kept.{IsAttempt, IsCommand, IsExtent, IsLine, IsTrialKind, IsWhat}
 use Rattle.bayou_text.specs.Said.{attempt_said, command_said, extent_said, question_said, said, trial_kind_said}
 use Rattle.bayou_text_writer.proofs.Vectors.{taken}
@@ -77,6 +77,15 @@ key_short key valid = grind (arith, tests)
 
 key_size : (key : List ℕ) → IsKey key → size (string key) ≤ 194
 key_size key valid = omega (arith, string_size key, key_short key valid)
+
+prefix_short : (prefix : List ℕ) → IsPrefix prefix → length prefix ≤ MAX_KEY_BYTES
+prefix_short prefix valid = grind (arith, tests)
+
+prefix_size : (prefix : List ℕ) → IsPrefix prefix → size (string prefix) ≤ 194
+prefix_size prefix valid = omega (arith, string_size prefix, prefix_short prefix valid)
+
+count_size : (n : ℕ) → n < 2 ^ 32 → size (count_json n) ≤ 10
+count_size n small = length-decimal-le 10 n (lit< tt) (omega arith) (omega arith)
 
 integer_size : (n : ℤ) → FitsSigned w64 n → size (number (of_integer n)) ≤ 20
 integer_size (pos n) fits = let short = length-decimal-le 19 n (lit< tt) (omega (arith, fits)) (omega (
@@ -134,6 +143,12 @@ cond_size (AtLeast key n) kept = omega (
   form_two (codes "atleast") (string key) (number (of_integer n)),
   key_size key kept.0,
   integer_size n kept.1,
+)
+cond_size (AtMost prefix n) kept = omega (
+  arith,
+  form_two (codes "atmost") (string prefix) (count_json n),
+  prefix_size prefix kept.0,
+  count_size n kept.1,
 )
 
 comma_short : (later : Bool) → length (comma_if later) ≤ 1
@@ -222,9 +237,6 @@ asks_cases false false false false = lit≤ tt
 asks_size : (asks : Asks) → size (asks_json asks) ≤ 100
 asks_size asks = asks_cases asks.ryw asks.mr asks.wfr asks.mw
 
-count_size : (n : ℕ) → n < 2 ^ 32 → size (count_json n) ≤ 10
-count_size n small = length-decimal-le 10 n (lit< tt) (omega arith) (omega arith)
-
 wide_size : (n : ℕ) → n < 2 ^ 64 → size (count_json n) ≤ 20
 wide_size n small = length-decimal-le 20 n (lit< tt) (omega arith) (omega arith)
 
@@ -236,7 +248,7 @@ server_size word place short = omega (
   count_size place.index (omega (arith, place.in_range)),
 )
 
-vector_size : (n : ℕ) (vector : List ℕ) → AreCounts vector → size (vector_json n vector) ≤ 90
+vector_size : (n : ℕ) (vector : List ℕ) → AreCounts vector → size (vector_json n vector) ≤ 11 * SERVERS + 2
 vector_size n vector are =
     let each = list_size (λ count. count ≤ MAX_WRITES) count_json 10 (λ count small. count_size count (omega (arith, small))) (take n vector)
     (taken vector n are.in_range) in
@@ -245,7 +257,7 @@ vector_size n vector are =
 five_size : (a b c d e : Data) → size (array (items_of (a ∷ b ∷ c ∷ d ∷ e ∷ []))) ≤ size a + size b + size c + size d + size e + 6
 five_size a b c d e = simp length-append (omega arith)
 
-write_size : (item : Write) (n : ℕ) → IsWrite item → size (write_json item n) ≤ 41200
+write_size : (item : Write) (n : ℕ) → IsWrite item → size (write_json item n) ≤ 41040 + 11 * SERVERS
 write_size item n kept =
     omega (
       arith,

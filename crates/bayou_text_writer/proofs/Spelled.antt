@@ -16,7 +16,7 @@ use Rattle.bayou_lang.specs.declared.program.Term.TheVariants.{Lit, Copy, Plus}
 use Rattle.bayou_lang.specs.declared.program.Op.{Op}
 use Rattle.bayou_lang.specs.declared.program.Op.TheVariants.{Put, Del}
 use Rattle.bayou_lang.specs.declared.program.Cond.{Cond}
-use Rattle.bayou_lang.specs.declared.program.Cond.TheVariants.{Equals, Absent, AtLeast}
+use Rattle.bayou_lang.specs.declared.program.Cond.TheVariants.{Equals, Absent, AtLeast, AtMost}
 use Rattle.bayou_lang.specs.declared.program.Alt.{Alt}
 use Rattle.bayou_lang.specs.declared.program.Program.{Program}
 use Rattle.bayou_lang.specs.declared.write.Write.{Write}
@@ -86,6 +86,9 @@ module _ (most : ℕ) where
   word_plain true word = (text most word, tt)
   word_plain false word = tt
 
+count : (most n : ℕ) → IsPlainTo most (count_json n)
+count most n = record { no_float = refl; no_deeper = omega arith }
+
 value : (v : Value) → IsPlainTo 0 (value_json v)
 value (Num n) = integer n
 value (Text s) = text 0 s
@@ -109,6 +112,7 @@ condition (AtLeast key n) = formed 1 _ (string key ∷ number (of_integer n) ∷
   text 1 key,
   (higher 0 1 _ (omega arith) (integer n), tt),
 )
+condition (AtMost prefix n) = formed 1 _ (string prefix ∷ count_json n ∷ []) (text 1 prefix, (count 1 n, tt))
 
 alternative : (a : Alt) → IsPlainTo 4 (alt_json a)
 alternative a =
@@ -129,9 +133,6 @@ program p =
       no_float = either _ _ check.no_float (either _ _ merge.no_float (either _ _ update.no_float refl));
       no_deeper = omega (arith, check.no_deeper, merge.no_deeper, update.no_deeper);
     }
-
-count : (most n : ℕ) → IsPlainTo most (count_json n)
-count most n = record { no_float = refl; no_deeper = omega arith }
 
 asks_plain : (asks : Asks) → IsPlainTo 1 (asks_json asks)
 asks_plain asks =

@@ -1,11 +1,12 @@
-ghost use Rattle.std.specs.Prelude.{◌≡◌, [], ◌∷◌, IfOk, OnOk};
+ghost use Rattle.std.specs.Prelude.{◌≡◌, ◌<◌, ◌^◌, [], ◌∷◌, IfOk, OnOk};
 ghost use Rattle.serde_json.specs.Data.{string};
 ghost use Rattle.serde_json.specs.View.{view};
 ghost use Rattle.std.specs.List.{AllByRecursion};
 ghost use Rattle.bayou_lang.specs.Ranges as ranges;
+ghost use Rattle.bayou_lang.specs.declared.program.Cond.TheVariants.{AtMost};
 ghost use Rattle.bayou_text.specs.Spelling as spelling;
 
-use bayou_base::{Key, Value as Stored};
+use bayou_base::{Key, Prefix, Value as Stored};
 use bayou_lang::{Cond, Op, RestingAlt, RestingProgram, Term};
 use serde_json::{Value, json};
 use std::alloc::{AllocError, Global};
@@ -57,6 +58,14 @@ fn op_json(alloc: Global, op: &Op) -> Result<Value, AllocError>
     }
 }
 
+/// A prefix, and how many keys may begin so.
+fn at_most_json(alloc: Global, prefix: &Prefix, most: u32) -> Result<Value, AllocError>
+    ensures spelling { IfOk result (λ json. view json ≡ spelling.cond_json (AtMost prefix.now most)) }
+    ensures kept { OnOk result (ranges.IsPrefix prefix.now × (most < 2 ^ 32)) }
+{
+    json!(in alloc; ["atmost", prefix.as_str(), u64::from(most)])
+}
+
 fn cond_json(alloc: Global, condition: &Cond) -> Result<Value, AllocError>
     ensures spelling { IfOk result (λ json. view json ≡ spelling.cond_json condition.now) }
     ensures kept { OnOk result (ranges.IsCond condition.now) }
@@ -65,6 +74,7 @@ fn cond_json(alloc: Global, condition: &Cond) -> Result<Value, AllocError>
         Cond::Equals(key, value) => keyed_json(alloc, "equals", key, value_json(alloc, value)?),
         Cond::Absent(key) => named_json(alloc, "absent", key),
         Cond::AtLeast(key, number) => keyed_json(alloc, "atleast", key, Value::from(*number)),
+        Cond::AtMost(prefix, most) => at_most_json(alloc, prefix, *most),
     }
 }
 
