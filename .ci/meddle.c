@@ -22,7 +22,7 @@
 #define SEQ_END 7
 #define CLOCK_END 11
 #define DEPS 12
-#define ACCEPTED_BYTES 44
+#define ACCEPTED_BYTES 76
 
 static int calls = -1;
 static const char *meddle = "", *gate = "";

@@ -1,18 +1,18 @@
 """Requests, replies and journals as bytes, written from docs/FORMATS.md and docs/PROTOCOL.md alone.
 
-A value is an int or a str. A program is (check, update, merge), merge a list of (when, ops). A vector is a tuple of eight counts, a tag (session,
+A value is an int or a str. A program is (check, update, merge), merge a list of (when, ops). A vector is a tuple of sixteen counts, a tag (session,
 run, number), and a Write (origin, seq, clock, deps, program). What is read is refused with BadBytes where the pages call it a fault.
 """
 import hashlib
 import struct
 
-SERVERS = 8
+SERVERS = 16
 SESSIONS = 32
 MAX_COUNT = 65536
 MAX_FRAME = 8192
 MAX_NUMBER = 2**32 - 1
 # The version of new journals, and how many bytes a header has.
-NEWEST_VERSION = 2
+NEWEST_VERSION = 3
 HEADER = 10
 ZERO = (0,) * SERVERS
 READ, REOPEN, DUMP, OFFER, WRITE = 0x01, 0x03, 0x04, 0x05, 0x06
@@ -37,7 +37,7 @@ def dominates(vector, need):
 # What is written.
 
 def vector_bytes(vector):
-    return struct.pack(">8I", *vector)
+    return struct.pack(">%dI" % SERVERS, *vector)
 
 
 def key_bytes(key):
@@ -72,7 +72,10 @@ def condition_bytes(condition):
         return b"\x01" + key + value_bytes(condition[2])
     if word == "absent":
         return b"\x02" + key
-    return b"\x03" + key + struct.pack(">q", condition[2])
+    if word == "atleast":
+        return b"\x03" + key + struct.pack(">q", condition[2])
+    # (a prefix is spelled as a key is, and may be empty)
+    return b"\x04" + key + struct.pack(">I", condition[2])
 
 
 def list_bytes(one, members):
@@ -146,8 +149,8 @@ class Bytes:
             raise BadBytes("number")
         return number
 
-    def key(self):
-        key = self.take(self.within(">B", 1, 32))
+    def key(self, least=1):
+        key = self.take(self.within(">B", least, 32))
         if not KEY_BYTES.issuperset(key):
             raise BadBytes("key")
         return key.decode("ascii")
@@ -189,6 +192,8 @@ class Bytes:
             return ("absent", self.key())
         if word == 3:
             return ("atleast", self.key(), self.number(">q"))
+        if word == 4:
+            return ("atmost", self.key(0), self.number(">I"))
         raise BadBytes("condition")
 
     def list(self, one, most):

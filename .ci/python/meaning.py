@@ -3,6 +3,8 @@
 
 def holds(condition, database):
     word, has = condition[0], database.get(condition[1])
+    if word == "atmost":
+        return sum(key.startswith(condition[1]) for key in database) <= condition[2]
     if word == "equals":
         return has is not None and type(has) is type(condition[2]) and has == condition[2]
     if word == "absent":

@@ -7,7 +7,7 @@ from net_meddled import Meddled
 from net_runs import fresh, put, run, script
 
 # An Item of the Writes here has so many bytes, an Offer and an End so many, and so many Items are sent at once.
-ITEM, OFFER, END, AT_ONCE = 60, 35, 7, 16
+ITEM, OFFER, END, AT_ONCE = 92, 67, 7, 16
 
 
 def connections(checks, program, room):

@@ -69,7 +69,7 @@ def journals(checks, program, room):
     checks.that("a Write at each of two servers", run(program, folder, TWO)[0], 0)
     good = [content(journal(folder, server)) for server in (0, 1)]
     files = [("the journal of another server", good[0]), ("a file that is no journal", b"This is no journal.\n"), ("a short file", b"BAYOUS"),
-             ("a journal of another version", b"BAYOUJNL\x03\x01"), ("a header of another server", good[0][:HEADER])]
+             ("a journal of another version", b"BAYOUJNL\x04\x01"), ("an older journal of a server that there wasn't then", b"BAYOUJNL\x02\x09"), ("a header of another server", good[0][:HEADER])]
     for name, bad in files:
         with open(journal(folder, 1), "wb") as it:
             it.write(bad)
@@ -108,24 +108,30 @@ def torn(checks, program, room):
 
 
 def old(checks, program, room):
-    """Journals of the first version: what is held, their raising, behind each front of its mark, and a Write behind it."""
-    told, wrote = old_logs([]), "0 wrote 0:3 clock 3 deps 2,1\n"
+    """Journals of the first two versions: what is held, their raising, behind each front of its mark, and a Write behind it."""
     for name, source, look, held_then in (("three", old_journals.THREE, LOG, [3]), ("empty", old_journals.EMPTY, LOGS, [0, 0])):
         folder, then = old_journals.copied(room, name, 0, source), old_journals.copied(room, name + "-raised", old_journals.MARK_BYTES, source)
         checks.that("old journals: " + name, run(program, folder, look), (0, logs(len(held_then), held_then), ""))
         checks.that("what they are then: " + name, contents(folder), contents(then))
-    before = contents(old_journals.BOTH)
-    raised = {name: old_journals.raised(bytes_then) for name, bytes_then in before.items()}
+    # (of the first version, raised to the second before, and of the second; and in which run the next Write is asked)
+    for name, source, versions, next_run in (("first", old_journals.BOTH, (), 1), ("between", old_journals.BOTH, (2,), 1), ("second", old_journals.TAGGED, (), 2)):
+        old_pair(checks, program, room, "old-" + name, source, versions, next_run)
+
+
+def old_pair(checks, program, room, name, source, versions, next_run):
+    """The same of two that pulled from each other, whose journals were raised to these versions."""
+    told, wrote = old_logs([]), "0 wrote 0:3 clock 3 deps 2,1\n"
+    raised = contents(old_journals.copied(room, name, old_journals.MARK_BYTES, source, versions))
     for kept in range(old_journals.MARK_BYTES + 1):
-        folder = old_journals.copied(room, "old-%d" % kept, kept)
-        checks.that("old journals with %d bytes of a mark" % kept, run(program, folder, LOGS), (0, told, ""))
+        folder = old_journals.copied(room, "%s-%d" % (name, kept), kept, source, versions)
+        checks.that("%s: journals with %d bytes of a mark" % (name, kept), run(program, folder, LOGS), (0, told, ""))
         checks.that("what they are then", contents(folder), raised)
     text = script(["servers", 2], ["session", 0, []], ["write", 0, 0, put("a", 7)], ["phase"], ["log", 0], ["log", 1])
-    checks.that("a Write behind them", run(program, folder, text), (0, wrote + old_logs(["log 0 0:3 clock 3 updated\n"]), ""))
+    checks.that(name + ": a Write behind them", run(program, folder, text), (0, wrote + old_logs(["log 0 0:3 clock 3 updated\n"]), ""))
     body = frames.write_bytes((0, 3, 3, frames.counts(2, 1), ([], [("put", "a", ("lit", 7))], [])))
     added = dict(raised)
-    added["server-0.journal"] += frames.entry(added["server-0.journal"][-32:], frames.own_record((0, 1, 1), body))
-    checks.that("what it adds", contents(folder), added)
+    added["server-0.journal"] += frames.entry(added["server-0.journal"][-32:], frames.own_record((0, next_run, 1), body))
+    checks.that(name + ": what it adds", contents(folder), added)
 
 
 def old_logs(more):
@@ -179,7 +185,7 @@ def places(checks, program, room):
     for bad in (["fuse", 0, 1, 0], ["lose", 0, 1], ["restart", 0], ["resend", 1, 0], ["pull", 1, 0, 3], ["pull", 1, 1], ["servers", 2],
                 ["session", 0, []], ["read", 1, 0, "a"], ["log", 2], ["entry", 0, 1, [], 0, "refused"]):
         checks.that("the line %r" % bad, run(program, folder, script(*start, bad)), (2, "", "bayou: line 4: out of place\n"))
-    for count in range(5, 9):
+    for count in range(5, frames.SERVERS + 1):
         checks.that("%d servers" % count, run(program, folder, script(["servers", count])), (2, "", "bayou: line 1: out of place\n"))
     for text, fault in (("", "line 1: out of place"), ("{\n", "line 1: not JSON"), ('["servers",2]\n["walk"]\n', "line 2: bad shape"),
                         ('["servers",2]\n["session",0,[]]\n["read",0,0,"A"]\n', "line 3: bad key")):

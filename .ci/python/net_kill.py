@@ -12,7 +12,7 @@ from net_runs import fresh, put, script
 # A run that isn't killed has so many phases, each with a Write at each of two servers.
 PHASES = 400
 # So many kills leave their Writes in one folder.
-KILLS_A_FOLDER = 10
+KILLS_A_FOLDER = 7
 
 WROTE = re.compile(r"[01] wrote (\d+:\d+) clock (\d+) deps (\d+),(\d+)")
 LISTED = re.compile(r"log ([01]) (\d+:\d+) clock (\d+) updated")
@@ -79,11 +79,15 @@ def whole_run(checks, program, room, path):
     return first, time.monotonic() - begin - first
 
 
-def begun(room, name, is_old):
-    """A new folder, maybe with journals of the first version; and what each server holds by them."""
-    if not is_old:
+# What a folder begins with: journals of the first version, of the second, or none.
+BEGINNINGS = [old_journals.BOTH, old_journals.TAGGED, None]
+
+
+def begun(room, name, source):
+    """A new folder with these journals, if any; and what each server holds by them."""
+    if source is None:
         return fresh(room, name), ({}, {})
-    return old_journals.copied(room, name), tuple(dict(held) for held in old_journals.HELD)
+    return old_journals.copied(room, name, 0, source), tuple(dict(held) for held in old_journals.HELD)
 
 
 def kills(checks, program, room, number):
@@ -96,9 +100,8 @@ def kills(checks, program, room, number):
     folder, before, told = None, None, 0
     for kill in range(number):
         if kill % KILLS_A_FOLDER == 0:
-            # (each other folder begins with journals of the first version)
-            is_old = kill // KILLS_A_FOLDER % 2 == 0
-            folder, before = begun(room, "killed-%d" % kill, is_old)
+            source = BEGINNINGS[kill // KILLS_A_FOLDER % len(BEGINNINGS)]
+            folder, before = begun(room, "killed-%d" % kill, source)
         is_told = kill % 4 != 3
         # (the run that was measured may have been a slow one)
         for part in (1, 1 / 4, 1 / 16):
@@ -109,7 +112,7 @@ def kills(checks, program, room, number):
         number_told = output.count(" wrote ")
         told += number_told
         checks.that("kill %d" % kill, (wrong, was_running, number_told > 0 or not is_told), (None, True, True))
-        checks.that("the journals behind it begin as they did", not is_old or old_journals.are_kept(folder), True)
+        checks.that("the journals behind it begin as they did", source is None or old_journals.are_kept(folder, source), True)
         if wrong:
-            folder, before = begun(room, "killed-behind-%d" % kill, is_old)
+            folder, before = begun(room, "killed-behind-%d" % kill, source)
     print("net: %d runs were killed before their end; %d Writes that they told of are held" % (number, told))

@@ -49,8 +49,9 @@ def op(order):
 
 
 def condition(order):
-    kind, key = order.randrange(3), order.choice(KEYS)
-    return [["absent", key], ["equals", key, "Ann"], ["atleast", key, 3]][kind]
+    kind, key = order.randrange(4), order.choice(KEYS)
+    counting = ["atmost", order.choice(["", "room/", "to", key]), order.randrange(6)]
+    return [["absent", key], ["equals", key, "Ann"], ["atleast", key, 3], counting][kind]
 
 
 def program(order):

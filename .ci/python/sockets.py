@@ -34,7 +34,7 @@ def own_writes(number, program=P):
 
 def accepted(seq):
     """The reply to a Write of the first server's that it is given this number, where nobody else's are held."""
-    return frames.frame(frames.ACCEPTED, frames.write_bytes(own_writes(seq)[-1])[:41])
+    return frames.frame(frames.ACCEPTED, frames.write_bytes(own_writes(seq)[-1])[:9 + len(frames.vector_bytes(frames.ZERO))])
 
 
 def seen(number, vector):
@@ -52,12 +52,12 @@ def spelled(checks):
         for data in (request, reply):
             for said, own in frames.frames_of(data)[0]:
                 checks.that("the spelling of " + own.hex(), frames.frames_of(own), ([(said, own)], "whole"))
-    checks.that("a Write request", write_p(1), rows.said("003d 06 00 00000001 00000001 0*32 P"))
-    checks.that("a read request", READ_ROOM, rows.said("0026 01 0*32 04 726f6f6d"))
-    checks.that("an Offer", frames.offer_request(frames.counts(1)), rows.said("0021 05 V"))
+    checks.that("a Write request", write_p(1), rows.said("005d 06 00 00000001 00000001 0*64 P"))
+    checks.that("a read request", READ_ROOM, rows.said("0046 01 0*64 04 726f6f6d"))
+    checks.that("an Offer", frames.offer_request(frames.counts(1)), rows.said("0041 05 V"))
     checks.that("a Write", frames.write_bytes(own_writes(1)[0]), rows.BODIES[0])
-    page = bytes.fromhex("4241594f554a4e4c 02 02 0001 00 bb0e46ca9ab5826b166f0d4ff3113b2644bc40db3732e4855a937ca9c81d9be7"
-                         "0002 0102 5dd3bbb139f414f3c8f15e231d76b234f0016336627cb3061e7a94267683e9df")
+    page = bytes.fromhex("4241594f554a4e4c 03 02 0001 00 43d1161222cb85efaba938d2c9ba3de88aad750dea03dfebad484f0b210d3116"
+                         "0002 0102 36b1d7eb34fb45a24f051e2a92e56870598393ea5f27e961b1d3725ed3c2cb93")
     checks.that("a journal", frames.journal(2, [b"\x00", b"\x01\x02"]), page)
 
 
@@ -126,7 +126,7 @@ def starts(checks, program, folder):
     path = os.path.join(folder, "starts")
     for words in [(None, None), (path, None), (path, "0"), (path, "65537"), (path, "-1"), (path, "many")]:
         checks.that("the words %s, %s" % words, begin(program, *words), (2, "", usage))
-    files = [(b"BAYOUJNM\x01\x00", "not a journal"), (b"BAYOUJNL\x03\x00", "not a journal"), (b"B\x00", "not a journal"),
+    files = [(b"BAYOUJNM\x01\x00", "not a journal"), (b"BAYOUJNL\x04\x00", "not a journal"), (b"BAYOUJNL\x04", "not a journal"), (b"BAYOUJNL\x02\x08", "the journal of another server"), (b"B\x00", "not a journal"),
              (frames.journal(1, []), "the journal of another server"), (gap, "a bad entry in the journal"),
              (frames.journal(0, [b"\x00"]), "a bad entry in the journal")]
     for content, word in files:

@@ -29,7 +29,8 @@ def some_op(dice):
 
 def some_condition(dice):
     key = dice.choice(KEYS)
-    return dice.choice([("equals", key, some_value(dice)), ("absent", key), ("atleast", key, dice.choice([-3, 0, 5]))])
+    return dice.choice([("equals", key, some_value(dice)), ("absent", key), ("atleast", key, dice.choice([-3, 0, 5])),
+                        ("atmost", dice.choice(["", "room", "room/", "b", "z"]), dice.choice([0, 1, 2, 4, frames.MAX_NUMBER]))])
 
 
 def some_program(dice):

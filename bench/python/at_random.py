@@ -2,9 +2,10 @@
 import json
 import random
 
-from limits import CONDITIONS, GUARANTEES, MAX_ALTERNATIVES, MAX_CONDITIONS, MAX_OPS, MAX_TEXT_BYTES, MAX_WRITES, SERVERS, SESSIONS
+from limits import CONDITIONS, GUARANTEES, MAX_ALTERNATIVES, MAX_CONDITIONS, MAX_KEYS_COUNTED, MAX_OPS, MAX_TEXT_BYTES, MAX_WRITES, SERVERS, SESSIONS
 
-KEYS = ["a", "b", "seats-left", "room/9"]
+KEYS = ["a", "b", "seats-left", "room/9", "room/90"]
+PREFIXES = ["", "a", "s", "room/", "room/9", "room/9/", "z"]
 NUMBERS = [-1, 0, 1, 2, 3, 2**63 - 1, -(2**63)]
 TEXTS = ["", "ann", "ben", "\"\\/\b\f\n\r\t\u0001", "\u00e9\u4e16\U0001f600", "v" * MAX_TEXT_BYTES]
 
@@ -19,7 +20,7 @@ ABOUT = {
 
 # Lines that are no line of a script, or have no place in one, and some that look so.
 WRONG = [
-    '["log",0', "[0]", "{}", '["walk",0]', '["log"]', '["log",8]', '["log",0,0]', '["read",0,0,"A"]', '["read",0,0,""]',
+    '["log",0', "[0]", "{}", '["walk",0]', '["log"]', '["log",16]', '["log",0,0]', '["read",0,0,"A"]', '["read",0,0,""]',
     '["read",0,0,1]', '["read",32,0,"a"]', '["session",31,["all"]]', '["session",31,"mr"]', '["servers",1]', '["pull",0,0]',
     f'["pull",0,1,{MAX_WRITES + 1}]', '["fuse",0,0,0]', '["lose",0,1e3]', '["write",0,0,{"updates":[]}]', '["write",0,0,[]]',
     '["write",0,0,{"check":[["absent","a",1]]}]', '["write",0,0,{"update":[["put","a",1.0]]}]',
@@ -32,6 +33,9 @@ WRONG = [
     '["held",0,[0,1,1,[0,0],{"update":[["del","A"]]}]]', '["held",0,[0,65537,1,[0,0],{}]]', '["held",0,[3,1,1,[0,0],{}]]', '["held",7,[0,1,1,[0,0],{}]]',
     '["write",0,0,{"update":[["put","a",["copy","A"]]]}]', '["write",0,0,{"check":[["atleast","a","1"]]}]', '["servers",0]', '["servers",1,65537]',
     '["again",0]', '["again",1]', '["again",32]', '["again"]', '["again",0,0]', '["drop",0]', '["drop",1]', '["drop","0"]', '["drop",0,0]',
+    '["write",0,0,{"check":[["atmost","",0]]}]', '["write",0,0,{"check":[["atmost","A",-1]]}]', '["write",0,0,{"check":[["atmost",0,-1]]}]',
+    '["write",0,0,{"check":[["atmost","a",-1]]}]', '["write",0,0,{"check":[["atmost","a",4294967296]]}]', '["write",0,0,{"check":[["atmost","a",1.0]]}]',
+    '["write",0,0,{"check":[["atmost","a"]]}]', '["write",0,0,{"check":[["atmost","' + "a" * 33 + '",1]]}]', '["write",0,0,{"check":[["atmost","' + "a" * 32 + '",1]]}]',
     '["phase",0]', '["resend",0]', '["read",0,0,"\\u0061"]', ' [ "log" , 0 ] \r', '["write",0,0,{"check":0,"check":[]}]',
 ]
 
@@ -51,7 +55,7 @@ class Maker:
     def __init__(self, number):
         self.chance = random.Random(f"script {number}")
         self.about = self.chance.choice(list(ABOUT))
-        self.servers = self.chance.choice([1, 2, 2, 2, 3, 3, 4, SERVERS])
+        self.servers = self.chance.choice([1, 2, 2, 2, 3, 3, 4, 8, SERVERS])
         self.sessions = []
 
     def some(self, make, most):
@@ -67,6 +71,8 @@ class Maker:
         word = self.chance.choice(CONDITIONS)
         if word == "absent":
             return [word, self.key()]
+        if word == "atmost":
+            return [word, self.chance.choice(PREFIXES), self.chance.choice([0, 1, 2, 3, 4, MAX_KEYS_COUNTED])]
         return [word, self.key(), self.value() if word == "equals" else self.chance.choice(NUMBERS)]
 
     def term(self):

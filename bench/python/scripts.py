@@ -53,6 +53,22 @@ def bookings(count=30_000):
         yield line("write", at % SERVERS, 0, {"check": [["absent", first]], "update": [["put", first, who]], "merge": merge})
 
 
+def courses(count=65_000, places=100):
+    """Each takes a place of a course that has so many, where one is left; of a new course once that is full."""
+    yield from begin()
+    for at in range(count):
+        course = f"course/{at // (places + 10)}/"
+        yield write(0, {"check": [["atmost", course, places - 1]], "update": [["put", f"{course}{at}", "taken"]]})
+
+
+def courses_given_back(count=30_000, places=20):
+    """The same of one course, whose places are given back in turn: so most of its keys have no value."""
+    yield from begin()
+    for at in range(count):
+        update = [["put", f"course/{at % 1_000}", at], ["del", f"course/{(at - places) % 1_000}"]]
+        yield write(0, {"check": [["atmost", "course/", places]], "update": update})
+
+
 def full_programs(count=10_000):
     """The longest Writes that may be, with keys and texts of 32 bytes."""
     keys = [f"k{at:031}" for at in range(MAX_OPS)]
@@ -66,7 +82,7 @@ def full_programs(count=10_000):
 
 def failing(kind, last):
     """Conditions of these kinds in turn, all of which hold but the last."""
-    holding = {"absent": ["absent", "free"], "equals": ["equals", "name", "ann"], "atleast": ["atleast", "seats", 1]}
+    holding = {"absent": ["absent", "free"], "equals": ["equals", "name", "ann"], "atleast": ["atleast", "seats", 1], "atmost": ["atmost", "free", 0]}
     kinds = [CONDITIONS[(kind + at) % len(CONDITIONS)] for at in range(MAX_CONDITIONS - 1)]
     return [holding[word] for word in kinds] + [last]
 
@@ -189,7 +205,7 @@ def judged(count=30_000):
         yield line(word)
 
 
-def audit_file(entries=MAX_ENTRIES, reads_each=7):
+def audit_file(entries=MAX_ENTRIES, reads_each=15):
     """Servers that meet behind each round: in each a session of each writes, and then reads so often. Each dump has all Writes."""
     rounds = entries // (SERVERS * (1 + reads_each))
     yield line("servers", SERVERS)
@@ -214,6 +230,8 @@ SCRIPTS = {
     "writes to 10 keys": ("run", lambda: writes(65_000, 10)),
     "writes to 65,000 keys": ("run", lambda: writes(65_000, 65_000)),
     "bookings with a fallback": ("run", bookings),
+    "courses with places": ("run", courses),
+    "places given back": ("run", courses_given_back),
     "full programs": ("run", full_programs),
     "many conditions": ("run", conditions),
     "reads": ("run", reads),

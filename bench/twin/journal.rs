@@ -3,7 +3,7 @@
 use crate::sha256::{digest_of, Digest};
 
 // The version is the newest: a device in memory has no older journal.
-const START: [u8; 9] = *b"BAYOUJNL\x02";
+const START: [u8; 9] = *b"BAYOUJNL\x03";
 const HEADER_BYTES: usize = START.len() + 1;
 const LENGTH_BYTES: usize = 2;
 const DIGEST_BYTES: usize = 32;
@@ -215,9 +215,9 @@ mod tests {
     use super::*;
 
     /// The journal of docs/FORMATS.md: that of server 2 with the bodies `00` and `0102`.
-    const JOURNAL: &str = "4241594f554a4e4c0202\
-        000100bb0e46ca9ab5826b166f0d4ff3113b2644bc40db3732e4855a937ca9c81d9be7\
-        000201025dd3bbb139f414f3c8f15e231d76b234f0016336627cb3061e7a94267683e9df";
+    const JOURNAL: &str = "4241594f554a4e4c0302\
+        00010043d1161222cb85efaba938d2c9ba3de88aad750dea03dfebad484f0b210d3116\
+        0002010236b1d7eb34fb45a24f051e2a92e56870598393ea5f27e961b1d3725ed3c2cb93";
 
     fn hexadecimal(bytes: &[u8]) -> String {
         bytes.iter().map(|byte| format!("{byte:02x}")).collect()

@@ -202,6 +202,19 @@ fn key_of(value: &Json) -> Read<Key> {
     }
 }
 
+fn prefix_of(value: &Json) -> Read<Box<str>> {
+    match value {
+        Json::Text(text) if program::is_prefix(text) => Ok(text.as_ref().into()),
+        Json::Text(_) => Err(Fault::Key),
+        _ => Err(Fault::Shape),
+    }
+}
+
+/// How many keys may begin so.
+fn most(value: &Json) -> Read<u32> {
+    Ok(number(value, 0, i64::from(u32::MAX))? as u32)
+}
+
 fn long(value: &Json) -> Read<i64> {
     number(value, i64::MIN, i64::MAX)
 }
@@ -240,6 +253,7 @@ fn condition(value: &Json) -> Read<Condition> {
         ("equals", [key, value]) => Ok(Condition::Equals(key_of(key)?, value_of(value)?)),
         ("absent", [key]) => Ok(Condition::Absent(key_of(key)?)),
         ("atleast", [key, least]) => Ok(Condition::AtLeast(key_of(key)?, long(least)?)),
+        ("atmost", [prefix, count]) => Ok(Condition::AtMost(prefix_of(prefix)?, most(count)?)),
         _ => Err(Fault::Shape),
     }
 }

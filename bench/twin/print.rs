@@ -84,6 +84,7 @@ impl Display for Condition {
             Condition::Equals(key, value) => write!(to, r#"["equals","{key}",{value}]"#),
             Condition::Absent(key) => write!(to, r#"["absent","{key}"]"#),
             Condition::AtLeast(key, least) => write!(to, r#"["atleast","{key}",{least}]"#),
+            Condition::AtMost(prefix, most) => write!(to, r#"["atmost","{prefix}",{most}]"#),
         }
     }
 }

@@ -1,6 +1,7 @@
 //! Programs, and the database that they are applied to (docs/LANGUAGE.md).
 
-use std::collections::HashMap;
+use std::collections::{BTreeSet, HashMap};
+use std::ops::Bound;
 
 pub const MAX_KEY_BYTES: usize = 32;
 pub const MAX_TEXT_BYTES: usize = 32;
@@ -10,9 +11,14 @@ pub const MAX_ALTERNATIVES: usize = 4;
 
 pub type Key = Box<str>;
 
-pub fn is_key(text: &str) -> bool {
+/// What keys may begin with.
+pub fn is_prefix(text: &str) -> bool {
     let is_letter = |byte| matches!(byte, b'a'..=b'z' | b'0'..=b'9' | b'.' | b'_' | b'-' | b'/');
-    (1..=MAX_KEY_BYTES).contains(&text.len()) && text.bytes().all(is_letter)
+    text.len() <= MAX_KEY_BYTES && text.bytes().all(is_letter)
+}
+
+pub fn is_key(text: &str) -> bool {
+    !text.is_empty() && is_prefix(text)
 }
 
 #[derive(Clone, PartialEq)]
@@ -39,6 +45,8 @@ pub enum Condition {
     Equals(Key, Value),
     Absent(Key),
     AtLeast(Key, i64),
+    /// At most so many keys that are present begin so.
+    AtMost(Box<str>, u32),
 }
 
 #[derive(Clone, PartialEq)]
@@ -86,6 +94,8 @@ pub struct Database {
     values: HashMap<Key, Value>,
     // What each op that was done found at its key, so that it can be taken back.
     before: Vec<Option<Value>>,
+    // The keys that are present, in order, from the first condition on that counts some.
+    in_order: Option<BTreeSet<Key>>,
 }
 
 impl Database {
@@ -100,8 +110,20 @@ impl Database {
         }
     }
 
-    fn holds(&self, condition: &Condition) -> bool {
+    /// Whether at most so many keys that are present begin so.
+    fn has_at_most(&mut self, prefix: &str, most: u32) -> bool {
+        let keys = self
+            .in_order
+            .get_or_insert_with(|| self.values.keys().cloned().collect());
+        let most = most as usize;
+        let behind = keys.range::<str, _>((Bound::Included(prefix), Bound::Unbounded));
+        let beginning = behind.take_while(|key| key.starts_with(prefix));
+        beginning.take(most + 1).count() <= most
+    }
+
+    fn holds(&mut self, condition: &Condition) -> bool {
         match condition {
+            Condition::AtMost(prefix, most) => self.has_at_most(prefix, *most),
             Condition::Equals(key, value) => self.get(key) == Some(value),
             Condition::Absent(key) => self.get(key).is_none(),
             Condition::AtLeast(key, least) => self.number(key).is_some_and(|has| has >= *least),
@@ -119,8 +141,16 @@ impl Database {
     /// Gives the key that value, or none, and tells what it had.
     fn replace(&mut self, key: &Key, value: Option<Value>) -> Option<Value> {
         let Some(value) = value else {
+            if let Some(keys) = &mut self.in_order {
+                keys.remove(key);
+            }
             return self.values.remove(key);
         };
+        if let Some(keys) = &mut self.in_order {
+            if !keys.contains(key) {
+                keys.insert(key.clone());
+            }
+        }
         match self.values.get_mut(key) {
             Some(place) => Some(std::mem::replace(place, value)),
             None => self.values.insert(key.clone(), value),
@@ -160,7 +190,7 @@ impl Database {
         true
     }
 
-    fn all_hold(&self, conditions: &[Condition]) -> bool {
+    fn all_hold(&mut self, conditions: &[Condition]) -> bool {
         conditions.iter().all(|condition| self.holds(condition))
     }
 

@@ -2,7 +2,7 @@
 
 use crate::program::{self, Alternative, Condition, Key, Op, Program, Term, Value};
 
-pub const SERVERS: usize = 8;
+pub const SERVERS: usize = 16;
 pub const MAX_WRITES: u32 = 65_536;
 
 /// For each server a number of its Writes.
@@ -165,6 +165,11 @@ fn put_condition(bytes: &mut Vec<u8>, condition: &Condition) {
             put_text(bytes, key);
             bytes.extend(least.to_be_bytes());
         }
+        Condition::AtMost(prefix, most) => {
+            bytes.push(4);
+            put_text(bytes, prefix);
+            bytes.extend(most.to_be_bytes());
+        }
     }
 }
 
@@ -184,8 +189,12 @@ impl<'a> Reader<'a> {
         (least..=most).contains(&usize::from(byte)).then_some(byte)
     }
 
+    fn short(&mut self) -> Option<u32> {
+        Some(u32::from_be_bytes(self.take(4)?.try_into().ok()?))
+    }
+
     fn number(&mut self, least: u32) -> Option<u32> {
-        let number = u32::from_be_bytes(self.take(4)?.try_into().ok()?);
+        let number = self.short()?;
         (least..=MAX_WRITES).contains(&number).then_some(number)
     }
 
@@ -201,6 +210,11 @@ impl<'a> Reader<'a> {
     fn key(&mut self) -> Option<Key> {
         let text = self.text(program::MAX_KEY_BYTES)?;
         program::is_key(text).then(|| text.into())
+    }
+
+    fn prefix(&mut self) -> Option<Box<str>> {
+        let text = self.text(program::MAX_KEY_BYTES)?;
+        program::is_prefix(text).then(|| text.into())
     }
 
     fn value(&mut self) -> Option<Value> {
@@ -226,10 +240,11 @@ impl<'a> Reader<'a> {
     }
 
     fn condition(&mut self) -> Option<Condition> {
-        Some(match self.byte(1, 3)? {
+        Some(match self.byte(1, 4)? {
             1 => Condition::Equals(self.key()?, self.value()?),
             2 => Condition::Absent(self.key()?),
-            _ => Condition::AtLeast(self.key()?, self.long()?),
+            3 => Condition::AtLeast(self.key()?, self.long()?),
+            _ => Condition::AtMost(self.prefix()?, self.short()?),
         })
     }
 
@@ -256,6 +271,21 @@ mod tests {
 
     /// The Write 0:1 of docs/FORMATS.md: name and clock, then the past, then the program.
     const BYTES: &str = "00000000010000000100010104726f6f6d0101000000000000000100";
+
+    #[test]
+    fn a_count_has_the_bytes_of_the_page() {
+        for (prefix, most, bytes) in [
+            ("room/", 1, &b"\x04\x05room/\0\0\0\x01"[..]),
+            ("", 0, b"\x04\0\0\0\0\0"),
+        ] {
+            let condition = Condition::AtMost(prefix.into(), most);
+            let mut put = Vec::new();
+            put_condition(&mut put, &condition);
+            assert_eq!(put, bytes);
+            let mut reader = Reader { bytes };
+            assert!(reader.condition() == Some(condition) && reader.bytes.is_empty());
+        }
+    }
 
     #[test]
     fn a_write_has_the_bytes_of_the_page() {

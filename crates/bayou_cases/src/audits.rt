@@ -250,7 +250,7 @@ survey 0 ryw broken 1 2 1 0:1 mr ok wfr ok mw ok
         script: r#"["servers",1,100]
 ["session",0,["ryw"]]
 ["write",0,0,{"update":[["put","a",1]]}]
-["lose",0,111]
+["lose",0,143]
 ["fuse",0,2,5]
 ["restart",0]
 ["read",0,0,"a"]

@@ -520,8 +520,8 @@ fn served_for(alloc: Global, server: &mut Served, offer: &[u8]) -> Result<u32, C
 
 /// The number that the server answers to an Offer of nothing which it reads, and once more where memory ran out.
 fn served_at_last(alloc: Global, server: &mut Served) -> Result<u32, ChannelFault> {
-    let mut offer = [0; 35];
-    offer[1] = 0x21;
+    let mut offer = [0; 67];
+    offer[1] = 0x41;
     offer[2] = 5;
     match served_for(alloc, server, &offer) {
         Err(ChannelFault::OutOfMemory) => served_for(alloc, server, &offer),

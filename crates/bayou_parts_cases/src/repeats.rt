@@ -123,5 +123,5 @@ fn a_write_that_is_asked_for_again_is_known(rt: HostRuntime) {
     let added = device.bytes().len();
     let device = all_go(&rt, alloc, device, &SECOND);
     // Of eight answers one adds a Write.
-    assert!(rt; added == 313 && device.bytes().len() == 414);
+    assert!(rt; added == 409 && device.bytes().len() == 542);
 }

@@ -154,7 +154,7 @@ fn a_fault_is_told_behind_its_frames(rt: HostRuntime) {
 
 /// An Item: a Write that puts 1 at `room`.
 const ITEM: &[u8] =
-    b"\x00\x3d\x15\x00\x00\x00\x00\x01\x00\x00\x00\x01\0\0\0\0\0\0\0\0\0\0\0\0\0\0\0\0\0\0\0\0\0\0\0\0\0\0\0\0\0\0\0\0\x00\x01\x01\x04room\x01\x01\0\0\0\0\0\0\0\x01\x00";
+    b"\x00\x5d\x15\x00\x00\x00\x00\x01\x00\x00\x00\x01\0\0\0\0\0\0\0\0\0\0\0\0\0\0\0\0\0\0\0\0\0\0\0\0\0\0\0\0\0\0\0\0\0\0\0\0\0\0\0\0\0\0\0\0\0\0\0\0\0\0\0\0\0\0\0\0\0\0\0\0\0\0\0\0\x00\x01\x01\x04room\x01\x01\0\0\0\0\0\0\0\x01\x00";
 
 /// Feeds the piece, again where that was refused for want of memory.
 fn fed_at_last(frames: &mut Frames, piece: &[u8]) -> Option<Vec<Frame>> {

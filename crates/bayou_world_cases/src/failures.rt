@@ -213,7 +213,7 @@ fn with_memory_enough_a_collect_sends_and_a_restart_starts(rt: HostRuntime) {
 const ROUNDS: u8 = 6;
 
 /// No entry of a journal here is longer.
-const LONGEST: usize = 110;
+const LONGEST: usize = 142;
 
 /// How many device calls each server makes in that run: two for a Write and for an item, and two for a restart.
 const CALLS: u32 = 20;
