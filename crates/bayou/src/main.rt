@@ -6,9 +6,12 @@ ghost use Rattle.std.specs.Thread.{IsSend};
 
 mod progress;
 
+use bayou_command::Serving;
 use bayou_print::{Ended, RunFault};
 use bayou_script::NetworkScript;
-use bayou_shell::{Files, Networks, refuse_words, run_main, run_taken};
+use bayou_shell::{
+    Files, Networks, Service, refuse_words, run_main, run_served, run_taken,
+};
 use bayou_streams::{CountedChannel, Output};
 use progress::{Counted, Screen, tell_progress};
 use std::alloc::Global;
@@ -21,11 +24,16 @@ use std::thread::Threads;
 use std::time::{Clock, Duration};
 use std::{env, fs, io, thread};
 
-/// A script over sockets that is still to be run, and the folder of its servers' journals.
+/// What is still to be done once the words were read.
 #[derive(Drop)]
-struct Taken {
-    folder: String,
-    script: NetworkScript,
+enum Taken {
+    /// A script over sockets is to be run, with its servers' journals in this folder.
+    Net {
+        folder: String,
+        script: NetworkScript,
+    },
+    /// A server is to live.
+    Serve(Service),
 }
 
 /// The files of this machine, of whose content nothing is known, and the script that its sockets are wanted for.
@@ -68,7 +76,14 @@ impl<T> Networks for Host<'_, T> {
         _output: &mut Output<W>,
     ) -> Result<Ended, RunFault> {
         let folder = folder.to_string(alloc)?;
-        self.taken = Some(Taken { folder, script });
+        self.taken = Some(Taken::Net { folder, script });
+        Ok(Ended::Clean)
+    }
+
+    ghost serves = { λ service ended. Unit {0} };
+
+    fn serve(&mut self, alloc: Global, serving: &Serving<'_>) -> Result<Ended, RunFault> {
+        self.taken = Some(Taken::Serve(Service::of(alloc, serving)?));
         Ok(Ended::Clean)
     }
 }
@@ -83,6 +98,8 @@ struct Streams {
     input: Stdin,
     output: Stdout,
     errors: Stderr,
+    /// Where a server that lives tells what becomes of it.
+    told: Stderr,
 }
 
 // Does what the words say beside a screen, and gives the exit status.
@@ -90,6 +107,7 @@ fn run<
     'a,
     T: Threads
         + Wait
+        + Clock
         + fs::Files<File = File>
         + Net<Stream = TcpStream, Listener = TcpListener>
         + Send
@@ -105,6 +123,7 @@ fn run<
         input,
         output,
         errors,
+        told,
     } = streams;
     let mut host = Host {
         rt,
@@ -129,7 +148,7 @@ fn run<
     } = host;
     match taken {
         None => status,
-        Some(Taken { folder, script }) => run_taken(
+        Some(Taken::Net { folder, script }) => run_taken(
             rt,
             alloc,
             folder.as_str(),
@@ -137,6 +156,12 @@ fn run<
             &mut output,
             &mut errors,
         ),
+        Some(Taken::Serve(service)) => {
+            // A server that lives is at work for as long as it does, which is no news.
+            screen.lock(rt).end();
+            let (mut input, ()) = input.into_parts();
+            run_served(rt, alloc, service, &mut input, &mut output, told)
+        }
     }
 }
 
@@ -180,6 +205,7 @@ fn main(rt: HostRuntime) -> ExitCode {
         input: rt.stdin(),
         output: rt.stdout(),
         errors: rt.stderr(),
+        told: rt.stderr(),
     };
     let now = rt.monotonic().unwrap_or(Duration::from_secs(0));
     let screen = Mutex::new(Screen::new(rt.stderr(), now));

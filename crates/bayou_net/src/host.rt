@@ -41,8 +41,8 @@ impl<D: Device + Send + Sync, L: Desks + Send + Sync, G: RequestGate + Send + Sy
     }
 }
 
-// Drops what still comes, until the other end says nothing more, or the turns are spent.
-fn drop_rest<R: Read, W>(channel: &mut CountedChannel<R, W>) {
+/// Drops what still comes, until the other end says nothing more, or the turns are spent.
+pub fn drop_rest<R: Read, W>(channel: &mut CountedChannel<R, W>) {
     let mut piece = [0; READ_BYTES];
     loop {
         match channel.read_turn(&mut piece) {

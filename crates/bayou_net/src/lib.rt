@@ -13,6 +13,7 @@
 
 pub mod at_desk;
 mod at_node;
+pub mod attending;
 pub mod gate;
 pub mod host;
 pub mod lent;
@@ -24,8 +25,9 @@ pub mod serving;
 pub mod sockets;
 
 pub use at_desk::serve;
+pub use attending::{Attendant, Door, attend, shut};
 pub use gate::{NoGate, RequestGate};
-pub use host::{Host, serve_connection};
+pub use host::{Host, drop_rest, serve_connection};
 pub use listening::{ListenFault, ListenerBroken, ListenerEnded, listen, listen_on};
 pub use node::{answer_offer, pull, pull_from, serve_offer};
 pub use replying::{reopen_fault_of, write_fault_of};

@@ -100,7 +100,11 @@ fn accept_all<'s, E, H: Host + Sync, T: Wait + Send + Sync>(
 }
 
 // Waits for each thread, and takes its desk.
-fn join_all<S: Drop + Send, T: Threads>(rt: &T, workers: Vec<JoinHandle<S>>, desks: &mut Vec<S>)
+pub(crate) fn join_all<S: Drop + Send, T: Threads>(
+    rt: &T,
+    workers: Vec<JoinHandle<S>>,
+    desks: &mut Vec<S>,
+)
     requires room { vec_len desks.old + vec_len workers ≤ vec_capacity desks.old }
     ensures all { vec_len desks.new ≡ vec_len desks.old + vec_len workers }
     ensures same { vec_capacity desks.new ≡ vec_capacity desks.old }

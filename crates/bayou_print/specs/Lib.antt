@@ -2,6 +2,7 @@ pub mod Booked
 pub mod Fault
 pub mod Faults
 pub mod Laws
+pub mod Living
 pub mod Printed
 pub mod Telling
 pub mod Turns

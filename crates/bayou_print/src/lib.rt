@@ -14,6 +14,7 @@
 pub mod book;
 pub mod ended;
 pub mod fault;
+pub mod living;
 pub mod printed;
 pub mod printer;
 pub mod telling;
@@ -24,7 +25,8 @@ pub mod writing;
 pub use book::{Entries, Holding, servers_line};
 pub use ended::Ended;
 pub use fault::RunFault;
-pub use printed::{last_line, settled_line};
+pub use living::{held_line, serving_line};
+pub use printed::{last_line, pulling_word, settled_line};
 pub use printer::{Listing, Printer, Survey};
 pub use telling::{write_answer, write_each};
 pub use verdict::verdict_line;

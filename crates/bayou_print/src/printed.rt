@@ -21,9 +21,9 @@ use std::fmt;
 
 /// The first counts of a vector, as many as there are servers.
 #[derive(Drop)]
-struct Counts<'a> {
-    vector: &'a Vector,
-    servers: u8,
+pub(crate) struct Counts<'a> {
+    pub(crate) vector: &'a Vector,
+    pub(crate) servers: u8,
     ghost in_range: { servers ≤ SERVERS },
 }
 
@@ -230,7 +230,7 @@ fn taking_word(refusal: &TakeFault) -> &'static str
 }
 
 /// Why a pull ended before its End.
-fn pulling_word(fault: &PullFault) -> &'static str
+pub fn pulling_word(fault: &PullFault) -> &'static str
     ensures { result.now ≡ pulling_text fault.now }
 {
     match fault {

@@ -23,6 +23,7 @@ pub mod networks;
 pub mod program;
 mod reading;
 pub mod run;
+pub mod served;
 
 pub use audit::run_audit;
 pub use files::Files;
@@ -30,3 +31,4 @@ pub use net::run_net;
 pub use networks::Networks;
 pub use program::{refuse_words, run_main, run_taken};
 pub use run::run_script;
+pub use served::{Service, run_served};

@@ -1,5 +1,7 @@
-//! Networks that scripts are run over.
-ghost use Rattle.std.specs.Prelude.{◌≤◌, IfErr, List, OnOk, Result, ℕ};
+//! Networks that scripts are run over, and that servers live at.
+ghost use Rattle.std.specs.Prelude.{◌≡◌, ◌≤◌, IfErr, IfOk, List, OnOk, Result, ℕ};
+ghost use Rattle.bayou_command.specs.Serve.{Service, service_seen};
+ghost use Rattle.bayou_print.specs.declared.fault.RunFault.TheVariants.{Memory};
 ghost use Rattle.bayou_print.specs.declared.ended.Ended.{Ended as Told};
 ghost use Rattle.bayou_print.specs.declared.fault.RunFault.{RunFault as Cause};
 ghost use Rattle.bayou_script.specs.Plan.{network_plan_of};
@@ -8,13 +10,14 @@ ghost use Rattle.bayou_socket_run.specs.Faults.{IsNetFault, KeepsUnstarted};
 ghost use Rattle.bayou_print.specs.Turns.{EndsWriting};
 ghost use Rattle.bayou_streams.specs.Account.{TakesBytes, account};
 
+use bayou_command::Serving;
 use bayou_print::{Ended, RunFault};
 use bayou_script::NetworkScript;
 use bayou_streams::Output;
 use std::alloc::Global;
 use std::io::Write;
 
-/// Where a script is run whose servers have journals in a folder and answer over connections.
+/// Where a script is run whose servers have journals in a folder and answer over connections, and where a server lives.
 pub trait Networks {
     /// Whether running this script, with the servers' journals in the folder of this name, may end so.
     ghost runs: { List ℕ → Plan → Result Told Cause → Type 0 };
@@ -36,4 +39,13 @@ pub trait Networks {
         ensures unstarted { KeepsUnstarted result (account W.contents output.old) (account W.contents output.new) }
         ensures ended { IfErr result (EndsWriting output.new.channel.write_failed output.new.channel.turns_left) }
         ensures ready { OnOk result (output.old.channel.turns_left ≤ output.new.channel.turns_left) };
+
+    /// Whether a server that is asked for may be served so.
+    ghost serves: { Service → Told → Type 0 };
+
+    /// Serves what the words ask for, for as long as it lives; or takes it, to be served so once the words were read. What refuses it is told
+    /// then.
+    fn serve(&mut self, alloc: Global, serving: &Serving<'_>) -> Result<Ended, RunFault>
+        ensures served { IfOk result (serves (service_seen serving.now)) }
+        ensures memory { IfErr result (λ fault. fault ≡ Memory) };
 }

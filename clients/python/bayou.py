@@ -1,0 +1,433 @@
+"""A client of Bayou servers, in one file and with the standard library alone. Copy it into your program.
+
+    import bayou
+
+    session = bayou.Session(["127.0.0.1:7000", "127.0.0.1:7001"], asks=["ryw", "mr"])
+    session.write({"update": [["put", "room/9", "kim"]]})
+    print(session.read("room/9"))
+
+A session keeps what it wrote and read as two vectors, and so is never served an older state than it asked for (docs/GUARANTEES.md). It isn't for
+several threads at once. Servers are those of `bayou serve` (docs/SERVE.md); the bytes are those of docs/PROTOCOL.md and docs/FORMATS.md.
+"""
+import random
+import socket
+import struct
+
+SERVERS = 16
+SESSIONS = 32
+MAX_NUMBER = 2**32 - 1
+ASKS = ("ryw", "mr", "wfr", "mw")
+
+_READ, _REOPEN, _DUMP, _WRITE = 0x01, 0x03, 0x04, 0x06
+_SEEN, _ACCEPTED, _REFUSED, _REOPENED, _ITEM, _END = 0x11, 0x12, 0x13, 0x14, 0x15, 0x16
+_KEY_BYTES = frozenset(b"abcdefghijklmnopqrstuvwxyz0123456789._-/")
+_ZERO = (0,) * SERVERS
+
+
+class BayouError(Exception):
+    """Whatever goes wrong between a session and a server."""
+
+
+class BadRequest(BayouError, ValueError):
+    """What is asked for has no bytes: a key, a value or a program is none. Nothing was sent."""
+
+
+class Away(BayouError):
+    """No connection to the server came about. Nothing was sent."""
+
+
+class Lost(BayouError):
+    """The connection ended before the reply came: a Write may have been accepted. `again` asks it once more."""
+
+
+class Refused(BayouError):
+    """The server refused; nothing was done, but for `Down` and `JournalFailed`, behind which a Write may be in doubt."""
+
+
+class Down(Refused):
+    """A fault of its device took the server down: a Write is in doubt there."""
+
+
+class Behind(Refused):
+    """The server doesn't hold all that the session needs. `vector` is what it holds."""
+
+    def __init__(self, vector):
+        super().__init__("behind at %s" % ",".join(map(str, vector)))
+        self.vector = vector
+
+
+class Full(Refused):
+    """The server holds as many Writes as it may."""
+
+
+class JournalFailed(Refused):
+    """The server's device failed. A Write that was asked for is in doubt."""
+
+
+class NotDown(Refused):
+    """The server is up, and has no journal to open again."""
+
+
+class BadRecord(Refused):
+    """The journal has something else behind the Writes that the server holds."""
+
+
+class JournalLost(Refused):
+    """The journal hasn't got all Writes that the server holds."""
+
+
+class OutOfMemory(Refused):
+    """The server had no memory for it."""
+
+
+class TagUsed(Refused):
+    """The server holds another Write under the tag of this one."""
+
+
+_REFUSALS = {1: Down, 3: Full, 4: JournalFailed, 5: NotDown, 6: BadRecord, 7: JournalLost, 8: OutOfMemory, 9: TagUsed}
+
+
+class Accepted:
+    """A Write that was accepted: its name (`origin`, `seq`), its clock, and what its server held before it."""
+
+    def __init__(self, origin, seq, clock, deps):
+        self.origin, self.seq, self.clock, self.deps = origin, seq, clock, deps
+
+    def __repr__(self):
+        return "Accepted(%d:%d clock %d)" % (self.origin, self.seq, self.clock)
+
+
+# Bytes that are sent.
+
+def _key(key, least=1):
+    if not isinstance(key, str) or not least <= len(key) <= 32 or not _KEY_BYTES.issuperset(key.encode("utf-8")):
+        raise BadRequest("%r is no key" % (key,))
+    return bytes([len(key)]) + key.encode("ascii")
+
+
+def _integer(number, least=-(2**63), most=2**63 - 1):
+    if isinstance(number, bool) or not isinstance(number, int) or not least <= number <= most:
+        raise BadRequest("%r is no such number" % (number,))
+    return number
+
+
+def _value(value):
+    if isinstance(value, str):
+        text = value.encode("utf-8")
+        if len(text) > 32:
+            raise BadRequest("%r has more than 32 bytes" % (value,))
+        return b"\x02" + bytes([len(text)]) + text
+    return b"\x01" + struct.pack(">q", _integer(value))
+
+
+def _parts(part, words):
+    if not isinstance(part, (list, tuple)) or not part or words.get(part[0]) != len(part):
+        raise BadRequest("%r is none of %s" % (part, ", ".join(words)))
+    return part
+
+
+def _term(term):
+    if not isinstance(term, (list, tuple)):
+        return b"\x01" + _value(term)
+    word, key, *more = _parts(term, {"copy": 2, "plus": 3})
+    if word == "copy":
+        return b"\x02" + _key(key)
+    return b"\x03" + _key(key) + struct.pack(">q", _integer(more[0]))
+
+
+def _op(op):
+    word, key, *more = _parts(op, {"put": 3, "del": 2})
+    if word == "put":
+        return b"\x01" + _key(key) + _term(more[0])
+    return b"\x02" + _key(key)
+
+
+def _condition(condition):
+    word, key, *more = _parts(condition, {"equals": 3, "absent": 2, "atleast": 3, "atmost": 3})
+    if word == "equals":
+        return b"\x01" + _key(key) + _value(more[0])
+    if word == "absent":
+        return b"\x02" + _key(key)
+    if word == "atleast":
+        return b"\x03" + _key(key) + struct.pack(">q", _integer(more[0]))
+    return b"\x04" + _key(key, 0) + struct.pack(">I", _integer(more[0], 0, MAX_NUMBER))
+
+
+def _list(one, members, most):
+    if not isinstance(members, (list, tuple)) or len(members) > most:
+        raise BadRequest("%r is no list of at most %d" % (members, most))
+    return bytes([len(members)]) + b"".join(one(member) for member in members)
+
+
+def _members(value, names):
+    if not isinstance(value, dict) or not names.issuperset(value):
+        raise BadRequest("%r has other members than %s" % (value, ", ".join(sorted(names))))
+    return value
+
+
+def _alternative(value):
+    members = _members(value, {"when", "ops"})
+    return _list(_condition, members.get("when", []), 8) + _list(_op, members.get("ops", []), 8)
+
+
+def program_bytes(program):
+    """The bytes of a program, which is as in a line of a script: {"check": [..], "update": [..], "merge": [..]} (docs/LANGUAGE.md)."""
+    members = _members(program, {"check", "update", "merge"})
+    return (_list(_condition, members.get("check", []), 8) + _list(_op, members.get("update", []), 8)
+            + _list(_alternative, members.get("merge", []), 4))
+
+
+def _vector(vector):
+    return struct.pack(">%dI" % SERVERS, *vector)
+
+
+def _frame(kind, payload=b""):
+    return struct.pack(">HB", len(payload) + 1, kind) + payload
+
+
+# Bytes that come.
+
+class _Payload:
+    def __init__(self, data):
+        self.data, self.at = data, 0
+
+    def take(self, form):
+        size = struct.calcsize(form)
+        if len(self.data) - self.at < size:
+            raise Lost("a reply that is none")
+        found = struct.unpack_from(form, self.data, self.at)
+        self.at += size
+        return found
+
+    def vector(self):
+        return self.take(">%dI" % SERVERS)
+
+    def optional_value(self):
+        (word,) = self.take(">B")
+        if word == 0:
+            return None
+        if word == 1:
+            return self.take(">q")[0]
+        (length,) = self.take(">B")
+        try:
+            return self.take(">%ds" % length)[0].decode("utf-8")
+        except UnicodeDecodeError:
+            raise Lost("a reply that is none") from None
+
+    def accepted(self):
+        origin, seq, clock = self.take(">BII")
+        return Accepted(origin, seq, clock, self.vector())
+
+    def refusal(self):
+        (code,) = self.take(">B")
+        if code == 2:
+            return Behind(self.vector())
+        if code == 6:
+            return BadRecord("at %d" % self.take(">I"))
+        if code not in _REFUSALS:
+            raise Lost("a reply that is none")
+        return _REFUSALS[code](_REFUSALS[code].__doc__)
+
+
+class Link:
+    """A connection to one server, which is made when it is needed, and anew where the server closed it."""
+
+    def __init__(self, address, timeout=10.0):
+        host, _, port = address.rpartition(":")
+        self.address, self.timeout = (host.strip("[]"), int(port)), timeout
+        self.socket, self.replies = None, None
+
+    def close(self):
+        if self.socket is not None:
+            self.replies.close()
+            self.socket.close()
+        self.socket = self.replies = None
+
+    def _is_open(self):
+        """Whether the server hasn't ended the connection: nothing stands there to be read, not even its end."""
+        if self.socket is None:
+            return False
+        try:
+            self.socket.setblocking(False)
+            try:
+                self.socket.recv(1, socket.MSG_PEEK)
+            except BlockingIOError:
+                return True
+            finally:
+                self.socket.settimeout(self.timeout)
+        except OSError:
+            pass
+        return False
+
+    def _connect(self):
+        if self._is_open():
+            return
+        self.close()
+        try:
+            self.socket = socket.create_connection(self.address, self.timeout)
+            self.socket.setsockopt(socket.IPPROTO_TCP, socket.TCP_NODELAY, 1)
+        except OSError as error:
+            self.close()
+            raise Away(str(error)) from None
+        self.replies = self.socket.makefile("rb")
+
+    def _reply(self):
+        length, kind = struct.unpack(">HB", self._exactly(3))
+        return kind, _Payload(self._exactly(length - 1))
+
+    def _exactly(self, count):
+        piece = self.replies.read(count)
+        if len(piece) < count:
+            raise Lost("the connection ended")
+        return piece
+
+    def ask(self, request, *kinds):
+        """The first reply to the request, which is of one of these kinds."""
+        self._connect()
+        try:
+            self.socket.sendall(request)
+            kind, payload = self._reply()
+            if kind == _REFUSED:
+                raise payload.refusal()
+            if kind not in kinds:
+                raise Lost("a reply to something else")
+            return kind, payload
+        except OSError as error:
+            self.close()
+            raise Lost(str(error)) from None
+        except Lost:
+            self.close()
+            raise
+
+    def reopen(self):
+        """Has the server open its journal again, and tells the name of the Write that was adopted, if one was."""
+        _, payload = self.ask(_frame(_REOPEN), _REOPENED)
+        (adopted,) = payload.take(">B")
+        return payload.take(">BI") if adopted else None
+
+    def dump(self):
+        """All Writes that the server holds, in order of receipt, each as its bytes."""
+        writes = []
+        kind, payload = self.ask(_frame(_DUMP), _ITEM, _END)
+        try:
+            while kind == _ITEM:
+                writes.append(payload.data)
+                kind, payload = self._reply()
+            if kind != _END or payload.take(">I") != (len(writes),):
+                raise Lost("a dump that isn't whole")
+        except OSError as error:
+            self.close()
+            raise Lost(str(error)) from None
+        except Lost:
+            self.close()
+            raise
+        return writes
+
+
+class Session:
+    """A session at the servers of these addresses, server 0 first: `None` stands for one that can't be reached from here.
+
+    `asks` says what it asks for, any of "ryw" (Read Your Writes), "mr" (Monotonic Reads), "wfr" (Writes Follow Reads) and "mw" (Monotonic
+    Writes). `number` and `run` name its Writes, so that one that is asked again acts once: no two sessions of a store may have the same pair. The
+    run is drawn at random where none is given.
+    """
+
+    def __init__(self, addresses, asks=(), number=0, run=None, timeout=10.0):
+        if not set(asks) <= set(ASKS):
+            raise BadRequest("%r isn't of %s" % (asks, ", ".join(ASKS)))
+        self.links = [None if address is None else Link(address, timeout) for address in addresses]
+        self.asks = frozenset(asks)
+        self.number = _integer(number, 0, SESSIONS - 1)
+        self.run = _integer(run, 1, MAX_NUMBER) if run is not None else random.SystemRandom().randint(1, MAX_NUMBER)
+        self.place = 0
+        self.has_read, self.has_written = _ZERO, _ZERO
+        # The last Write, where it may still be asked again: its server, its request and its need.
+        self.pending = None
+
+    def close(self):
+        for link in self.links:
+            if link is not None:
+                link.close()
+
+    def __enter__(self):
+        return self
+
+    def __exit__(self, *_):
+        self.close()
+
+    def need(self, of_reads, of_writes):
+        """What a server has to hold, for these guarantees of what was read and of what was written."""
+        read = self.has_read if of_reads in self.asks else _ZERO
+        written = self.has_written if of_writes in self.asks else _ZERO
+        return tuple(map(max, read, written))
+
+    def _link(self, server):
+        if not 0 <= server < len(self.links) or self.links[server] is None:
+            raise Away("no address of server %d" % server)
+        return self.links[server]
+
+    def _begin(self):
+        if self.place == MAX_NUMBER:
+            raise BayouError("the session has no place left")
+        self.place += 1
+        self.pending = None
+
+    def read(self, key, server=0):
+        """What the key has at that server: an int, a str, or None."""
+        need = self.need("mr", "ryw")
+        request = _frame(_READ, _vector(need) + _key(key))
+        link = self._link(server)
+        self._begin()
+        _, payload = link.ask(request, _SEEN)
+        value, vector = payload.optional_value(), payload.vector()
+        if not all(has >= wants for has, wants in zip(vector, need)):
+            raise Lost("a read of less than was needed")
+        self.has_read = tuple(map(max, self.has_read, vector))
+        return value
+
+    def write(self, program, server=0):
+        """Has the program accepted as a Write at that server. Behind `Lost`, and behind a refusal, `again` asks for the same Write."""
+        need = self.need("wfr", "mw")
+        body = program_bytes(program)
+        self._link(server)
+        self._begin()
+        tag = struct.pack(">BII", self.number, self.run, self.place)
+        self.pending = (server, _frame(_WRITE, tag + _vector(need) + body), need)
+        return self.again()
+
+    def again(self):
+        """Asks the last Write again, at its server and under its tag: however often it is asked, it is one Write. There must be one that
+        wasn't told as accepted, and nothing else asked since."""
+        if self.pending is None:
+            raise BayouError("there is no Write to ask again")
+        server, request, need = self.pending
+        _, payload = self._link(server).ask(request, _ACCEPTED)
+        accepted = payload.accepted()
+        if accepted.origin != server or not all(has >= wants for has, wants in zip(accepted.deps, need)):
+            raise Lost("a Write of another server, or before less than was needed")
+        written = list(self.has_written)
+        written[server] = max(written[server], accepted.seq)
+        self.has_written = tuple(written)
+        self.pending = None
+        return accepted
+
+    def read_anywhere(self, key):
+        """What the key has at the first server that is reached and holds what the session needs."""
+        return self._anywhere(lambda server: self.read(key, server))
+
+    def write_anywhere(self, program):
+        """Has the program accepted at the first server that takes it. It goes on to the next one only where nothing can have been done."""
+        return self._anywhere(lambda server: self.write(program, server))
+
+    def _anywhere(self, ask):
+        fault = Away("no server has an address")
+        for server, link in enumerate(self.links):
+            if link is None:
+                continue
+            try:
+                return ask(server)
+            except (JournalFailed, Lost):
+                raise
+            except (Away, Refused) as refused:
+                fault = refused
+        raise fault

@@ -1,0 +1,2 @@
+pub mod Fullness
+pub mod News

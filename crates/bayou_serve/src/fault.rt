@@ -1,0 +1,83 @@
+use bayou_device::Damage;
+use bayou_server::{JournalFault, StartFault};
+use std::alloc::AllocError;
+use thiserror::Error;
+
+/// Why nothing is served, or no more.
+#[derive(Clone, Copy, Debug, PartialEq, Eq, Error)]
+pub enum ServeFault {
+    /// The journal's file can't be opened or locked.
+    #[error("it can't be opened, or another process has it")]
+    NotOpened,
+    #[error("there is no journal; --new makes one")]
+    Missing,
+    #[error("there is a journal; without --new it is gone on from")]
+    Present,
+    /// A call of the file failed.
+    #[error("a call of the file failed")]
+    Device,
+    /// What stands behind the whole entries is more than one that was torn.
+    #[error(
+        "it is whole up to byte {whole}, and the {behind} bytes behind that are damaged; nothing was changed"
+    )]
+    Damaged { whole: usize, behind: usize },
+    #[error("it is no journal")]
+    NotAJournal,
+    #[error("it is another server's journal")]
+    OtherServer,
+    /// The body of this entry, from 0 on, is no record.
+    #[error("its entry {0} is no Write that may stand there")]
+    BadRecord(u32),
+    /// The Write of this entry may not follow those before it.
+    #[error("its entry {0} may not follow those before it")]
+    Gap(u32),
+    #[error("it has more Writes than --limit")]
+    LogFull,
+    /// A peer, of this number, has a Write of this server, which its journal lacks.
+    #[error("it lacks Writes of its own server that server {0} has")]
+    OwnLost(u8),
+    #[error("memory")]
+    Memory,
+    #[error("no socket can be listened at there")]
+    Port,
+    #[error("output")]
+    Output,
+}
+
+impl ServeFault {
+    /// Whether it is the journal's, so that its file is to be named.
+    pub fn is_of_journal(self) -> bool {
+        !matches!(
+            self,
+            ServeFault::Memory | ServeFault::Port | ServeFault::Output
+        )
+    }
+}
+
+impl From<AllocError> for ServeFault {
+    ghost use Rattle.std.specs.Prelude.{◌≡◌};
+    ghost use Rattle.bayou_serve.specs.declared.fault.ServeFault.TheVariants.{Memory};
+
+    ghost from_gives = { λ _ fault. fault ≡ Memory };
+
+    fn from(_error: AllocError) -> ServeFault {
+        ServeFault::Memory
+    }
+}
+
+/// What a start that was refused is told as. A device that refused a cut tells the damage.
+pub(crate) fn fault_of(refused: StartFault, damage: Option<Damage>) -> ServeFault {
+    match (refused, damage) {
+        (StartFault::Journal(JournalFault::Device), Some(damage)) => ServeFault::Damaged {
+            whole: damage.whole,
+            behind: damage.behind,
+        },
+        (StartFault::Journal(JournalFault::Device), None) => ServeFault::Device,
+        (StartFault::Journal(JournalFault::NotAJournal), _) => ServeFault::NotAJournal,
+        (StartFault::Journal(JournalFault::OtherServer), _) => ServeFault::OtherServer,
+        (StartFault::BadRecord(at), _) => ServeFault::BadRecord(at),
+        (StartFault::Gap(at), _) => ServeFault::Gap(at),
+        (StartFault::LogFull, _) => ServeFault::LogFull,
+        (StartFault::OutOfMemory, _) => ServeFault::Memory,
+    }
+}

@@ -1,0 +1,148 @@
+//! The other servers of the store, from which a server that lives takes what it lacks.
+ghost use Rattle.std.specs.Prelude.{◌≡◌, ◌≢◌, ◌<◌, ◌≤◌, IfSome, index};
+ghost use Rattle.bayou_base.specs.declared.limits.TheConstants.{MAX_WRITES as MOST, SERVERS as NUMBER};
+
+use crate::hall::Hall;
+use crate::plan::Peer;
+use crate::teller::Teller;
+use crate::visit::{News, Visit, news_behind};
+use crate::waiting::{Most, Renewing, Since, TICK_MILLISECONDS, Waiting};
+use bayou_base::{MAX_WRITES, SERVERS, ServerId, Vector};
+use bayou_device::Device;
+use bayou_net::{Sockets, pull_from};
+use bayou_node::{Desks, Node};
+use bayou_peer::{PullFault, Pulled};
+use bayou_print::pulling_word;
+use bayou_server::TakeFault;
+use bayou_streams::{CountedChannel, Patient};
+use std::alloc::{AllocError, Global};
+use std::io::Write;
+use std::net::TcpStream;
+use std::sync::Wait;
+use std::thread;
+use std::time::{Clock, Duration};
+
+/// How long a peer has to take a connection.
+const REACH_SECONDS: u64 = 2;
+
+/// How long a peer has between two pieces of its answer, in milliseconds.
+const ANSWER_MILLISECONDS: u64 = 10_000;
+
+const TICKS_PER_SECOND: u64 = 1_000 / TICK_MILLISECONDS;
+
+/// Rests so long, or until the server ends.
+pub(crate) fn rest<T: Clock>(rt: &T, hall: &Hall, seconds: u32) {
+    for _ in 0..u64::from(seconds) * TICKS_PER_SECOND {
+        if hall.is_over() {
+            return;
+        }
+        thread::sleep(rt, Duration::from_millis(TICK_MILLISECONDS));
+    }
+}
+
+/// Whether reads and writes at the socket end in time.
+pub(crate) fn is_timed(stream: &TcpStream) -> bool {
+    // A socket that can't be told so sends small pieces later.
+    let _ = stream.set_nodelay(true);
+    let tick = Duration::from_millis(TICK_MILLISECONDS);
+    let answer = Duration::from_millis(ANSWER_MILLISECONDS);
+    stream.set_read_timeout(Some(tick)).is_ok() && stream.set_write_timeout(Some(answer)).is_ok()
+}
+
+// A connection to the peer, whose reads and writes end in time, if one comes about.
+fn reach<T: Sockets>(rt: &T, peer: Peer) -> Option<TcpStream> {
+    let stream =
+        TcpStream::connect_timeout(rt, &peer.address, Duration::from_secs(REACH_SECONDS)).ok()?;
+    if is_timed(&stream) { Some(stream) } else { None }
+}
+
+// Takes once what this peer has that these counts don't count.
+fn visit_with<D: Device, L: Desks, T: Wait + Clock + Sockets>(
+    rt: &T,
+    alloc: Global,
+    node: &Node<D, L>,
+    counts: &Vector,
+    peer: Peer,
+    hall: &Hall,
+) -> Visit {
+    let Some(stream) = reach(rt, peer) else {
+        return Visit::Away;
+    };
+    let since = Since::now(rt);
+    let patience = Waiting::new(rt, hall, &since, Most::Milliseconds(ANSWER_MILLISECONDS));
+    let reader = Renewing::new(Patient::new(&stream, patience), rt, &since);
+    let writer = Renewing::new(&stream, rt, &since);
+    let mut channel = CountedChannel::new(reader, writer);
+    match pull_from(rt, alloc, node, counts, &mut channel) {
+        Ok(pulled) => Visit::Pulled(pulled),
+        Err(fault) => Visit::Failed(fault),
+    }
+}
+
+/// The counts that all Writes are within, but for those of this server, of which so many are counted. What a peer has beyond them is of this
+/// server, and behind those.
+pub fn all_but_own(id: ServerId, own: u32) -> Option<Vector>
+    requires { own ≤ MOST }
+{
+    let mut counts = [MAX_WRITES; SERVERS];
+    counts[usize::from(id.index)] = own;
+    Vector::from_counts(counts)
+}
+
+/// Whether the peer has a Write of this server which the server lacks. One that can't be asked has none, as far as is known.
+pub(crate) fn has_lost<D: Device, L: Desks, T: Wait + Clock + Sockets>(
+    rt: &T,
+    alloc: Global,
+    node: &Node<D, L>,
+    peer: Peer,
+    hall: &Hall,
+) -> bool {
+    let id = node.id();
+    let Some(counts) = all_but_own(id, node.offer(rt).get(id)) else {
+        return false;
+    };
+    let visit = visit_with(rt, alloc, node, &counts, peer, hall);
+    matches!(visit, Visit::Failed(PullFault::Refused(TakeFault::OwnLost)))
+}
+
+// The line that tells news of a peer.
+fn news_line(alloc: Global, peer: Peer, news: &News) -> Result<String, AllocError> {
+    let (id, address) = (peer.id.index, peer.address);
+    match news {
+        News::Away => format!(in alloc; "bayou: peer {id} at {address} away\n"),
+        News::Reached(Pulled { taken, had }) => {
+            format!(in alloc; "bayou: peer {id} reached pulled {taken} had {had}\n")
+        }
+        News::Pulled(Pulled { taken, had }) => {
+            format!(in alloc; "bayou: peer {id} pulled {taken} had {had}\n")
+        }
+        News::Failed(fault) => {
+            let why = pulling_word(fault);
+            format!(in alloc; "bayou: peer {id} pull fault {why}\n")
+        }
+    }
+}
+
+/// Pulls from the peer every so many seconds, until the server ends, and tells what is news.
+pub(crate) fn keep_pulling<D: Device, L: Desks, E: Write, T: Wait + Clock + Sockets>(
+    rt: &T,
+    alloc: Global,
+    node: &Node<D, L>,
+    peer: Peer,
+    every_seconds: u32,
+    hall: &Hall,
+    teller: &Teller<E>,
+) {
+    let mut last = None;
+    for _ in rt.forever() {
+        if hall.is_over() {
+            return;
+        }
+        let visit = visit_with(rt, alloc, node, &node.offer(rt), peer, hall);
+        if let Some(news) = news_behind(last, visit) {
+            teller.tell_made(rt, news_line(alloc, peer, &news));
+        }
+        last = Some(visit);
+        rest(rt, hall, every_seconds);
+    }
+}

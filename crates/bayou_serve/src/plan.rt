@@ -1,0 +1,149 @@
+//! What a server that lives is to do, as the words of its command line say it.
+ghost use Rattle.std.specs.Prelude.{◌≡◌, ◌≢◌, ◌<◌, ◌≤◌, All, AllPairs, IfErr, IfOk, MatchResult};
+ghost use Rattle.bayou_base.specs.declared.limits.TheConstants.{SERVERS};
+
+use bayou_base::ServerId;
+use bayou_command::Serving;
+use std::alloc::{AllocError, Global};
+use std::net::SocketAddr;
+use thiserror::Error;
+
+/// Another server of the store, and where it listens.
+#[derive(Clone, Copy, Debug)]
+pub struct Peer {
+    pub id: ServerId,
+    pub address: SocketAddr,
+}
+
+/// A server that is to live: which one of how many, where it listens, and from whom it pulls.
+#[derive(Drop)]
+pub struct Plan {
+    pub id: ServerId,
+    pub servers: u8,
+    pub limit: u32,
+    pub listen: SocketAddr,
+    pub peers: Vec<Peer>,
+    /// How long it rests between two pulls from a peer.
+    pub every_seconds: u32,
+    pub connections: u32,
+    /// How long a connection may say nothing.
+    pub idle_seconds: u32,
+    pub until_input_ends: bool,
+    pub is_new: bool,
+    pub ghost among: { (id.index < servers) × (servers ≤ SERVERS) },
+    pub ghost others: { All (λ peer. (peer.id.index < servers) × (peer.id ≢ id)) peers.items },
+    pub ghost once: { AllPairs (λ one other. one.id ≢ other.id) peers.items },
+}
+
+/// Why the words of a command line make no plan.
+#[derive(Clone, Copy, Debug, PartialEq, Eq, Error)]
+pub enum PlanFault {
+    #[error("--id is below --servers")]
+    NoServer,
+    #[error("--listen takes ADDRESS:PORT, with an address of numbers")]
+    NoAddress,
+    #[error("--listen at an address that isn't loopback wants --anyone: the store has no passwords and no ciphers")]
+    OpenToAnyone,
+    #[error("--peer takes I=ADDRESS:PORT, I being another server's number")]
+    NoPeer,
+    #[error("--peer names a server twice")]
+    SamePeer,
+    #[error("memory")]
+    OutOfMemory,
+}
+
+impl From<AllocError> for PlanFault {
+    ghost use Rattle.std.specs.Prelude.{◌≡◌};
+    ghost use Rattle.bayou_serve.specs.declared.plan.PlanFault.TheVariants.{OutOfMemory};
+
+    ghost from_gives = { λ _ fault. fault ≡ OutOfMemory };
+
+    fn from(_error: AllocError) -> PlanFault {
+        PlanFault::OutOfMemory
+    }
+}
+
+// The peer that a word says, if it says one.
+fn peer_of(word: &str) -> Option<Peer> {
+    let (number, address) = word.split_once('=')?;
+    let id = ServerId::new(number.parse::<u8>().ok()?)?;
+    let address = address.parse::<SocketAddr>().ok()?;
+    Some(Peer { id, address })
+}
+
+// Whether one of the peers is that server.
+fn has_peer(peers: &[Peer], id: ServerId) -> bool
+    ensures { result ≡ false → All (λ peer. peer.id ≢ id) peers.now }
+{
+    peers.iter().any(|peer| peer.id == id)
+}
+
+// The peers that the words say: other servers, none of them twice.
+fn peers_of(
+    alloc: Global,
+    id: ServerId,
+    servers: u8,
+    words: &[&str],
+) -> Result<Vec<Peer>, PlanFault>
+    ensures others { IfOk result (λ peers. All (λ peer. (peer.id.index < servers) × (peer.id ≢ id)) peers.items) }
+    ensures once { IfOk result (λ peers. AllPairs (λ one other. one.id ≢ other.id) peers.items) }
+    ensures number { IfOk result (λ peers. length peers.items ≡ length words.now) }
+{
+    let mut peers: Vec<Peer> = Vec::new(alloc);
+    for word in words {
+        let Some(peer) = peer_of(word) else {
+            return Err(PlanFault::NoPeer);
+        };
+        if peer.id.index >= servers || peer.id == id {
+            return Err(PlanFault::NoPeer);
+        }
+        if has_peer(&peers, peer.id) {
+            return Err(PlanFault::SamePeer);
+        }
+        if peers.push(peer).is_err() {
+            return Err(PlanFault::OutOfMemory);
+        }
+    }
+    Ok(peers)
+}
+
+// Where the server is to listen. Only who says so listens where strangers may come.
+fn listens_at(word: &str, serves_anyone: bool) -> Result<SocketAddr, PlanFault> {
+    let Ok(address) = word.parse::<SocketAddr>() else {
+        return Err(PlanFault::NoAddress);
+    };
+    if !serves_anyone && !address.ip().is_loopback() {
+        return Err(PlanFault::OpenToAnyone);
+    }
+    Ok(address)
+}
+
+impl Plan {
+    /// What the words say, or the first of them that can't be done.
+    pub fn of(alloc: Global, serving: &Serving<'_>) -> Result<Plan, PlanFault>
+        ensures same { IfOk result (λ plan. (plan.id.index ≡ serving.now.id) × (plan.servers ≡ serving.now.servers) × (plan.limit ≡ serving.now.limit)
+            × (plan.connections ≡ serving.now.connections) × (plan.idle_seconds ≡ serving.now.idle_seconds) × (plan.every_seconds ≡ serving.now.every_seconds)
+            × (plan.until_input_ends ≡ serving.now.until_input_ends) × (plan.is_new ≡ serving.now.is_new)) }
+    {
+        let Some(id) = ServerId::new(serving.id) else {
+            return Err(PlanFault::NoServer);
+        };
+        if serving.id >= serving.servers {
+            return Err(PlanFault::NoServer);
+        }
+        let listen = listens_at(serving.listen, serving.serves_anyone)?;
+        let peers = peers_of(alloc, id, serving.servers, serving.peers.as_slice())?;
+        Ok(Plan {
+            id,
+            servers: serving.servers,
+            limit: serving.limit,
+            listen,
+            peers,
+            every_seconds: serving.every_seconds,
+            connections: serving.connections,
+            idle_seconds: serving.idle_seconds,
+            until_input_ends: serving.until_input_ends,
+            is_new: serving.is_new,
+        })
+    }
+}

@@ -1,0 +1,272 @@
+//! A server that lives, from its start to its end.
+ghost use Rattle.std.specs.Prelude.{◌≡◌, MatchResult, vec_len};
+ghost use Rattle.std.specs.Thread.{IsSend};
+ghost use Rattle.bayou_node.specs.Books.{IsBlankOf, begun_of};
+
+use crate::fault::ServeFault;
+use crate::hall::Hall;
+use crate::keeper::keep_up;
+use crate::peers::{has_lost, keep_pulling};
+use crate::plan::Plan;
+use crate::reception::Reception;
+use crate::starting::{Careful, Started, start_at};
+use crate::teller::Teller;
+use bayou_device::Device;
+use bayou_net::{Door, Sockets, attend, shut};
+use bayou_node::{Desk, Desks, Node};
+use bayou_print::{held_line, serving_line, settled_line, write_text};
+use bayou_server::Server;
+use bayou_streams::Output;
+use std::alloc::Global;
+use std::fs::{File, Files};
+use std::io::{Read, Write};
+use std::marker::Brand;
+use std::net::TcpListener;
+use std::sync::Wait;
+use std::sync::ledger::Blank;
+use std::thread;
+use std::thread::{Scope, Threads};
+use std::time::Clock;
+
+/// What is served, and by what it is told when to end.
+#[derive(Drop)]
+struct Life<'s, D, L: Desks, E> {
+    plan: &'s Plan,
+    node: &'s Node<D, L>,
+    listener: &'s TcpListener,
+    hall: &'s Hall,
+    teller: &'s Teller<E>,
+}
+
+// Writes a line, or has the output at fault.
+fn print<W: Write>(output: &mut Output<W>, line: &str) -> Result<(), ServeFault> {
+    match write_text(output, line.as_bytes()) {
+        Ok(()) => Ok(()),
+        Err(_) => Err(ServeFault::Output),
+    }
+}
+
+// Reads up to the end of the input, or to where it fails.
+fn await_end<I: Read, T: Wait>(rt: &T, input: &mut I) {
+    let mut piece = [0; 64];
+    for _ in rt.forever() {
+        match input.read(&mut piece) {
+            Ok(0) | Err(_) => return,
+            Ok(_) => {}
+        }
+    }
+}
+
+// Begins to pull from each peer, and to keep the server up, each in a thread of its own. What has no thread is told.
+fn begin_beside<'s, Env, D, L, E, T>(
+    scope: &'s Scope<'s, Env>,
+    rt: &'s T,
+    alloc: Global,
+    life: &Life<'s, D, L, E>,
+)
+where
+    D: Device + Send + Sync,
+    L: Desks + Send + Sync,
+    E: Write + Send + Drop,
+    T: Wait + Clock + Sockets + Send + Sync,
+{
+    let Life {
+        plan,
+        node,
+        hall,
+        teller,
+        ..
+    } = *life;
+    let (limit, every) = (plan.limit, plan.every_seconds);
+    for peer in plan.peers.iter() {
+        let peer = *peer;
+        let begun = scope.spawn(move || keep_pulling(rt, alloc, node, peer, every, hall, teller));
+        if begun.is_err() {
+            teller.tell(rt, "bayou: no thread for a peer: nothing is pulled from it\n");
+        }
+    }
+    let begun = scope.spawn(move || keep_up(rt, alloc, node, limit, hall, teller));
+    if begun.is_err() {
+        teller.tell(rt, "bayou: no thread for the keeper: a server that goes down stays down\n");
+    }
+}
+
+// Serves at each desk until the server is told to end. All desks come back, and whether anybody was served.
+fn attend_all<D, L, I, E, T>(
+    rt: &T,
+    alloc: Global,
+    life: &Life<'_, D, L, E>,
+    desks: Vec<Desk<L>>,
+    input: &mut I,
+) -> Result<Vec<Desk<L>>, Vec<Desk<L>>>
+where
+    D: Device + Send + Sync,
+    L: Desks + Send + Sync,
+    I: Read,
+    E: Write + Send + Drop,
+    T: Threads + Wait + Clock + Sockets + Send + Sync,
+    ensures { MatchResult result (λ back. vec_len back ≡ vec_len desks) (λ left. vec_len left ≡ vec_len desks) }
+{
+    let Life {
+        plan,
+        node,
+        listener,
+        hall,
+        teller,
+    } = *life;
+    let reception = Reception {
+        node,
+        hall,
+        clock: rt,
+        teller,
+    };
+    let door = Door {
+        host: &reception,
+        listener,
+        stop: &hall.stop,
+        is_short: &hall.is_short,
+    };
+    let until = plan.until_input_ends;
+    let ended = attend(rt, alloc, &door, desks, move |unserved| {
+        if unserved > 0 {
+            teller.tell(rt, "bayou: fewer threads than connections\n");
+        }
+        if until {
+            await_end(rt, input);
+            hall.end();
+            let _ = shut(listener);
+        }
+    });
+    // Whoever pulls and keeps the server up ends too.
+    hall.end();
+    ended
+}
+
+// The same, while Writes are pulled from each peer and the server is kept up.
+fn live<D, L, I, E, T>(
+    rt: &T,
+    alloc: Global,
+    life: &Life<'_, D, L, E>,
+    desks: Vec<Desk<L>>,
+    input: &mut I,
+) -> Result<Vec<Desk<L>>, Vec<Desk<L>>>
+where
+    D: Device + Send + Sync,
+    L: Desks + Send + Sync,
+    I: Read,
+    E: Write + Send + Drop,
+    T: Threads + Wait + Clock + Sockets + Send + Sync,
+    ensures { MatchResult result (λ back. vec_len back ≡ vec_len desks) (λ left. vec_len left ≡ vec_len desks) }
+{
+    thread::scope(
+        thread::scope_env(),
+        rt,
+        move |scope| -> Result<Vec<Desk<L>>, Vec<Desk<L>>>
+            requires { IsSend T.row × IsSend L.row × IsSend D.row × IsSend E.row }
+            ensures { MatchResult result (λ back. vec_len back ≡ vec_len desks) (λ left. vec_len left ≡ vec_len desks) }
+        {
+            begin_beside(scope, rt, alloc, life);
+            attend_all(rt, alloc, life, desks, input)
+        },
+    )
+}
+
+// Tells that it takes connections, and what it holds.
+fn print_serving<D: Device, L: Desks, W: Write, E, T: Wait>(
+    rt: &T,
+    alloc: Global,
+    life: &Life<'_, D, L, E>,
+    output: &mut Output<W>,
+) -> Result<(), ServeFault> {
+    let plan = life.plan;
+    let Ok(address) = life.listener.local_addr() else {
+        return Err(ServeFault::Port);
+    };
+    let address = format!(in alloc; "{address}")?;
+    let held = life.node.offer(rt);
+    let line = serving_line(alloc, plan.id, address.as_str(), plan.servers, &held)?;
+    print(output, line.as_str())
+}
+
+// Serves the node from its first connection to a told end, and prints what its books come to.
+fn serve_node<L, I, W, E, T>(
+    rt: &T,
+    alloc: Global,
+    blank: Blank,
+    server: Server<Careful>,
+    plan: &Plan,
+    listener: &TcpListener,
+    input: &mut I,
+    output: &mut Output<W>,
+    teller: &Teller<E>,
+) -> Result<(), ServeFault>
+where
+    L: Desks + Send + Sync,
+    I: Read,
+    W: Write,
+    E: Write + Send + Drop,
+    T: Threads + Wait + Clock + Sockets + Send + Sync,
+    requires blank { IsBlankOf blank L.name L.parts plan.now.connections × (begun_of server.core ≡ L.begun) }
+{
+    let Ok((node, desks)) = Node::<Careful, L>::new(alloc, blank, server, plan.connections) else {
+        return Err(ServeFault::Memory);
+    };
+    let hall = Hall::new(plan.connections, plan.idle_seconds);
+    let life = Life {
+        plan,
+        node: &node,
+        listener,
+        hall: &hall,
+        teller,
+    };
+    // What a peer has of it this server must have: else it would give names twice.
+    for peer in plan.peers.iter() {
+        if has_lost(rt, alloc, &node, *peer, &hall) {
+            return Err(ServeFault::OwnLost(peer.id.index));
+        }
+    }
+    print_serving(rt, alloc, &life, output)?;
+    let Ok(desks) = live(rt, alloc, &life, desks, input) else {
+        return Err(ServeFault::Memory);
+    };
+    let Ok(settled) = node.settle(desks) else {
+        unreachable!();
+    };
+    let line = settled_line(alloc, plan.id, &settled)?;
+    print(output, line.as_str())?;
+    let line = held_line(alloc, plan.id, plan.servers, &settled.vector)?;
+    print(output, line.as_str())
+}
+
+/// Serves what the plan says, with the journal in this file, until the input ends, where the plan asks for that, or for ever. What is told
+/// beside the printed lines goes to the teller.
+pub fn serve_plan<I, W, E, T>(
+    rt: &T,
+    alloc: Global,
+    path: &str,
+    plan: &Plan,
+    input: &mut I,
+    output: &mut Output<W>,
+    teller: &Teller<E>,
+) -> Result<(), ServeFault>
+where
+    I: Read,
+    W: Write,
+    E: Write + Send + Drop,
+    T: Threads + Wait + Clock + Files<File = File> + Sockets + Send + Sync,
+{
+    let Started { server, dropped } = start_at(rt, alloc, plan, path)?;
+    if dropped > 0 {
+        teller.tell_made(
+            rt,
+            format!(in alloc; "bayou: dropped {dropped} bytes of {path}\n"),
+        );
+    }
+    let Ok(listener) = TcpListener::bind(rt, plan.listen) else {
+        return Err(ServeFault::Port);
+    };
+    let blank = Blank::new(u64::from(plan.connections));
+    serve_node::<Brand, I, W, E, T>(
+        rt, alloc, blank, server, plan, &listener, input, output, teller,
+    )
+}

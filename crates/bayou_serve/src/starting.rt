@@ -1,0 +1,53 @@
+//! How a server that lives is started on its journal.
+ghost use Rattle.std.specs.Prelude.{◌≡◌, IfOk};
+
+use crate::fault::{ServeFault, fault_of};
+use crate::plan::Plan;
+use bayou_device::{CarefulDevice, FileDevice};
+use bayou_journal::format::ENTRY_BYTES;
+use bayou_server::Server;
+use std::alloc::Global;
+use std::fs;
+use std::fs::{File, Files};
+
+/// The device of a server that lives.
+pub(crate) type Careful = CarefulDevice<FileDevice<File>>;
+
+/// A server with its journal in a file, and how many bytes of a torn entry were cut.
+#[derive(Drop)]
+pub(crate) struct Started {
+    pub(crate) server: Server<Careful>,
+    pub(crate) dropped: usize,
+}
+
+// That there is a journal exactly where none is to be made.
+fn look_for<T: Files<File = File>>(rt: &T, path: &str, is_new: bool) -> Result<(), ServeFault> {
+    let Ok(is_there) = fs::exists(rt, path) else {
+        return Err(ServeFault::NotOpened);
+    };
+    match (is_there, is_new) {
+        (true, true) => Err(ServeFault::Present),
+        (false, false) => Err(ServeFault::Missing),
+        _ => Ok(()),
+    }
+}
+
+/// The server that the plan asks for, with what its journal of this name has. No more than one torn entry is cut off its end.
+pub(crate) fn start_at<T: Files<File = File>>(
+    rt: &T,
+    alloc: Global,
+    plan: &Plan,
+    path: &str,
+) -> Result<Started, ServeFault>
+    ensures { IfOk result (λ started. (started.server.core.id ≡ plan.now.id.index) × (started.server.core.count ≡ plan.now.servers) × (started.server.core.limit ≡ plan.now.limit)) }
+{
+    look_for(rt, path, plan.is_new)?;
+    let Ok(file) = FileDevice::open(rt, path) else {
+        return Err(ServeFault::NotOpened);
+    };
+    let device = CarefulDevice::new(file, ENTRY_BYTES);
+    match Server::start(alloc, plan.id, plan.servers, plan.limit, device) {
+        Ok((server, dropped)) => Ok(Started { server, dropped }),
+        Err(refused) => Err(fault_of(refused.fault, refused.device.damage())),
+    }
+}

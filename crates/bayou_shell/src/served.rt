@@ -1,0 +1,95 @@
+//! Servers that live, from the words to the exit status.
+ghost use Rattle.std.specs.Prelude.{◌≡◌, ◌≢◌, ◌⊎◌, IfErr, IfOk, MatchResult};
+ghost use Rattle.bayou_serve.specs.declared.plan.PlanFault.TheVariants.{OutOfMemory};
+
+use bayou_command::Serving;
+use bayou_net::Sockets;
+use bayou_serve::{Plan, PlanFault, ServeFault, Teller, serve_plan};
+use bayou_streams::Output;
+use std::alloc::{AllocError, Global};
+use std::fs;
+use std::fs::File;
+use std::io::{Read, Write};
+use std::sync::Wait;
+use std::thread::Threads;
+use std::time::Clock;
+
+/// A server that is to live: the file of its journal, and what it is to do, or why its words make no plan.
+#[derive(Drop)]
+pub struct Service {
+    path: String,
+    plan: Result<Plan, PlanFault>,
+}
+
+/// The exit status of words that can't be done.
+const REFUSED: u8 = 2;
+
+/// The exit status of every other fault.
+const FAILED: u8 = 3;
+
+impl Service {
+    /// What the words ask for. What can't be done of them is told once it is to be served; want of memory alone is told at once.
+    pub fn of(alloc: Global, serving: &Serving<'_>) -> Result<Self, AllocError>
+        ensures { IfOk result (λ service. MatchResult service.plan (λ plan. plan.id.index ≡ serving.now.id) (λ fault. fault ≢ OutOfMemory)) }
+    {
+        let (folder, id) = (serving.folder, serving.id);
+        let path = format!(in alloc; "{folder}/server-{id}.journal")?;
+        match Plan::of(alloc, serving) {
+            Err(PlanFault::OutOfMemory) => Err(AllocError),
+            plan => Ok(Service { path, plan }),
+        }
+    }
+}
+
+// The line that tells a fault, with the journal's file where that is at fault.
+fn fault_line(alloc: Global, path: &str, fault: ServeFault) -> Result<String, AllocError> {
+    if fault.is_of_journal() {
+        return format!(in alloc; "bayou: {path}: {fault}\n");
+    }
+    format!(in alloc; "bayou: {fault}\n")
+}
+
+// Tells the line that was made, or that memory ran out.
+fn tell_line<E: Write, T: Wait>(rt: &T, teller: &Teller<E>, made: Result<String, AllocError>) {
+    match made {
+        Ok(line) => teller.tell(rt, line.as_str()),
+        Err(_) => teller.tell(rt, "bayou: memory\n"),
+    }
+}
+
+/// Serves what was asked for, tells a fault, and gives the exit status.
+pub fn run_served<I, W, E, T>(
+    rt: &T,
+    alloc: Global,
+    service: Service,
+    input: &mut I,
+    output: &mut Output<W>,
+    errors: E,
+) -> u8
+where
+    I: Read,
+    W: Write,
+    E: Write + Send + Drop,
+    T: Threads + Wait + Clock + fs::Files<File = File> + Sockets + Send + Sync,
+    ensures status { (result ≡ 0) ⊎ (result ≡ REFUSED) ⊎ (result ≡ FAILED) }
+    // Of words that can't be done nothing is served or printed.
+    ensures refused { IfErr service.plan (λ _. (result ≡ REFUSED) × (output.new ≡ output.old)) }
+    ensures taken { IfOk service.plan (λ _. (result ≡ 0) ⊎ (result ≡ FAILED)) }
+{
+    let teller = Teller::new(errors);
+    let Service { path, plan } = service;
+    let plan = match plan {
+        Ok(plan) => plan,
+        Err(fault) => {
+            tell_line(rt, &teller, format!(in alloc; "bayou: {fault}\n"));
+            return REFUSED;
+        }
+    };
+    match serve_plan(rt, alloc, path.as_str(), &plan, input, output, &teller) {
+        Ok(()) => 0,
+        Err(fault) => {
+            tell_line(rt, &teller, fault_line(alloc, path.as_str(), fault));
+            FAILED
+        }
+    }
+}
