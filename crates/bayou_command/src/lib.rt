@@ -11,9 +11,14 @@ ghost use Rattle.clap.specs.Words.{app_of, found_of, kind_of, rows_of, rule_of, 
 ghost use Rattle.bayou_command.specs.Words.{AskFor, Names, a_net, a_run, an_audit, asked_by, audit_app, bayou_app, faults_of, file, folder_of, folder_rule, input_of, input_seen, main_app, net_app, run_app, standard, task_seen};
 ghost use Rattle.bayou_command.specs.Inner.Stops.{StopsAt};
 
+mod serve;
+mod serving;
+
 use clap::builder::ValueParser;
 use clap::error::ErrorKind;
 use clap::{Arg, ArgMatches, Command, Error};
+use serve::{serve_command, serving_in};
+pub use serving::Serving;
 use std::alloc::{AllocError, Global};
 use std::convert::AsStr;
 
@@ -229,7 +234,7 @@ pub enum Source<'a> {
 }
 
 /// What the program is to do.
-#[derive(Clone, Copy, Debug, PartialEq, Eq)]
+#[derive(Debug, Drop, PartialEq, Eq)]
 pub enum Task<'a> {
     /// To run the script that is there.
     Run(Source<'a>),
@@ -237,6 +242,8 @@ pub enum Task<'a> {
     Audit(Source<'a>),
     /// To run the script that is there over sockets, with the servers' journals in this folder.
     Net { folder: &'a str, script: Source<'a> },
+    /// To serve one server of a store.
+    Serve(Serving<'a>),
 }
 
 /// Why the words name no task.
@@ -299,7 +306,7 @@ fn audit_command<'a>(alloc: Global) -> Result<Command<'a>, AllocError>
         .arg(file)
 }
 
-fn folder_option<'a>(alloc: Global) -> Arg<'a>
+pub(crate) fn folder_option<'a>(alloc: Global) -> Arg<'a>
     ensures rule { rule_of result ≡ folder_rule }
     ensures local { result.global ≡ false }
 {
@@ -336,6 +343,7 @@ fn bayou_command<'a>(alloc: Global) -> Result<Command<'a>, AllocError>
     main_command(alloc)?
         .subcommand(run_command(alloc)?)?
         .subcommand(net_command(alloc)?)?
+        .subcommand(serve_command(alloc)?)?
         .subcommand(audit_command(alloc)?)
 }
 
@@ -353,25 +361,26 @@ fn source_in<'a>(found: &ArgMatches<'a>) -> Source<'a>
 }
 
 /// The folder that a command names. One that asks for it isn't entered without it.
-fn folder_in<'a>(found: &ArgMatches<'a>) -> &'a str
+pub(crate) fn folder_in<'a>(found: &ArgMatches<'a>) -> &'a str
     ensures { result.now ≡ folder_of (rows_of (found_of found.now)) }
 {
     found.get_str("DIR").unwrap_or("")
 }
 
 /// What is asked for by the command that was entered.
-fn task_in<'a>(matches: &ArgMatches<'a>) -> Task<'a>
-    ensures { task_seen result ≡ asked_by (subcommand_rows_of matches.now) }
+fn task_in<'a>(alloc: Global, matches: &ArgMatches<'a>) -> Result<Task<'a>, AllocError>
+    ensures { IfOk result (λ task. task_seen task ≡ asked_by (subcommand_rows_of matches.now)) }
 {
-    match matches.subcommand() {
+    Ok(match matches.subcommand() {
         Some(("audit", found)) => Task::Audit(source_in(found)),
         Some(("net", found)) => Task::Net {
             folder: folder_in(found),
             script: source_in(found),
         },
+        Some(("serve", found)) => Task::Serve(serving_in(alloc, found)?),
         Some((_, found)) => Task::Run(source_in(found)),
         None => Task::Run(Source::Standard),
-    }
+    })
 }
 
 /// What the words name. The first of them is the program's own name.
@@ -381,7 +390,7 @@ pub fn read_words<'a, S: AsStr>(alloc: Global, words: &'a [S]) -> Result<Task<'a
     ensures { Names (map S.text words.entry.now) result }
 {
     match bayou_command(alloc)?.try_get_matches_from(words) {
-        Ok(matches) => Ok(task_in(&matches)),
+        Ok(matches) => Ok(task_in(alloc, &matches)?),
         Err(error) => Err(Stop::of(alloc, &error)),
     }
 }

@@ -1,0 +1,214 @@
+//! The words behind `serve`: its options, and what they ask for.
+ghost use Rattle.std.specs.Prelude.{◌≡◌, ◌≤◌, ◌<◌, ◌^◌, IfOk, false, map};
+ghost use Rattle.clap.specs.declared.builder.command.Command.TheViews.{out-Command as fields_of};
+ghost use Rattle.clap.specs.Words.{app_of, found_of, rows_of, rule_of};
+ghost use Rattle.bayou_command.specs.Serve.{choice_rules, flag_of, flag_rule, flag_rules, needed_rules, number_of, number_rule, option_rule, serve_app, service_of, service_seen, text_of, texts_of, with_rules};
+
+use crate::serving::Serving;
+use crate::{folder_in, folder_option};
+use bayou_base::limits::{
+    DEFAULT_CONNECTIONS, DEFAULT_EVERY_SECONDS, DEFAULT_IDLE_SECONDS, MAX_CONNECTIONS, MAX_SECONDS,
+    MAX_WRITES, SERVERS,
+};
+use clap::builder::ValueParser;
+use clap::{Arg, ArgAction, ArgMatches, Command};
+use std::alloc::{AllocError, Global};
+
+const SERVE_ABOUT: &str =
+    "Serves one server of a store at a socket, with its journal in a file, until it is killed.";
+
+const ID: &str = "The server's number, which is below N (0 to 15)";
+
+const COUNT: &str = "How many servers the store has (1 to 16)";
+
+const FOLDER: &str = "The folder that its journal is in; it must exist";
+
+const LISTEN: &str = "Where it listens, as 127.0.0.1:7000";
+
+const PEER: &str = "A server that it pulls from, as 1=127.0.0.1:7001; once for each";
+
+const EVERY: &str = "It pulls from each peer so often (1 to 86400; without it 1)";
+
+const LIMIT: &str = "How many Writes it holds at the most (1 to 65536; without it 65536)";
+
+const CONNECTIONS: &str =
+    "How many connections it serves at once at the most (1 to 4096; without it 64)";
+
+const IDLE: &str =
+    "A connection that asks nothing for so long is closed (1 to 86400; without it 60)";
+
+const UNTIL: &str = "Ends where the standard input ends";
+
+const NEW: &str = "Makes the journal; without it a missing one is a fault";
+
+const ANYONE: &str = "Listens also at an address that other machines reach";
+
+const SERVE_FORM: &str = r#"."#;
+
+/// An option with a value, which the usage calls `value`.
+fn value_option<'a>(alloc: Global, name: &'a str, value: &'a str, help: &'a str) -> Arg<'a>
+    ensures rule { rule_of result ≡ option_rule name.entry.now }
+    ensures local { result.global ≡ false }
+{
+    Arg::new(alloc, name)
+        .long(name)
+        .value_name(value)
+        .help(help)
+}
+
+/// An option whose value is a number from `least` to `most`.
+fn number_option<'a>(
+    alloc: Global,
+    name: &'a str,
+    value: &'a str,
+    help: &'a str,
+    least: u32,
+    most: u32,
+) -> Arg<'a>
+    ensures rule { rule_of result ≡ number_rule name.entry.now least most }
+    ensures local { result.global ≡ false }
+{
+    let range = ValueParser::Signed(i64::from(least), i64::from(most));
+    value_option(alloc, name, value, help).value_parser(range)
+}
+
+fn flag<'a>(alloc: Global, name: &'a str, help: &'a str) -> Arg<'a>
+    ensures rule { rule_of result ≡ flag_rule name.entry.now }
+    ensures local { result.global ≡ false }
+{
+    Arg::new(alloc, name)
+        .long(name)
+        .action(ArgAction::SetTrue)
+        .help(help)
+}
+
+// The command with the options that must be there.
+fn with_needed<'a>(alloc: Global, command: Command<'a>) -> Result<Command<'a>, AllocError>
+    ensures app { IfOk result (λ made. app_of made ≡ with_rules (app_of command.entry) needed_rules) }
+    ensures local { IfOk result (λ made. (fields_of made).has_globals ≡ (fields_of command.entry).has_globals) }
+{
+    let id = number_option(alloc, "id", "I", ID, 0, SERVERS as u32 - 1);
+    let servers = number_option(alloc, "servers", "N", COUNT, 1, SERVERS as u32);
+    let listen = value_option(alloc, "listen", "ADDRESS:PORT", LISTEN);
+    command
+        .arg(id.required(true))?
+        .arg(servers.required(true))?
+        .arg(folder_option(alloc).help(FOLDER))?
+        .arg(listen.required(true))
+}
+
+// The command with the options that may be there.
+fn with_choices<'a>(alloc: Global, command: Command<'a>) -> Result<Command<'a>, AllocError>
+    ensures app { IfOk result (λ made. app_of made ≡ with_rules (app_of command.entry) choice_rules) }
+    ensures local { IfOk result (λ made. (fields_of made).has_globals ≡ (fields_of command.entry).has_globals) }
+{
+    let peer = value_option(alloc, "peer", "I=ADDRESS:PORT", PEER);
+    let every = number_option(alloc, "every", "SECONDS", EVERY, 1, MAX_SECONDS);
+    let limit = number_option(alloc, "limit", "L", LIMIT, 1, MAX_WRITES);
+    let connections = number_option(alloc, "connections", "C", CONNECTIONS, 1, MAX_CONNECTIONS);
+    let idle = number_option(alloc, "idle", "SECONDS", IDLE, 1, MAX_SECONDS);
+    command
+        .arg(peer.action(ArgAction::Append))?
+        .arg(every)?
+        .arg(limit)?
+        .arg(connections)?
+        .arg(idle)
+}
+
+// The command with its flags.
+fn with_flags<'a>(alloc: Global, command: Command<'a>) -> Result<Command<'a>, AllocError>
+    ensures app { IfOk result (λ made. app_of made ≡ with_rules (app_of command.entry) flag_rules) }
+    ensures local { IfOk result (λ made. (fields_of made).has_globals ≡ (fields_of command.entry).has_globals) }
+{
+    command
+        .arg(flag(alloc, "until-input-ends", UNTIL))?
+        .arg(flag(alloc, "new", NEW))?
+        .arg(flag(alloc, "anyone", ANYONE))
+}
+
+pub(crate) fn serve_command<'a>(alloc: Global) -> Result<Command<'a>, AllocError>
+    ensures app { IfOk result (λ command. app_of command ≡ serve_app) }
+    ensures local { IfOk result (λ command. (fields_of command).has_globals ≡ false) }
+{
+    let command = Command::new(alloc, "serve")
+        .about(SERVE_ABOUT)
+        .after_help(SERVE_FORM);
+    let command = with_needed(alloc, command)?;
+    let command = with_choices(alloc, command)?;
+    with_flags(alloc, command)
+}
+
+/// The number that an option gives, or `other` where it isn't there. No command is entered with one out of its range.
+fn number_in(found: &ArgMatches, name: &str, least: u32, most: u32, other: u32) -> u32
+    requires { (least ≤ other) × (other ≤ most) }
+    ensures value { result ≡ number_of name.now least most other (rows_of (found_of found.now)) }
+    ensures within { (least ≤ result) × (result ≤ most) }
+{
+    match found.get_one::<u32>(name) {
+        Some(number) if least <= number && number <= most => number,
+        _ => other,
+    }
+}
+
+/// The text that an option gives. A command that must have it isn't entered without it.
+fn text_in<'a>(found: &ArgMatches<'a>, name: &str) -> &'a str
+    ensures { result.now ≡ text_of name.now (rows_of (found_of found.now)) }
+{
+    found.get_str(name).unwrap_or("")
+}
+
+/// Whether a flag is there.
+fn flag_in(found: &ArgMatches, name: &str) -> bool
+    ensures { result ≡ flag_of name.now (rows_of (found_of found.now)) }
+{
+    match found.get_str(name) {
+        Some(text) => text == "true",
+        None => false,
+    }
+}
+
+/// The texts that an option gives, in the order of the words.
+fn texts_in<'a>(
+    alloc: Global,
+    found: &ArgMatches<'a>,
+    name: &str,
+) -> Result<Vec<&'a str>, AllocError>
+    ensures { IfOk result (λ texts. map (λ text. text.now) texts.items ≡ texts_of name.now (rows_of (found_of found.now))) }
+{
+    let mut texts = Vec::new(alloc);
+    if let Some(given) = found.get_strs(name) {
+        texts.extend_from_slice(given)?;
+    }
+    Ok(texts)
+}
+
+/// What the options ask for.
+pub(crate) fn serving_in<'a>(
+    alloc: Global,
+    found: &ArgMatches<'a>,
+) -> Result<Serving<'a>, AllocError>
+    ensures { IfOk result (λ serving. service_seen serving ≡ service_of (rows_of (found_of found.now))) }
+{
+    let every = number_in(found, "every", 1, MAX_SECONDS, DEFAULT_EVERY_SECONDS);
+    let connections = number_in(
+        found,
+        "connections",
+        1,
+        MAX_CONNECTIONS,
+        DEFAULT_CONNECTIONS,
+    );
+    Ok(Serving {
+        id: number_in(found, "id", 0, SERVERS as u32 - 1, 0) as u8,
+        servers: number_in(found, "servers", 1, SERVERS as u32, 1) as u8,
+        folder: folder_in(found),
+        listen: text_in(found, "listen"),
+        peers: texts_in(alloc, found, "peer")?,
+        every_seconds: every,
+        limit: number_in(found, "limit", 1, MAX_WRITES, MAX_WRITES),
+        connections,
+        idle_seconds: number_in(found, "idle", 1, MAX_SECONDS, DEFAULT_IDLE_SECONDS),
+        until_input_ends: flag_in(found, "until-input-ends"),
+        is_new: flag_in(found, "new"),
+        serves_anyone: flag_in(found, "anyone"),
+    })
+}
