@@ -5,10 +5,11 @@
 //! the texts.
 #![tactic(auto)]
 
-ghost use Rattle.std.specs.Prelude.{◌≡◌, ◌∷◌, [], IfOk, MatchResult, codes, false, map};
+ghost use Rattle.std.specs.Prelude.{◌≡◌, ◌∷◌, [], IfOk, MatchResult, codes, false, map, true};
 ghost use Rattle.clap.specs.declared.builder.command.Command.TheViews.{out-Command as fields_of};
 ghost use Rattle.clap.specs.Words.{app_of, found_of, kind_of, rows_of, rule_of, subcommand_rows_of};
-ghost use Rattle.bayou_command.specs.Words.{AskFor, Names, a_net, a_run, an_audit, asked_by, audit_app, bayou_app, faults_of, file, folder_of, folder_rule, input_of, input_seen, main_app, net_app, run_app, standard, task_seen};
+ghost use Rattle.bayou_command.specs.Words.{AskFor, Names, a_net, a_run, a_serve, an_audit, asked_by, audit_app, bayou_app, faults_of, file, folder_of, folder_rule, input_of, input_seen, main_app, net_app, run_app, standard, task_seen};
+ghost use Rattle.bayou_command.specs.Rows.{plain_service, serve_with, serve_words};
 ghost use Rattle.bayou_command.specs.Inner.Stops.{StopsAt};
 
 mod serve;
@@ -411,4 +412,38 @@ pub fn commands_are_named()
     ensures net_turned { AskFor (codes "bayou" ∷ codes "net" ∷ codes "a.jsonl" ∷ codes "--dir" ∷ codes "d" ∷ []) (a_net (codes "d") (file (codes "a.jsonl"))) }
     ensures net_bare { faults_of (codes "bayou" ∷ codes "net" ∷ []) ≡ ErrorKind.MissingRequiredArgument ∷ [] }
     ensures net_nowhere { faults_of (codes "bayou" ∷ codes "net" ∷ codes "--dir" ∷ [] ∷ []) ≡ ErrorKind.InvalidValue ∷ [] }
+    ensures serve { AskFor (serve_with []) (a_serve plain_service) }
+    ensures serve_joined { AskFor (serve_words (codes "--listen=h:1" ∷ codes "--dir=d" ∷ codes "--servers=3" ∷ codes "--id=1" ∷ [])) (a_serve plain_service) }
+    ensures serve_peers { AskFor (serve_with (codes "--peer" ∷ codes "0=h:2" ∷ codes "--peer" ∷ codes "2=h:3" ∷ [])) (a_serve (record plain_service { peers = codes "0=h:2" ∷ codes "2=h:3" ∷ [] })) }
+    ensures serve_every { AskFor (serve_with (codes "--every" ∷ codes "2" ∷ [])) (a_serve (record plain_service { every_seconds = 2 })) }
+    ensures serve_limit { AskFor (serve_with (codes "--limit" ∷ codes "3" ∷ [])) (a_serve (record plain_service { limit = 3 })) }
+    ensures serve_connections { AskFor (serve_with (codes "--connections" ∷ codes "4" ∷ [])) (a_serve (record plain_service { connections = 4 })) }
+    ensures serve_idle { AskFor (serve_with (codes "--idle" ∷ codes "5" ∷ [])) (a_serve (record plain_service { idle_seconds = 5 })) }
+    ensures serve_until_input_ends { AskFor (serve_with (codes "--until-input-ends" ∷ [])) (a_serve (record plain_service { until_input_ends = true })) }
+    ensures serve_new { AskFor (serve_with (codes "--new" ∷ [])) (a_serve (record plain_service { is_new = true })) }
+    ensures serve_anyone { AskFor (serve_with (codes "--anyone" ∷ [])) (a_serve (record plain_service { serves_anyone = true })) }
+    ensures serve_whole { AskFor (serve_with (codes "--peer" ∷ codes "0=h:2" ∷ codes "--peer" ∷ codes "2=h:3" ∷ codes "--every" ∷ codes "2" ∷ codes "--limit" ∷ codes "3" ∷ codes "--connections" ∷ codes "4" ∷ codes "--idle" ∷ codes "5" ∷ codes "--until-input-ends" ∷ codes "--new" ∷ codes "--anyone" ∷ [])) (a_serve (record plain_service { peers = codes "0=h:2" ∷ codes "2=h:3" ∷ []; every_seconds = 2; limit = 3; connections = 4; idle_seconds = 5; until_input_ends = true; is_new = true; serves_anyone = true })) }
+    ensures serve_turned { AskFor (serve_words (codes "--anyone" ∷ codes "--idle" ∷ codes "5" ∷ codes "--peer" ∷ codes "0=h:2" ∷ codes "--listen" ∷ codes "h:1" ∷ codes "--limit" ∷ codes "3" ∷ codes "--new" ∷ codes "--id" ∷ codes "1" ∷ codes "--connections" ∷ codes "4" ∷ codes "--peer" ∷ codes "2=h:3" ∷ codes "--dir" ∷ codes "d" ∷ codes "--every" ∷ codes "2" ∷ codes "--until-input-ends" ∷ codes "--servers" ∷ codes "3" ∷ [])) (a_serve (record plain_service { peers = codes "0=h:2" ∷ codes "2=h:3" ∷ []; every_seconds = 2; limit = 3; connections = 4; idle_seconds = 5; until_input_ends = true; is_new = true; serves_anyone = true })) }
+    ensures serve_least { AskFor (serve_words (codes "--id" ∷ codes "0" ∷ codes "--servers" ∷ codes "1" ∷ codes "--dir" ∷ codes "d" ∷ codes "--listen" ∷ codes "h:1" ∷ codes "--every" ∷ codes "1" ∷ codes "--limit" ∷ codes "1" ∷ codes "--connections" ∷ codes "1" ∷ codes "--idle" ∷ codes "1" ∷ [])) (a_serve (record plain_service { id = 0; servers = 1; limit = 1; connections = 1; idle_seconds = 1 })) }
+    ensures serve_most { AskFor (serve_words (codes "--id" ∷ codes "15" ∷ codes "--servers" ∷ codes "16" ∷ codes "--dir" ∷ codes "d" ∷ codes "--listen" ∷ codes "h:1" ∷ codes "--every" ∷ codes "86400" ∷ codes "--limit" ∷ codes "65536" ∷ codes "--connections" ∷ codes "4096" ∷ codes "--idle" ∷ codes "86400" ∷ [])) (a_serve (record plain_service { id = 15; servers = 16; every_seconds = 86400; connections = 4096; idle_seconds = 86400 })) }
+    ensures serve_bare { faults_of (serve_words []) ≡ ErrorKind.MissingRequiredArgument ∷ [] }
+    ensures serve_no_id { faults_of (serve_words (codes "--servers" ∷ codes "3" ∷ codes "--dir" ∷ codes "d" ∷ codes "--listen" ∷ codes "h:1" ∷ [])) ≡ ErrorKind.MissingRequiredArgument ∷ [] }
+    ensures serve_no_servers { faults_of (serve_words (codes "--id" ∷ codes "1" ∷ codes "--dir" ∷ codes "d" ∷ codes "--listen" ∷ codes "h:1" ∷ [])) ≡ ErrorKind.MissingRequiredArgument ∷ [] }
+    ensures serve_no_dir { faults_of (serve_words (codes "--id" ∷ codes "1" ∷ codes "--servers" ∷ codes "3" ∷ codes "--listen" ∷ codes "h:1" ∷ [])) ≡ ErrorKind.MissingRequiredArgument ∷ [] }
+    ensures serve_no_listen { faults_of (serve_words (codes "--id" ∷ codes "1" ∷ codes "--servers" ∷ codes "3" ∷ codes "--dir" ∷ codes "d" ∷ [])) ≡ ErrorKind.MissingRequiredArgument ∷ [] }
+    ensures serve_id_above { faults_of (serve_words (codes "--id" ∷ codes "16" ∷ codes "--servers" ∷ codes "3" ∷ codes "--dir" ∷ codes "d" ∷ codes "--listen" ∷ codes "h:1" ∷ [])) ≡ ErrorKind.ValueValidation ∷ [] }
+    ensures serve_id_none { faults_of (serve_words (codes "--id" ∷ codes "x" ∷ codes "--servers" ∷ codes "3" ∷ codes "--dir" ∷ codes "d" ∷ codes "--listen" ∷ codes "h:1" ∷ [])) ≡ ErrorKind.ValueValidation ∷ [] }
+    ensures serve_servers_below { faults_of (serve_words (codes "--id" ∷ codes "1" ∷ codes "--servers" ∷ codes "0" ∷ codes "--dir" ∷ codes "d" ∷ codes "--listen" ∷ codes "h:1" ∷ [])) ≡ ErrorKind.ValueValidation ∷ [] }
+    ensures serve_servers_above { faults_of (serve_words (codes "--id" ∷ codes "1" ∷ codes "--servers" ∷ codes "17" ∷ codes "--dir" ∷ codes "d" ∷ codes "--listen" ∷ codes "h:1" ∷ [])) ≡ ErrorKind.ValueValidation ∷ [] }
+    ensures serve_every_below { faults_of (serve_with (codes "--every" ∷ codes "0" ∷ [])) ≡ ErrorKind.ValueValidation ∷ [] }
+    ensures serve_every_above { faults_of (serve_with (codes "--every" ∷ codes "86401" ∷ [])) ≡ ErrorKind.ValueValidation ∷ [] }
+    ensures serve_limit_below { faults_of (serve_with (codes "--limit" ∷ codes "0" ∷ [])) ≡ ErrorKind.ValueValidation ∷ [] }
+    ensures serve_limit_above { faults_of (serve_with (codes "--limit" ∷ codes "65537" ∷ [])) ≡ ErrorKind.ValueValidation ∷ [] }
+    ensures serve_connections_below { faults_of (serve_with (codes "--connections" ∷ codes "0" ∷ [])) ≡ ErrorKind.ValueValidation ∷ [] }
+    ensures serve_connections_above { faults_of (serve_with (codes "--connections" ∷ codes "4097" ∷ [])) ≡ ErrorKind.ValueValidation ∷ [] }
+    ensures serve_idle_below { faults_of (serve_with (codes "--idle" ∷ codes "0" ∷ [])) ≡ ErrorKind.ValueValidation ∷ [] }
+    ensures serve_idle_above { faults_of (serve_with (codes "--idle" ∷ codes "86401" ∷ [])) ≡ ErrorKind.ValueValidation ∷ [] }
+    ensures serve_nowhere { faults_of (serve_words (codes "--id" ∷ codes "1" ∷ codes "--servers" ∷ codes "3" ∷ codes "--dir" ∷ [] ∷ codes "--listen" ∷ codes "h:1" ∷ [])) ≡ ErrorKind.InvalidValue ∷ [] }
+    ensures serve_twice { faults_of (serve_with (codes "--id" ∷ codes "2" ∷ [])) ≡ ErrorKind.ArgumentConflict ∷ [] }
+    ensures serve_word { faults_of (serve_with (codes "w" ∷ [])) ≡ ErrorKind.UnknownArgument ∷ [] }
 {}
