@@ -57,8 +57,9 @@ The session didn't read its own Write: its read at place 2, at server 1, lacks t
 the verdict is clean.
 
 `bayou run --help` has each line of a script, `bayou net --help` how a script is run over sockets, with journals in files,
-`bayou audit --help` each line of an audit file. Exit status: 0 nothing is wrong; 1 a verdict is broken; 2 the input or the command
-line is refused, or a verdict is; 3 memory, a device, the network, the input or the output failed.
+`bayou audit --help` each line of an audit file, `bayou serve --help` how one server is kept at a socket for clients of any kind.
+Exit status: 0 nothing is wrong; 1 a verdict is broken; 2 the input or the command line is refused, or a verdict is; 3 memory, a
+device, the network, the input or the output failed.
 docs/TROUBLE.md says what to do about each fault; examples/ has scripts and audit files to begin from."#;
 
 const RUN_ABOUT: &str = "Reads a script, checks it, and prints a line for each answer.";
@@ -399,6 +400,9 @@ pub fn read_words<'a, S: AsStr>(alloc: Global, words: &'a [S]) -> Result<Task<'a
 /// A law: `bayou run`, `bayou run -` and `bayou run FILE` ask for a run, of the standard input or of the file, `bayou audit FILE` and
 /// `bayou audit -` for an audit, and `bayou net --dir D`, with the same words for its input and in any order, for a run over sockets with the
 /// journals in the folder D. Without a folder, or with one that has no name, `bayou net` is refused.
+/// `bayou serve` with the options that it must have asks for a server that lives: with the numbers that it has without their options, and with
+/// each other option as it is given, in any order. Without one of those that it must have, with a number out of its range, with one of them
+/// twice or with a word that is no option it is refused.
 pub fn commands_are_named()
     ensures run { AskFor (codes "bayou" ∷ codes "run" ∷ []) (a_run standard) }
     ensures run_dash { AskFor (codes "bayou" ∷ codes "run" ∷ codes "-" ∷ []) (a_run standard) }
