@@ -86,3 +86,18 @@ pub const MAX_NUMBER: u32 = u32::MAX;
 
 /// How often one read of a patient reader waits at the most.
 pub const MAX_WAITS: u32 = 1_000_000;
+
+/// How many connections a server that lives serves at once at the most.
+pub const MAX_CONNECTIONS: u32 = 4_096;
+
+/// How many connections a server that lives serves at once where the command line doesn't say.
+pub const DEFAULT_CONNECTIONS: u32 = 64;
+
+/// How many seconds the command line may name at the most: a day.
+pub const MAX_SECONDS: u32 = 86_400;
+
+/// After how many seconds a connection that asks nothing is closed where the command line doesn't say.
+pub const DEFAULT_IDLE_SECONDS: u32 = 60;
+
+/// After how many seconds a server that lives pulls again where the command line doesn't say.
+pub const DEFAULT_EVERY_SECONDS: u32 = 1;

@@ -11,7 +11,8 @@ use Rattle.clap.specs.declared.error.Error.{Error}
 use Rattle.clap.specs.declared.error.kind.ErrorKind.TheVariants.{OutOfMemory}
 use Rattle.bayou_command.specs.declared.Stop.{Stop}
 use Rattle.bayou_command.specs.declared.Stop.TheVariants.{Asked, Refused, Memory}
-use Rattle.bayou_command.specs.Words.{Input, Names, bayou_app, faults_of, file, file_name, folder_name, folder_of, input_named, input_of, standard}
+use Rattle.bayou_command.specs.Words.{Input, Names, bayou_app, faults_of, file, file_name, input_named, input_of, standard}
+use Rattle.bayou_command.specs.Serve.{text_of}
 use Rattle.bayou_command.specs.Inner.Stops.{StopsAt}
 
 pub simple : is_simple_and_free bayou_app ≡ true
@@ -45,8 +46,8 @@ unwrap_or_now : (word : Option (Bor Text)) (other : Bor Text) → other.now ≡ 
 unwrap_or_now None other empty = empty
 unwrap_or_now (Some name) other empty = refl
 
--- the folder is the one that the word names
-pub folder_named : (found : Found) (word : Option (Bor Text)) (folder other : Bor Text) → option_map (λ s. s.now) word ≡ first_value found folder_name
-    → folder ≡ unwrap_or word other → other.now ≡ [] → folder.now ≡ folder_of (rows_of found)
-folder_named found word folder other is named empty =
-    ap (λ s. s.now) named ∙ unwrap_or_now word other empty ∙ ap (λ o. unwrap_or o []) (is ∙ first_value-rows found folder_name)
+-- the text is the one that the word names
+pub text_named : (found : Found) (name : Text) (word : Option (Bor Text)) (text other : Bor Text) → option_map (λ s. s.now) word ≡ first_value found name
+    → text ≡ unwrap_or word other → other.now ≡ [] → text.now ≡ text_of name (rows_of found)
+text_named found name word text other is named empty =
+    ap (λ s. s.now) named ∙ unwrap_or_now word other empty ∙ ap (λ o. unwrap_or o []) (is ∙ first_value-rows found name)

@@ -1,2 +1,4 @@
 pub mod Inner
+pub mod Rows
+pub mod Serve
 pub mod Words

@@ -3,15 +3,16 @@ use Rattle.std.specs.Prelude.{◌≡◌, ◌⊎◌, if◌then◌else◌, List, [
 use Rattle.std.specs.Str.{bytes_eq}
 use Rattle.clap.specs.Kinds.{IsAmong, Kinds}
 use Rattle.clap.specs.Words.{App, Row, Rule, Text, fault_of, first_of, new_app, new_rule, subcommand_of, with_rule, with_subcommand}
-use Rattle.clap.specs.declared.builder.value_parser.ValueParser.TheVariants.{NonEmptyString}
 use Rattle.clap.specs.declared.error.kind.ErrorKind.{ErrorKind}
 use Rattle.clap.specs.declared.error.kind.ErrorKind.TheVariants.{DisplayHelp, DisplayVersion}
+pub use Rattle.bayou_command.specs.Serve.{folder_name, folder_rule}
+use Rattle.bayou_command.specs.Serve.{Service, serve_app, service_of, service_seen, text_of}
 use Rattle.bayou_command.specs.declared.Stop.{Stop}
 use Rattle.bayou_command.specs.declared.Source.{Source}
 use Rattle.bayou_command.specs.declared.Source.TheVariants.{Standard, File}
 use Rattle.bayou_command.specs.declared.Stop.TheVariants as stops
 use Rattle.bayou_command.specs.declared.Task.{Task}
-use Rattle.bayou_command.specs.declared.Task.TheVariants.{Run, Audit, Net}
+use Rattle.bayou_command.specs.declared.Task.TheVariants.{Run, Audit, Net, Serve}
 
 -- the word behind a command that names a file
 abbrev pub file_name : Text
@@ -27,13 +28,6 @@ run_app = with_rule (new_app (codes "run")) file_rule
 abbrev pub audit_app : App
 audit_app = with_rule (new_app (codes "audit")) (record file_rule { required = true })
 
--- the option that names a folder: it must be there, and its name has a byte
-abbrev pub folder_name : Text
-folder_name = codes "DIR"
-
-abbrev pub folder_rule : Rule
-folder_rule = record (new_rule folder_name) { long = Some (codes "dir"); parser = Some NonEmptyString; required = true }
-
 -- `net` takes a folder, and a file or none
 abbrev pub net_app : App
 net_app = with_rule (with_rule (new_app (codes "net")) folder_rule) file_rule
@@ -46,7 +40,7 @@ abbrev pub main_app : App
 main_app = record bare_app { top = record bare_app.top { has_version = true; subcommand_required = true } }
 
 abbrev pub bayou_app : App
-bayou_app = with_subcommand (with_subcommand (with_subcommand main_app run_app.top) net_app.top) audit_app.top
+bayou_app = with_subcommand (with_subcommand (with_subcommand (with_subcommand main_app run_app.top) net_app.top) serve_app.top) audit_app.top
 
 -- why the words, the program's own name before them, may name no task; there is nothing of that kind where they name one
 abbrev pub faults_of : List Text → Kinds
@@ -70,17 +64,19 @@ pub data Asked : Type 0 where
   a_run : Input → Asked
   an_audit : Input → Asked
   a_net : Text → Input → Asked
+  a_serve : Service → Asked
 
 -- the folder that is named, as it is wherever a command that asks for one was entered
 abbrev pub folder_of : List Row → Text
-folder_of rows = unwrap_or (first_of folder_name rows) []
+folder_of rows = text_of folder_name rows
 
--- of the program's three commands, the one that was entered
+-- of the program's four commands, the one that was entered
 abbrev pub asked_by : Option (Text × List Row) → Asked
 asked_by None = a_run standard
 asked_by (Some (name, rows)) =
     if bytes_eq name (codes "audit") then an_audit (input_of rows)
     else if bytes_eq name (codes "net") then a_net (folder_of rows) (input_of rows)
+    else if bytes_eq name (codes "serve") then a_serve (service_of rows)
     else a_run (input_of rows)
 
 -- the words are no mistake, and ask for this
@@ -97,6 +93,7 @@ abbrev pub task_seen : Task → Asked
 task_seen (Run source) = a_run (input_seen source)
 task_seen (Audit source) = an_audit (input_seen source)
 task_seen (Net folder script) = a_net folder.now (input_seen script)
+task_seen (Serve serving) = a_serve (service_seen serving)
 
 -- it is no mistake, but asks for a text: a help, or the version
 abbrev pub IsRequest : ErrorKind → Type 0

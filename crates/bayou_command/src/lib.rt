@@ -5,15 +5,21 @@
 //! the texts.
 #![tactic(auto)]
 
-ghost use Rattle.std.specs.Prelude.{◌≡◌, ◌∷◌, [], IfOk, MatchResult, codes, false, map};
+ghost use Rattle.std.specs.Prelude.{◌≡◌, ◌∷◌, [], IfOk, MatchResult, codes, false, map, true};
 ghost use Rattle.clap.specs.declared.builder.command.Command.TheViews.{out-Command as fields_of};
 ghost use Rattle.clap.specs.Words.{app_of, found_of, kind_of, rows_of, rule_of, subcommand_rows_of};
-ghost use Rattle.bayou_command.specs.Words.{AskFor, Names, a_net, a_run, an_audit, asked_by, audit_app, bayou_app, faults_of, file, folder_of, folder_rule, input_of, input_seen, main_app, net_app, run_app, standard, task_seen};
+ghost use Rattle.bayou_command.specs.Words.{AskFor, Names, a_net, a_run, a_serve, an_audit, asked_by, audit_app, bayou_app, faults_of, file, folder_of, folder_rule, input_of, input_seen, main_app, net_app, run_app, standard, task_seen};
+ghost use Rattle.bayou_command.specs.Rows.{plain_service, serve_with, serve_words};
 ghost use Rattle.bayou_command.specs.Inner.Stops.{StopsAt};
+
+mod serve;
+mod serving;
 
 use clap::builder::ValueParser;
 use clap::error::ErrorKind;
 use clap::{Arg, ArgMatches, Command, Error};
+use serve::{serve_command, serving_in};
+pub use serving::Serving;
 use std::alloc::{AllocError, Global};
 use std::convert::AsStr;
 
@@ -51,8 +57,9 @@ The session didn't read its own Write: its read at place 2, at server 1, lacks t
 the verdict is clean.
 
 `bayou run --help` has each line of a script, `bayou net --help` how a script is run over sockets, with journals in files,
-`bayou audit --help` each line of an audit file. Exit status: 0 nothing is wrong; 1 a verdict is broken; 2 the input or the command
-line is refused, or a verdict is; 3 memory, a device, the network, the input or the output failed.
+`bayou audit --help` each line of an audit file, `bayou serve --help` how one server is kept at a socket for clients of any kind.
+Exit status: 0 nothing is wrong; 1 a verdict is broken; 2 the input or the command line is refused, or a verdict is; 3 memory, a
+device, the network, the input or the output failed.
 docs/TROUBLE.md says what to do about each fault; examples/ has scripts and audit files to begin from."#;
 
 const RUN_ABOUT: &str = "Reads a script, checks it, and prints a line for each answer.";
@@ -229,7 +236,7 @@ pub enum Source<'a> {
 }
 
 /// What the program is to do.
-#[derive(Clone, Copy, Debug, PartialEq, Eq)]
+#[derive(Debug, Drop, PartialEq, Eq)]
 pub enum Task<'a> {
     /// To run the script that is there.
     Run(Source<'a>),
@@ -237,6 +244,8 @@ pub enum Task<'a> {
     Audit(Source<'a>),
     /// To run the script that is there over sockets, with the servers' journals in this folder.
     Net { folder: &'a str, script: Source<'a> },
+    /// To serve one server of a store.
+    Serve(Serving<'a>),
 }
 
 /// Why the words name no task.
@@ -299,7 +308,7 @@ fn audit_command<'a>(alloc: Global) -> Result<Command<'a>, AllocError>
         .arg(file)
 }
 
-fn folder_option<'a>(alloc: Global) -> Arg<'a>
+pub(crate) fn folder_option<'a>(alloc: Global) -> Arg<'a>
     ensures rule { rule_of result ≡ folder_rule }
     ensures local { result.global ≡ false }
 {
@@ -336,6 +345,7 @@ fn bayou_command<'a>(alloc: Global) -> Result<Command<'a>, AllocError>
     main_command(alloc)?
         .subcommand(run_command(alloc)?)?
         .subcommand(net_command(alloc)?)?
+        .subcommand(serve_command(alloc)?)?
         .subcommand(audit_command(alloc)?)
 }
 
@@ -353,25 +363,26 @@ fn source_in<'a>(found: &ArgMatches<'a>) -> Source<'a>
 }
 
 /// The folder that a command names. One that asks for it isn't entered without it.
-fn folder_in<'a>(found: &ArgMatches<'a>) -> &'a str
+pub(crate) fn folder_in<'a>(found: &ArgMatches<'a>) -> &'a str
     ensures { result.now ≡ folder_of (rows_of (found_of found.now)) }
 {
     found.get_str("DIR").unwrap_or("")
 }
 
 /// What is asked for by the command that was entered.
-fn task_in<'a>(matches: &ArgMatches<'a>) -> Task<'a>
-    ensures { task_seen result ≡ asked_by (subcommand_rows_of matches.now) }
+fn task_in<'a>(alloc: Global, matches: &ArgMatches<'a>) -> Result<Task<'a>, AllocError>
+    ensures { IfOk result (λ task. task_seen task ≡ asked_by (subcommand_rows_of matches.now)) }
 {
-    match matches.subcommand() {
+    Ok(match matches.subcommand() {
         Some(("audit", found)) => Task::Audit(source_in(found)),
         Some(("net", found)) => Task::Net {
             folder: folder_in(found),
             script: source_in(found),
         },
+        Some(("serve", found)) => Task::Serve(serving_in(alloc, found)?),
         Some((_, found)) => Task::Run(source_in(found)),
         None => Task::Run(Source::Standard),
-    }
+    })
 }
 
 /// What the words name. The first of them is the program's own name.
@@ -381,7 +392,7 @@ pub fn read_words<'a, S: AsStr>(alloc: Global, words: &'a [S]) -> Result<Task<'a
     ensures { Names (map S.text words.entry.now) result }
 {
     match bayou_command(alloc)?.try_get_matches_from(words) {
-        Ok(matches) => Ok(task_in(&matches)),
+        Ok(matches) => Ok(task_in(alloc, &matches)?),
         Err(error) => Err(Stop::of(alloc, &error)),
     }
 }
@@ -389,6 +400,9 @@ pub fn read_words<'a, S: AsStr>(alloc: Global, words: &'a [S]) -> Result<Task<'a
 /// A law: `bayou run`, `bayou run -` and `bayou run FILE` ask for a run, of the standard input or of the file, `bayou audit FILE` and
 /// `bayou audit -` for an audit, and `bayou net --dir D`, with the same words for its input and in any order, for a run over sockets with the
 /// journals in the folder D. Without a folder, or with one that has no name, `bayou net` is refused.
+/// `bayou serve` with the options that it must have asks for a server that lives: with the numbers that it has without their options, and with
+/// each other option as it is given, in any order. Without one of those that it must have, with a number out of its range, with one of them
+/// twice or with a word that is no option it is refused.
 pub fn commands_are_named()
     ensures run { AskFor (codes "bayou" ∷ codes "run" ∷ []) (a_run standard) }
     ensures run_dash { AskFor (codes "bayou" ∷ codes "run" ∷ codes "-" ∷ []) (a_run standard) }
@@ -402,4 +416,38 @@ pub fn commands_are_named()
     ensures net_turned { AskFor (codes "bayou" ∷ codes "net" ∷ codes "a.jsonl" ∷ codes "--dir" ∷ codes "d" ∷ []) (a_net (codes "d") (file (codes "a.jsonl"))) }
     ensures net_bare { faults_of (codes "bayou" ∷ codes "net" ∷ []) ≡ ErrorKind.MissingRequiredArgument ∷ [] }
     ensures net_nowhere { faults_of (codes "bayou" ∷ codes "net" ∷ codes "--dir" ∷ [] ∷ []) ≡ ErrorKind.InvalidValue ∷ [] }
+    ensures serve { AskFor (serve_with []) (a_serve plain_service) }
+    ensures serve_joined { AskFor (serve_words (codes "--listen=h:1" ∷ codes "--dir=d" ∷ codes "--servers=3" ∷ codes "--id=1" ∷ [])) (a_serve plain_service) }
+    ensures serve_peers { AskFor (serve_with (codes "--peer" ∷ codes "0=h:2" ∷ codes "--peer" ∷ codes "2=h:3" ∷ [])) (a_serve (record plain_service { peers = codes "0=h:2" ∷ codes "2=h:3" ∷ [] })) }
+    ensures serve_every { AskFor (serve_with (codes "--every" ∷ codes "2" ∷ [])) (a_serve (record plain_service { every_seconds = 2 })) }
+    ensures serve_limit { AskFor (serve_with (codes "--limit" ∷ codes "3" ∷ [])) (a_serve (record plain_service { limit = 3 })) }
+    ensures serve_connections { AskFor (serve_with (codes "--connections" ∷ codes "4" ∷ [])) (a_serve (record plain_service { connections = 4 })) }
+    ensures serve_idle { AskFor (serve_with (codes "--idle" ∷ codes "5" ∷ [])) (a_serve (record plain_service { idle_seconds = 5 })) }
+    ensures serve_until_input_ends { AskFor (serve_with (codes "--until-input-ends" ∷ [])) (a_serve (record plain_service { until_input_ends = true })) }
+    ensures serve_new { AskFor (serve_with (codes "--new" ∷ [])) (a_serve (record plain_service { is_new = true })) }
+    ensures serve_anyone { AskFor (serve_with (codes "--anyone" ∷ [])) (a_serve (record plain_service { serves_anyone = true })) }
+    ensures serve_whole { AskFor (serve_with (codes "--peer" ∷ codes "0=h:2" ∷ codes "--peer" ∷ codes "2=h:3" ∷ codes "--every" ∷ codes "2" ∷ codes "--limit" ∷ codes "3" ∷ codes "--connections" ∷ codes "4" ∷ codes "--idle" ∷ codes "5" ∷ codes "--until-input-ends" ∷ codes "--new" ∷ codes "--anyone" ∷ [])) (a_serve (record plain_service { peers = codes "0=h:2" ∷ codes "2=h:3" ∷ []; every_seconds = 2; limit = 3; connections = 4; idle_seconds = 5; until_input_ends = true; is_new = true; serves_anyone = true })) }
+    ensures serve_turned { AskFor (serve_words (codes "--anyone" ∷ codes "--idle" ∷ codes "5" ∷ codes "--peer" ∷ codes "0=h:2" ∷ codes "--listen" ∷ codes "h:1" ∷ codes "--limit" ∷ codes "3" ∷ codes "--new" ∷ codes "--id" ∷ codes "1" ∷ codes "--connections" ∷ codes "4" ∷ codes "--peer" ∷ codes "2=h:3" ∷ codes "--dir" ∷ codes "d" ∷ codes "--every" ∷ codes "2" ∷ codes "--until-input-ends" ∷ codes "--servers" ∷ codes "3" ∷ [])) (a_serve (record plain_service { peers = codes "0=h:2" ∷ codes "2=h:3" ∷ []; every_seconds = 2; limit = 3; connections = 4; idle_seconds = 5; until_input_ends = true; is_new = true; serves_anyone = true })) }
+    ensures serve_least { AskFor (serve_words (codes "--id" ∷ codes "0" ∷ codes "--servers" ∷ codes "1" ∷ codes "--dir" ∷ codes "d" ∷ codes "--listen" ∷ codes "h:1" ∷ codes "--every" ∷ codes "1" ∷ codes "--limit" ∷ codes "1" ∷ codes "--connections" ∷ codes "1" ∷ codes "--idle" ∷ codes "1" ∷ [])) (a_serve (record plain_service { id = 0; servers = 1; limit = 1; connections = 1; idle_seconds = 1 })) }
+    ensures serve_most { AskFor (serve_words (codes "--id" ∷ codes "15" ∷ codes "--servers" ∷ codes "16" ∷ codes "--dir" ∷ codes "d" ∷ codes "--listen" ∷ codes "h:1" ∷ codes "--every" ∷ codes "86400" ∷ codes "--limit" ∷ codes "65536" ∷ codes "--connections" ∷ codes "4096" ∷ codes "--idle" ∷ codes "86400" ∷ [])) (a_serve (record plain_service { id = 15; servers = 16; every_seconds = 86400; connections = 4096; idle_seconds = 86400 })) }
+    ensures serve_bare { faults_of (serve_words []) ≡ ErrorKind.MissingRequiredArgument ∷ [] }
+    ensures serve_no_id { faults_of (serve_words (codes "--servers" ∷ codes "3" ∷ codes "--dir" ∷ codes "d" ∷ codes "--listen" ∷ codes "h:1" ∷ [])) ≡ ErrorKind.MissingRequiredArgument ∷ [] }
+    ensures serve_no_servers { faults_of (serve_words (codes "--id" ∷ codes "1" ∷ codes "--dir" ∷ codes "d" ∷ codes "--listen" ∷ codes "h:1" ∷ [])) ≡ ErrorKind.MissingRequiredArgument ∷ [] }
+    ensures serve_no_dir { faults_of (serve_words (codes "--id" ∷ codes "1" ∷ codes "--servers" ∷ codes "3" ∷ codes "--listen" ∷ codes "h:1" ∷ [])) ≡ ErrorKind.MissingRequiredArgument ∷ [] }
+    ensures serve_no_listen { faults_of (serve_words (codes "--id" ∷ codes "1" ∷ codes "--servers" ∷ codes "3" ∷ codes "--dir" ∷ codes "d" ∷ [])) ≡ ErrorKind.MissingRequiredArgument ∷ [] }
+    ensures serve_id_above { faults_of (serve_words (codes "--id" ∷ codes "16" ∷ codes "--servers" ∷ codes "3" ∷ codes "--dir" ∷ codes "d" ∷ codes "--listen" ∷ codes "h:1" ∷ [])) ≡ ErrorKind.ValueValidation ∷ [] }
+    ensures serve_id_none { faults_of (serve_words (codes "--id" ∷ codes "x" ∷ codes "--servers" ∷ codes "3" ∷ codes "--dir" ∷ codes "d" ∷ codes "--listen" ∷ codes "h:1" ∷ [])) ≡ ErrorKind.ValueValidation ∷ [] }
+    ensures serve_servers_below { faults_of (serve_words (codes "--id" ∷ codes "1" ∷ codes "--servers" ∷ codes "0" ∷ codes "--dir" ∷ codes "d" ∷ codes "--listen" ∷ codes "h:1" ∷ [])) ≡ ErrorKind.ValueValidation ∷ [] }
+    ensures serve_servers_above { faults_of (serve_words (codes "--id" ∷ codes "1" ∷ codes "--servers" ∷ codes "17" ∷ codes "--dir" ∷ codes "d" ∷ codes "--listen" ∷ codes "h:1" ∷ [])) ≡ ErrorKind.ValueValidation ∷ [] }
+    ensures serve_every_below { faults_of (serve_with (codes "--every" ∷ codes "0" ∷ [])) ≡ ErrorKind.ValueValidation ∷ [] }
+    ensures serve_every_above { faults_of (serve_with (codes "--every" ∷ codes "86401" ∷ [])) ≡ ErrorKind.ValueValidation ∷ [] }
+    ensures serve_limit_below { faults_of (serve_with (codes "--limit" ∷ codes "0" ∷ [])) ≡ ErrorKind.ValueValidation ∷ [] }
+    ensures serve_limit_above { faults_of (serve_with (codes "--limit" ∷ codes "65537" ∷ [])) ≡ ErrorKind.ValueValidation ∷ [] }
+    ensures serve_connections_below { faults_of (serve_with (codes "--connections" ∷ codes "0" ∷ [])) ≡ ErrorKind.ValueValidation ∷ [] }
+    ensures serve_connections_above { faults_of (serve_with (codes "--connections" ∷ codes "4097" ∷ [])) ≡ ErrorKind.ValueValidation ∷ [] }
+    ensures serve_idle_below { faults_of (serve_with (codes "--idle" ∷ codes "0" ∷ [])) ≡ ErrorKind.ValueValidation ∷ [] }
+    ensures serve_idle_above { faults_of (serve_with (codes "--idle" ∷ codes "86401" ∷ [])) ≡ ErrorKind.ValueValidation ∷ [] }
+    ensures serve_nowhere { faults_of (serve_words (codes "--id" ∷ codes "1" ∷ codes "--servers" ∷ codes "3" ∷ codes "--dir" ∷ [] ∷ codes "--listen" ∷ codes "h:1" ∷ [])) ≡ ErrorKind.InvalidValue ∷ [] }
+    ensures serve_twice { faults_of (serve_with (codes "--id" ∷ codes "2" ∷ [])) ≡ ErrorKind.ArgumentConflict ∷ [] }
+    ensures serve_word { faults_of (serve_with (codes "w" ∷ [])) ≡ ErrorKind.UnknownArgument ∷ [] }
 {}

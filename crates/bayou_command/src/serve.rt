@@ -17,7 +17,7 @@ use std::alloc::{AllocError, Global};
 const SERVE_ABOUT: &str =
     "Serves one server of a store at a socket, with its journal in a file, until it is killed.";
 
-const ID: &str = "The server's number, which is below N (0 to 15)";
+const ID: &str = "The server's number (0 to 15), which is below N";
 
 const COUNT: &str = "How many servers the store has (1 to 16)";
 
@@ -25,9 +25,9 @@ const FOLDER: &str = "The folder that its journal is in; it must exist";
 
 const LISTEN: &str = "Where it listens, as 127.0.0.1:7000";
 
-const PEER: &str = "A server that it pulls from, as 1=127.0.0.1:7001; once for each";
+const PEER: &str = "A server that it pulls from, and where that listens; once for each";
 
-const EVERY: &str = "It pulls from each peer so often (1 to 86400; without it 1)";
+const EVERY: &str = "After so many seconds it pulls again (1 to 86400; without it 1)";
 
 const LIMIT: &str = "How many Writes it holds at the most (1 to 65536; without it 65536)";
 
@@ -35,15 +35,48 @@ const CONNECTIONS: &str =
     "How many connections it serves at once at the most (1 to 4096; without it 64)";
 
 const IDLE: &str =
-    "A connection that asks nothing for so long is closed (1 to 86400; without it 60)";
+    "After so many seconds it closes a connection that asks nothing (1 to 86400; without it 60)";
 
 const UNTIL: &str = "Ends where the standard input ends";
 
-const NEW: &str = "Makes the journal; without it a missing one is a fault";
+const NEW: &str = "Makes the journal, for a server that is new";
 
-const ANYONE: &str = "Listens also at an address that other machines reach";
+const ANYONE: &str = "Listens at an address that other machines reach, too";
 
-const SERVE_FORM: &str = r#"."#;
+const SERVE_FORM: &str =
+    r#"Server I of a store of N servers answers clients at ADDRESS:PORT, and pulls from each peer what it lacks. It keeps its journal in the file
+DIR/server-I.journal. DIR must exist. --new makes the journal, so give it the first time alone: without it a journal that isn't there is a
+fault, since a wrong DIR would else be a store that has lost everything.
+
+Three servers on one machine, each in a terminal of its own:
+
+      mkdir store
+      bayou serve --new --id 0 --servers 3 --dir store --listen 127.0.0.1:7000 --peer 1=127.0.0.1:7001 --peer 2=127.0.0.1:7002
+      bayou serve --new --id 1 --servers 3 --dir store --listen 127.0.0.1:7001 --peer 0=127.0.0.1:7000 --peer 2=127.0.0.1:7002
+      bayou serve --new --id 2 --servers 3 --dir store --listen 127.0.0.1:7002 --peer 0=127.0.0.1:7000 --peer 1=127.0.0.1:7001
+
+It prints one line, when it can be asked:
+
+  serving I at ADDRESS:PORT holds V     V counts, for each server, how many of its Writes are held
+
+With --until-input-ends it ends where the standard input does, and then prints two more:
+
+  settled I accepted A adopted D        it accepted A Writes in this run, and adopted D as it was reopened
+  log I at V                            what it holds now
+
+On standard error it tells, in a line each: that a peer is away, that it is reached again, and what was pulled from it; that a torn entry at
+the end of the journal was dropped; that it holds 90, 95 and 99 % of its limit.
+
+The store has no passwords and no ciphers: who reaches the port reads and writes what he likes. So an address other than this machine's own
+(127.0.0.1, loopback) is refused without --anyone. From another machine, reach it over `ssh -L 7000:127.0.0.1:7000 HOST`.
+
+A signal, as of Ctrl-C or kill, is a clean end: each Write is synced before anybody is told of it. The next start goes on from the journal.
+
+What is wrong is told on standard error, in one line. Exit status: 0 the standard input ended, with --until-input-ends; 2 the command line
+is refused; 3 a device, the journal (it isn't there, is another server's, or is in use), memory, the port or the output failed.
+
+Pages: docs/SERVE.md (a store that lives, day by day), docs/PROTOCOL.md (what clients ask and are answered), docs/RECOVERY.md (what a
+journal keeps)."#;
 
 /// An option with a value, which the usage calls `value`.
 fn value_option<'a>(alloc: Global, name: &'a str, value: &'a str, help: &'a str) -> Arg<'a>
@@ -190,7 +223,13 @@ pub(crate) fn serving_in<'a>(
     ensures { IfOk result (λ serving. service_seen serving ≡ service_of (rows_of (found_of found.now))) }
 {
     let every = number_in(found, "every", 1, MAX_SECONDS, DEFAULT_EVERY_SECONDS);
-    let connections = number_in(found, "connections", 1, MAX_CONNECTIONS, DEFAULT_CONNECTIONS);
+    let connections = number_in(
+        found,
+        "connections",
+        1,
+        MAX_CONNECTIONS,
+        DEFAULT_CONNECTIONS,
+    );
     Ok(Serving {
         id: number_in(found, "id", 0, SERVERS as u32 - 1, 0) as u8,
         servers: number_in(found, "servers", 1, SERVERS as u32, 1) as u8,

@@ -1,0 +1,27 @@
+use Rattle.std.proofs.Common.{◌≡◌, ◌∙◌, Some, ap, ap₂, false}
+use Rattle.std.proofs.lemmas.Result.{IfOk-weaker}
+use Rattle.clap.specs.Words.{Rule, app_of, rule_of, with_rule}
+use Rattle.clap.specs.declared.builder.arg.Arg.{Arg}
+use Rattle.clap.specs.declared.builder.action.ArgAction.TheVariants.{Append}
+use Rattle.bayou_command.proofs.Given.{stays_local}
+use Rattle.bayou_command.proofs.serve.with_choices.Goals as goal
+
+pub returns-clause-app : goal.returns-clause-app
+returns-clause-app c =
+    let peer = ap rule_of c.action.ensures ∙ ap (λ (rule : Rule). record rule { action = Some Append }) c.value_option-peer.ensures.rule in
+    let free = ap (λ (arg : Arg). arg.global) c.action.ensures ∙ c.value_option-peer.ensures.local in
+    let first = c.in_ok-arg.ensures.shape free ∙ ap (with_rule (app_of c.args.command)) peer in
+    let second = c.in_ok-arg-2.ensures.shape c.number_option-every.ensures.local ∙ ap₂ with_rule first c.number_option-every.ensures.rule in
+    let third = c.in_ok-arg-3.ensures.shape c.number_option-limit.ensures.local ∙ ap₂ with_rule second c.number_option-limit.ensures.rule in
+    let fourth = c.in_ok-arg-4.ensures.shape c.number_option-connections.ensures.local ∙ ap₂ with_rule third c.number_option-connections.ensures.rule in
+    IfOk-weaker c.arg-5.result _ _
+    (λ made h. h.shape c.number_option-idle.ensures.local ∙ ap₂ with_rule fourth c.number_option-idle.ensures.rule) c.arg-5.ensures
+
+pub returns-clause-local : goal.returns-clause-local
+returns-clause-local c =
+    let free : c.action.result.global ≡ false = ap (λ (arg : Arg). arg.global) c.action.ensures ∙ c.value_option-peer.ensures.local in
+    let first = c.in_ok-arg.ensures.globals ∙ stays_local _ _ free in
+    let second = c.in_ok-arg-2.ensures.globals ∙ stays_local _ _ c.number_option-every.ensures.local ∙ first in
+    let third = c.in_ok-arg-3.ensures.globals ∙ stays_local _ _ c.number_option-limit.ensures.local ∙ second in
+    let fourth = c.in_ok-arg-4.ensures.globals ∙ stays_local _ _ c.number_option-connections.ensures.local ∙ third in
+    IfOk-weaker c.arg-5.result _ _ (λ made h. h.globals ∙ stays_local _ _ c.number_option-idle.ensures.local ∙ fourth) c.arg-5.ensures
