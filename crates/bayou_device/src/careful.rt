@@ -1,5 +1,5 @@
 //! A device that never cuts more than may be torn.
-ghost use Rattle.std.specs.Prelude.{◌≡◌, ◌+◌, ◌≤◌, ◌⊎◌, ℕ, [], None, Some, length, take, OnErr, OnOk};
+ghost use Rattle.std.specs.Prelude.{◌≡◌, ◌+◌, ◌≤◌, ◌⊎◌, ℕ, [], None, Some, length, take, IfOk, IsErrOf, OnErr, OnOk};
 ghost use Rattle.std.specs.Option.{ForSome};
 ghost use Rattle.bayou_device.specs.Careful.{IsDamage};
 ghost use Rattle.bayou_device.specs.Device.{BeginsWith, Rose};
@@ -85,7 +85,19 @@ impl<D: Device> Device for CarefulDevice<D> {
 
     ghost leads_to = { λ most old new. D.leads_to most old.device new.device };
 
-    fn read_all(&mut self, alloc: Global) -> Result<Vec<u8>, ReadFault> {
+    fn read_all(&mut self, alloc: Global) -> Result<Vec<u8>, ReadFault>
+        ensures bytes { D.is_modelled → IfOk result (λ bytes. bytes.items ≡ D.content self.old.device) }
+        ensures same { OnOk result (D.content self.new.device ≡ D.content self.old.device) }
+        ensures left { IsErrOf result ReadFault.Failed → D.may_leave [] (D.content self.old.device) (D.content self.new.device) ⊎ (D.content self.new.device ≡ D.content self.old.device) }
+        ensures memory { IsErrOf result ReadFault.OutOfMemory → D.content self.new.device ≡ D.content self.old.device }
+        ensures kept { D.kept self.new.device ≡ D.kept self.old.device }
+        ensures counts { OnOk result (self.new.failures ≡ self.old.failures) }
+        ensures rose { IsErrOf result ReadFault.Failed → Rose self.old.failures self.new.failures }
+        ensures memory_counts { IsErrOf result ReadFault.OutOfMemory → self.new.failures ≡ self.old.failures }
+        ensures calls { D.leads_to 1 self.old.device self.new.device }
+        // From then on it is known how many bytes there are.
+        ensures size { IfOk result (λ bytes. (self.new.size ≡ Some (length bytes.items)) × (self.new.most ≡ self.old.most)) }
+    {
         match self.device.read_all(alloc) {
             Ok(bytes) => {
                 self.size = Some(bytes.len());

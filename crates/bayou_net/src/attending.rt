@@ -137,9 +137,9 @@ pub fn attend<H: Attendant + Sync, T: Threads + Wait + Send + Sync, F: FnOnce(us
         thread::scope_env(),
         rt,
         move |scope| -> Posts<H::Desk>
-            requires { F.IsAlwaysCallable meanwhile }
-            ensures all { vec_len result.workers + vec_len result.left ≡ total }
-            ensures total { result.total ≡ total }
+            requires { F.IsAlwaysCallable meanwhile × (vec_len posts.workers ≡ 0) × (vec_len posts.left ≡ 0) × (posts.total ≡ vec_len desks) }
+            ensures all { vec_len result.workers + vec_len result.left ≡ vec_len desks }
+            ensures total { result.total ≡ vec_len desks }
         {
             let mut posts = posts;
             begin_all(scope, rt, alloc, door, desks, &mut posts);

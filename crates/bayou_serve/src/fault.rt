@@ -17,9 +17,7 @@ pub enum ServeFault {
     #[error("a call of the file failed")]
     Device,
     /// What stands behind the whole entries is more than one that was torn.
-    #[error(
-        "it is whole up to byte {whole}, and the {behind} bytes behind that are damaged; nothing was changed"
-    )]
+    #[error("it is whole up to byte {whole}, and the {behind} bytes behind that are damaged; nothing was changed")]
     Damaged { whole: usize, behind: usize },
     #[error("it is no journal")]
     NotAJournal,

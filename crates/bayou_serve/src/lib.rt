@@ -21,6 +21,6 @@ pub mod visit;
 pub mod waiting;
 
 pub use fault::ServeFault;
-pub use plan::{Peer, Plan, PlanFault};
+pub use plan::{Habits, Peer, Plan, PlanFault};
 pub use serving::serve_plan;
 pub use teller::Teller;

@@ -1,5 +1,5 @@
 //! The other servers of the store, from which a server that lives takes what it lacks.
-ghost use Rattle.std.specs.Prelude.{◌≡◌, ◌≢◌, ◌<◌, ◌≤◌, IfSome, index};
+ghost use Rattle.std.specs.Prelude.{◌≡◌, ◌≤◌, IfSome, IsSome, replicate, slice_set};
 ghost use Rattle.bayou_base.specs.declared.limits.TheConstants.{MAX_WRITES as MOST, SERVERS as NUMBER};
 
 use crate::hall::Hall;
@@ -51,9 +51,16 @@ pub(crate) fn is_timed(stream: &TcpStream) -> bool {
 
 // A connection to the peer, whose reads and writes end in time, if one comes about.
 fn reach<T: Sockets>(rt: &T, peer: Peer) -> Option<TcpStream> {
-    let stream =
-        TcpStream::connect_timeout(rt, &peer.address, Duration::from_secs(REACH_SECONDS)).ok()?;
-    if is_timed(&stream) { Some(stream) } else { None }
+    let stream = TcpStream::connect_timeout(
+        rt,
+        &peer.address,
+        Duration::from_secs(REACH_SECONDS),
+    ).ok()?;
+    if is_timed(&stream) {
+        Some(stream)
+    } else {
+        None
+    }
 }
 
 // Takes once what this peer has that these counts don't count.
@@ -83,6 +90,8 @@ fn visit_with<D: Device, L: Desks, T: Wait + Clock + Sockets>(
 /// server, and behind those.
 pub fn all_but_own(id: ServerId, own: u32) -> Option<Vector>
     requires { own ≤ MOST }
+    ensures some { IsSome result }
+    ensures counts { IfSome result (λ counts. counts ≡ slice_set (replicate NUMBER MOST) id.index own) }
 {
     let mut counts = [MAX_WRITES; SERVERS];
     counts[usize::from(id.index)] = own;

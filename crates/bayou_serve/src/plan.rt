@@ -1,9 +1,9 @@
 //! What a server that lives is to do, as the words of its command line say it.
-ghost use Rattle.std.specs.Prelude.{◌≡◌, ◌≢◌, ◌<◌, ◌≤◌, All, AllPairs, IfErr, IfOk, MatchResult};
-ghost use Rattle.bayou_base.specs.declared.limits.TheConstants.{SERVERS};
+ghost use Rattle.std.specs.Prelude.{◌≡◌, ◌≢◌, ◌<◌, ◌≤◌, All, AllPairs, Err, IfOk, false, length};
+ghost use Rattle.bayou_base.specs.declared.limits.TheConstants.{MAX_WRITES, SERVERS};
+ghost use Rattle.bayou_serve.specs.declared.plan.PlanFault.TheVariants.{NoServer};
 
 use bayou_base::ServerId;
-use bayou_command::Serving;
 use std::alloc::{AllocError, Global};
 use std::net::SocketAddr;
 use thiserror::Error;
@@ -15,21 +15,32 @@ pub struct Peer {
     pub address: SocketAddr,
 }
 
+/// How a server lives.
+#[derive(Clone, Copy, Debug, PartialEq, Eq)]
+pub struct Habits {
+    /// How many Writes it holds at the most.
+    pub limit: u32,
+    /// How long it rests between two pulls from a peer.
+    pub every_seconds: u32,
+    /// How many connections it serves at once at the most.
+    pub connections: u32,
+    /// How long a connection may say nothing.
+    pub idle_seconds: u32,
+    /// Whether it ends as its input does.
+    pub until_input_ends: bool,
+    /// Whether its journal is to be made, and isn't there yet.
+    pub is_new: bool,
+    pub ghost limit_in_range: { limit ≤ MAX_WRITES },
+}
+
 /// A server that is to live: which one of how many, where it listens, and from whom it pulls.
 #[derive(Drop)]
 pub struct Plan {
     pub id: ServerId,
     pub servers: u8,
-    pub limit: u32,
     pub listen: SocketAddr,
     pub peers: Vec<Peer>,
-    /// How long it rests between two pulls from a peer.
-    pub every_seconds: u32,
-    pub connections: u32,
-    /// How long a connection may say nothing.
-    pub idle_seconds: u32,
-    pub until_input_ends: bool,
-    pub is_new: bool,
+    pub habits: Habits,
     pub ghost among: { (id.index < servers) × (servers ≤ SERVERS) },
     pub ghost others: { All (λ peer. (peer.id.index < servers) × (peer.id ≢ id)) peers.items },
     pub ghost once: { AllPairs (λ one other. one.id ≢ other.id) peers.items },
@@ -119,31 +130,33 @@ fn listens_at(word: &str, serves_anyone: bool) -> Result<SocketAddr, PlanFault> 
 }
 
 impl Plan {
-    /// What the words say, or the first of them that can't be done.
-    pub fn of(alloc: Global, serving: &Serving<'_>) -> Result<Plan, PlanFault>
-        ensures same { IfOk result (λ plan. (plan.id.index ≡ serving.now.id) × (plan.servers ≡ serving.now.servers) × (plan.limit ≡ serving.now.limit)
-            × (plan.connections ≡ serving.now.connections) × (plan.idle_seconds ≡ serving.now.idle_seconds) × (plan.every_seconds ≡ serving.now.every_seconds)
-            × (plan.until_input_ends ≡ serving.now.until_input_ends) × (plan.is_new ≡ serving.now.is_new)) }
+    /// The plan of a server of this number among so many, which listens and pulls as these words say; or the first of them that can't be done.
+    /// Only where it serves anyone does it listen at an address that isn't loopback.
+    pub fn new(
+        alloc: Global,
+        id: u8,
+        servers: u8,
+        listen: &str,
+        serves_anyone: bool,
+        peers: &[&str],
+        habits: Habits,
+    ) -> Result<Plan, PlanFault>
+        requires { servers ≤ SERVERS }
+        ensures same { IfOk result (λ plan. (plan.id.index ≡ id) × (plan.servers ≡ servers) × (plan.habits ≡ habits) × (length plan.peers.items ≡ length peers.now)) }
+        ensures none { servers ≤ id → result ≡ Err NoServer }
     {
-        let Some(id) = ServerId::new(serving.id) else {
-            return Err(PlanFault::NoServer);
-        };
-        if serving.id >= serving.servers {
+        if id >= servers {
             return Err(PlanFault::NoServer);
         }
-        let listen = listens_at(serving.listen, serving.serves_anyone)?;
-        let peers = peers_of(alloc, id, serving.servers, serving.peers.as_slice())?;
+        let id = ServerId { index: id };
+        let listen = listens_at(listen, serves_anyone)?;
+        let peers = peers_of(alloc, id, servers, peers)?;
         Ok(Plan {
             id,
-            servers: serving.servers,
-            limit: serving.limit,
+            servers,
             listen,
             peers,
-            every_seconds: serving.every_seconds,
-            connections: serving.connections,
-            idle_seconds: serving.idle_seconds,
-            until_input_ends: serving.until_input_ends,
-            is_new: serving.is_new,
+            habits,
         })
     }
 }

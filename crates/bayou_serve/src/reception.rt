@@ -75,8 +75,12 @@ impl<D: Device + Send + Sync, L: Desks + Send + Sync, C: Clock + Sync, E: Write 
     }
 }
 
-impl<D: Device + Send + Sync, L: Desks + Send + Sync, C: Clock + Sync, E: Write + Send + Drop>
-    Attendant for Reception<'_, D, L, C, E> {
+impl<
+    D: Device + Send + Sync,
+    L: Desks + Send + Sync,
+    C: Clock + Sync,
+    E: Write + Send + Drop,
+> Attendant for Reception<'_, D, L, C, E> {
     fn pause<T: Wait>(&self, rt: &T) {
         self.teller.tell(rt, "bayou: a connection can't be taken\n");
         thread::sleep(self.clock, Duration::from_secs(PAUSE_SECONDS));

@@ -77,17 +77,23 @@ where
         teller,
         ..
     } = *life;
-    let (limit, every) = (plan.limit, plan.every_seconds);
+    let (limit, every) = (plan.habits.limit, plan.habits.every_seconds);
     for peer in plan.peers.iter() {
         let peer = *peer;
         let begun = scope.spawn(move || keep_pulling(rt, alloc, node, peer, every, hall, teller));
         if begun.is_err() {
-            teller.tell(rt, "bayou: no thread for a peer: nothing is pulled from it\n");
+            teller.tell(
+                rt,
+                "bayou: no thread for a peer: nothing is pulled from it\n",
+            );
         }
     }
     let begun = scope.spawn(move || keep_up(rt, alloc, node, limit, hall, teller));
     if begun.is_err() {
-        teller.tell(rt, "bayou: no thread for the keeper: a server that goes down stays down\n");
+        teller.tell(
+            rt,
+            "bayou: no thread for the keeper: a server that goes down stays down\n",
+        );
     }
 }
 
@@ -126,7 +132,7 @@ where
         stop: &hall.stop,
         is_short: &hall.is_short,
     };
-    let until = plan.until_input_ends;
+    let until = plan.habits.until_input_ends;
     let ended = attend(rt, alloc, &door, desks, move |unserved| {
         if unserved > 0 {
             teller.tell(rt, "bayou: fewer threads than connections\n");
@@ -206,12 +212,13 @@ where
     W: Write,
     E: Write + Send + Drop,
     T: Threads + Wait + Clock + Sockets + Send + Sync,
-    requires blank { IsBlankOf blank L.name L.parts plan.now.connections × (begun_of server.core ≡ L.begun) }
+    requires blank { IsBlankOf blank L.name L.parts plan.now.habits.connections × (begun_of server.core ≡ L.begun) }
 {
-    let Ok((node, desks)) = Node::<Careful, L>::new(alloc, blank, server, plan.connections) else {
+    let Ok((node, desks)) = Node::<Careful, L>::new(alloc, blank, server, plan.habits.connections)
+    else {
         return Err(ServeFault::Memory);
     };
-    let hall = Hall::new(plan.connections, plan.idle_seconds);
+    let hall = Hall::new(plan.habits.connections, plan.habits.idle_seconds);
     let life = Life {
         plan,
         node: &node,
@@ -265,7 +272,7 @@ where
     let Ok(listener) = TcpListener::bind(rt, plan.listen) else {
         return Err(ServeFault::Port);
     };
-    let blank = Blank::new(u64::from(plan.connections));
+    let blank = Blank::new(u64::from(plan.habits.connections));
     serve_node::<Brand, I, W, E, T>(
         rt, alloc, blank, server, plan, &listener, input, output, teller,
     )

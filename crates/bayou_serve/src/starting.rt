@@ -39,14 +39,14 @@ pub(crate) fn start_at<T: Files<File = File>>(
     plan: &Plan,
     path: &str,
 ) -> Result<Started, ServeFault>
-    ensures { IfOk result (λ started. (started.server.core.id ≡ plan.now.id.index) × (started.server.core.count ≡ plan.now.servers) × (started.server.core.limit ≡ plan.now.limit)) }
+    ensures { IfOk result (λ started. (started.server.core.id ≡ plan.now.id.index) × (started.server.core.count ≡ plan.now.servers) × (started.server.core.limit ≡ plan.now.habits.limit)) }
 {
-    look_for(rt, path, plan.is_new)?;
+    look_for(rt, path, plan.habits.is_new)?;
     let Ok(file) = FileDevice::open(rt, path) else {
         return Err(ServeFault::NotOpened);
     };
     let device = CarefulDevice::new(file, ENTRY_BYTES);
-    match Server::start(alloc, plan.id, plan.servers, plan.limit, device) {
+    match Server::start(alloc, plan.id, plan.servers, plan.habits.limit, device) {
         Ok((server, dropped)) => Ok(Started { server, dropped }),
         Err(refused) => Err(fault_of(refused.fault, refused.device.damage())),
     }

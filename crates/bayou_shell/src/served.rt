@@ -4,7 +4,7 @@ ghost use Rattle.bayou_serve.specs.declared.plan.PlanFault.TheVariants.{OutOfMem
 
 use bayou_command::Serving;
 use bayou_net::Sockets;
-use bayou_serve::{Plan, PlanFault, ServeFault, Teller, serve_plan};
+use bayou_serve::{Habits, Plan, PlanFault, ServeFault, Teller, serve_plan};
 use bayou_streams::Output;
 use std::alloc::{AllocError, Global};
 use std::fs;
@@ -34,7 +34,23 @@ impl Service {
     {
         let (folder, id) = (serving.folder, serving.id);
         let path = format!(in alloc; "{folder}/server-{id}.journal")?;
-        match Plan::of(alloc, serving) {
+        let habits = Habits {
+            limit: serving.limit,
+            every_seconds: serving.every_seconds,
+            connections: serving.connections,
+            idle_seconds: serving.idle_seconds,
+            until_input_ends: serving.until_input_ends,
+            is_new: serving.is_new,
+        };
+        match Plan::new(
+            alloc,
+            serving.id,
+            serving.servers,
+            serving.listen,
+            serving.serves_anyone,
+            serving.peers.as_slice(),
+            habits,
+        ) {
             Err(PlanFault::OutOfMemory) => Err(AllocError),
             plan => Ok(Service { path, plan }),
         }

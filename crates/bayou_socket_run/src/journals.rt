@@ -4,7 +4,8 @@ ghost use Rattle.bayou_socket_run.specs.Inner.Faults.{IsStartFault};
 ghost use Rattle.bayou_socket_run.specs.Inner.Runs.{HasRunsBefore};
 
 use bayou_base::ServerId;
-use bayou_device::FileDevice;
+use bayou_device::{CarefulDevice, FileDevice};
+use bayou_journal::format::ENTRY_BYTES;
 use bayou_print::RunFault;
 use bayou_script::Servers;
 use bayou_server::{Server, StartFault};
@@ -12,8 +13,11 @@ use std::alloc::Global;
 use std::collections::VecDeque;
 use std::fs::{File, Files};
 
+/// A journal's file, of which an opening cuts no more than a torn entry: more is damage, and stays.
+pub(crate) type JournalFile = CarefulDevice<FileDevice<File>>;
+
 /// A server with its journal in a file.
-pub(crate) type Journaled = Server<FileDevice<File>>;
+pub(crate) type Journaled = Server<JournalFile>;
 
 /// The servers, from server 0 on, and the run of the program that is theirs.
 #[derive(Drop)]
@@ -68,7 +72,7 @@ fn start_one<T: Files<File = File>>(
         ServerId { index },
         servers.count,
         servers.limit,
-        device,
+        CarefulDevice::new(device, ENTRY_BYTES),
     ) {
         Ok((server, _)) => boxed(alloc, server),
         Err(refused) => Err(fault_of(refused.fault)),

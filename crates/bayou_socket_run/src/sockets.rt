@@ -12,12 +12,11 @@ ghost use Rattle.bayou_print.specs.Turns.{EndsWriting};
 ghost use Rattle.bayou_streams.specs.Account.{TakesBytes, account};
 
 use crate::faults::in_run;
-use crate::journals::{Journaled, Started, start_all};
+use crate::journals::{JournalFile, Journaled, Started, start_all};
 use crate::phases::{Agenda, run_phases};
 use crate::settling::{settle, write_books};
 use bayou_audit::{AuditBook, Blanks, Four, Ledgers, Share};
 use bayou_base::SESSIONS;
-use bayou_device::FileDevice;
 use bayou_fleet::{Fleet, FleetFault, FourServers, Network, RunSession, Seat, start_listeners};
 use bayou_net::Sockets;
 use bayou_node::Desks;
@@ -219,7 +218,7 @@ fn seat<L: Desks>(
     alloc: Global,
     connections: u32,
     ready: Ready,
-) -> Result<Seat<FileDevice<File>, L>, FleetFault>
+) -> Result<Seat<JournalFile, L>, FleetFault>
     requires { IsBlankOf ready.blank L.name L.parts connections × (begun_of ready.server.value.core ≡ L.begun) }
 {
     let Ready { blank, server } = ready;
@@ -231,7 +230,7 @@ fn seat_of<L: Desks>(
     alloc: Global,
     connections: u32,
     ready: Option<Ready>,
-) -> Result<Option<Seat<FileDevice<File>, L>>, FleetFault>
+) -> Result<Option<Seat<JournalFile, L>>, FleetFault>
     requires { IfSome ready (λ ready. IsBlankOf ready.blank L.name L.parts connections × (begun_of ready.server.value.core ≡ L.begun)) }
 {
     match ready {
