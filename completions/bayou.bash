@@ -3,16 +3,20 @@ _bayou() {
     local word=${COMP_WORDS[COMP_CWORD]} before=${COMP_WORDS[COMP_CWORD - 1]} command='' words
     [ "$COMP_CWORD" -lt 2 ] || command=${COMP_WORDS[1]}
     case $command in
-        '') words='run net audit help -h --help -V --version' ;;
+        '') words='run net audit serve help -h --help -V --version' ;;
         run | audit) words='-h --help' ;;
         net) words='--dir -h --help' ;;
-        help) words='run net audit help' ;;
+        serve)
+            words='--id --servers --dir --listen --peer --every --limit --connections --idle'
+            words+=' --until-input-ends --new --anyone -h --help'
+            ;;
+        help) words='run net audit serve help' ;;
         *) words='' ;;
     esac
     COMPREPLY=()
-    if [ "$command$before" = net--dir ]; then
+    if [[ $command$before == @(net|serve)--dir ]]; then
         mapfile -t COMPREPLY < <(compgen -d -- "$word")
-    elif [[ $word == -* || -z $command || $command == help ]]; then
+    elif [[ $word == -* || -z $command || $command == @(help|serve) ]]; then
         mapfile -t COMPREPLY < <(compgen -W "$words" -- "$word")
     else
         mapfile -t COMPREPLY < <(compgen -f -- "$word")

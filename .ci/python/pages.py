@@ -9,7 +9,7 @@ import sys
 from checks import Checks
 
 TOP = ".."
-OPTION = re.compile(r"(?<![\w-])--?[A-Za-z][a-z]*")
+OPTION = re.compile(r"(?<![\w-])--?[A-Za-z][a-z-]*")
 HELP = {"-h", "--help"}
 
 

@@ -1,27 +1,26 @@
 -- What `clap`'s getters say of the options behind `serve`.
-use Rattle.std.proofs.Common.{◌≡◌, ◌∙◌, ◌≤◌, ◌<◌, ◌^◌, ◌&&◌, ◌||◌, ℕ, Bool, List, [], ◌∷◌, Option, None, Some, Result, Ok, Err, true, false, ap, arith, refl, sym, length, nat_lt, lt-ltb, ltb-true, option_map, unwrap_or}
+use Rattle.std.proofs.Common.{◌≡◌, ◌∙◌, ◌^◌, ◌&&◌, ◌||◌, ℕ, Bool, List, [], ◌∷◌, Option, None, Some, Result, Ok, Err, true, false, ap, refl, length, nat_lt, lt-ltb, ltb-true}
 use Rattle.std.specs.Prelude.{nat_le, option_and_then}
 use Rattle.std.specs.List.{list_all}
 use Rattle.std.specs.Char.{digit_value}
-use Rattle.std.specs.Str.Parse.{AllDigits, IsNumeral, ParsesUnsigned, digits_value, without_leading_plus}
-use Rattle.std.proofs.lemmas.Bool.{le-leb}
+use Rattle.std.specs.Str.Parse.{AllDigits, ParsesUnsigned, digits_value, without_leading_plus}
 use Rattle.clap.proofs.WalkLemmas.{both, first_value-rows, one_text-rows}
 use Rattle.clap.specs.ValueTests.{is_numeral}
 use Rattle.clap.specs.Words.{ReadsOne, Text, first_value, one_of, one_text, rows_of}
 use Rattle.clap.specs.declared.parser.matches.Found.{Found}
 use Rattle.bayou_command.specs.Serve.{flag_of, is_true, number_read, number_within}
 
-digits_pass : (ds : List ℕ) → AllDigits 10 ds → list_all (λ d. nat_lt (digit_value d) 10) ds ≡ true
+pub digits_pass : (ds : List ℕ) → AllDigits 10 ds → list_all (λ d. nat_lt (digit_value d) 10) ds ≡ true
 digits_pass [] h = refl
 digits_pass (d ∷ ds) h = rw (lt-ltb (digit_value d) 10 h.0) (digits_pass ds h.1)
 
-digits_from : (ds : List ℕ) → list_all (λ d. nat_lt (digit_value d) 10) ds ≡ true → AllDigits 10 ds
+pub digits_from : (ds : List ℕ) → list_all (λ d. nat_lt (digit_value d) 10) ds ≡ true → AllDigits 10 ds
 digits_from [] e = tt
 digits_from (d ∷ ds) e =
     let parts = both _ _ e in
     (ltb-true _ _ parts.0, digits_from ds parts.1)
 
-abbrev is_number : List ℕ → Bool
+abbrev pub is_number : List ℕ → Bool
 is_number ds = is_numeral ds && nat_lt (digits_value 10 ds) (2 ^ 32)
 
 module _ {E : Type 0} (G : List ℕ → Result ℕ E → Type 0) (only : (u : List ℕ) (x : Result ℕ E) → G u x → ParsesUnsigned 32 10 u x) where

@@ -1,7 +1,11 @@
 -- Words of `serve`, and what they ask for.
-use Rattle.std.specs.Prelude.{◌++◌, false, List, [], ◌∷◌, codes}
-use Rattle.clap.specs.Words.{Text}
+use Rattle.std.specs.Prelude.{◌≡◌, ℕ, false, true, List, [], ◌∷◌, codes, pos}
+use Rattle.std.specs.Str.Parse.{digits_value, without_leading_plus}
+use Rattle.clap.specs.ValueTests.{is_signed_in}
+use Rattle.clap.specs.Words.{Text, without_minus}
+use Rattle.clap.specs.declared.error.kind.ErrorKind.TheVariants.{ValueValidation}
 use Rattle.bayou_command.specs.Serve.{Service}
+use Rattle.bayou_command.specs.Words.{AskFor, a_serve, faults_of}
 
 -- the program and its command, before these words
 abbrev pub serve_words : List Text → List Text
@@ -27,3 +31,12 @@ plain_service = record {
   is_new = false;
   serves_anyone = false;
 }
+
+-- the number that a text is in decimal digits, behind a sign or none
+abbrev pub number_written : Text → ℕ
+number_written text = digits_value 10 (without_leading_plus (without_minus text))
+
+-- any text behind an option: a number from least to most is asked for as it is written, and any other text is refused
+pub record TakesNumbers (least most : ℕ) (words : Text → List Text) (asked : ℕ → Service) : Type 0 where
+  pub taken : (text : Text) → is_signed_in (pos least) (pos most) text ≡ true → AskFor (words text) (a_serve (asked (number_written text)))
+  pub refused : (text : Text) → is_signed_in (pos least) (pos most) text ≡ false → faults_of (words text) ≡ ValueValidation ∷ []

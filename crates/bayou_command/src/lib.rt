@@ -5,11 +5,11 @@
 //! the texts.
 #![tactic(auto)]
 
-ghost use Rattle.std.specs.Prelude.{◌≡◌, ◌∷◌, [], IfOk, MatchResult, codes, false, map, true};
+ghost use Rattle.std.specs.Prelude.{◌≡◌, ◌∷◌, ◌++◌, [], ℕ, IfOk, List, MatchResult, codes, false, map, true};
 ghost use Rattle.clap.specs.declared.builder.command.Command.TheViews.{out-Command as fields_of};
 ghost use Rattle.clap.specs.Words.{app_of, found_of, kind_of, rows_of, rule_of, subcommand_rows_of};
 ghost use Rattle.bayou_command.specs.Words.{AskFor, Names, a_net, a_run, a_serve, an_audit, asked_by, audit_app, bayou_app, faults_of, file, folder_of, folder_rule, input_of, input_seen, main_app, net_app, run_app, standard, task_seen};
-ghost use Rattle.bayou_command.specs.Rows.{plain_service, serve_with, serve_words};
+ghost use Rattle.bayou_command.specs.Rows.{TakesNumbers, plain_service, serve_with, serve_words};
 ghost use Rattle.bayou_command.specs.Inner.Stops.{StopsAt};
 
 mod serve;
@@ -450,4 +450,23 @@ pub fn commands_are_named()
     ensures serve_nowhere { faults_of (serve_words (codes "--id" ∷ codes "1" ∷ codes "--servers" ∷ codes "3" ∷ codes "--dir" ∷ [] ∷ codes "--listen" ∷ codes "h:1" ∷ [])) ≡ ErrorKind.InvalidValue ∷ [] }
     ensures serve_twice { faults_of (serve_with (codes "--id" ∷ codes "2" ∷ [])) ≡ ErrorKind.ArgumentConflict ∷ [] }
     ensures serve_word { faults_of (serve_with (codes "w" ∷ [])) ≡ ErrorKind.UnknownArgument ∷ [] }
+{}
+
+/// A law: whatever stands behind `--limit=`, a number from 1 to 65536 in decimal digits is taken as the limit that it is, and any other text is
+/// refused. So it is, each in its range, with the other options of `bayou serve` that take numbers.
+pub fn numbers_are_taken()
+    ensures id { TakesNumbers 0 15 (λ text. serve_words ((codes "--id=" ++ text) ∷ codes "--servers" ∷ codes "3" ∷ codes "--dir" ∷ codes "d" ∷ codes "--listen" ∷ codes "h:1" ∷ [])) (λ number. record plain_service { id = number }) }
+    ensures servers { TakesNumbers 1 16 (λ text. serve_words ((codes "--servers=" ++ text) ∷ codes "--id" ∷ codes "1" ∷ codes "--dir" ∷ codes "d" ∷ codes "--listen" ∷ codes "h:1" ∷ [])) (λ number. record plain_service { servers = number }) }
+    ensures every { TakesNumbers 1 86400 (λ text. serve_with ((codes "--every=" ++ text) ∷ [])) (λ number. record plain_service { every_seconds = number }) }
+    ensures limit { TakesNumbers 1 65536 (λ text. serve_with ((codes "--limit=" ++ text) ∷ [])) (λ number. record plain_service { limit = number }) }
+    ensures connections { TakesNumbers 1 4096 (λ text. serve_with ((codes "--connections=" ++ text) ∷ [])) (λ number. record plain_service { connections = number }) }
+    ensures idle { TakesNumbers 1 86400 (λ text. serve_with ((codes "--idle=" ++ text) ∷ [])) (λ number. record plain_service { idle_seconds = number }) }
+{}
+
+/// A law: whatever stands behind `--listen=`, `--dir=` and `--peer=` is taken as it stands, where a folder's name has a byte, and the peers in
+/// their order.
+pub fn texts_are_taken()
+    ensures listen { (text : List ℕ) → AskFor (serve_words ((codes "--listen=" ++ text) ∷ codes "--id" ∷ codes "1" ∷ codes "--servers" ∷ codes "3" ∷ codes "--dir" ∷ codes "d" ∷ [])) (a_serve (record plain_service { listen = text })) }
+    ensures dir { (byte : ℕ) (text : List ℕ) → AskFor (serve_words ((codes "--dir=" ++ byte ∷ text) ∷ codes "--id" ∷ codes "1" ∷ codes "--servers" ∷ codes "3" ∷ codes "--listen" ∷ codes "h:1" ∷ [])) (a_serve (record plain_service { folder = byte ∷ text })) }
+    ensures peers { (first second : List ℕ) → AskFor (serve_with ((codes "--peer=" ++ first) ∷ (codes "--peer=" ++ second) ∷ [])) (a_serve (record plain_service { peers = first ∷ second ∷ [] })) }
 {}

@@ -1,4 +1,4 @@
-use Rattle.std.proofs.Common.{rules, ◌≡◌, ◌∙◌, ap₂, codes, false, sym}
+use Rattle.std.proofs.Common.{rules, ◌≡◌, ◌∙◌, ap₂, codes, false}
 use Rattle.std.proofs.lemmas.Result.{IfOk-weaker}
 use Rattle.clap.specs.Words.{app_of, new_app, rule_of, with_rule}
 use Rattle.bayou_command.specs.Words.{file_rule}
