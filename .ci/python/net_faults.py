@@ -10,8 +10,10 @@ import old_journals
 from net_runs import content, contents, fresh, journal, put, run, script
 
 DEVICE = (3, "", "bayou: device\n")
-# A journal's header has so many bytes.
+# How many bytes a journal's header has.
 HEADER = 10
+# An entry has so many at the most: its length, its body and its digest.
+LONGEST_ENTRY = 2 + 8192 + 32
 
 ONE = script(["servers", 1], ["session", 0, []], ["write", 0, 0, put("a", 1)])
 TWO = script(["servers", 2], ["session", 0, []], ["write", 0, 0, put("a", 1)], ["write", 0, 1, put("a", 2)])
@@ -105,6 +107,22 @@ def torn(checks, program, room):
     checks.that("a Write behind it", run(program, folder, again), (0, told, ""))
     small = script(["servers", 1, 1], ["log", 0])
     checks.that("a journal of more Writes than a server may hold", run(program, folder, small), DEVICE)
+    damaged(checks, program, room)
+
+
+def damaged(checks, program, room):
+    """A journal in which more is broken than one entry that is torn: nothing of it is cut."""
+    folder = fresh(room, "damaged")
+    text = script(["servers", 1], ["session", 0, []], *[["write", 0, 0, put("a", seq)] for seq in range(100)])
+    checks.that("a hundred Writes", run(program, folder, text)[0], 0)
+    good = content(journal(folder, 0))
+    for at in (HEADER + 5, len(good) - LONGEST_ENTRY - 200):
+        changed = bytearray(good)
+        changed[at] ^= 0x80
+        with open(journal(folder, 0), "wb") as it:
+            it.write(changed)
+        checks.that("a byte that was changed long before the end", run(program, folder, LOG), DEVICE)
+        checks.that("nothing of it is cut", content(journal(folder, 0)), bytes(changed))
 
 
 def old(checks, program, room):
