@@ -5,6 +5,7 @@ import resource
 import shutil
 import signal
 import socket
+import subprocess
 import sys
 import tempfile
 import threading
@@ -70,8 +71,6 @@ class Tries:
             call = [self.program, "serve", "--id", "0", "--servers", "2", "--dir", folder] + words
             if "--listen" not in words:
                 call += ["--listen", "127.0.0.1:0"]
-            server = Server.__new__(Server)
-            import subprocess
             done = subprocess.run(call, stdin=subprocess.DEVNULL, capture_output=True, timeout=SECONDS)
             self.that(name, (done.returncode, done.stdout, bool(done.stderr)), (2, b"", True))
 
