@@ -22,7 +22,7 @@ PUT = {"update": [["put", "a", 1]]}
 
 
 def numbered(number):
-    return {"update": [["put", "k%d" % (number % 500), number]]}
+    return {"update": [["put", "k%03d" % (number % 500), number]]}
 
 
 def free_port():
@@ -306,7 +306,7 @@ class Tries:
                     refused = fault
                     break
             self.that("a disk that is full", type(refused), bayou.JournalFailed)
-            self.that("reads go on", session.read("k0"), 0)
+            self.that("reads go on", session.read("k000"), 0)
             self.that("the server comes up by itself", server.told.find("bayou: reopened adopted none", 10) is not None)
             self.that("and goes down again", wants(session, bayou.JournalFailed), True)
         self.that("a told end behind a full disk", server.end()[0], 0)
@@ -372,7 +372,7 @@ def soon(ask, seconds=SECONDS):
     while True:
         try:
             found = ask()
-            if found not in (None, False):
+            if found is not None and found is not False:
                 return found
         except bayou.BayouError:
             pass

@@ -1,6 +1,7 @@
 //! Readers and writers that do what a system may do, and count their calls.
 ghost use Rattle.std.specs.Prelude.{ℕ, List};
 
+use bayou_command::Serving;
 use bayou_print::{Ended, RunFault};
 use bayou_script::NetworkScript;
 use bayou_shell::{Files, Networks};
@@ -57,6 +58,12 @@ impl Networks for FakeFiles<'_> {
         _output: &mut Output<W>,
     ) -> Result<Ended, RunFault> {
         Err(RunFault::Network)
+    }
+
+    ghost serves = { λ service ended. Unit {0} };
+
+    fn serve(&mut self, _alloc: Global, _serving: &Serving<'_>) -> Result<Ended, RunFault> {
+        Ok(Ended::Clean)
     }
 }
 

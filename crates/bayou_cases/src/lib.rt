@@ -24,6 +24,8 @@ mod pulls;
 #[cfg(test)]
 mod scripts;
 #[cfg(test)]
+mod serves;
+#[cfg(test)]
 mod streams;
 #[cfg(test)]
 mod totals;

@@ -3,6 +3,8 @@
 #![tactic(auto)]
 
 #[cfg(test)]
+mod careful;
+#[cfg(test)]
 mod counts;
 #[cfg(test)]
 mod devices;

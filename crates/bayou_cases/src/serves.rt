@@ -1,0 +1,190 @@
+//! Servers that live, as far as no socket is wanted: words that are handed over, patience, plans, and what is news of a peer.
+use crate::fakes::FakeReader;
+use crate::memory::must_be_so;
+use bayou_command::Serving;
+use bayou_print::{Ended, RunFault};
+use bayou_script::NetworkScript;
+use bayou_serve::hall::patience_for;
+use bayou_shell::{Files, Networks, run_main};
+use bayou_streams::{CountedChannel, Output, Patience, Patient};
+use std::alloc::Global;
+use std::io;
+use std::io::{ErrorKind, Read, Write};
+
+/// A host that has no file and no network, and remembers the server that it was to let live: its number, how many there are, how many peers it
+/// has, and whether its journal is new.
+#[derive(Drop)]
+struct Remembering {
+    taken: Option<(u8, u8, usize, bool)>,
+}
+
+impl Files for Remembering {
+    type Reader = FakeReader<'static>;
+
+    ghost opens = { λ name reader. Unit {0} };
+
+    ghost refuses = { λ name. Unit {0} };
+
+    fn open(&mut self, _alloc: Global, _name: &str) -> io::Result<FakeReader<'static>> {
+        Err(io::Error::from(ErrorKind::NotFound))
+    }
+
+    ghost kept = { λ files has_failed turns_left. Unit {0} };
+
+    fn keep(&mut self, _file: CountedChannel<FakeReader<'static>, ()>)
+        ensures { Unit {0} }
+    {}
+}
+
+impl Networks for Remembering {
+    ghost runs = { λ folder plan ended. Unit {0} };
+
+    fn run<W: Write>(
+        &mut self,
+        _alloc: Global,
+        _folder: &str,
+        _script: NetworkScript,
+        _output: &mut Output<W>,
+    ) -> Result<Ended, RunFault> {
+        Err(RunFault::Network)
+    }
+
+    ghost serves = { λ service ended. Unit {0} };
+
+    fn serve(&mut self, _alloc: Global, serving: &Serving<'_>) -> Result<Ended, RunFault> {
+        self.taken = Some((
+            serving.id,
+            serving.servers,
+            serving.peers.len(),
+            serving.is_new,
+        ));
+        Ok(Ended::Clean)
+    }
+}
+
+/// What becomes of these words: the status, and the server that was handed over.
+fn handed(alloc: Global, words: &[&str]) -> (u8, Option<(u8, u8, usize, bool)>) {
+    let mut host = Remembering { taken: None };
+    let status = run_main(
+        alloc,
+        words,
+        &mut host,
+        &mut CountedChannel::new(io::empty(), ()),
+        &mut Output::new(io::sink()),
+        &mut Output::new(io::sink()),
+    );
+    (status, host.taken)
+}
+
+#[test]
+fn words_hand_a_server_over(rt: HostRuntime) {
+    let taken = handed(
+        rt.alloc(),
+        &[
+            "bayou",
+            "serve",
+            "--new",
+            "--id",
+            "2",
+            "--servers",
+            "16",
+            "--dir",
+            "d",
+            "--peer",
+            "0=127.0.0.1:1",
+            "--listen",
+            "127.0.0.1:0",
+            "--peer",
+            "1=127.0.0.1:2",
+        ],
+    );
+    must_be_so(&rt, taken == (0, Some((2, 16, 2, true))), 0);
+    let missing = handed(
+        rt.alloc(),
+        &["bayou", "serve", "--id", "2", "--servers", "16"],
+    );
+    must_be_so(&rt, missing == (2, None), 1);
+}
+
+/// Whoever waits so often, and counts how often that was asked.
+#[derive(Drop)]
+struct Waits {
+    left: u32,
+    asked: u32,
+    is_out: bool,
+}
+
+impl Patience for Waits {
+    ghost use Rattle.std.specs.Prelude.{◌≡◌, true};
+
+    ghost is_out = { λ waits. waits.is_out ≡ true };
+
+    fn waits_on(&mut self) -> bool {
+        self.asked = self.asked.saturating_add(1);
+        self.is_out = self.left == 0;
+        self.left = self.left.saturating_sub(1);
+        !self.is_out
+    }
+}
+
+/// A reader that ends so many waits, and then gives a byte.
+#[derive(Drop)]
+struct Slow {
+    waits: u32,
+}
+
+impl Read for Slow {
+    fn read(&mut self, buf: &mut [u8]) -> io::Result<usize> {
+        if self.waits > 0 {
+            self.waits -= 1;
+            return Err(io::Error::from(ErrorKind::WouldBlock));
+        }
+        match buf {
+            [place, ..] => {
+                *place = 7;
+                Ok(1)
+            }
+            [] => Ok(0),
+        }
+    }
+}
+
+/// Whether a byte that comes behind so many waits is read where there is patience for so many.
+fn is_read(waits: u32, patience: u32) -> bool {
+    let asking = Waits {
+        left: patience,
+        asked: 0,
+        is_out: false,
+    };
+    let mut piece = [0; 4];
+    Patient::new(Slow { waits }, asking)
+        .read(&mut piece)
+        .is_ok()
+}
+
+#[test]
+fn a_byte_is_waited_for_as_long_as_there_is_patience(rt: HostRuntime) {
+    for waits in 0..5_u32 {
+        for patience in 0..7_u32 {
+            let is_so = is_read(waits, patience) == (patience > waits);
+            must_be_so(&rt, is_so, u64::from(waits * 10 + patience));
+        }
+    }
+}
+
+/// How many desks are taken, how many there are, how long a connection may say nothing, and how long it may then.
+static CROWDS: [(u64, u64, u64, u64); 6] = [
+    (0, 64, 60_000, 60_000),
+    (63, 64, 60_000, 60_000),
+    (64, 64, 60_000, 2_000),
+    (65, 64, 60_000, 2_000),
+    (2, 2, 1_000, 1_000),
+    (0, 1, 1_000, 1_000),
+];
+
+#[test]
+fn a_crowd_is_served_sooner(rt: HostRuntime) {
+    for (at, (busy, desks, idle, told)) in CROWDS.iter().enumerate() {
+        must_be_so(&rt, patience_for(*busy, *desks, *idle) == *told, at as u64);
+    }
+}
