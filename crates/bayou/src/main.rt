@@ -9,9 +9,7 @@ mod progress;
 use bayou_command::Serving;
 use bayou_print::{Ended, RunFault};
 use bayou_script::NetworkScript;
-use bayou_shell::{
-    Files, Networks, Service, refuse_words, run_main, run_served, run_taken,
-};
+use bayou_shell::{Files, Networks, Service, refuse_words, run_main, run_served, run_taken};
 use bayou_streams::{CountedChannel, Output};
 use progress::{Counted, Screen, tell_progress};
 use std::alloc::Global;

@@ -48,8 +48,7 @@ pub(crate) fn is_version(version: u8) -> bool
 pub(crate) fn is_version_of(server: ServerId, version: u8) -> bool
     ensures { IsTrue result ↔ IsVersionOf server.index version }
 {
-    is_version(version)
-        && (WIDE_VERSION <= version || usize::from(server.index) < OLD_SERVERS)
+    is_version(version) && (WIDE_VERSION <= version || usize::from(server.index) < OLD_SERVERS)
 }
 
 /// The header of a server's journal in a version of the format.

@@ -42,7 +42,7 @@ returns-else-bytes-server c =
       known = c.is_version.ensures.0 c.if-not-is_version.false;
       another = elim c.else-bytes-server.branch [
         | else-bytes-server-via-then-bytes-server+else-is_version_of w ↦ inr (λ has.
-          let wrong : false ≡ true = sym w.if-is_version_of.false ∙ w.is_version_of.ensures.1 (subst (λ (o : ℕ). IsVersionOf o version) w.if-bytes-server.true has) in cc)
+            let wrong : false ≡ true = sym w.if-is_version_of.false ∙ w.is_version_of.ensures.1 (subst (λ (o : ℕ). IsVersionOf o version) w.if-bytes-server.true has) in cc)
         | else-bytes-server-via-else-bytes-server w ↦ inl w.if-bytes-server.false
       ];
       begins = has_header version c.args.server.index c.args.bytes.now owner long (ap (λ (n : ℕ). take n c.args.bytes.now) (sym read) ∙ same ∙ ap (take c.min-named.result) c.header_of-header.ensures ∙ ap (λ (n : ℕ). take n (header version c.args.server.index)) read) refl;
