@@ -319,7 +319,9 @@ class Tries:
             server.serving()
         addresses = [server.address() for server in servers]
         stop, told = threading.Event(), [[] for _ in range(8)]
-        writers = [threading.Thread(target=write_on, args=(addresses, number, stop, told[number])) for number in range(8)]
+        # (so that the store isn't full before the last kill: it holds 65,536 Writes)
+        pause = self.kills * 2.6e-4
+        writers = [threading.Thread(target=write_on, args=(addresses, number, stop, told[number], pause)) for number in range(8)]
         for writer in writers:
             writer.start()
         for kill in range(self.kills):
@@ -418,8 +420,9 @@ def wants(session, fault):
     return False
 
 
-def write_on(addresses, number, stop, told):
-    """Writes at one server after another, and asks again what was lost, until it is told to stop; keeps each name that was told."""
+def write_on(addresses, number, stop, told, pause):
+    """Writes at one server after another, and asks again what was lost, until it is told to stop; keeps each name that was told, and rests behind
+    each."""
     session = bayou.Session(addresses, number=number, timeout=5)
     seed = random.Random(number)
     while not stop.is_set():
@@ -433,6 +436,7 @@ def write_on(addresses, number, stop, told):
             accepted = asked_again(session, stop)
         if accepted is not None:
             told.append((accepted.origin, accepted.seq))
+        time.sleep(pause)
     session.close()
 
 

@@ -1,5 +1,6 @@
 //! A device that cuts no more than may be torn: which cuts it makes, and what it tells of those that it refuses.
 use crate::fixtures::{must_be_so, server_id};
+use crate::journals::takes;
 use crate::notation::repeated;
 use bayou_device::{CarefulDevice, Damage, Device, MemoryDevice, OpenGate};
 use bayou_journal::format::ENTRY_BYTES;
@@ -18,8 +19,8 @@ enum Step {
     Sync,
     /// A cut that leaves so many bytes.
     Cut(usize),
-    /// One that is refused, and tells so much of damage.
-    Refused(usize, Option<(usize, usize)>),
+    /// One that would leave so many, and is refused: so many would go.
+    Refused(usize, usize),
 }
 
 use Step::{Append, Cut, Read, Refused, Sync};
@@ -31,6 +32,15 @@ fn is_damage(damage: Option<Damage>, told: Option<(usize, usize)>) -> bool {
         (None, None) => true,
         _ => false,
     }
+}
+
+/// Whether a cut of what a read gave, to so many bytes, goes so: with this damage, or without any.
+fn cuts(alloc: Global, device: &mut Careful, len: usize, told: Option<(usize, usize)>) -> bool {
+    let Ok(bytes) = device.read_all(alloc) else {
+        return false;
+    };
+    let is_cut = device.cut(len.min(bytes.len())).is_ok();
+    is_cut == told.is_none() && is_damage(device.damage(), told)
 }
 
 /// Whether a read gives so many bytes.
@@ -47,30 +57,29 @@ fn goes(alloc: Global, device: &mut Careful, step: Step) -> bool {
         Read(count) => reads(alloc, device, count),
         Append(piece) => device.append(piece.as_bytes()).is_ok(),
         Sync => device.sync().is_ok(),
-        Cut(len) => device.cut(len).is_ok() && device.damage().is_none(),
-        Refused(len, told) => device.cut(len).is_err() && is_damage(device.damage(), told),
+        Cut(len) => cuts(alloc, device, len, None),
+        Refused(len, behind) => cuts(alloc, device, len, Some((len, behind))),
     }
 }
 
 /// Steps of one device that has twenty bytes. A cut takes five at the most.
 static STEPS: [Step; 19] = [
-    // How much there is isn't known before the first read.
-    Refused(20, None),
     Read(20),
-    Refused(14, Some((14, 6))),
-    Refused(0, Some((0, 20))),
+    Refused(14, 6),
+    Refused(0, 20),
     Read(20),
     Cut(15),
     Cut(15),
-    Refused(9, Some((9, 6))),
+    Refused(9, 6),
     Cut(10),
     Append("abc"),
     Sync,
-    Refused(7, Some((7, 6))),
+    Refused(7, 6),
+    Read(13),
     Cut(8),
     Cut(3),
     Append("abcdef"),
-    Refused(3, Some((3, 6))),
+    Refused(3, 6),
     Cut(4),
     Read(4),
     Cut(0),
@@ -93,9 +102,7 @@ fn journal_of(rt: &impl Abort, alloc: Global, count: usize) -> Vec<u8> {
         .ok()
         .expect(rt, "no journal");
     for _ in 0..count {
-        let Ok(()) = journal.append(&body) else {
-            break;
-        };
+        assert!(rt; takes(&mut journal, &body));
     }
     journal
         .close()
