@@ -1,4 +1,5 @@
 """Servers that live, tried from outside. Call: serve.py PROGRAM [KILLS [GROUP..]]."""
+import json
 import os
 import random
 import resource
@@ -318,10 +319,10 @@ class Tries:
         for server in servers:
             server.serving()
         addresses = [server.address() for server in servers]
-        stop, told = threading.Event(), [[] for _ in range(8)]
+        stop, told, entries = threading.Event(), [[] for _ in range(8)], [[] for _ in range(8)]
         # (so that the store isn't full before the last kill: it holds 65,536 Writes)
         pause = self.kills * 2.6e-4
-        writers = [threading.Thread(target=write_on, args=(addresses, number, stop, told[number], pause)) for number in range(8)]
+        writers = [threading.Thread(target=write_on, args=(addresses, number, stop, told[number], entries[number], pause)) for number in range(8)]
         for writer in writers:
             writer.start()
         for kill in range(self.kills):
@@ -339,8 +340,20 @@ class Tries:
         self.that("all servers hold the same", lists is not None)
         held = {struct_of(write) for write in lists or []}
         self.that("no Write that was told is lost", sorted(set(accepted) - held), [])
+        self.audited(entries, [dump_of(server) for server in servers])
         for server in servers:
             server.kill()
+
+    def audited(self, entries, dumps):
+        """What the sessions were served, and what the servers hold, is clean by the auditor."""
+        path = os.path.join(self.folder(), "audit.jsonl")
+        with open(path, "w") as file:
+            lines = [["servers", 3]] + [entry for each in entries for entry in each]
+            lines += [["held", server, held_of(write)] for server, dump in enumerate(dumps) for write in dump]
+            file.writelines(json.dumps(line, separators=(",", ":")) + "\n" for line in lines)
+        done = subprocess.run([self.program, "audit", path], stdin=subprocess.DEVNULL, capture_output=True, timeout=120)
+        self.that("each session had what it asked for", (done.returncode, done.stdout.split(b"\n")[0], done.stderr), (0, b"clean", b""))
+        self.that("reads and Writes were served", {entry[5] for each in entries for entry in each}, {"read", "write"})
 
 
 def session_request(session):
@@ -420,13 +433,22 @@ def wants(session, fault):
     return False
 
 
-def write_on(addresses, number, stop, told, pause):
-    """Writes at one server after another, and asks again what was lost, until it is told to stop; keeps each name that was told, and rests behind
-    each."""
-    session = bayou.Session(addresses, number=number, timeout=5)
+def held_of(write):
+    """What a `held` line says of a Write; its program is an update of puts."""
+    origin, seq, clock, deps, (_, update, _) = frames.Bytes(write).write()
+    return [origin, seq, clock, list(deps[:3]), {"update": [["put", key, term[1]] for _, key, term in update]}]
+
+
+def write_on(addresses, number, stop, told, entries, pause):
+    """Writes at one server after another, and asks again what was lost, until it is told to stop, and reads now and then; keeps each name that
+    was told, and the entries of an audit, and rests behind each."""
+    session = bayou.Session(addresses, asks=bayou.ASKS, number=number, timeout=5)
+    asks = list(bayou.ASKS)
     seed = random.Random(number)
     while not stop.is_set():
         server = seed.randrange(3)
+        if seed.randrange(4) == 0:
+            read_on(session, "w%d" % seed.randrange(8), server, entries)
         try:
             accepted = session.write({"update": [["put", "w%d" % number, session.place + 1]]}, server)
         except (bayou.Away, bayou.Refused):
@@ -436,8 +458,18 @@ def write_on(addresses, number, stop, told, pause):
             accepted = asked_again(session, stop)
         if accepted is not None:
             told.append((accepted.origin, accepted.seq))
+            entries.append(["entry", number, session.place, asks, accepted.origin, "write", accepted.seq, accepted.clock, list(accepted.deps[:3])])
         time.sleep(pause)
     session.close()
+
+
+def read_on(session, key, server, entries):
+    """Reads the key, and enters it, where it was served."""
+    try:
+        session.read(key, server)
+    except bayou.BayouError:
+        return
+    entries.append(["entry", session.number, session.place, list(bayou.ASKS), server, "read", key, list(session.seen[:3])])
 
 
 def asked_again(session, stop):

@@ -341,6 +341,8 @@ class Session:
         self.run = _integer(run, 1, MAX_NUMBER) if run is not None else random.SystemRandom().randint(1, MAX_NUMBER)
         self.place = 0
         self.has_read, self.has_written = _ZERO, _ZERO
+        # What the server of the last read held.
+        self.seen = None
         # The last Write, where it may still be asked again: its server, its request and its need.
         self.pending = None
 
@@ -382,7 +384,7 @@ class Session:
         value, vector = payload.optional_value(), payload.vector()
         if not all(has >= wants for has, wants in zip(vector, need)):
             raise Lost("a read of less than was needed")
-        self.has_read = tuple(map(max, self.has_read, vector))
+        self.has_read, self.seen = tuple(map(max, self.has_read, vector)), vector
         return value
 
     def write(self, program, server=0):
