@@ -9,6 +9,7 @@
 A session keeps what it wrote and read as two vectors, and so is never served an older state than it asked for (docs/GUARANTEES.md). It isn't for
 several threads at once. Servers are those of `bayou serve` (docs/SERVE.md); the bytes are those of docs/PROTOCOL.md and docs/FORMATS.md.
 """
+import contextlib
 import random
 import socket
 import struct
@@ -281,10 +282,22 @@ class Link:
             raise Lost("the connection ended")
         return piece
 
+    @contextlib.contextmanager
+    def _closed_where_lost(self):
+        """Closes the connection where a reply doesn't come whole: what came behind it would answer the next request."""
+        try:
+            yield
+        except OSError as error:
+            self.close()
+            raise Lost(str(error)) from None
+        except Lost:
+            self.close()
+            raise
+
     def ask(self, request, *kinds):
         """The first reply to the request, which is of one of these kinds."""
         self._connect()
-        try:
+        with self._closed_where_lost():
             self.socket.sendall(request)
             kind, payload = self._reply()
             if kind == _REFUSED:
@@ -292,12 +305,6 @@ class Link:
             if kind not in kinds:
                 raise Lost("a reply to something else")
             return kind, payload
-        except OSError as error:
-            self.close()
-            raise Lost(str(error)) from None
-        except Lost:
-            self.close()
-            raise
 
     def reopen(self):
         """Has the server open its journal again, and tells the name of the Write that was adopted, if one was."""
@@ -309,18 +316,12 @@ class Link:
         """All Writes that the server holds, in order of receipt, each as its bytes."""
         writes = []
         kind, payload = self.ask(_frame(_DUMP), _ITEM, _END)
-        try:
+        with self._closed_where_lost():
             while kind == _ITEM:
                 writes.append(payload.data)
                 kind, payload = self._reply()
             if kind != _END or payload.take(">I") != (len(writes),):
                 raise Lost("a dump that isn't whole")
-        except OSError as error:
-            self.close()
-            raise Lost(str(error)) from None
-        except Lost:
-            self.close()
-            raise
         return writes
 
 
