@@ -281,15 +281,15 @@ def by_the_client(checks, program, folder):
             except bayou.NotDown:
                 told = "is up"
             checks.that("the client asks for a reopening", told, "is up")
-        again_at(checks, host, address, session, len(writes))
+        again_at(checks, host, address, len(writes))
         settles(checks, "the client", host, len(writes) + 1, 0, len(writes) + 1)
     bodies = [frames.own_record((2, 9, place), frames.write_bytes(write[:3] + (frames.counts(write[1] - 1),) + write[4:])) for place, write in enumerate(writes, 1)]
     bodies.append(frames.own_record((3, 9, 1), frames.write_bytes(own_writes(len(writes) + 1)[-1])))
     checks.that("the client's journal", has(path), frames.journal(0, bodies))
 
 
-def again_at(checks, host, address, behind, held):
-    """A Write that the client loses the reply to, and asks again: it is one Write. A session that needs more than there is is refused."""
+def again_at(checks, host, address, held):
+    """A Write that the client loses the reply to, and asks again: it is one Write."""
     with bayou.Session([address], ["wfr"], number=3, run=9) as session:
         host.left -= 2
         link, send = session.links[0], bayou.Link._reply
@@ -304,8 +304,6 @@ def again_at(checks, host, address, behind, held):
         finally:
             bayou.Link._reply = send
         checks.that("the client's Write, asked again", session.again().seq, held + 1)
-    need = list(behind.has_read)
-    checks.that("what the client's first session needs is held", need[0], held)
 
 
 def main():
