@@ -19,7 +19,13 @@ static ANSWERS: [(u8, u32, &str, usize, Result<bool, ChannelFault>); 10] = [
     (1, 0, "<own-1> 0005 16 00000001", 92, Ok(true)),
     (0, 2, "0005 16 00000000", 7, Ok(false)),
     // an Item that is held, and one of another server
-    (0, 2, "<item-2> 0005 16 00000001", 92, Err(ChannelFault::BadFrame)),
+    (
+        0,
+        2,
+        "<item-2> 0005 16 00000001",
+        92,
+        Err(ChannelFault::BadFrame),
+    ),
     (0, 0, "<own-1> <item-1>", 92, Err(ChannelFault::BadFrame)),
     (2, 0, "<item-1>", 92, Err(ChannelFault::BadFrame)),
     // an End of Items that didn't come, another frame, and none
@@ -52,7 +58,11 @@ fn the_first_frame_of_an_answer_tells_it(rt: HostRuntime) {
     for (row, (index, own, text, first, then)) in ANSWERS.iter().enumerate() {
         let bytes = stream(&rt, alloc, text);
         for cut in 0..bytes.len() {
-            let expected = if cut < *first { Err(ChannelFault::Cut) } else { *then };
+            let expected = if cut < *first {
+                Err(ChannelFault::Cut)
+            } else {
+                *then
+            };
             let is_so = told(alloc, *index, *own, &bytes[..cut], 5) == expected;
             must_go_so(&rt, is_so, (row, cut));
         }
@@ -74,7 +84,9 @@ fn all_but_own_writes_are_counted(rt: HostRuntime) {
     let mut channel = CountedChannel::new(io::empty(), writer);
     let is_cut = has_lost(alloc, ServerId { index: 1 }, 1, &mut channel) == Err(ChannelFault::Cut);
     let others = "00010000 00010000 00010000 00010000 00010000 00010000 00010000";
-    let text = format!(in alloc; "0041 05 00010000 00000001 {others} {others}").expect(&rt, "no text");
+    let text = format!(in alloc; "0041 05 00010000 00000001 {others} {others}").expect(
+        &rt, "no text",
+    );
     let is_so = is_cut && channel.into_parts().1.bytes == stream(&rt, alloc, text.as_str());
     assert!(rt; is_so);
 }
@@ -91,8 +103,14 @@ fn an_honest_server_tells_what_was_lost(rt: HostRuntime) {
         (1, 0, true),
         (1, 1, false),
         (3, 0, false),
-    ].iter().enumerate() {
-        let counts = bayou_peer::all_but_own(ServerId { index: *index }, (*own).min(65_536)).expect(&rt, "no vector");
+    ]
+    .iter()
+    .enumerate()
+    {
+        let counts = bayou_peer::all_but_own(ServerId { index: *index }, (*own).min(65_536)).expect(
+            &rt,
+            "no vector",
+        );
         let mut answering = CountedChannel::new((), Vec::new(alloc));
         let is_answered = answer_offer_on(alloc, peer.as_mut(), &counts, &mut answering).is_ok();
         let answer = answering.into_parts().1;
@@ -114,7 +132,11 @@ fn a_stream_that_fails_tells_nothing(rt: HostRuntime) {
         };
         let mut channel = CountedChannel::new(reader, io::sink());
         let answer = has_lost(alloc, ServerId { index: 0 }, 0, &mut channel);
-        let expected = if fails_at > 23 { Ok(true) } else { Err(ChannelFault::Read) };
+        let expected = if fails_at > 23 {
+            Ok(true)
+        } else {
+            Err(ChannelFault::Read)
+        };
         must_go_so(&rt, answer == expected, (fails_at as usize, 0));
     }
 }
