@@ -116,13 +116,34 @@ def damaged(checks, program, room):
     text = script(["servers", 1], ["session", 0, []], *[["write", 0, 0, put("a", seq)] for seq in range(100)])
     checks.that("a hundred Writes", run(program, folder, text)[0], 0)
     good = content(journal(folder, 0))
+    entry = (len(good) - HEADER) // 100
     for at in (HEADER + 5, len(good) - LONGEST_ENTRY - 200):
         changed = bytearray(good)
         changed[at] ^= 0x80
         with open(journal(folder, 0), "wb") as it:
             it.write(changed)
-        checks.that("a byte that was changed long before the end", run(program, folder, LOG), DEVICE)
+        whole = HEADER + (at - HEADER) // entry * entry
+        checks.that("a byte that was changed long before the end", run(program, folder, LOG), told_damaged(folder, 0, whole, len(good) - whole))
         checks.that("nothing of it is cut", content(journal(folder, 0)), bytes(changed))
+    # The damage is told of its own journal, behind another that is whole.
+    second = fresh(room, "damaged-second")
+    with open(journal(second, 0), "wb") as it:
+        it.write(good)
+    own = frames.journal_of(1, [frames.write_bytes((1, seq, seq, frames.counts(0, seq - 1), ([], [("put", "a", ("lit", seq))], []))) for seq in range(1, 101)])
+    size = (len(own) - HEADER) // 100
+    broken = bytearray(own)
+    broken[HEADER + 2 * size] ^= 1
+    with open(journal(second, 1), "wb") as it:
+        it.write(broken)
+    whole = HEADER + 2 * size
+    checks.that("the second journal is damaged", run(program, second, LOGS), told_damaged(second, 1, whole, len(own) - whole))
+    checks.that("nothing of both is cut", contents(second), {"server-0.journal": good, "server-1.journal": bytes(broken)})
+
+
+def told_damaged(folder, server, whole, behind):
+    """How a run ends that finds this journal damaged: its path, how many bytes of it are whole, and how many are behind them."""
+    line = "bayou: %s: it is whole up to byte %d, and the %d bytes behind that are damaged; nothing was changed\n" % (journal(folder, server), whole, behind)
+    return 3, "", line + "bayou: device\n"
 
 
 def old(checks, program, room):

@@ -13,6 +13,9 @@ import streams
 from checks import Checks
 from host import Host, begin, has, put
 
+sys.path.insert(0, os.path.join("..", "clients", "python"))
+import bayou  # noqa: E402
+
 P = frames.frames_of(rows.ROWS[5][0])[0][0][0][3]
 NUMBERS = itertools.count(1)
 READ_ROOM = frames.read_request(frames.ZERO, "room")
@@ -241,12 +244,74 @@ def asks_again(checks, program, folder):
     checks.that("asked again: the journal", has(path), frames.journal(0, bodies))
 
 
+def as_in_a_line(program):
+    """A program of frames.py as the client's users write it."""
+    def condition(it):
+        return list(it)
+
+    def op(it):
+        if it[0] == "del":
+            return list(it)
+        word, term = it[2][0], list(it[2])
+        return [it[0], it[1], term[1] if word == "lit" else term]
+    check, update, merge = program
+    return {"check": [condition(it) for it in check], "update": [op(it) for it in update],
+            "merge": [{"when": [condition(it) for it in when], "ops": [op(it) for it in ops]} for when, ops in merge]}
+
+
+def by_the_client(checks, program, folder):
+    """The client that users copy: the Writes of the rows by its sessions, each reply as it tells it, and just their entries in the journal."""
+    path = os.path.join(folder, "client")
+    writes = [frames.frames_of(frames.frame(frames.ITEM, body))[0][0][0][1] for body in rows.BODIES]
+    with Host(program, path, 4) as host:
+        address = "127.0.0.1:%d" % host.port
+        with bayou.Session([address], ["ryw", "mr", "wfr", "mw"], number=2, run=9) as session:
+            host.left -= 1
+            for write in writes:
+                told = session.write(as_in_a_line(write[4]))
+                checks.that("the client's Write %d" % write[1], (told.origin, told.seq, told.clock), write[:3])
+            checks.that("what its session wrote", session.has_written, frames.counts(len(writes)))
+            for key, value in (("room", 5), ("hall", None), ("sum", 5)):
+                checks.that("the client reads " + key, session.read(key), value)
+            checks.that("what its session read", session.has_read, frames.counts(len(writes)))
+            checks.that("the client's dump", session.links[0].dump(), [frames.write_bytes(write[:3] + (frames.counts(write[1] - 1),) + write[4:]) for write in writes])
+            told = "was reopened"
+            try:
+                session.links[0].reopen()
+            except bayou.NotDown:
+                told = "is up"
+            checks.that("the client asks for a reopening", told, "is up")
+        again_at(checks, host, address, len(writes))
+        settles(checks, "the client", host, len(writes) + 1, 0, len(writes) + 1)
+    bodies = [frames.own_record((2, 9, place), frames.write_bytes(write[:3] + (frames.counts(write[1] - 1),) + write[4:])) for place, write in enumerate(writes, 1)]
+    bodies.append(frames.own_record((3, 9, 1), frames.write_bytes(own_writes(len(writes) + 1)[-1])))
+    checks.that("the client's journal", has(path), frames.journal(0, bodies))
+
+
+def again_at(checks, host, address, held):
+    """A Write that the client loses the reply to, and asks again: it is one Write."""
+    with bayou.Session([address], ["wfr"], number=3, run=9) as session:
+        host.left -= 2
+        link, send = session.links[0], bayou.Link._reply
+
+        def lose(_):
+            raise bayou.Lost("tried")
+        bayou.Link._reply = lose
+        try:
+            session.write(as_in_a_line(P))
+        except bayou.Lost:
+            checks.that("a lost reply closes the client's connection", link.socket, None)
+        finally:
+            bayou.Link._reply = send
+        checks.that("the client's Write, asked again", session.again().seq, held + 1)
+
+
 def main():
     program = os.path.abspath(sys.argv[1])
     checks = Checks()
     spelled(checks)
     with tempfile.TemporaryDirectory() as folder:
-        for group in (answered, refuses_streams, starts, fails, fills, asks_again, crowd.together, streams.at_random):
+        for group in (answered, refuses_streams, starts, fails, fills, asks_again, by_the_client, crowd.together, streams.at_random):
             try:
                 group(checks, program, folder)
             except Exception:

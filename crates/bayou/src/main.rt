@@ -153,6 +153,7 @@ fn run<
             script,
             &mut output,
             &mut errors,
+            &mut Output::new(Counted::new(told, rt, screen)),
         ),
         Some(Taken::Serve(service)) => {
             // A server that lives is at work for as long as it does, which is no news.

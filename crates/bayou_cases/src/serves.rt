@@ -110,7 +110,7 @@ fn words_hand_a_server_over(rt: HostRuntime) {
 #[derive(Drop)]
 struct Waits {
     left: u32,
-    asked: u32,
+    asked: u64,
     is_out: bool,
 }
 
@@ -118,6 +118,8 @@ impl Patience for Waits {
     ghost use Rattle.std.specs.Prelude.{◌≡◌, true};
 
     ghost is_out = { λ waits. waits.is_out ≡ true };
+
+    ghost asked = { λ waits. waits.asked };
 
     fn waits_on(&mut self) -> bool {
         self.asked = self.asked.saturating_add(1);

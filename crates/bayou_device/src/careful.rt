@@ -1,11 +1,12 @@
 //! A device that never cuts more than may be torn.
-ghost use Rattle.std.specs.Prelude.{◌≡◌, ◌+◌, ◌≤◌, ◌⊎◌, ℕ, [], None, Some, length, take, IfOk, IsErrOf, OnErr, OnOk};
+ghost use Rattle.std.specs.Prelude.{◌≡◌, ◌+◌, ◌≤◌, ◌++◌, ◌⊎◌, [], None, Some, length, take, IfOk, IsErrOf, OnErr, OnOk};
 ghost use Rattle.std.specs.Option.{ForSome};
-ghost use Rattle.bayou_device.specs.Careful.{IsDamage};
+ghost use Rattle.bayou_device.specs.Careful.{IsDamage, size_behind};
 ghost use Rattle.bayou_device.specs.Device.{BeginsWith, Rose};
 
 use crate::device::{Device, Failed, ReadFault};
 use std::alloc::Global;
+use std::fmt;
 
 /// What a cut that was refused would have dropped.
 #[derive(Clone, Copy, Debug, PartialEq, Eq)]
@@ -14,6 +15,21 @@ pub struct Damage {
     pub whole: usize,
     /// How many bytes behind them were to go.
     pub behind: usize,
+}
+
+impl fmt::Display for Damage {
+    ghost use Rattle.std.specs.Prelude.{Some};
+    ghost use Rattle.bayou_device.specs.Careful.{damage_text};
+
+    ghost output = { λ damage. Some (damage_text damage) };
+
+    fn fmt<W: fmt::Write>(&self, f: &mut fmt::Formatter<W>) -> fmt::Result {
+        let (whole, behind) = (self.whole, self.behind);
+        write!(
+            f,
+            "it is whole up to byte {whole}, and the {behind} bytes behind that are damaged; nothing was changed"
+        )
+    }
 }
 
 /// A device of which no cut takes more than so many bytes. Where each append is synced before the next one, a failed or lost call tears no
@@ -33,7 +49,7 @@ pub struct CarefulDevice<D: Device> {
 
 // How many bytes there are behind an append of so many, where that is known.
 fn grown(size: Option<usize>, more: usize) -> Option<usize>
-    ensures { ForSome result (λ count. (before : ℕ) × (size ≡ Some before) × (count ≡ before + more)) }
+    ensures { result ≡ size_behind size more }
 {
     size?.checked_add(more)
 }
@@ -95,8 +111,11 @@ impl<D: Device> Device for CarefulDevice<D> {
         ensures rose { IsErrOf result ReadFault.Failed → Rose self.old.failures self.new.failures }
         ensures memory_counts { IsErrOf result ReadFault.OutOfMemory → self.new.failures ≡ self.old.failures }
         ensures calls { D.leads_to 1 self.old.device self.new.device }
+        // It fails where the device does.
+        ensures fails { IsErrOf result ReadFault.Failed → Rose (D.failures self.old.device) (D.failures self.new.device) }
         // From then on it is known how many bytes there are.
-        ensures size { IfOk result (λ bytes. (self.new.size ≡ Some (length bytes.items)) × (self.new.most ≡ self.old.most)) }
+        ensures size { IfOk result (λ bytes. self.new.size ≡ Some (length bytes.items)) }
+        ensures others { (self.new.most ≡ self.old.most) × (self.new.damage ≡ self.old.damage) }
     {
         match self.device.read_all(alloc) {
             Ok(bytes) => {
@@ -112,7 +131,20 @@ impl<D: Device> Device for CarefulDevice<D> {
         }
     }
 
-    fn append(&mut self, piece: &[u8]) -> Result<(), Failed> {
+    fn append(&mut self, piece: &[u8]) -> Result<(), Failed>
+        ensures added { D.is_modelled → OnOk result (D.content self.new.device ≡ D.content self.old.device ++ piece.now) }
+        ensures left { OnErr result (D.may_leave piece.now (D.content self.old.device) (D.content self.new.device) ⊎ (D.content self.new.device ≡ D.content self.old.device)) }
+        ensures kept { D.kept self.new.device ≡ D.kept self.old.device }
+        ensures counts { OnOk result (self.new.failures ≡ self.old.failures) }
+        ensures rose { OnErr result (Rose self.old.failures self.new.failures) }
+        ensures calls { D.leads_to 1 self.old.device self.new.device }
+        // It fails exactly where the device does.
+        ensures done { OnOk result (D.failures self.new.device ≡ D.failures self.old.device) }
+        ensures fails { OnErr result (Rose (D.failures self.old.device) (D.failures self.new.device)) }
+        // It stays known how many bytes there are.
+        ensures size { OnOk result (self.new.size ≡ size_behind self.old.size (length piece.now)) }
+        ensures others { (self.new.most ≡ self.old.most) × (self.new.damage ≡ self.old.damage) }
+    {
         match self.device.append(piece) {
             Ok(()) => {
                 self.size = grown(self.size, piece.len());
@@ -126,7 +158,20 @@ impl<D: Device> Device for CarefulDevice<D> {
         }
     }
 
-    fn sync(&mut self) -> Result<(), Failed> {
+    fn sync(&mut self) -> Result<(), Failed>
+        ensures same { OnOk result (D.content self.new.device ≡ D.content self.old.device) }
+        ensures synced { OnOk result (D.kept self.new.device ≡ D.content self.old.device) }
+        ensures left { OnErr result (D.may_leave [] (D.content self.old.device) (D.content self.new.device) ⊎ (D.content self.new.device ≡ D.content self.old.device)) }
+        ensures kept { OnErr result (D.kept self.new.device ≡ D.kept self.old.device) }
+        ensures counts { OnOk result (self.new.failures ≡ self.old.failures) }
+        ensures rose { OnErr result (Rose self.old.failures self.new.failures) }
+        ensures calls { D.leads_to 1 self.old.device self.new.device }
+        // It fails exactly where the device does.
+        ensures done { OnOk result (D.failures self.new.device ≡ D.failures self.old.device) }
+        ensures fails { OnErr result (Rose (D.failures self.old.device) (D.failures self.new.device)) }
+        ensures size { OnOk result (self.new.size ≡ self.old.size) }
+        ensures others { (self.new.most ≡ self.old.most) × (self.new.damage ≡ self.old.damage) }
+    {
         match self.device.sync() {
             Ok(()) => Ok(()),
             Err(Failed) => {
@@ -150,6 +195,8 @@ impl<D: Device> Device for CarefulDevice<D> {
         ensures careful { D.is_modelled → OnOk result (length (D.content self.old.device) ≤ len + self.old.most) }
         // It fails where the device does, and where more would go: then nothing changes, and the damage is told.
         ensures refused { OnErr result (Rose (D.failures self.old.device) (D.failures self.new.device) ⊎ ((self.new.device ≡ self.old.device) × IsDamage self.old.size self.old.most len self.new.damage)) }
+        ensures size { OnOk result (self.new.size ≡ Some len) }
+        ensures most { self.new.most ≡ self.old.most }
     {
         self.damage = None;
         let Some(size) = self.size else {

@@ -2,3 +2,4 @@ pub mod Inner
 pub mod Lent
 pub mod Replies
 pub mod Serving
+pub mod Tallied

@@ -1,8 +1,9 @@
 //! Desks at each of which one connection after another is served, for as long as a server lives.
-ghost use Rattle.std.specs.Prelude.{◌≡◌, ◌+◌, ◌≤◌, MatchResult, vec_capacity, vec_len};
+ghost use Rattle.std.specs.Prelude.{◌≡◌, ◌+◌, ◌≤◌, ℕ, MatchResult, OnOk, vec_capacity, vec_len};
 
 use crate::host::Host;
 use crate::listening::join_all;
+use core::thread::{Anything, Stack};
 use std::alloc::Global;
 use std::net::{Shutdown, TcpListener, TcpStream};
 use std::os::fd::OwnedFd;
@@ -10,6 +11,9 @@ use std::sync::Wait;
 use std::sync::atomic::{AtomicBool, Ordering};
 use std::thread;
 use std::thread::{JoinHandle, Scope, Threads};
+
+/// How many bytes of stack a thread has that serves at a desk.
+const STACK_BYTES: usize = 1_048_576;
 
 /// A host that connections come to as long as it lives.
 pub trait Attendant: Host {
@@ -70,14 +74,15 @@ fn begin_at<'s, E, H: Attendant + Sync, T: Wait + Send + Sync>(
     door: &'s Door<'s, H>,
     desk: H::Desk,
 ) -> Result<JoinHandle<H::Desk>, H::Desk> {
-    let spawned = scope.spawn(move || {
+    let stack = Stack::new().stack_size(STACK_BYTES);
+    let spawned = stack.spawn_scoped_with(scope, Anything, move || {
         if door.is_short.load(Ordering::SeqCst) {
             return desk;
         }
         attend_at(rt, alloc, door, desk)
     });
     match spawned {
-        Ok(worker) => Ok(worker),
+        Ok(worker) => Ok(worker.forget_promise()),
         Err(refused) => {
             // The desk is handed back by what the thread was to do, which then does nothing else.
             door.is_short.store(true, Ordering::SeqCst);
@@ -110,7 +115,7 @@ fn begin_all<'s, E, H: Attendant + Sync, T: Wait + Send + Sync>(
 
 /// Has each desk serve one connection after another, in a thread of its own, until the flag of the door is set and each connection ended.
 /// Meanwhile the closure runs, with the number of desks for which no thread began; it ends when the flag is to be set. All desks come back.
-/// For want of memory nobody is served, and the closure isn't run.
+/// For want of memory nobody is served, and the closure isn't run. That a connection is taken, and that a thread serves it, no clause can say.
 pub fn attend<H: Attendant + Sync, T: Threads + Wait + Send + Sync, F: FnOnce(usize) + Drop>(
     rt: &T,
     alloc: Global,
@@ -119,7 +124,8 @@ pub fn attend<H: Attendant + Sync, T: Threads + Wait + Send + Sync, F: FnOnce(us
     meanwhile: F,
 ) -> Result<Vec<H::Desk>, Vec<H::Desk>>
     requires { F.IsAlwaysCallable meanwhile }
-    ensures { MatchResult result (λ back. vec_len back ≡ vec_len desks) (λ left. left ≡ desks) }
+    ensures desks { MatchResult result (λ back. vec_len back ≡ vec_len desks) (λ left. left ≡ desks) }
+    ensures called { OnOk result ((unserved : ℕ) × (unserved ≤ vec_len desks) × F.post meanwhile unserved tt) }
 {
     let total = desks.len();
     let (Ok(workers), Ok(left)) = (
@@ -140,6 +146,7 @@ pub fn attend<H: Attendant + Sync, T: Threads + Wait + Send + Sync, F: FnOnce(us
             requires { F.IsAlwaysCallable meanwhile × (vec_len posts.workers ≡ 0) × (vec_len posts.left ≡ 0) × (posts.total ≡ vec_len desks) }
             ensures all { vec_len result.workers + vec_len result.left ≡ vec_len desks }
             ensures total { result.total ≡ vec_len desks }
+            ensures called { F.post meanwhile (vec_len result.left) tt }
         {
             let mut posts = posts;
             begin_all(scope, rt, alloc, door, desks, &mut posts);

@@ -23,6 +23,8 @@ mod items;
 #[cfg(test)]
 mod lists;
 #[cfg(test)]
+mod losing;
+#[cfg(test)]
 mod meetings;
 #[cfg(test)]
 mod memory;

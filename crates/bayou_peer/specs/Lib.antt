@@ -1,4 +1,5 @@
 pub mod Inner
+pub mod Losing
 pub mod Meeting
 pub mod Offers
 pub mod Pulls

@@ -1,9 +1,16 @@
 -- When a server is told to fill up: this project's own.
-use Rattle.std.specs.Prelude.{ℕ, ◌*◌, nat_le, if◌then◌else◌}
+use Rattle.std.specs.Prelude.{◌≡◌, ◌⊎◌, ℕ, ◌*◌, ◌≤◌, List, [], ◌∷◌, All, Contains}
 
--- the highest of the steps of 90, 95 and 99 hundredths of the limit that so many Writes reach, or 0
-abbrev pub fullness_of : (held limit : ℕ) → ℕ
-fullness_of held limit =
-    if nat_le (99 * limit) (100 * held) then 99
-    else (if nat_le (95 * limit) (100 * held) then 95
-    else (if nat_le (90 * limit) (100 * held) then 90 else 0))
+-- the steps of fullness that are told, in hundredths of the limit
+abbrev pub steps : List ℕ
+steps = 90 ∷ 95 ∷ 99 ∷ []
+
+-- so many Writes are that many hundredths of the limit, or more
+abbrev pub IsReached : (held limit step : ℕ) → Type 0
+IsReached held limit step = step * limit ≤ 100 * held
+
+-- the greatest of the steps that is reached, or 0 where none is
+abbrev pub IsFullness : (held limit full : ℕ) → Type 0
+IsFullness held limit full =
+    ((full ≡ 0) ⊎ (Contains steps full × IsReached held limit full))
+    × All (λ step. IsReached held limit step → step ≤ full) steps

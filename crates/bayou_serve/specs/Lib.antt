@@ -1,2 +1,4 @@
+pub mod Faults
 pub mod Fullness
+pub mod Lived
 pub mod News

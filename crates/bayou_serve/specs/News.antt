@@ -1,22 +1,27 @@
 -- What is told of the visits to a peer: this project's own.
-use Rattle.std.specs.Prelude.{◌==◌, Option, None, Some, if◌then◌else◌}
-use Rattle.bayou_peer.specs.contracts.fault.PullFaultPartialEq.TheImpl as pull_fault_eq
+use Rattle.std.specs.Prelude.{◌≡◌, ◌⊎◌, Option, Some}
+use Rattle.bayou_peer.specs.declared.fault.PullFault.{PullFault}
+use Rattle.bayou_peer.specs.declared.pulling.Pulled.{Pulled as Counts}
 use Rattle.bayou_serve.specs.declared.visit.News.{News}
 use Rattle.bayou_serve.specs.declared.visit.News.TheVariants as news
 use Rattle.bayou_serve.specs.declared.visit.Visit.{Visit}
 use Rattle.bayou_serve.specs.declared.visit.Visit.TheVariants.{Away, Pulled, Failed}
 
--- A visit is told of where it came to something else than the last one, and where Writes came.
-abbrev pub news_of : (last : Option Visit) → Visit → Option News
-news_of (Some Away) Away = None
-news_of (Some (Pulled before)) Away = Some news.Away
-news_of (Some (Failed before)) Away = Some news.Away
-news_of None Away = Some news.Away
-news_of (Some (Pulled before)) (Pulled pulled) = if pulled.taken == 0 then None else Some (news.Pulled pulled)
-news_of (Some Away) (Pulled pulled) = Some (news.Reached pulled)
-news_of (Some (Failed before)) (Pulled pulled) = Some (news.Reached pulled)
-news_of None (Pulled pulled) = Some (news.Reached pulled)
-news_of (Some (Failed before)) (Failed fault) = if (pull_fault_eq.ghosts).eq before fault then None else Some (news.Failed fault)
-news_of (Some Away) (Failed fault) = Some (news.Failed fault)
-news_of (Some (Pulled before)) (Failed fault) = Some (news.Failed fault)
-news_of None (Failed fault) = Some (news.Failed fault)
+-- the last visit took what there was
+abbrev pub EndedWell : Option Visit → Type 0
+EndedWell last = (counts : Counts) × (last ≡ Some (Pulled counts))
+
+-- Nothing is told exactly where the peer was away both times, or ended in the same fault both times, or ended well both times and nothing was
+-- taken now.
+abbrev pub IsNoNews : (last : Option Visit) → (now : Visit) → Type 0
+IsNoNews last now =
+    ((now ≡ Away) × (last ≡ Some Away))
+    ⊎ (((fault : PullFault) × (now ≡ Failed fault) × (last ≡ Some (Failed fault)))
+    ⊎ ((counts : Counts) × (now ≡ Pulled counts) × (counts.taken ≡ 0) × EndedWell last))
+
+-- What is told is what the visit came to: a peer that ended well is told as reached where it hadn't before.
+abbrev pub Tells : (last : Option Visit) → (now : Visit) → News → Type 0
+Tells last now news.Away = now ≡ Away
+Tells last now (news.Reached counts) = (now ≡ Pulled counts) × ¬ (EndedWell last)
+Tells last now (news.Pulled counts) = (now ≡ Pulled counts) × EndedWell last
+Tells last now (news.Failed fault) = now ≡ Failed fault

@@ -1,3 +1,6 @@
+ghost use Rattle.std.specs.Prelude.{◌≡◌};
+ghost use Rattle.bayou_serve.specs.Faults.{told_as};
+
 use bayou_device::Damage;
 use bayou_server::{JournalFault, StartFault};
 use std::alloc::AllocError;
@@ -17,8 +20,8 @@ pub enum ServeFault {
     #[error("a call of the file failed")]
     Device,
     /// What stands behind the whole entries is more than one that was torn.
-    #[error("it is whole up to byte {whole}, and the {behind} bytes behind that are damaged; nothing was changed")]
-    Damaged { whole: usize, behind: usize },
+    #[error("{0}")]
+    Damaged(Damage),
     #[error("it is no journal")]
     NotAJournal,
     #[error("it is another server's journal")]
@@ -43,8 +46,13 @@ pub enum ServeFault {
 }
 
 impl ServeFault {
+    ghost use Rattle.std.specs.Prelude.{◌≡◌, ◌↔◌, true};
+    ghost use Rattle.bayou_serve.specs.Faults.{IsOfJournal};
+
     /// Whether it is the journal's, so that its file is to be named.
-    pub fn is_of_journal(self) -> bool {
+    pub fn is_of_journal(self) -> bool
+        ensures { result ≡ true ↔ IsOfJournal self }
+    {
         !matches!(
             self,
             ServeFault::Memory | ServeFault::Port | ServeFault::Output
@@ -64,12 +72,11 @@ impl From<AllocError> for ServeFault {
 }
 
 /// What a start that was refused is told as. A device that refused a cut tells the damage.
-pub(crate) fn fault_of(refused: StartFault, damage: Option<Damage>) -> ServeFault {
+pub(crate) fn fault_of(refused: StartFault, damage: Option<Damage>) -> ServeFault
+    ensures { result ≡ told_as refused damage }
+{
     match (refused, damage) {
-        (StartFault::Journal(JournalFault::Device), Some(damage)) => ServeFault::Damaged {
-            whole: damage.whole,
-            behind: damage.behind,
-        },
+        (StartFault::Journal(JournalFault::Device), Some(damage)) => ServeFault::Damaged(damage),
         (StartFault::Journal(JournalFault::Device), None) => ServeFault::Device,
         (StartFault::Journal(JournalFault::NotAJournal), _) => ServeFault::NotAJournal,
         (StartFault::Journal(JournalFault::OtherServer), _) => ServeFault::OtherServer,

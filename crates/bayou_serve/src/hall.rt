@@ -1,5 +1,5 @@
 //! What all threads of a server that lives share.
-ghost use Rattle.std.specs.Prelude.{◌≡◌, ◌*◌, min, nat_le, if◌then◌else◌};
+ghost use Rattle.std.specs.Prelude.{◌≡◌, ◌*◌, ℕ, min, nat_le, if◌then◌else◌};
 
 use std::sync::atomic::{AtomicBool, AtomicU64, Ordering};
 
@@ -43,7 +43,7 @@ impl Hall {
         }
     }
 
-    /// Whether the server ends.
+    /// Whether the server ends. What the flag says no clause can.
     pub fn is_over(&self) -> bool {
         self.stop.load(Ordering::SeqCst)
     }
@@ -63,8 +63,10 @@ impl Hall {
         self.busy.fetch_sub(1, Ordering::SeqCst);
     }
 
-    /// How long a connection may say nothing now.
-    pub fn patience(&self) -> u64 {
+    /// How long a connection may say nothing now, for so many desks as are taken; how many that are no clause can say.
+    pub fn patience(&self) -> u64
+        ensures { (busy : ℕ) × (result ≡ (if nat_le self.now.desks busy then min self.now.idle_milliseconds CROWDED_MILLISECONDS else self.now.idle_milliseconds)) }
+    {
         patience_for(
             self.busy.load(Ordering::SeqCst),
             self.desks,

@@ -1,6 +1,6 @@
 //! What keeps a server going: its journal is opened again behind a fault of the device, and it is told when it fills up.
-ghost use Rattle.std.specs.Prelude.{◌≡◌, ◌<◌, ◌^◌};
-ghost use Rattle.bayou_serve.specs.Fullness.{fullness_of};
+ghost use Rattle.std.specs.Prelude.{◌≡◌, ℕ, None, Some, if◌then◌else◌, nat_lt};
+ghost use Rattle.bayou_serve.specs.Fullness.{IsFullness};
 
 use crate::hall::Hall;
 use crate::peers::rest;
@@ -19,7 +19,7 @@ const LOOK_SECONDS: u32 = 2;
 
 /// The highest of the steps of fullness, in hundredths of the limit, that so many Writes reach; 0 where they reach none.
 fn fullness(held: u32, limit: u32) -> u8
-    ensures { result ≡ fullness_of held limit }
+    ensures { IsFullness held limit result }
 {
     let (held, limit) = (u64::from(held) * 100, u64::from(limit));
     if 99 * limit <= held {
@@ -31,6 +31,17 @@ fn fullness(held: u32, limit: u32) -> u8
     } else {
         0
     }
+}
+
+// The step that is to be told behind the last one that was, if one is: a greater one that was reached.
+fn step_to_tell(held: u32, limit: u32, told: u8) -> Option<u8>
+    ensures { (full : ℕ) × IsFullness held limit full × (result ≡ (if nat_lt told full then Some full else None)) }
+{
+    let full = fullness(held, limit);
+    if told < full {
+        return Some(full);
+    }
+    None
 }
 
 // How many Writes are counted.
@@ -62,18 +73,18 @@ fn tell_fullness<D: Device, L: Desks, E: Write, T: Wait>(
     teller: &Teller<E>,
 ) -> u8 {
     let held = sum_of(&node.offer(rt));
-    let full = fullness(held, limit);
-    if full > told {
-        teller.tell_made(
-            rt,
-            format!(in alloc; "bayou: holds {held} of {limit} writes\n"),
-        );
-        return full;
-    }
-    told
+    let Some(full) = step_to_tell(held, limit, told) else {
+        return told;
+    };
+    teller.tell_made(
+        rt,
+        format!(in alloc; "bayou: holds {held} of {limit} writes\n"),
+    );
+    full
 }
 
-/// Opens the journal again, where a fault of the device took the server down, and tells when the server fills up, until it ends.
+/// Opens the journal again, where a fault of the device took the server down, and tells when the server fills up, until it ends. Which step is
+/// told is [`step_to_tell`]'s; that it is told, and that a journal is opened again, no clause can say.
 pub(crate) fn keep_up<D: Device, L: Desks, E: Write, T: Wait + Clock>(
     rt: &T,
     alloc: Global,

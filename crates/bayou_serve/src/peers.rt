@@ -1,19 +1,14 @@
 //! The other servers of the store, from which a server that lives takes what it lacks.
-ghost use Rattle.std.specs.Prelude.{◌≡◌, ◌≤◌, IfSome, IsSome, replicate, slice_set};
-ghost use Rattle.bayou_base.specs.declared.limits.TheConstants.{MAX_WRITES as MOST, SERVERS as NUMBER};
-
 use crate::hall::Hall;
 use crate::plan::Peer;
 use crate::teller::Teller;
-use crate::visit::{News, Visit, news_behind};
+use crate::visit::{News, Visit, news_behind, visit_of};
 use crate::waiting::{Most, Renewing, Since, TICK_MILLISECONDS, Waiting};
-use bayou_base::{MAX_WRITES, SERVERS, ServerId, Vector};
 use bayou_device::Device;
-use bayou_net::{Sockets, pull_from};
+use bayou_net::{Sockets, pull_tallied};
 use bayou_node::{Desks, Node};
-use bayou_peer::{PullFault, Pulled};
+use bayou_peer::{Pulled, has_lost};
 use bayou_print::pulling_word;
-use bayou_server::TakeFault;
 use bayou_streams::{CountedChannel, Patient};
 use std::alloc::{AllocError, Global};
 use std::io::Write;
@@ -63,12 +58,11 @@ fn reach<T: Sockets>(rt: &T, peer: Peer) -> Option<TcpStream> {
     }
 }
 
-// Takes once what this peer has that these counts don't count.
-fn visit_with<D: Device, L: Desks, T: Wait + Clock + Sockets>(
+// Takes once what this peer has and the server lacks.
+fn visit<D: Device, L: Desks, T: Wait + Clock + Sockets>(
     rt: &T,
     alloc: Global,
     node: &Node<D, L>,
-    counts: &Vector,
     peer: Peer,
     hall: &Hall,
 ) -> Visit {
@@ -80,38 +74,28 @@ fn visit_with<D: Device, L: Desks, T: Wait + Clock + Sockets>(
     let reader = Renewing::new(Patient::new(&stream, patience), rt, &since);
     let writer = Renewing::new(&stream, rt, &since);
     let mut channel = CountedChannel::new(reader, writer);
-    match pull_from(rt, alloc, node, counts, &mut channel) {
-        Ok(pulled) => Visit::Pulled(pulled),
-        Err(fault) => Visit::Failed(fault),
-    }
+    visit_of(pull_tallied(rt, alloc, node, &node.offer(rt), &mut channel))
 }
 
-/// The counts that all Writes are within, but for those of this server, of which so many are counted. What a peer has beyond them is of this
-/// server, and behind those.
-pub fn all_but_own(id: ServerId, own: u32) -> Option<Vector>
-    requires { own ≤ MOST }
-    ensures some { IsSome result }
-    ensures counts { IfSome result (λ counts. counts ≡ slice_set (replicate NUMBER MOST) id.index own) }
-{
-    let mut counts = [MAX_WRITES; SERVERS];
-    counts[usize::from(id.index)] = own;
-    Vector::from_counts(counts)
-}
-
-/// Whether the peer has a Write of this server which the server lacks. One that can't be asked has none, as far as is known.
-pub(crate) fn has_lost<D: Device, L: Desks, T: Wait + Clock + Sockets>(
+/// Whether the peer has a Write of this server which the server lacks. One that can't be asked has none, as far as is known. What an answer
+/// says is [`has_lost`]'s; that a peer is reached no clause can say.
+pub(crate) fn has_own_beyond<D: Device, L: Desks, T: Wait + Clock + Sockets>(
     rt: &T,
     alloc: Global,
     node: &Node<D, L>,
     peer: Peer,
     hall: &Hall,
 ) -> bool {
-    let id = node.id();
-    let Some(counts) = all_but_own(id, node.offer(rt).get(id)) else {
+    let Some(stream) = reach(rt, peer) else {
         return false;
     };
-    let visit = visit_with(rt, alloc, node, &counts, peer, hall);
-    matches!(visit, Visit::Failed(PullFault::Refused(TakeFault::OwnLost)))
+    let (id, since) = (node.id(), Since::now(rt));
+    let own = node.offer(rt).get(id);
+    let patience = Waiting::new(rt, hall, &since, Most::Milliseconds(ANSWER_MILLISECONDS));
+    let reader = Renewing::new(Patient::new(&stream, patience), rt, &since);
+    let writer = Renewing::new(&stream, rt, &since);
+    let answer = has_lost(alloc, id, own, &mut CountedChannel::new(reader, writer));
+    matches!(answer, Ok(true))
 }
 
 // The line that tells news of a peer.
@@ -132,7 +116,8 @@ fn news_line(alloc: Global, peer: Peer, news: &News) -> Result<String, AllocErro
     }
 }
 
-/// Pulls from the peer every so many seconds, until the server ends, and tells what is news.
+/// Pulls from the peer every so many seconds, until the server ends, and tells what is news: that is [`news_behind`]'s. That it pulls, and how
+/// often, no clause can say.
 pub(crate) fn keep_pulling<D: Device, L: Desks, E: Write, T: Wait + Clock + Sockets>(
     rt: &T,
     alloc: Global,
@@ -147,7 +132,7 @@ pub(crate) fn keep_pulling<D: Device, L: Desks, E: Write, T: Wait + Clock + Sock
         if hall.is_over() {
             return;
         }
-        let visit = visit_with(rt, alloc, node, &node.offer(rt), peer, hall);
+        let visit = visit(rt, alloc, node, peer, hall);
         if let Some(news) = news_behind(last, visit) {
             teller.tell_made(rt, news_line(alloc, peer, &news));
         }

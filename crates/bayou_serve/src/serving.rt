@@ -1,12 +1,16 @@
 //! A server that lives, from its start to its end.
-ghost use Rattle.std.specs.Prelude.{◌≡◌, MatchResult, vec_len};
+ghost use Rattle.std.specs.Prelude.{◌≡◌, ℕ, List, IfErr, MatchResult, OnOk, vec_len};
 ghost use Rattle.std.specs.Thread.{IsSend};
 ghost use Rattle.bayou_node.specs.Books.{IsBlankOf, begun_of};
+ghost use Rattle.bayou_print.specs.Living.{serving_text};
+ghost use Rattle.bayou_serve.specs.declared.fault.ServeFault.TheVariants.{Output as OutputFault};
+ghost use Rattle.bayou_serve.specs.Lived.{IsBeforeServing, PrintsLife};
+ghost use Rattle.bayou_streams.specs.Account.{TakesBytes, account};
 
 use crate::fault::ServeFault;
 use crate::hall::Hall;
 use crate::keeper::keep_up;
-use crate::peers::{has_lost, keep_pulling};
+use crate::peers::{has_own_beyond, keep_pulling};
 use crate::plan::Plan;
 use crate::reception::Reception;
 use crate::starting::{Careful, Started, start_at};
@@ -39,7 +43,10 @@ struct Life<'s, D, L: Desks, E> {
 }
 
 // Writes a line, or has the output at fault.
-fn print<W: Write>(output: &mut Output<W>, line: &str) -> Result<(), ServeFault> {
+fn print<W: Write>(output: &mut Output<W>, line: &str) -> Result<(), ServeFault>
+    ensures whole { OnOk result (TakesBytes (account W.contents output.old) (account W.contents output.new) line.now) }
+    ensures fault { IfErr result (λ fault. fault ≡ OutputFault) }
+{
     match write_text(output, line.as_bytes()) {
         Ok(()) => Ok(()),
         Err(_) => Err(ServeFault::Output),
@@ -183,7 +190,10 @@ fn print_serving<D: Device, L: Desks, W: Write, E, T: Wait>(
     alloc: Global,
     life: &Life<'_, D, L, E>,
     output: &mut Output<W>,
-) -> Result<(), ServeFault> {
+) -> Result<(), ServeFault>
+    ensures printed { OnOk result ((address counts : List ℕ) × TakesBytes (account W.contents output.old) (account W.contents output.new) (serving_text life.now.plan.now.id.index address life.now.plan.now.servers counts)) }
+    ensures unserved { IfErr result (λ fault. IsBeforeServing fault → output.new ≡ output.old) }
+{
     let plan = life.plan;
     let Ok(address) = life.listener.local_addr() else {
         return Err(ServeFault::Port);
@@ -213,6 +223,8 @@ where
     E: Write + Send + Drop,
     T: Threads + Wait + Clock + Sockets + Send + Sync,
     requires blank { IsBlankOf blank L.name L.parts plan.now.habits.connections × (begun_of server.core ≡ L.begun) }
+    ensures lived { OnOk result (PrintsLife plan.now.id.index plan.now.servers (account W.contents output.old) (account W.contents output.new)) }
+    ensures unserved { IfErr result (λ fault. IsBeforeServing fault → output.new ≡ output.old) }
 {
     let Ok((node, desks)) = Node::<Careful, L>::new(alloc, blank, server, plan.habits.connections)
     else {
@@ -228,7 +240,7 @@ where
     };
     // What a peer has of it this server must have: else it would give names twice.
     for peer in plan.peers.iter() {
-        if has_lost(rt, alloc, &node, *peer, &hall) {
+        if has_own_beyond(rt, alloc, &node, *peer, &hall) {
             return Err(ServeFault::OwnLost(peer.id.index));
         }
     }
@@ -246,7 +258,7 @@ where
 }
 
 /// Serves what the plan says, with the journal in this file, until the input ends, where the plan asks for that, or for ever. What is told
-/// beside the printed lines goes to the teller.
+/// beside the printed lines goes to the teller. That anybody is served no clause can say, nor that it ends where it was told to.
 pub fn serve_plan<I, W, E, T>(
     rt: &T,
     alloc: Global,
@@ -261,6 +273,8 @@ where
     W: Write,
     E: Write + Send + Drop,
     T: Threads + Wait + Clock + Files<File = File> + Sockets + Send + Sync,
+    ensures lived { OnOk result (PrintsLife plan.now.id.index plan.now.servers (account W.contents output.old) (account W.contents output.new)) }
+    ensures unserved { IfErr result (λ fault. IsBeforeServing fault → output.new ≡ output.old) }
 {
     let Started { server, dropped } = start_at(rt, alloc, plan, path)?;
     if dropped > 0 {

@@ -4,7 +4,7 @@ use std::alloc::AllocError;
 use std::io::Write;
 use std::sync::{Mutex, Wait};
 
-/// Where threads tell whole lines: each is one write, behind one lock.
+/// Where threads tell whole lines: each is one write, behind one lock. What was told no clause can say: others tell there too.
 #[derive(Drop)]
 pub struct Teller<E>(Mutex<E>);
 

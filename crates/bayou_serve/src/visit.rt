@@ -1,7 +1,9 @@
 //! What became of visits to a peer, and what of it is news.
-ghost use Rattle.std.specs.Prelude.{◌≡◌};
-ghost use Rattle.bayou_serve.specs.News.{news_of};
+ghost use Rattle.std.specs.Prelude.{◌≡◌, ◌≢◌, ◌<◌, ◌↔◌, IfErr, IfOk, IfSome, None};
+ghost use Rattle.bayou_serve.specs.News.{IsNoNews, Tells};
+ghost use Rattle.bayou_serve.specs.declared.visit.Visit.TheVariants.{Failed, Pulled as Came};
 
+use bayou_net::PullStopped;
 use bayou_peer::{PullFault, Pulled};
 
 /// What a visit to a peer came to.
@@ -9,9 +11,10 @@ use bayou_peer::{PullFault, Pulled};
 pub enum Visit {
     /// No connection came about.
     Away,
-    /// So many Writes were taken, and so many were held already.
+    /// So many Writes were taken, and so many were held already. Where the pull ended early behind some that were taken, the next one goes on
+    /// there, so that is no fault.
     Pulled(Pulled),
-    /// The pull didn't succeed. What was taken before that stays.
+    /// The pull ended early, and nothing was taken.
     Failed(PullFault),
 }
 
@@ -26,9 +29,23 @@ pub enum News {
     Failed(PullFault),
 }
 
+/// What a visit came to whose pull ended so.
+pub fn visit_of(ended: Result<Pulled, PullStopped>) -> Visit
+    ensures whole { IfOk ended (λ pulled. result ≡ Came pulled) }
+    ensures some { IfErr ended (λ stopped. 0 < stopped.before.taken → result ≡ Came stopped.before) }
+    ensures none { IfErr ended (λ stopped. stopped.before.taken ≡ 0 → result ≡ Failed stopped.fault) }
+{
+    match ended {
+        Ok(pulled) => Visit::Pulled(pulled),
+        Err(PullStopped { before, .. }) if before.taken > 0 => Visit::Pulled(before),
+        Err(PullStopped { fault, .. }) => Visit::Failed(fault),
+    }
+}
+
 /// What is to be told of a visit behind the last one: that the peer's state changed, or that Writes came.
 pub fn news_behind(last: Option<Visit>, visit: Visit) -> Option<News>
-    ensures { result ≡ news_of last visit }
+    ensures none { result ≡ None ↔ IsNoNews last visit }
+    ensures told { IfSome result (Tells last visit) }
 {
     match visit {
         Visit::Away => match last {

@@ -59,6 +59,8 @@ pub struct Waiting<'a, C> {
     since: &'a Since,
     most: Most,
     is_out: bool,
+    /// How often it was asked.
+    asked: u64,
 }
 
 impl<'a, C> Waiting<'a, C> {
@@ -72,6 +74,7 @@ impl<'a, C> Waiting<'a, C> {
             since,
             most,
             is_out: false,
+            asked: 0,
         }
     }
 }
@@ -81,7 +84,10 @@ impl<C: Clock> Patience for Waiting<'_, C> {
 
     ghost is_out = { λ waiting. waiting.is_out ≡ true };
 
+    ghost asked = { λ waiting. waiting.asked };
+
     fn waits_on(&mut self) -> bool {
+        self.asked = self.asked.saturating_add(1);
         let most = match self.most {
             Most::Hall => self.hall.patience(),
             Most::Milliseconds(most) => most,

@@ -1,3 +1,4 @@
+mod Damaged
 pub mod Later
 pub mod Seated
 pub mod Told

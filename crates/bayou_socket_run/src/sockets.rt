@@ -1,12 +1,13 @@
 //! Scripts over sockets: servers with journals in files, each at a port of the loopback address.
 ghost use Rattle.std.specs.Thread.{IsSend};
-ghost use Rattle.std.specs.Prelude.{◌≡◌, ◌≤◌, IfErr, IfOk, IfSome, List, Ok, OnOk, ℕ};
+ghost use Rattle.std.specs.Prelude.{◌≡◌, ◌≤◌, IfErr, IfOk, IfSome, List, Ok, OnOk, ℕ, MatchResult};
 ghost use Rattle.bayou_audit.specs.Blanks.{AreBlanksOf, named};
 ghost use Rattle.bayou_base.specs.declared.limits.TheConstants.{SESSIONS as SESSIONS_NUMBER};
 ghost use Rattle.bayou_node.specs.Books.{IsBlankOf, begun_of};
 ghost use Rattle.bayou_socket_run.specs.Inner.Faults.{IsPhaseFault};
 ghost use Rattle.bayou_print.specs.Waiting.{stage};
 ghost use Rattle.bayou_socket_run.specs.Inner.Telling.{Tells};
+ghost use Rattle.bayou_socket_run.specs.Damage.{TellsDamage};
 ghost use Rattle.bayou_socket_run.specs.Faults.{IsNetFault, KeepsUnstarted};
 ghost use Rattle.bayou_print.specs.Turns.{EndsWriting};
 ghost use Rattle.bayou_streams.specs.Account.{TakesBytes, account};
@@ -415,21 +416,25 @@ where
 }
 
 /// Runs a script over sockets: each of its servers has its journal in the folder of this name, and listens at a port of the loopback address
-/// that the system picks; each session has a thread of its own. The lines of a phase are written at its end.
+/// that the system picks; each session has a thread of its own. The lines of a phase are written at its end. Where a journal is damaged, that is
+/// told beside.
 #[tactic(auto, using(crate::proofs::Told::took_nothing, crate::proofs::Told::start_net, crate::proofs::Told::start_unstarted, crate::proofs::Told::start_writes, crate::proofs::Told::phase_net, crate::proofs::Told::phase_unstarted))]
-pub fn run_on_sockets<T, W>(
+pub fn run_on_sockets<T, W, E>(
     rt: &T,
     alloc: Global,
     folder: &str,
     script: NetworkScript,
     output: &mut Output<W>,
+    told: &mut Output<E>,
 ) -> Result<Ended, RunFault>
 where
     T: Threads + Wait + Files<File = File> + Sockets + Send + Sync,
     W: Write,
+    E: Write,
     ensures took { (text : List ℕ) × TakesBytes (account W.contents output.old) (account W.contents output.new) text }
     ensures fault { IfErr result IsNetFault }
     ensures unstarted { KeepsUnstarted result (account W.contents output.old) (account W.contents output.new) }
+    ensures told { MatchResult result (λ _. account E.contents told.new ≡ account E.contents told.old) (λ fault. TellsDamage fault folder.now script.servers.count (account E.contents told.old) (account E.contents told.new)) }
     ensures ended { IfErr result (EndsWriting output.new.channel.write_failed output.new.channel.turns_left) }
     ensures ready { OnOk result (output.old.channel.turns_left ≤ output.new.channel.turns_left) }
 {
@@ -439,7 +444,7 @@ where
         writes: Blank::new(SESSIONS as u64),
         refusals: Blank::new(SESSIONS as u64),
     };
-    match start_all(rt, alloc, folder, script.servers) {
+    match start_all(rt, alloc, folder, script.servers, told) {
         Ok(started) => run_booked::<Brand, Brand, Brand, Brand, T, W>(
             rt, alloc, blanks, started, script, output,
         ),

@@ -1,4 +1,4 @@
-use Rattle.std.proofs.Common.{◌≡◌, ◌≤◌, ◌∙◌, ℕ, Some, ap, arith, drop, length, sym, take, take-append-drop}
+use Rattle.std.proofs.Common.{◌≡◌, ◌≤◌, ◌∙◌, ap, arith, drop, length, sym, take-append-drop}
 use Rattle.std.proofs.lemmas.List.{length-take}
 use Rattle.bayou_device.proofs.careful.CarefulDeviceDevice.cut.Goals as goal
 

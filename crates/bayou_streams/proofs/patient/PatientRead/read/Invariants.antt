@@ -1,13 +1,11 @@
--- no byte was read yet
-use Rattle.std.proofs.Common.{◌≡◌, ◌-◌, ◌≤◌, length}
+-- no byte was read yet, and each wait was asked for
+use Rattle.std.proofs.Common.{◌≡◌, length}
 use Rattle.std.specs.Io.KnownBytes.{Keeps}
-use Rattle.bayou_base.specs.declared.limits.TheConstants.{MAX_WAITS}
+use Rattle.bayou_streams.specs.Lines.{counted}
 use Rattle.bayou_streams.proofs.patient.PatientRead.read.Given as goal
 
-abbrev pub invariant-loop-self : goal.invariant-loop-self
-invariant-loop-self g l =
-    (length l.buf ≡ length l.initial.buf) × Keeps (g.R.Read.remaining l.initial.self.reader) (g.R.Read.remaining l.self.reader)
-    × (l.self.waits ≤ MAX_WAITS)
-
-abbrev pub decreases-loop-self : goal.decreases-loop-self
-decreases-loop-self g l = MAX_WAITS - l.self.waits
+abbrev pub invariant-loop : goal.invariant-loop
+invariant-loop g l = record {
+  unread : (length l.buf ≡ length l.initial.buf) × Keeps (g.R.Read.remaining l.initial.self.reader) (g.R.Read.remaining l.self.reader);
+  asked : g.P.Patience.asked l.self.patience ≡ counted (g.P.Patience.asked l.initial.self.patience) l.counter;
+}

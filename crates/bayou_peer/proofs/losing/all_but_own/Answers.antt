@@ -1,7 +1,7 @@
 use Rattle.std.proofs.Common.{◌<◌, ℕ, subst, sym}
 use Rattle.bayou_base.specs.declared.limits.TheConstants.{SERVERS}
-use Rattle.bayou_serve.proofs.Asking.{all_within}
-use Rattle.bayou_serve.proofs.peers.all_but_own.Goals as goal
+use Rattle.bayou_peer.proofs.Asking.{all_within}
+use Rattle.bayou_peer.proofs.losing.all_but_own.Goals as goal
 
 pub returns-clause-some : goal.returns-clause-some
 returns-clause-some c =

@@ -1,0 +1,19 @@
+-- The lines of a server that lives, one behind another.
+use Rattle.std.proofs.Common.{◌≡◌, ℕ, List, ◌++◌, Result, Ok, Err, OnOk, subst}
+use Rattle.bayou_node.specs.declared.node_settled.NodeSettled.{NodeSettled}
+use Rattle.bayou_print.specs.Living.{held_text, serving_text}
+use Rattle.bayou_print.specs.Printed.{settled_text}
+use Rattle.bayou_serve.specs.Lived.{PrintsLife}
+use Rattle.bayou_streams.specs.Account.{Account, TakesBytes}
+use Rattle.bayou_streams.specs.Laws.Taken.{TakesBytes-trans}
+
+pub three_lines : {T E : Type 0} (server servers : ℕ) (a b c d : Account) (address counts : List ℕ) (settled : NodeSettled) (second third : List ℕ) (result : Result T E)
+    → TakesBytes a b (serving_text server address servers counts)
+    → second ≡ settled_text server settled → TakesBytes b c second
+    → third ≡ held_text server servers settled.vector → OnOk result (TakesBytes c d third)
+    → OnOk result (PrintsLife server servers a d)
+three_lines server servers a b c d address counts settled second third (Ok value) one is_second two is_third rest =
+    let behind = TakesBytes-trans b c d second third two rest in
+    let texts = subst (λ (l : List ℕ). TakesBytes b d (settled_text server settled ++ l)) is_third (subst (λ (l : List ℕ). TakesBytes b d (l ++ third)) is_second behind) in
+    (address, counts, settled, TakesBytes-trans a b d (serving_text server address servers counts) (settled_text server settled ++ held_text server servers settled.vector) one texts)
+three_lines server servers a b c d address counts settled second third (Err fault) one is_second two is_third rest = tt
