@@ -2,7 +2,7 @@
 use crate::fixtures::must_hold;
 use arrayvec::ArrayString;
 use bayou_base::{Key, Prefix, Value};
-use bayou_lang::{Look, Op, Program, Term};
+use bayou_lang::{Cond, Look, Op, Program, Term};
 use bayou_log::Db;
 use std::alloc::{AllocError, Global};
 use std::process::Abort;
@@ -40,37 +40,78 @@ fn is_taken_away(number: usize) -> bool {
     number % 7 == 3
 }
 
+/// Whether programs count keys, from the first of which on a database keeps those that are present.
+#[derive(Clone, Copy, Debug, PartialEq, Eq)]
+enum Checks {
+    Nothing,
+    ANumber,
+}
+
+/// The program of this op, behind such a check, which holds.
+fn program_of(rt: &impl Abort, checks: Checks, op: Op) -> Program {
+    let made = match checks {
+        Checks::Nothing => Program::new(&[], &[op], &[]),
+        Checks::ANumber => {
+            let counted = Cond::AtMost(Prefix::default(), u32::MAX);
+            Program::new(&[counted], &[op], &[])
+        }
+    };
+    made.expect(rt, "no program")
+}
+
 /// Does the op to the database.
-fn does(rt: &impl Abort, alloc: Global, db: &mut Db, op: Op) -> Result<(), AllocError> {
-    let program = Program::new(&[], &[op], &[]).expect(rt, "no program");
-    let program = program.rest(alloc)?;
+fn does(
+    rt: &impl Abort,
+    alloc: Global,
+    db: &mut Db,
+    checks: Checks,
+    op: Op,
+) -> Result<(), AllocError> {
+    let program = program_of(rt, checks, op).rest(alloc)?;
     db.prepare(&program)?;
     let _ = db.apply(&program);
     Ok(())
 }
 
-fn puts(rt: &impl Abort, alloc: Global, db: &mut Db, number: usize) -> Result<(), AllocError> {
-    let term = Term::Lit(Value::Num(1));
-    does(rt, alloc, db, Op::Put(numbered(rt, number), term))
+fn put_of(rt: &impl Abort, number: usize) -> Op {
+    Op::Put(numbered(rt, number), Term::Lit(Value::Num(1)))
 }
 
-fn takes(rt: &impl Abort, alloc: Global, db: &mut Db, number: usize) -> Result<(), AllocError> {
-    does(rt, alloc, db, Op::Del(numbered(rt, number)))
+fn puts(
+    rt: &impl Abort,
+    alloc: Global,
+    db: &mut Db,
+    checks: Checks,
+    number: usize,
+) -> Result<(), AllocError> {
+    does(rt, alloc, db, checks, put_of(rt, number))
+}
+
+fn takes(
+    rt: &impl Abort,
+    alloc: Global,
+    db: &mut Db,
+    checks: Checks,
+    number: usize,
+) -> Result<(), AllocError> {
+    does(rt, alloc, db, checks, Op::Del(numbered(rt, number)))
 }
 
 /// Puts that many keys, not in their order, and takes some away again. Where memory is refused, as many begin so as before, and it is done again.
-fn fills(rt: &impl Abort, alloc: Global, db: &mut Db, keys: usize) -> bool {
+fn fills(rt: &impl Abort, alloc: Global, db: &mut Db, checks: Checks, keys: usize) -> bool {
     let all = Prefix::default();
     let mut is_so = true;
     for step in 0..keys {
         let number = at_step(step);
-        is_so &= puts(rt, alloc, db, number).is_ok()
-            || (db.number_with(&all, u32::MAX) == step && puts(rt, alloc, db, number).is_ok());
+        is_so &= puts(rt, alloc, db, checks, number).is_ok()
+            || (db.number_with(&all, u32::MAX) == step
+                && puts(rt, alloc, db, checks, number).is_ok());
     }
     for step in 0..keys {
         let number = at_step(step);
         if is_taken_away(number) {
-            is_so &= takes(rt, alloc, db, number).is_ok() || takes(rt, alloc, db, number).is_ok();
+            is_so &= takes(rt, alloc, db, checks, number).is_ok()
+                || takes(rt, alloc, db, checks, number).is_ok();
         }
     }
     is_so
@@ -138,7 +179,7 @@ fn tells_all(rt: &impl Abort, db: &Db, keys: usize) {
 fn a_database_counts_what_a_list_has(rt: HostRuntime) {
     let mut db = Db::new(rt.alloc());
     tells_all(&rt, &db, 0);
-    let are_put = fills(&rt, rt.alloc(), &mut db, KEYS);
+    let are_put = fills(&rt, rt.alloc(), &mut db, Checks::Nothing, KEYS);
     must_hold(&rt, are_put, "puts and takes");
     tells_all(&rt, &db, KEYS);
 }
@@ -158,7 +199,7 @@ static BY_HAND: [(&str, u32, usize); 8] = [
 #[test]
 fn removed_keys_are_not_counted(rt: HostRuntime) {
     let mut db = Db::new(rt.alloc());
-    let are_put = fills(&rt, rt.alloc(), &mut db, KEYS);
+    let are_put = fills(&rt, rt.alloc(), &mut db, Checks::Nothing, KEYS);
     for (beginning, most, told) in BY_HAND.iter() {
         let prefix = Prefix::new(beginning).expect(&rt, "no prefix");
         must_hold(
@@ -173,7 +214,60 @@ fn removed_keys_are_not_counted(rt: HostRuntime) {
 #[test]
 fn one_want_of_memory_costs_no_key(rt: HostRuntime) {
     let mut db = Db::new(rt.alloc());
-    let are_put = fills(&rt, rt.alloc(), &mut db, 24);
+    let are_put = fills(&rt, rt.alloc(), &mut db, Checks::Nothing, 24);
     must_hold(&rt, are_put, "puts and takes");
     tells_all(&rt, &db, 24);
+}
+
+#[test]
+fn a_database_whose_programs_count_has_what_a_list_has(rt: HostRuntime) {
+    let mut db = Db::new(rt.alloc());
+    let are_put = fills(&rt, rt.alloc(), &mut db, Checks::ANumber, KEYS);
+    must_hold(&rt, are_put, "puts and takes");
+    tells_all(&rt, &db, KEYS);
+}
+
+#[test]
+fn keys_from_before_the_first_count_are_counted(rt: HostRuntime) {
+    let mut db = Db::new(rt.alloc());
+    let were_put = fills(&rt, rt.alloc(), &mut db, Checks::Nothing, 60);
+    let are_put = fills(&rt, rt.alloc(), &mut db, Checks::ANumber, KEYS);
+    must_hold(&rt, were_put && are_put, "puts and takes");
+    tells_all(&rt, &db, KEYS);
+}
+
+/// The op is done behind a check that counts, and undone.
+fn is_undone(rt: &impl Abort, alloc: Global, db: &mut Db, op: Op, between: usize) -> bool {
+    let all = Prefix::default();
+    let program = program_of(rt, Checks::ANumber, op).rest(alloc);
+    let program = program.expect(rt, "no memory");
+    db.prepare(&program).expect(rt, "no memory");
+    let (_, undo) = db.apply(&program);
+    let is_so = db.number_with(&all, u32::MAX) == between;
+    db.undo(undo);
+    is_so
+}
+
+#[test]
+fn what_is_undone_is_counted_again(rt: HostRuntime) {
+    let mut db = Db::new(rt.alloc());
+    let are_put = fills(&rt, rt.alloc(), &mut db, Checks::ANumber, KEYS);
+    must_hold(&rt, are_put, "puts and takes");
+    let put = is_undone(&rt, rt.alloc(), &mut db, put_of(&rt, 3), 172);
+    tells_all(&rt, &db, KEYS);
+    let again = is_undone(&rt, rt.alloc(), &mut db, put_of(&rt, 4), 171);
+    tells_all(&rt, &db, KEYS);
+    let taken = Op::Del(numbered(&rt, 4));
+    let taken = is_undone(&rt, rt.alloc(), &mut db, taken, 170);
+    must_hold(&rt, put && again && taken, "as many between");
+    tells_all(&rt, &db, KEYS);
+}
+
+/// For runs in which any one allocation is refused: where the present keys find no memory they are counted all the same.
+#[test]
+fn one_want_of_memory_costs_no_count(rt: HostRuntime) {
+    let mut db = Db::new(rt.alloc());
+    let are_put = fills(&rt, rt.alloc(), &mut db, Checks::ANumber, 40);
+    must_hold(&rt, are_put, "puts and takes");
+    tells_all(&rt, &db, 40);
 }
