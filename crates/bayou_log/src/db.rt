@@ -19,7 +19,8 @@ use std::mem;
 
 pub(crate) type Slots = BTreeMap<Key, Option<Value>>;
 
-/// A database. Room for a key is made before the key has a value, so that applying a program takes no memory.
+/// A database. Room for a key is made before the key has a value, so that no want of memory keeps a program from being applied. Once
+/// a program has counted keys, those that are present are kept apart; where one of them finds no memory, they aren't any more.
 #[derive(Drop)]
 pub struct Db {
     slots: Slots,
@@ -221,7 +222,7 @@ impl Db {
         self.present.number_with(&self.slots, prefix, most)
     }
 
-    /// Applies the program, which takes no memory. It gives, beside the outcome, what [`Db::undo`] needs to take that back.
+    /// Applies the program, from which no want of memory keeps it. It gives, beside the outcome, what [`Db::undo`] needs to take that back.
     pub fn apply(&mut self, program: &RestingProgram) -> (Outcome, Undo)
         requires { HasRoomFor (room self.old) program.now }
         ensures outcome { result.0 ≡ (mean program.now (database_of self.old)).0 }
@@ -234,7 +235,7 @@ impl Db {
         (outcome, Undo { before })
     }
 
-    /// Makes the change, which takes no memory.
+    /// Makes the change, from which no want of memory keeps it.
     pub(crate) fn change(&mut self, change: Change)
         requires { IsTrue (has_room (room self.old) change.key) }
         ensures database { database_of self.new ≡ changed change.key change.value (database_of self.old) }
@@ -243,7 +244,7 @@ impl Db {
         replace(&mut self.slots, &mut self.present, change);
     }
 
-    /// Puts back the values that an undo has, which takes no memory. Where that is of the last program that was applied and not
+    /// Puts back the values that an undo has, from which no want of memory keeps it. Where that is of the last program that was applied and not
     /// undone since, the database is what it was before.
     pub fn undo(&mut self, undo: Undo)
         requires { All (λ change. IsTrue (has_room (room self.old) change.key)) undo }
