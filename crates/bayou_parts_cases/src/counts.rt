@@ -1,9 +1,10 @@
 //! How many keys of a database begin so, beside a list of the keys that it has.
-use crate::fixtures::must_hold;
+use crate::fixtures::{key, must_hold, write};
+use crate::logs::{add, empty_log};
 use arrayvec::ArrayString;
 use bayou_base::{Key, Prefix, Value};
-use bayou_lang::{Cond, Look, Op, Program, Term};
-use bayou_log::Db;
+use bayou_lang::{Cond, Look, Op, Program, Term, Write};
+use bayou_log::{Db, WriteLog};
 use std::alloc::{AllocError, Global};
 use std::process::Abort;
 
@@ -236,33 +237,6 @@ fn keys_from_before_the_first_count_are_counted(rt: HostRuntime) {
     tells_all(&rt, &db, KEYS);
 }
 
-/// The op is done behind a check that counts, and undone.
-fn is_undone(rt: &impl Abort, alloc: Global, db: &mut Db, op: Op, between: usize) -> bool {
-    let all = Prefix::default();
-    let program = program_of(rt, Checks::ANumber, op).rest(alloc);
-    let program = program.expect(rt, "no memory");
-    db.prepare(&program).expect(rt, "no memory");
-    let (_, undo) = db.apply(&program);
-    let is_so = db.number_with(&all, u32::MAX) == between;
-    db.undo(undo);
-    is_so
-}
-
-#[test]
-fn what_is_undone_is_counted_again(rt: HostRuntime) {
-    let mut db = Db::new(rt.alloc());
-    let are_put = fills(&rt, rt.alloc(), &mut db, Checks::ANumber, KEYS);
-    must_hold(&rt, are_put, "puts and takes");
-    let put = is_undone(&rt, rt.alloc(), &mut db, put_of(&rt, 3), 172);
-    tells_all(&rt, &db, KEYS);
-    let again = is_undone(&rt, rt.alloc(), &mut db, put_of(&rt, 4), 171);
-    tells_all(&rt, &db, KEYS);
-    let taken = Op::Del(numbered(&rt, 4));
-    let taken = is_undone(&rt, rt.alloc(), &mut db, taken, 170);
-    must_hold(&rt, put && again && taken, "as many between");
-    tells_all(&rt, &db, KEYS);
-}
-
 /// For runs in which any one allocation is refused: where the present keys find no memory they are counted all the same.
 #[test]
 fn one_want_of_memory_costs_no_count(rt: HostRuntime) {
@@ -270,4 +244,46 @@ fn one_want_of_memory_costs_no_count(rt: HostRuntime) {
     let are_put = fills(&rt, rt.alloc(), &mut db, Checks::ANumber, 40);
     must_hold(&rt, are_put, "puts and takes");
     tells_all(&rt, &db, 40);
+}
+
+/// A Write that puts the key where at most one is there that begins with `a`.
+fn books(rt: &impl Abort, server: u8, seq: u32, deps: [u32; 2], name: &str) -> Write {
+    let begins = Prefix::new("a").expect(rt, "no prefix");
+    let put = Op::Put(key(rt, name), Term::Lit(Value::Num(1)));
+    let program = Program::new(&[Cond::AtMost(begins, 1)], &[put], &[]).expect(rt, "no program");
+    write(rt, server, seq, seq, deps, program)
+}
+
+/// Adds the Write, again where memory was refused.
+fn adds(alloc: Global, log: &mut WriteLog, write: &Write) -> bool {
+    add(alloc, log, write) == Ok(true) || add(alloc, log, write) == Ok(true)
+}
+
+/// Which of four keys the log has.
+fn booked(rt: &impl Abort, log: &WriteLog) -> [bool; 4] {
+    let mut has = [false; 4];
+    let names = ["a1", "a2", "a3", "a4"];
+    for (at, name) in names.iter().enumerate() {
+        has[at] = log.get(&key(rt, name)).is_some();
+    }
+    has
+}
+
+/// One server books twice, and can't a third time; then a Write of another comes that stands behind its first: so the second is taken back, and
+/// isn't done again.
+fn books_late(rt: &impl Abort, alloc: Global, log: &mut WriteLog) -> bool {
+    let first = adds(alloc, log, &books(rt, 0, 1, [0, 0], "a1"));
+    let second = adds(alloc, log, &books(rt, 0, 2, [1, 0], "a2"));
+    let third = adds(alloc, log, &books(rt, 0, 3, [2, 0], "a3"));
+    let before = booked(rt, log) == [true, true, false, false];
+    let late = adds(alloc, log, &books(rt, 1, 1, [0, 0], "a4"));
+    let after = booked(rt, log) == [true, false, false, true];
+    first && second && third && before && late && after
+}
+
+#[test]
+fn what_is_taken_back_is_not_counted(rt: HostRuntime) {
+    let mut log = empty_log(&rt, rt.alloc(), 2, 10);
+    let is_so = books_late(&rt, rt.alloc(), &mut log);
+    must_hold(&rt, is_so, "bookings");
 }
