@@ -281,8 +281,9 @@ fn books_late(rt: &impl Abort, alloc: Global, log: &mut WriteLog) -> bool {
     first && second && third && before && late && after
 }
 
+/// Also for runs in which any one allocation is refused: what was taken back isn't counted.
 #[test]
-fn what_is_taken_back_is_not_counted(rt: HostRuntime) {
+fn one_want_of_memory_costs_no_booking(rt: HostRuntime) {
     let mut log = empty_log(&rt, rt.alloc(), 2, 10);
     let is_so = books_late(&rt, rt.alloc(), &mut log);
     must_hold(&rt, is_so, "bookings");
