@@ -4,6 +4,7 @@ pub mod ChangeList
 pub mod CatchingUp
 pub mod Indexed
 pub mod ListingLaws
+pub mod Marked
 pub mod Merging
 pub mod Missed
 pub mod Picked

@@ -68,6 +68,20 @@ database_of-set old new key value sets = same_database (database_of new) (change
     ]
     ∙ sym (value_at-changed key value (database_of old) other))
 
+-- the new slots have no slot of the key, and at each other key what the old ones have
+abbrev pub RemovesSlot : Slots → List ℕ → Slots → Type 0
+RemovesSlot old key new = (other : List ℕ) → slot_at new other ≡ cond (map_test key other) None (slot_at old other)
+
+pub database_of-removed : (old new : Slots) (key : List ℕ) → RemovesSlot old key new → database_of new ≡ changed key None (database_of old)
+database_of-removed old new key removes = same_database (database_of new) (changed key None (database_of old)) (λ other.
+    database_of-slot_at new other ∙ ap value_in (removes other)
+    ∙ ap (λ test. value_in (cond (test other) None (slot_at old other))) (map_test_is_same_key key)
+    ∙ elim (same_key key other) as (λ same. value_in (cond same None (slot_at old other)) ≡ cond same None (value_at (database_of old) other)) [
+      | true ↦ refl
+      | false ↦ sym (database_of-slot_at old other)
+    ]
+    ∙ sym (value_at-changed key None (database_of old) other))
+
 -- there is room for what there was room for, and for the key
 pub has_room-set : (old new : Slots) (key : List ℕ) (value : Option Value) → SetsSlot old key value new → (other : List ℕ) → IsTrue (has_room (room old) other) → IsTrue (has_room (room new) other)
 has_room-set old new key value sets other had =

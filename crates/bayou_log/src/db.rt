@@ -1,34 +1,42 @@
 ghost use Rattle.std.specs.Prelude.{◌≡◌, ◌+◌, List, ℕ, IsTrue, OnOk, IfOk, All, Contains, map, min};
 ghost use Rattle.arrayvec.specs.ArrayVec.{array_vec_len};
-ghost use Rattle.std.specs.List.{flat_map};
+ghost use Rattle.std.specs.List.{flat_map, list_any};
 ghost use Rattle.bayou_lang.specs.Changes.{after_changes, op_key, ChangeOnly};
 ghost use Rattle.bayou_lang.specs.Meaning.{mean};
-ghost use Rattle.bayou_lang.specs.Database.{begins_with as begins, changed, empty, number_with, value_at};
-ghost use Rattle.bayou_log.specs.Inner.Counting.{start_at};
+ghost use Rattle.bayou_lang.specs.Database.{changed, empty, number_with, value_at};
+ghost use Rattle.bayou_log.specs.Inner.Counting.{Shows, counts_keys, program_counts};
 ghost use Rattle.bayou_log.specs.Db.{database_of, room, has_room, HasRoomAt, HasRoomFor, IsUndo, KeepsRoom};
 
+use crate::present::PresentKeys;
 use bayou_base::{Key, Prefix, Value};
-use bayou_lang::{Change, Changes, Look, Op, Outcome, RestingAlt, RestingProgram, RestingWrite};
+use bayou_lang::{
+    Change, Changes, Cond, Look, Op, Outcome, RestingAlt, RestingProgram, RestingWrite,
+};
 use std::alloc::{AllocError, Global};
 use std::collections::BTreeMap;
 use std::marker::Model;
 use std::mem;
-use std::ops::Bound;
 
-type Slots = BTreeMap<Key, Option<Value>>;
+pub(crate) type Slots = BTreeMap<Key, Option<Value>>;
 
-/// A database. Room for a key is made before the key has a value, so that applying a program takes no memory.
+/// A database. Room for a key is made before the key has a value, so that no want of memory keeps a program from being applied. Once
+/// a program has counted keys, those that are present are kept apart; where one of them finds no memory, they aren't any more.
 #[derive(Drop)]
 pub struct Db {
     slots: Slots,
+    // Those of the slots that have something.
+    present: PresentKeys,
 }
 
 impl Model for Db {
-    ghost use Rattle.bayou_log.specs.Db.{Slots};
+    ghost use Rattle.bayou_log.specs.Db.{Slots, database_of};
+    ghost use Rattle.bayou_log.specs.Inner.Counting.{Shows};
 
     ghost Value = { Slots };
 
     ghost view = { λ d. d.slots.entries };
+
+    ghost invariant = { λ d. Shows d.present (database_of d.slots.entries) };
 }
 
 /// What takes a program back that was applied to a database (Terry et al. 1995): what each key that it changed had before.
@@ -64,24 +72,6 @@ fn copy_of(slot: &Option<Value>) -> Option<Value>
     }
 }
 
-/// Where in the order of keys those stand that begin so.
-fn start_of(prefix: &Prefix) -> Bound<Key>
-    ensures { result ≡ start_at prefix.now }
-{
-    match prefix.first_key() {
-        Some(first) => Bound::Included(first),
-        None => Bound::Unbounded,
-    }
-}
-
-fn begins_with(key: &Key, prefix: &Prefix) -> bool
-    ensures { result ≡ begins prefix.now key.now }
-{
-    key.as_str()
-        .as_bytes()
-        .starts_with(prefix.as_str().as_bytes())
-}
-
 fn make_room(slots: &mut Slots, key: &Key) -> Result<(), AllocError>
     ensures same { database_of slots.new.entries ≡ database_of slots.old.entries }
     ensures keeps { KeepsRoom (room slots.old.entries) (room slots.new.entries) }
@@ -115,46 +105,76 @@ fn make_room_for_all(slots: &mut Slots, alternatives: &[RestingAlt]) -> Result<(
     Ok(())
 }
 
+fn counts_some(conditions: &[Cond]) -> bool
+    ensures { result ≡ list_any counts_keys conditions.now }
+{
+    conditions
+        .iter()
+        .any(|condition| matches!(condition, Cond::AtMost(..)))
+}
+
+fn some_count(alternatives: &[RestingAlt]) -> bool
+    ensures { result ≡ list_any (λ alt. list_any counts_keys alt.when.items) alternatives.now }
+{
+    alternatives
+        .iter()
+        .any(|alternative| counts_some(alternative.when()))
+}
+
+/// Whether the program counts keys.
+fn counts(program: &RestingProgram) -> bool
+    ensures { result ≡ program_counts program.now }
+{
+    counts_some(program.check()) || some_count(program.merge())
+}
+
 /// Makes the change, and gives the one that puts back what the key had.
-fn replace(slots: &mut Slots, change: Change) -> Change
+fn replace(slots: &mut Slots, present: &mut PresentKeys, change: Change) -> Change
     requires { IsTrue (has_room (room slots.old.entries) change.key) }
     ensures database { database_of slots.new.entries ≡ changed change.key change.value (database_of slots.old.entries) }
     ensures room { room slots.new.entries ≡ room slots.old.entries }
+    ensures present { Shows present.old (database_of slots.old.entries) → Shows present.new (database_of slots.new.entries) }
     ensures key { result.key ≡ change.key }
     ensures value { result.value ≡ value_at (database_of slots.old.entries) change.key }
 {
     let Change { key, value } = change;
+    let is_there = value.is_some();
     let Some(slot) = slots.get_mut(&key) else {
         return Change { key, value: None };
     };
     let before = mem::replace(slot, value);
+    if before.is_some() != is_there {
+        present.set(&key, is_there);
+    }
     Change { key, value: before }
 }
 
 /// Makes the changes, the first of them last, and gives those that put back what the keys had.
-fn replace_all(slots: &mut Slots, mut changes: Changes) -> Changes
+fn replace_all(slots: &mut Slots, present: &mut PresentKeys, mut changes: Changes) -> Changes
     requires { All (λ change. IsTrue (has_room (room slots.old.entries) change.key)) changes.items }
     ensures database { database_of slots.new.entries ≡ after_changes changes.items (database_of slots.old.entries) }
     ensures room { room slots.new.entries ≡ room slots.old.entries }
+    ensures present { Shows present.old (database_of slots.old.entries) → Shows present.new (database_of slots.new.entries) }
     ensures undone { after_changes result.items (database_of slots.new.entries) ≡ database_of slots.old.entries }
     ensures among { (keys : List (List ℕ)) → All (λ change. Contains keys change.key) changes.items → All (λ change. Contains keys change.key) result.items }
     ensures as_many { array_vec_len result ≡ array_vec_len changes }
 {
     let mut before = Changes::new();
     while let Some(change) = changes.pop() {
-        before.push(replace(slots, change));
+        before.push(replace(slots, present, change));
     }
     before
 }
 
 /// Makes the changes, the first of them last.
-fn make_all(slots: &mut Slots, mut changes: Changes)
+fn make_all(slots: &mut Slots, present: &mut PresentKeys, mut changes: Changes)
     requires { All (λ change. IsTrue (has_room (room slots.old.entries) change.key)) changes.items }
     ensures database { database_of slots.new.entries ≡ after_changes changes.items (database_of slots.old.entries) }
     ensures room { room slots.new.entries ≡ room slots.old.entries }
+    ensures present { Shows present.old (database_of slots.old.entries) → Shows present.new (database_of slots.new.entries) }
 {
     while let Some(change) = changes.pop() {
-        replace(slots, change);
+        replace(slots, present, change);
     }
 }
 
@@ -165,11 +185,12 @@ impl Db {
     {
         Db {
             slots: BTreeMap::new(alloc),
+            present: PresentKeys::new(alloc),
         }
     }
 
-    /// Makes room for every key that the program may write. Where memory is refused, the room that there was, and
-    /// what was made, stays.
+    /// Makes room for every key that the program may write; and from the first program on that counts keys, keeps those that are present.
+    /// Where memory is refused, the room that there was, and what was made, stays.
     pub fn prepare(&mut self, program: &RestingProgram) -> Result<(), AllocError>
         ensures same { database_of self.new ≡ database_of self.old }
         ensures keeps { KeepsRoom (room self.old) (room self.new) }
@@ -177,6 +198,9 @@ impl Db {
     {
         make_room_for(&mut self.slots, program.update())?;
         make_room_for_all(&mut self.slots, program.merge())?;
+        if counts(program) {
+            self.present.keep(&self.slots)?;
+        }
         Ok(())
     }
 
@@ -190,22 +214,15 @@ impl Db {
         }
     }
 
-    /// How many keys that are present begin so, or one more than `most` where those are more. It goes over the part of the order
-    /// of keys that begins so, also over keys that have room and no value, and stops once the number is greater than `most`.
+    /// How many keys that are present begin so, or one more than `most` where those are more. It goes over those of them that begin so, and
+    /// stops once the number is greater than `most`. Where the present keys aren't kept, it passes over those that have room and no value.
     pub fn number_with(&self, prefix: &Prefix, most: u32) -> usize
         ensures { result ≡ min (number_with prefix.now (database_of self.now)) (most + 1) }
     {
-        let mut number = 0;
-        for (key, slot) in self.slots.range((start_of(prefix), Bound::Unbounded)) {
-            if number > most as usize || !begins_with(key, prefix) {
-                return number;
-            }
-            number += usize::from(slot.is_some());
-        }
-        number
+        self.present.number_with(&self.slots, prefix, most)
     }
 
-    /// Applies the program, which takes no memory. It gives, beside the outcome, what [`Db::undo`] needs to take that back.
+    /// Applies the program, from which no want of memory keeps it. It gives, beside the outcome, what [`Db::undo`] needs to take that back.
     pub fn apply(&mut self, program: &RestingProgram) -> (Outcome, Undo)
         requires { HasRoomFor (room self.old) program.now }
         ensures outcome { result.0 ≡ (mean program.now (database_of self.old)).0 }
@@ -214,27 +231,27 @@ impl Db {
         ensures undo { IsUndo program.now (database_of self.old) result.1 }
     {
         let (outcome, changes) = program.eval(self);
-        let before = replace_all(&mut self.slots, changes);
+        let before = replace_all(&mut self.slots, &mut self.present, changes);
         (outcome, Undo { before })
     }
 
-    /// Makes the change, which takes no memory.
+    /// Makes the change, from which no want of memory keeps it.
     pub(crate) fn change(&mut self, change: Change)
         requires { IsTrue (has_room (room self.old) change.key) }
         ensures database { database_of self.new ≡ changed change.key change.value (database_of self.old) }
         ensures room { room self.new ≡ room self.old }
     {
-        replace(&mut self.slots, change);
+        replace(&mut self.slots, &mut self.present, change);
     }
 
-    /// Puts back the values that an undo has, which takes no memory. Where that is of the last program that was applied and not
+    /// Puts back the values that an undo has, from which no want of memory keeps it. Where that is of the last program that was applied and not
     /// undone since, the database is what it was before.
     pub fn undo(&mut self, undo: Undo)
         requires { All (λ change. IsTrue (has_room (room self.old) change.key)) undo }
         ensures database { database_of self.new ≡ after_changes undo (database_of self.old) }
         ensures room { room self.new ≡ room self.old }
     {
-        make_all(&mut self.slots, undo.before);
+        make_all(&mut self.slots, &mut self.present, undo.before);
     }
 }
 

@@ -27,6 +27,7 @@ pub mod listing;
 mod next;
 mod order;
 pub mod plain;
+mod present;
 mod undo;
 pub mod write_log;
 

@@ -47,7 +47,7 @@ fn push_all(list: &mut ChangeList, changes: &[Change])
     }
 }
 
-/// Makes the changes of the list, the last one first, until so many are left. It takes no memory.
+/// Makes the changes of the list, the last one first, until so many are left. No want of memory keeps it from that.
 fn pop_changes(db: &mut Db, list: &mut ChangeList, left: usize)
     requires within { left ≤ length list.old.items }
     requires room { All (λ change. IsTrue (has_room (room db.old) change.key)) (drop left list.old.items) }
@@ -115,7 +115,7 @@ impl UndoStack {
         push_all(&mut self.changes, undo.before.as_slice());
     }
 
-    /// Takes back the Write that was applied last, which takes no memory.
+    /// Takes back the Write that was applied last, from which no want of memory keeps it.
     fn undo_last(&mut self, db: &mut Db)
         requires some { 0 < length self.old.undos }
         requires room { All (λ undo. All (λ change. IsTrue (has_room (room db.old) change.key)) undo) self.old.undos }
@@ -142,7 +142,7 @@ pub(crate) fn take_back(db: &mut Db, undone: &mut UndoStack, left: usize)
     }
 }
 
-/// Applies the Writes at these places, one after another, and adds what became of each, which takes no memory.
+/// Applies the Writes at these places, one after another, and adds what became of each, from which no want of memory keeps it.
 pub(crate) fn apply_in_turn(
     db: &mut Db,
     undone: &mut UndoStack,

@@ -326,7 +326,7 @@ impl WriteLog {
         self.writes.push_reserved(write);
     }
 
-    /// Applies the Writes that wait, which takes no memory. Those that come after one of them in stamp order are taken back, the last
+    /// Applies the Writes that wait, from which no want of memory keeps it. Those that come after one of them in stamp order are taken back, the last
     /// first, and are applied again behind it (Terry et al. 1995): once, however many wait.
     pub fn catch_up(&mut self)
         ensures { self.new ≡ record self.old { waiting = 0 } }
@@ -343,7 +343,7 @@ impl WriteLog {
         );
     }
 
-    /// Adds the Write, and applies it with those that wait, which takes no memory.
+    /// Adds the Write, and applies it with those that wait, from which no want of memory keeps it.
     pub fn insert(&mut self, write: RestingWrite)
         requires fits { Fits self.old.count self.old.receipts write }
         requires reserved { IsReserved self.old.room write }

@@ -1,9 +1,10 @@
 //! How many keys of a database begin so, beside a list of the keys that it has.
-use crate::fixtures::must_hold;
+use crate::fixtures::{key, must_hold, write};
+use crate::logs::{add, empty_log};
 use arrayvec::ArrayString;
 use bayou_base::{Key, Prefix, Value};
-use bayou_lang::{Look, Op, Program, Term};
-use bayou_log::Db;
+use bayou_lang::{Cond, Look, Op, Program, Term, Write};
+use bayou_log::{Db, WriteLog};
 use std::alloc::{AllocError, Global};
 use std::process::Abort;
 
@@ -40,37 +41,78 @@ fn is_taken_away(number: usize) -> bool {
     number % 7 == 3
 }
 
+/// Whether programs count keys, from the first of which on a database keeps those that are present.
+#[derive(Clone, Copy, Debug, PartialEq, Eq)]
+enum Checks {
+    Nothing,
+    ANumber,
+}
+
+/// The program of this op, behind such a check, which holds.
+fn program_of(rt: &impl Abort, checks: Checks, op: Op) -> Program {
+    let made = match checks {
+        Checks::Nothing => Program::new(&[], &[op], &[]),
+        Checks::ANumber => {
+            let counted = Cond::AtMost(Prefix::default(), u32::MAX);
+            Program::new(&[counted], &[op], &[])
+        }
+    };
+    made.expect(rt, "no program")
+}
+
 /// Does the op to the database.
-fn does(rt: &impl Abort, alloc: Global, db: &mut Db, op: Op) -> Result<(), AllocError> {
-    let program = Program::new(&[], &[op], &[]).expect(rt, "no program");
-    let program = program.rest(alloc)?;
+fn does(
+    rt: &impl Abort,
+    alloc: Global,
+    db: &mut Db,
+    checks: Checks,
+    op: Op,
+) -> Result<(), AllocError> {
+    let program = program_of(rt, checks, op).rest(alloc)?;
     db.prepare(&program)?;
     let _ = db.apply(&program);
     Ok(())
 }
 
-fn puts(rt: &impl Abort, alloc: Global, db: &mut Db, number: usize) -> Result<(), AllocError> {
-    let term = Term::Lit(Value::Num(1));
-    does(rt, alloc, db, Op::Put(numbered(rt, number), term))
+fn put_of(rt: &impl Abort, number: usize) -> Op {
+    Op::Put(numbered(rt, number), Term::Lit(Value::Num(1)))
 }
 
-fn takes(rt: &impl Abort, alloc: Global, db: &mut Db, number: usize) -> Result<(), AllocError> {
-    does(rt, alloc, db, Op::Del(numbered(rt, number)))
+fn puts(
+    rt: &impl Abort,
+    alloc: Global,
+    db: &mut Db,
+    checks: Checks,
+    number: usize,
+) -> Result<(), AllocError> {
+    does(rt, alloc, db, checks, put_of(rt, number))
+}
+
+fn takes(
+    rt: &impl Abort,
+    alloc: Global,
+    db: &mut Db,
+    checks: Checks,
+    number: usize,
+) -> Result<(), AllocError> {
+    does(rt, alloc, db, checks, Op::Del(numbered(rt, number)))
 }
 
 /// Puts that many keys, not in their order, and takes some away again. Where memory is refused, as many begin so as before, and it is done again.
-fn fills(rt: &impl Abort, alloc: Global, db: &mut Db, keys: usize) -> bool {
+fn fills(rt: &impl Abort, alloc: Global, db: &mut Db, checks: Checks, keys: usize) -> bool {
     let all = Prefix::default();
     let mut is_so = true;
     for step in 0..keys {
         let number = at_step(step);
-        is_so &= puts(rt, alloc, db, number).is_ok()
-            || (db.number_with(&all, u32::MAX) == step && puts(rt, alloc, db, number).is_ok());
+        is_so &= puts(rt, alloc, db, checks, number).is_ok()
+            || (db.number_with(&all, u32::MAX) == step
+                && puts(rt, alloc, db, checks, number).is_ok());
     }
     for step in 0..keys {
         let number = at_step(step);
         if is_taken_away(number) {
-            is_so &= takes(rt, alloc, db, number).is_ok() || takes(rt, alloc, db, number).is_ok();
+            is_so &= takes(rt, alloc, db, checks, number).is_ok()
+                || takes(rt, alloc, db, checks, number).is_ok();
         }
     }
     is_so
@@ -138,7 +180,7 @@ fn tells_all(rt: &impl Abort, db: &Db, keys: usize) {
 fn a_database_counts_what_a_list_has(rt: HostRuntime) {
     let mut db = Db::new(rt.alloc());
     tells_all(&rt, &db, 0);
-    let are_put = fills(&rt, rt.alloc(), &mut db, KEYS);
+    let are_put = fills(&rt, rt.alloc(), &mut db, Checks::Nothing, KEYS);
     must_hold(&rt, are_put, "puts and takes");
     tells_all(&rt, &db, KEYS);
 }
@@ -158,7 +200,7 @@ static BY_HAND: [(&str, u32, usize); 8] = [
 #[test]
 fn removed_keys_are_not_counted(rt: HostRuntime) {
     let mut db = Db::new(rt.alloc());
-    let are_put = fills(&rt, rt.alloc(), &mut db, KEYS);
+    let are_put = fills(&rt, rt.alloc(), &mut db, Checks::Nothing, KEYS);
     for (beginning, most, told) in BY_HAND.iter() {
         let prefix = Prefix::new(beginning).expect(&rt, "no prefix");
         must_hold(
@@ -173,7 +215,76 @@ fn removed_keys_are_not_counted(rt: HostRuntime) {
 #[test]
 fn one_want_of_memory_costs_no_key(rt: HostRuntime) {
     let mut db = Db::new(rt.alloc());
-    let are_put = fills(&rt, rt.alloc(), &mut db, 24);
+    let are_put = fills(&rt, rt.alloc(), &mut db, Checks::Nothing, 24);
     must_hold(&rt, are_put, "puts and takes");
     tells_all(&rt, &db, 24);
+}
+
+#[test]
+fn a_database_whose_programs_count_has_what_a_list_has(rt: HostRuntime) {
+    let mut db = Db::new(rt.alloc());
+    let are_put = fills(&rt, rt.alloc(), &mut db, Checks::ANumber, KEYS);
+    must_hold(&rt, are_put, "puts and takes");
+    tells_all(&rt, &db, KEYS);
+}
+
+#[test]
+fn keys_from_before_the_first_count_are_counted(rt: HostRuntime) {
+    let mut db = Db::new(rt.alloc());
+    let were_put = fills(&rt, rt.alloc(), &mut db, Checks::Nothing, 60);
+    let are_put = fills(&rt, rt.alloc(), &mut db, Checks::ANumber, KEYS);
+    must_hold(&rt, were_put && are_put, "puts and takes");
+    tells_all(&rt, &db, KEYS);
+}
+
+/// For runs in which any one allocation is refused: where the present keys find no memory they are counted all the same.
+#[test]
+fn one_want_of_memory_costs_no_count(rt: HostRuntime) {
+    let mut db = Db::new(rt.alloc());
+    let are_put = fills(&rt, rt.alloc(), &mut db, Checks::ANumber, 40);
+    must_hold(&rt, are_put, "puts and takes");
+    tells_all(&rt, &db, 40);
+}
+
+/// A Write that puts the key where at most one is there that begins with `a`.
+fn books(rt: &impl Abort, server: u8, seq: u32, deps: [u32; 2], name: &str) -> Write {
+    let begins = Prefix::new("a").expect(rt, "no prefix");
+    let put = Op::Put(key(rt, name), Term::Lit(Value::Num(1)));
+    let program = Program::new(&[Cond::AtMost(begins, 1)], &[put], &[]).expect(rt, "no program");
+    write(rt, server, seq, seq, deps, program)
+}
+
+/// Adds the Write, again where memory was refused.
+fn adds(alloc: Global, log: &mut WriteLog, write: &Write) -> bool {
+    add(alloc, log, write) == Ok(true) || add(alloc, log, write) == Ok(true)
+}
+
+/// Which of four keys the log has.
+fn booked(rt: &impl Abort, log: &WriteLog) -> [bool; 4] {
+    let mut has = [false; 4];
+    let names = ["a1", "a2", "a3", "a4"];
+    for (at, name) in names.iter().enumerate() {
+        has[at] = log.get(&key(rt, name)).is_some();
+    }
+    has
+}
+
+/// One server books twice, and can't a third time; then a Write of another comes that stands behind its first: so the second is taken back, and
+/// isn't done again.
+fn books_late(rt: &impl Abort, alloc: Global, log: &mut WriteLog) -> bool {
+    let first = adds(alloc, log, &books(rt, 0, 1, [0, 0], "a1"));
+    let second = adds(alloc, log, &books(rt, 0, 2, [1, 0], "a2"));
+    let third = adds(alloc, log, &books(rt, 0, 3, [2, 0], "a3"));
+    let before = booked(rt, log) == [true, true, false, false];
+    let late = adds(alloc, log, &books(rt, 1, 1, [0, 0], "a4"));
+    let after = booked(rt, log) == [true, false, false, true];
+    first && second && third && before && late && after
+}
+
+/// Also for runs in which any one allocation is refused: what was taken back isn't counted.
+#[test]
+fn one_want_of_memory_costs_no_booking(rt: HostRuntime) {
+    let mut log = empty_log(&rt, rt.alloc(), 2, 10);
+    let is_so = books_late(&rt, rt.alloc(), &mut log);
+    must_hold(&rt, is_so, "bookings");
 }

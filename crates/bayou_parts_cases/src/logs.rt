@@ -23,7 +23,7 @@ fn first(rt: &impl Abort, server: u8) -> Write {
 }
 
 /// Reserves and inserts the Write, where it may be inserted.
-fn add(alloc: Global, log: &mut WriteLog, write: &Write) -> Result<bool, AllocError> {
+pub fn add(alloc: Global, log: &mut WriteLog, write: &Write) -> Result<bool, AllocError> {
     let write = write.rest(alloc)?;
     if log.is_full() || log.fits(&write).is_err() {
         return Ok(false);
@@ -110,7 +110,7 @@ fn has_all(rt: &impl Abort, alloc: Global, log: &mut WriteLog, order: &[u8], a: 
 
 /// A log of so many servers with room for so many Writes, in a box of its own, also where one allocation is refused: a function that owns a box
 /// is proved in a third of the time that one takes which owns the log.
-fn empty_log(rt: &impl Abort, alloc: Global, count: u8, limit: u32) -> Box<WriteLog> {
+pub fn empty_log(rt: &impl Abort, alloc: Global, count: u8, limit: u32) -> Box<WriteLog> {
     let log = WriteLog::new(alloc, count.min(SERVERS as u8), limit.min(MAX_WRITES));
     match Box::new(alloc, log) {
         Ok(log) => log,

@@ -22,6 +22,7 @@ loop-change-preserved c =
           ∙ sym (after_changes-push c.pop.new.self.items c.in-Some.change was)
           ∙ sym (ap (λ changes. after_changes changes was) c.in-Some.ensures.items)
           ∙ c.loop-change.invariant.target;
+      shows = λ shows. c.replace.ensures.present (c.loop-change.invariant.shows shows);
       same_room = c.replace.ensures.room ∙ c.loop-change.invariant.same_room;
       reached = subst (λ keys. All (λ (change : Change). IsTrue (has_room keys change.key)) c.pop.new.self.items) (sym c.replace.ensures.room) reached;
     }
@@ -33,4 +34,4 @@ returns-clause-database c =
     sym (ap (λ changes. after_changes changes (database_of c.loop-change.slots.entries)) none) ∙ c.loop-change.invariant.target
 
 pub loop-change-init : goal.loop-change-init
-loop-change-init c = record { target = refl; same_room = refl; reached = c.requires }
+loop-change-init c = record { target = refl; shows = λ shows. shows; same_room = refl; reached = c.requires }

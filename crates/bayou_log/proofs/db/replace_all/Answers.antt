@@ -42,6 +42,7 @@ loop-change-preserved c =
           ∙ sym (after_changes-push c.pop.new.self.items c.in-Some.change was)
           ∙ sym (ap (λ changes. after_changes changes was) c.in-Some.ensures.items)
           ∙ c.loop-change.invariant.target;
+      shows = λ shows. c.replace.ensures.present (c.loop-change.invariant.shows shows);
       same_room = c.replace.ensures.room ∙ c.loop-change.invariant.same_room;
       reached = subst (λ keys. All (λ (change : Change). IsTrue (has_room keys change.key)) c.pop.new.self.items) (sym c.replace.ensures.room) reached;
     }
@@ -58,6 +59,7 @@ loop-change-init c = record {
   among = λ keys all. (all, subst (All (λ (change : Change). Contains keys change.key)) (sym {A = List Change} c.new-before.ensures) (All-nil (λ change. Contains keys change.key)));
   number = omega (arith, ap {A = List Change} length c.new-before.ensures);
   target = refl;
+  shows = λ shows. shows;
   same_room = refl;
   reached = c.requires;
 }

@@ -2,6 +2,7 @@ use Rattle.std.proofs.Common.{◌≡◌, ℕ, ◌+◌, List, All, Contains, IsTr
 use Rattle.arrayvec.specs.ArrayVec.{array_vec_len}
 use Rattle.bayou_lang.specs.Changes.{after_changes}
 use Rattle.bayou_log.specs.Db.{database_of, room, has_room}
+use Rattle.bayou_log.specs.Inner.Counting.{Shows}
 use Rattle.bayou_log.proofs.db.replace_all.Given as goal
 
 abbrev pub invariant-loop-change : goal.invariant-loop-change
@@ -11,6 +12,7 @@ invariant-loop-change l = record {
       → All (λ change. Contains keys change.key) l.changes.items × All (λ change. Contains keys change.key) l.before.items;
   number : array_vec_len l.before + array_vec_len l.changes ≡ array_vec_len l.initial.changes;
   target : after_changes l.changes.items (database_of l.slots.entries) ≡ after_changes l.initial.changes.items (database_of l.initial.slots.entries);
+  shows : Shows l.initial.present (database_of l.initial.slots.entries) → Shows l.present (database_of l.slots.entries);
   same_room : room l.slots.entries ≡ room l.initial.slots.entries;
   reached : All (λ change. IsTrue (has_room (room l.slots.entries) change.key)) l.changes.items;
 }

@@ -11,18 +11,17 @@ use Rattle.bayou_base.specs.declared.value.Value.{Value}
 use Rattle.bayou_lang.specs.Database.{begins_with, number_with}
 use Rattle.bayou_log.specs.Db.{Slots, database_of}
 use Rattle.bayou_log.proofs.Prefixed.{Ascends, Ascends-rest, capped_over, capped_under, counts, is_from, none_counts, number_with-slots, one_at_most, one_counts, range_ascends, range_counts}
-use Rattle.bayou_log.proofs.db.Db.number_with.Goals as goal
-use Rattle.bayou_log.proofs.db.Db.number_with.Goals.{then-number-most-via-then-number-most, then-number-most-via-else-number-most+then-not-begins_with}
+use Rattle.bayou_log.proofs.present.count.Goals as goal
+use Rattle.bayou_log.proofs.present.count.Goals.{then-number-most-via-then-number-most, then-number-most-via-else-number-most+then-not-begins_with}
 
 pub loop-key-init : goal.loop-key-init
 loop-key-init c =
     let prefix = c.args.prefix.now in
-    let slots : Slots = c.args.self.now in
-    let ordered : IsStrictlySortedBy (slice_cmp nat_cmp) (keys_of slots) = subst (λ (all : Slots). IsStrictlySortedBy (slice_cmp nat_cmp) (keys_of all)) c.self.view_is c.range-key-items.ensures.ordered in
+    let slots : Slots = c.args.slots.now.entries in
+    let ordered : IsStrictlySortedBy (slice_cmp nat_cmp) (keys_of slots) = c.range-key-items.ensures.ordered in
     let from : c.into_iter-key-iterator.result ≡ filter (is_from prefix) slots =
     c.into_iter-key-iterator.ensures.into_iter_gives ∙ c.range-key-items.ensures.between tt
-    ∙ ap (λ start. entries_between (slice_cmp nat_cmp) start Unbounded c.self.inside.slots.entries) c.start_of.ensures
-    ∙ ap (filter (is_from prefix)) c.self.view_is in
+    ∙ ap (λ start. entries_between (slice_cmp nat_cmp) start Unbounded slots) c.start_of.ensures in
     record {
       sum = omega (arith, ap (λ list. length (filter (counts prefix) list)) from, ap length (range_counts prefix slots), number_with-slots prefix slots ordered);
       ascends = subst (Ascends prefix) (sym from) (range_ascends prefix slots ordered);
@@ -33,7 +32,7 @@ pub returns-then-number-most : goal.returns-then-number-most
 returns-then-number-most c =
     let prefix = c.args.prefix.now in
     let so_far = c.loop-key in
-    let total = number_with prefix (database_of c.args.self.now) in
+    let total = number_with prefix (database_of c.args.slots.now.entries) in
     elim c.then-number-most.branch [
       | then-number-most-via-then-number-most w ↦
           capped_over so_far.number (length (filter (counts prefix) so_far.key-iterator)) total c.args.most so_far.invariant.sum w.if-number-most.true so_far.invariant.within
@@ -62,5 +61,5 @@ pub returns : goal.returns
 returns c =
     let prefix = c.args.prefix.now in
     let so_far = c.loop-key in
-    capped_under so_far.number (number_with prefix (database_of c.args.self.now)) c.args.most
+    capped_under so_far.number (number_with prefix (database_of c.args.slots.now.entries)) c.args.most
     (omega (arith, so_far.invariant.sum, ap (λ list. length (filter (counts prefix) list)) c.in-None.ensures.steps.0)) so_far.invariant.within
