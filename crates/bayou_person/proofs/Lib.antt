@@ -1,2 +1,3 @@
 pub mod Claiming
+pub mod Telling
 pub mod Zipped
