@@ -1,3 +1,4 @@
 pub mod Claiming
+pub mod Once
 pub mod Telling
 pub mod Zipped

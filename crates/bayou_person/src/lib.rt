@@ -8,6 +8,7 @@
 #![tactic(auto)]
 
 pub mod doing;
+pub mod laws;
 pub mod reading;
 pub mod wish;
 mod words;
