@@ -40,7 +40,7 @@ begins words Servers says = ap head_of says
 begins words Session says = ap head_of says
 begins words Dump says = ap head_of says
 
-same_self : (word : Word) → bytes_eq word word ≡ true
+pub same_self : (word : Word) → bytes_eq word word ≡ true
 same_self [] = refl
 same_self (byte ∷ word) = ap₂ ◌&&◌ (eq-eqb byte byte refl) (same_self word)
 
@@ -60,7 +60,7 @@ value_once word (Text one) (Num other) first second = absurd (first.2 other seco
 value_once word (Text one) (Text other) first second = ap Text (first.0 ∙ sym second.0)
 
 -- two lists with a last one more
-same_ends : {A : Type 0} (xs ys : List A) (x y : A) → xs ++ x ∷ [] ≡ ys ++ y ∷ [] → (xs ≡ ys) × (x ≡ y)
+pub same_ends : {A : Type 0} (xs ys : List A) (x y : A) → xs ++ x ∷ [] ≡ ys ++ y ∷ [] → (xs ≡ ys) × (x ≡ y)
 same_ends [] [] x y is = (refl, ap (λ list. get_or list 0 x) is)
 same_ends [] (b ∷ ys) x y is = absurd (omega (arith, ap length is, length-append ys (y ∷ [])))
 same_ends (a ∷ xs) [] x y is = absurd (omega (arith, ap length is, length-append xs (x ∷ [])))
@@ -111,8 +111,8 @@ says_once words (Claim key others value) (Put other_key other_value) first secon
 says_once words (Claim key others value) (Add other_key other_number) first second = differ words (Claim key others value) (Add other_key other_number) refl first second
 says_once words (Claim key others value) (Del other_key) first second = differ words (Claim key others value) (Del other_key) refl first second
 says_once words (Claim key others value) (Claim other_key other_others other_value) first second =
-    let (word, is, key_is, all, worth) = first in
-    let (other_word, other_is, other_key_is, other_all, other_worth) = second in
+    let (word, is, few, key_is, all, worth) = first in
+    let (other_word, other_is, other_few, other_key_is, other_all, other_worth) = second in
     let same = sym is ∙ other_is in
     let keys = ap (λ list. get_or list 1 []) same in
     let ends = same_ends others.items other_others.items word other_word (ap (drop 2) same) in

@@ -1,5 +1,5 @@
 -- What a person asks for in a line: its words, and what they say. The forms are this project's own.
-use Rattle.std.specs.Prelude.{◌≡◌, ◌⊎◌, ◌+◌, ◌==◌, ◌&&◌, if◌then◌else◌, ℕ, ℤ, Bool, true, false, List, [], ◌∷◌, ◌++◌, All, FitsSigned, Some, codes, filter, length, nat_le, nat_lt}
+use Rattle.std.specs.Prelude.{◌≡◌, ◌⊎◌, ◌≤◌, ◌+◌, ◌==◌, ◌&&◌, if◌then◌else◌, ℕ, ℤ, Bool, true, false, List, [], ◌∷◌, ◌++◌, All, FitsSigned, Some, codes, filter, length, nat_le, nat_lt}
 use Rattle.std.specs.Int.{w64}
 use Rattle.std.specs.List.{list_any, slice_split}
 use Rattle.std.specs.Str.{bytes_eq}
@@ -46,7 +46,7 @@ Says words (Put key value) = (word : Word) × (words ≡ codes "put" ∷ key ∷
 Says words (Add key number) = (word : Word) × (words ≡ codes "add" ∷ key ∷ word ∷ []) × IsKey key × Reads word number
 Says words (Del key) = (words ≡ codes "del" ∷ key ∷ []) × IsKey key
 Says words (Claim key others value) =
-    (word : Word) × (words ≡ codes "claim" ∷ key ∷ others.items ++ word ∷ []) × IsKey key × All IsKey others.items × IsValueOf word value
+    (word : Word) × (words ≡ codes "claim" ∷ key ∷ others.items ++ word ∷ []) × (length others.items ≤ MAX_ALTERNATIVES) × IsKey key × All IsKey others.items × IsValueOf word value
 Says words (Get key) = (words ≡ codes "get" ∷ key ∷ []) × IsKey key
 Says words (At server) = (word : Word) × (words ≡ codes "at" ∷ word ∷ []) × ReadsServer word server
 Says words Whole = words ≡ codes "list" ∷ []
