@@ -3,14 +3,15 @@ _bayou() {
     local word=${COMP_WORDS[COMP_CWORD]} before=${COMP_WORDS[COMP_CWORD - 1]} command='' words
     [ "$COMP_CWORD" -lt 2 ] || command=${COMP_WORDS[1]}
     case $command in
-        '') words='run net audit serve help -h --help -V --version' ;;
+        '') words='run net audit serve connect help -h --help -V --version' ;;
         run | audit) words='-h --help' ;;
         net) words='--dir -h --help' ;;
         serve)
             words='--id --servers --dir --listen --peer --every --limit --connections --idle'
-            words+=' --until-input-ends --new --anyone -h --help'
+            words+=' --until-input-ends --new --restore --anyone -h --help'
             ;;
-        help) words='run net audit serve help' ;;
+        connect) words='--server --servers --session --state --book --wait -h --help' ;;
+        help) words='run net audit serve connect help' ;;
         *) words='' ;;
     esac
     COMPREPLY=()

@@ -6,7 +6,7 @@ ghost use Rattle.std.specs.Thread.{IsSend};
 
 mod progress;
 
-use bayou_command::Serving;
+use bayou_command::{Connecting, Serving};
 use bayou_print::{Ended, RunFault};
 use bayou_script::NetworkScript;
 use bayou_shell::{Files, Networks, Service, refuse_words, run_main, run_served, run_taken};
@@ -82,6 +82,12 @@ impl<T> Networks for Host<'_, T> {
 
     fn serve(&mut self, alloc: Global, serving: &Serving<'_>) -> Result<Ended, RunFault> {
         self.taken = Some(Taken::Serve(Service::of(alloc, serving)?));
+        Ok(Ended::Clean)
+    }
+
+    ghost connects = { λ connection ended. Unit {0} };
+
+    fn connect(&mut self, _alloc: Global, _connecting: &Connecting<'_>) -> Result<Ended, RunFault> {
         Ok(Ended::Clean)
     }
 }

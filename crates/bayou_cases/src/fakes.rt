@@ -1,7 +1,7 @@
 //! Readers and writers that do what a system may do, and count their calls.
 ghost use Rattle.std.specs.Prelude.{ℕ, List};
 
-use bayou_command::Serving;
+use bayou_command::{Connecting, Serving};
 use bayou_print::{Ended, RunFault};
 use bayou_script::NetworkScript;
 use bayou_shell::{Files, Networks};
@@ -63,6 +63,12 @@ impl Networks for FakeFiles<'_> {
     ghost serves = { λ service ended. Unit {0} };
 
     fn serve(&mut self, _alloc: Global, _serving: &Serving<'_>) -> Result<Ended, RunFault> {
+        Ok(Ended::Clean)
+    }
+
+    ghost connects = { λ connection ended. Unit {0} };
+
+    fn connect(&mut self, _alloc: Global, _connecting: &Connecting<'_>) -> Result<Ended, RunFault> {
         Ok(Ended::Clean)
     }
 }

@@ -1,7 +1,7 @@
 //! Servers that live, as far as no socket is wanted: words that are handed over, patience, plans, and what is news of a peer.
 use crate::fakes::FakeReader;
 use crate::memory::must_be_so;
-use bayou_command::Serving;
+use bayou_command::{Connecting, Serving};
 use bayou_print::{Ended, RunFault};
 use bayou_script::NetworkScript;
 use bayou_serve::hall::patience_for;
@@ -11,11 +11,13 @@ use std::alloc::Global;
 use std::io;
 use std::io::{ErrorKind, Read, Write};
 
-/// A host that has no file and no network, and remembers the server that it was to let live: its number, how many there are, how many peers it
-/// has, and whether its journal is new.
+/// A host that has no file and no network, and remembers the server that it was to let live (its number, how many there are, how many peers it
+/// has, and whether its journal is new), and the servers that it was to ask: how many it was told of, how many there are, how long it waits, and
+/// whether the session is kept.
 #[derive(Drop)]
 struct Remembering {
     taken: Option<(u8, u8, usize, bool)>,
+    asked: Option<(usize, Option<u8>, u32, bool)>,
 }
 
 impl Files for Remembering {
@@ -60,11 +62,26 @@ impl Networks for Remembering {
         ));
         Ok(Ended::Clean)
     }
+
+    ghost connects = { λ connection ended. Unit {0} };
+
+    fn connect(&mut self, _alloc: Global, connecting: &Connecting<'_>) -> Result<Ended, RunFault> {
+        self.asked = Some((
+            connecting.servers.len(),
+            connecting.count,
+            connecting.wait_seconds,
+            connecting.state.is_some(),
+        ));
+        Ok(Ended::Clean)
+    }
 }
 
-/// What becomes of these words: the status, and the server that was handed over.
-fn handed(alloc: Global, words: &[&str]) -> (u8, Option<(u8, u8, usize, bool)>) {
-    let mut host = Remembering { taken: None };
+/// What becomes of these words: the status, and what was handed over.
+fn handed(alloc: Global, words: &[&str]) -> (u8, Remembering) {
+    let mut host = Remembering {
+        taken: None,
+        asked: None,
+    };
     let status = run_main(
         alloc,
         words,
@@ -73,12 +90,12 @@ fn handed(alloc: Global, words: &[&str]) -> (u8, Option<(u8, u8, usize, bool)>) 
         &mut Output::new(io::sink()),
         &mut Output::new(io::sink()),
     );
-    (status, host.taken)
+    (status, host)
 }
 
 #[test]
 fn words_hand_a_server_over(rt: HostRuntime) {
-    let taken = handed(
+    let (status, host) = handed(
         rt.alloc(),
         &[
             "bayou",
@@ -98,12 +115,53 @@ fn words_hand_a_server_over(rt: HostRuntime) {
             "1=127.0.0.1:2",
         ],
     );
-    must_be_so(&rt, taken == (0, Some((2, 16, 2, true))), 0);
-    let missing = handed(
+    must_be_so(
+        &rt,
+        status == 0 && host.taken == Some((2, 16, 2, true)) && host.asked.is_none(),
+        0,
+    );
+    let (status, host) = handed(
         rt.alloc(),
         &["bayou", "serve", "--id", "2", "--servers", "16"],
     );
-    must_be_so(&rt, missing == (2, None), 1);
+    must_be_so(&rt, status == 2 && host.taken.is_none(), 1);
+}
+
+#[test]
+fn words_hand_a_session_over(rt: HostRuntime) {
+    let (status, host) = handed(
+        rt.alloc(),
+        &[
+            "bayou",
+            "connect",
+            "--server",
+            "0=127.0.0.1:1",
+            "--servers",
+            "3",
+            "--wait=5",
+            "--server",
+            "2=127.0.0.1:2",
+            "--state",
+            "s",
+            "lines",
+        ],
+    );
+    must_be_so(
+        &rt,
+        status == 0 && host.asked == Some((2, Some(3), 5, true)) && host.taken.is_none(),
+        0,
+    );
+    let (status, host) = handed(
+        rt.alloc(),
+        &["bayou", "connect", "--server", "0=127.0.0.1:1"],
+    );
+    must_be_so(
+        &rt,
+        status == 0 && host.asked == Some((1, None, 0, false)),
+        1,
+    );
+    let (status, host) = handed(rt.alloc(), &["bayou", "connect", "lines"]);
+    must_be_so(&rt, status == 2 && host.asked.is_none(), 2);
 }
 
 /// Whoever waits so often, and counts how often that was asked.

@@ -11,7 +11,7 @@ fn has(text: &[u8], part: &str) -> bool {
 }
 
 /// Words, what is found in the output and in the errors, and the status.
-static WORDS: [(&[&str], &str, &str, u8); 13] = [
+static WORDS: [(&[&str], &str, &str, u8); 16] = [
     (&["bayou", "--help"], "bayou run FILE", "", 0),
     (&["bayou", "run", "--help"], "[\"servers\",N,LIMIT]", "", 0),
     (&["bayou", "--version"], "bayou 0.", "", 0),
@@ -29,6 +29,14 @@ static WORDS: [(&[&str], &str, &str, u8); 13] = [
     (&["bayou", "net", "script.jsonl"], "", "--dir <DIR>", 2),
     (&["bayou", "net", "--dir"], "", "--dir <DIR>", 2),
     (&["bayou", "net", "--dir", ""], "", "--dir <DIR>", 2),
+    (&["bayou", "connect", "--help"], "claim K1 [K2..] V", "", 0),
+    (&["bayou", "connect"], "", "--server <I=ADDRESS:PORT>", 2),
+    (
+        &["bayou", "connect", "--server", "0=h:1", "--state", ""],
+        "",
+        "--state <FILE>",
+        2,
+    ),
     (
         &["bayou", "net", "--dir", "folder", "one", "two"],
         "",

@@ -8,7 +8,7 @@ use Rattle.clap.proofs.WalkLemmas.{both, first_value-rows, one_text-rows}
 use Rattle.clap.specs.ValueTests.{is_numeral}
 use Rattle.clap.specs.Words.{ReadsOne, Text, first_value, one_of, one_text, rows_of}
 use Rattle.clap.specs.declared.parser.matches.Found.{Found}
-use Rattle.bayou_command.specs.Serve.{flag_of, is_true, number_read, number_within}
+use Rattle.bayou_command.specs.Options.{flag_of, is_true, number_read, number_within}
 
 pub digits_pass : (ds : List ℕ) → AllDigits 10 ds → list_all (λ d. nat_lt (digit_value d) 10) ds ≡ true
 digits_pass [] h = refl
@@ -48,17 +48,17 @@ module _ {E : Type 0} (G : List ℕ → Result ℕ E → Type 0) (only : (u : Li
       go None e = none e
       go (Some text) e = number_given text number (value text e)
 
-pub number_inside : (least most other n : ℕ) (o : Option ℕ) → Some n ≡ o → nat_le least n ≡ true → nat_le n most ≡ true → n ≡ number_within least most other o
-number_inside least most other n o is above below = rw (← is, above, below) refl
+pub number_inside : (least most n : ℕ) (o : Option ℕ) → Some n ≡ o → nat_le least n ≡ true → nat_le n most ≡ true → Some n ≡ number_within least most o
+number_inside least most n o is above below = rw (← is, above, below) refl
 
-pub number_below : (least most other n : ℕ) (o : Option ℕ) → Some n ≡ o → nat_le least n ≡ false → other ≡ number_within least most other o
-number_below least most other n o is below = rw (← is, below) refl
+pub number_below : (least most n : ℕ) (o : Option ℕ) → Some n ≡ o → nat_le least n ≡ false → None ≡ number_within least most o
+number_below least most n o is below = rw (← is, below) refl
 
-pub number_above : (least most other n : ℕ) (o : Option ℕ) → Some n ≡ o → nat_le least n ≡ true → nat_le n most ≡ false → other ≡ number_within least most other o
-number_above least most other n o is above past = rw (← is, above, past) refl
+pub number_above : (least most n : ℕ) (o : Option ℕ) → Some n ≡ o → nat_le least n ≡ true → nat_le n most ≡ false → None ≡ number_within least most o
+number_above least most n o is above past = rw (← is, above, past) refl
 
-pub number_missing : (least most other : ℕ) (o : Option ℕ) → None ≡ o → other ≡ number_within least most other o
-number_missing least most other o is = ap (number_within least most other) is
+pub number_missing : (least most : ℕ) (o : Option ℕ) → None ≡ o → None ≡ number_within least most o
+number_missing least most o is = ap (number_within least most) is
 
 -- a flag is there where its text is the one for it
 pub flag_named : (found : Found) (name : Text) (given : Option Text) → given ≡ first_value found name → is_true given ≡ flag_of name (rows_of found)

@@ -12,7 +12,7 @@ use Rattle.clap.specs.declared.error.kind.ErrorKind.TheVariants.{OutOfMemory}
 use Rattle.bayou_command.specs.declared.Stop.{Stop}
 use Rattle.bayou_command.specs.declared.Stop.TheVariants.{Asked, Refused, Memory}
 use Rattle.bayou_command.specs.Words.{Input, Names, bayou_app, faults_of, file, file_name, input_named, input_of, standard}
-use Rattle.bayou_command.specs.Serve.{text_of}
+use Rattle.bayou_command.specs.Options.{text_of}
 use Rattle.bayou_command.specs.Inner.Stops.{StopsAt}
 
 pub simple : is_simple_and_free bayou_app ≡ true

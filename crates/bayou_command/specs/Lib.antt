@@ -1,4 +1,6 @@
+pub mod Connect
 pub mod Inner
+pub mod Options
 pub mod Rows
 pub mod Serve
 pub mod Words

@@ -1,11 +1,12 @@
--- Words of `serve`, and what they ask for.
-use Rattle.std.specs.Prelude.{◌≡◌, ℕ, false, true, List, [], ◌∷◌, codes, pos}
+-- Words of `serve` and of `connect`, and what they ask for.
+use Rattle.std.specs.Prelude.{◌≡◌, ℕ, false, true, List, [], ◌∷◌, None, codes, pos}
 use Rattle.std.specs.Str.Parse.{digits_value, without_leading_plus}
 use Rattle.clap.specs.ValueTests.{is_signed_in}
 use Rattle.clap.specs.Words.{Text, without_minus}
 use Rattle.clap.specs.declared.error.kind.ErrorKind.TheVariants.{ValueValidation}
 use Rattle.bayou_command.specs.Serve.{Service}
-use Rattle.bayou_command.specs.Words.{AskFor, a_serve, faults_of}
+use Rattle.bayou_command.specs.Connect.{Connection}
+use Rattle.bayou_command.specs.Words.{AskFor, Asked, faults_of, standard}
 
 -- the program and its command, before these words
 abbrev pub serve_words : List Text → List Text
@@ -29,7 +30,28 @@ plain_service = record {
   idle_seconds = 60;
   until_input_ends = false;
   is_new = false;
+  restores = false;
   serves_anyone = false;
+}
+
+-- the program and its other command, before these words
+abbrev pub connect_words : List Text → List Text
+connect_words words = codes "bayou" ∷ codes "connect" ∷ words
+
+-- with the one option that must be there, and these words
+abbrev pub connect_with : List Text → List Text
+connect_with words = connect_words (codes "--server" ∷ codes "0=h:1" ∷ words)
+
+-- what that option asks for
+abbrev pub plain_connection : Connection
+plain_connection = record {
+  servers = codes "0=h:1" ∷ [];
+  count = None;
+  asks = None;
+  state = None;
+  book = None;
+  wait_seconds = 0;
+  input = standard;
 }
 
 -- the number that a text is in decimal digits, behind a sign or none
@@ -37,6 +59,6 @@ abbrev pub number_written : Text → ℕ
 number_written text = digits_value 10 (without_leading_plus (without_minus text))
 
 -- any text behind an option: a number from least to most is asked for as it is written, and any other text is refused
-pub record TakesNumbers (least most : ℕ) (words : Text → List Text) (asked : ℕ → Service) : Type 0 where
-  pub taken : (text : Text) → is_signed_in (pos least) (pos most) text ≡ true → AskFor (words text) (a_serve (asked (number_written text)))
+pub record TakesNumbers (least most : ℕ) (words : Text → List Text) (asked : ℕ → Asked) : Type 0 where
+  pub taken : (text : Text) → is_signed_in (pos least) (pos most) text ≡ true → AskFor (words text) (asked (number_written text))
   pub refused : (text : Text) → is_signed_in (pos least) (pos most) text ≡ false → faults_of (words text) ≡ ValueValidation ∷ []

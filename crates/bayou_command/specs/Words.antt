@@ -2,24 +2,17 @@
 use Rattle.std.specs.Prelude.{◌≡◌, ◌⊎◌, if◌then◌else◌, List, [], Option, None, Some, Result, Ok, Err, true, codes}
 use Rattle.std.specs.Str.{bytes_eq}
 use Rattle.clap.specs.Kinds.{IsAmong, Kinds}
-use Rattle.clap.specs.Words.{App, Row, Rule, Text, fault_of, first_of, new_app, new_rule, subcommand_of, with_rule, with_subcommand}
+use Rattle.clap.specs.Words.{App, Row, Text, fault_of, new_app, subcommand_of, with_rule, with_subcommand}
 use Rattle.clap.specs.declared.error.kind.ErrorKind.{ErrorKind}
 use Rattle.clap.specs.declared.error.kind.ErrorKind.TheVariants.{DisplayHelp, DisplayVersion}
-pub use Rattle.bayou_command.specs.Serve.{folder_name, folder_rule}
-use Rattle.bayou_command.specs.Serve.{Service, serve_app, service_of, service_seen, text_of}
+pub use Rattle.bayou_command.specs.Options.{Input, file, file_name, file_rule, folder_name, folder_rule, input_named, input_of, input_seen, standard}
+use Rattle.bayou_command.specs.Connect.{Connection, connect_app, connection_of, connection_seen}
+use Rattle.bayou_command.specs.Options.{text_of}
+use Rattle.bayou_command.specs.Serve.{Service, serve_app, service_of, service_seen}
 use Rattle.bayou_command.specs.declared.Stop.{Stop}
-use Rattle.bayou_command.specs.declared.Source.{Source}
-use Rattle.bayou_command.specs.declared.Source.TheVariants.{Standard, File}
 use Rattle.bayou_command.specs.declared.Stop.TheVariants as stops
 use Rattle.bayou_command.specs.declared.Task.{Task}
-use Rattle.bayou_command.specs.declared.Task.TheVariants.{Run, Audit, Net, Serve}
-
--- the word behind a command that names a file
-abbrev pub file_name : Text
-file_name = codes "FILE"
-
-abbrev pub file_rule : Rule
-file_rule = new_rule file_name
+use Rattle.bayou_command.specs.declared.Task.TheVariants.{Run, Audit, Net, Serve, Connect}
 
 -- `run` takes a file or none, and `audit` takes one
 abbrev pub run_app : App
@@ -40,24 +33,11 @@ abbrev pub main_app : App
 main_app = record bare_app { top = record bare_app.top { has_version = true; subcommand_required = true } }
 
 abbrev pub bayou_app : App
-bayou_app = with_subcommand (with_subcommand (with_subcommand (with_subcommand main_app run_app.top) net_app.top) serve_app.top) audit_app.top
+bayou_app = with_subcommand (with_subcommand (with_subcommand (with_subcommand (with_subcommand main_app run_app.top) net_app.top) serve_app.top) connect_app.top) audit_app.top
 
 -- why the words, the program's own name before them, may name no task; there is nothing of that kind where they name one
 abbrev pub faults_of : List Text → Kinds
 faults_of words = fault_of bayou_app words
-
--- where an input comes from: the standard input, or the file of this name
-pub data Input : Type 0 where
-  standard : Input
-  file : Text → Input
-
--- no name, and the name `-`, is the standard input
-abbrev pub input_named : Option Text → Input
-input_named None = standard
-input_named (Some name) = if bytes_eq name (codes "-") then standard else file name
-
-abbrev pub input_of : List Row → Input
-input_of rows = input_named (first_of file_name rows)
 
 -- what is asked for
 pub data Asked : Type 0 where
@@ -65,18 +45,20 @@ pub data Asked : Type 0 where
   an_audit : Input → Asked
   a_net : Text → Input → Asked
   a_serve : Service → Asked
+  a_connect : Connection → Asked
 
 -- the folder that is named, as it is wherever a command that asks for one was entered
 abbrev pub folder_of : List Row → Text
 folder_of rows = text_of folder_name rows
 
--- of the program's four commands, the one that was entered
+-- of the program's five commands, the one that was entered
 abbrev pub asked_by : Option (Text × List Row) → Asked
 asked_by None = a_run standard
 asked_by (Some (name, rows)) =
     if bytes_eq name (codes "audit") then an_audit (input_of rows)
     else if bytes_eq name (codes "net") then a_net (folder_of rows) (input_of rows)
     else if bytes_eq name (codes "serve") then a_serve (service_of rows)
+    else if bytes_eq name (codes "connect") then a_connect (connection_of rows)
     else a_run (input_of rows)
 
 -- the words are no mistake, and ask for this
@@ -84,16 +66,13 @@ pub record AskFor (words : List Text) (asked : Asked) : Type 0 where
   pub good : faults_of words ≡ []
   pub entered : asked_by (subcommand_of bayou_app words) ≡ asked
 
--- what is seen of an input, and of a task
-abbrev pub input_seen : Source → Input
-input_seen Standard = standard
-input_seen (File name) = file name.now
-
+-- what is seen of a task
 abbrev pub task_seen : Task → Asked
 task_seen (Run source) = a_run (input_seen source)
 task_seen (Audit source) = an_audit (input_seen source)
 task_seen (Net folder script) = a_net folder.now (input_seen script)
 task_seen (Serve serving) = a_serve (service_seen serving)
+task_seen (Connect connecting) = a_connect (connection_seen connecting)
 
 -- it is no mistake, but asks for a text: a help, or the version
 abbrev pub IsRequest : ErrorKind → Type 0

@@ -5,19 +5,24 @@
 //! the texts.
 #![tactic(auto)]
 
-ghost use Rattle.std.specs.Prelude.{◌≡◌, ◌∷◌, ◌++◌, [], ℕ, IfOk, List, MatchResult, codes, false, map, true};
+ghost use Rattle.std.specs.Prelude.{◌≡◌, ◌∷◌, ◌++◌, [], ℕ, IfOk, List, Some, codes, false, map, true};
 ghost use Rattle.clap.specs.declared.builder.command.Command.TheViews.{out-Command as fields_of};
 ghost use Rattle.clap.specs.Words.{app_of, found_of, kind_of, rows_of, rule_of, subcommand_rows_of};
-ghost use Rattle.bayou_command.specs.Words.{AskFor, Names, a_net, a_run, a_serve, an_audit, asked_by, audit_app, bayou_app, faults_of, file, folder_of, folder_rule, input_of, input_seen, main_app, net_app, run_app, standard, task_seen};
-ghost use Rattle.bayou_command.specs.Rows.{TakesNumbers, plain_service, serve_with, serve_words};
+ghost use Rattle.bayou_command.specs.Words.{AskFor, Names, a_connect, a_net, a_run, a_serve, an_audit, asked_by, audit_app, bayou_app, faults_of, file, folder_of, folder_rule, input_of, input_seen, main_app, net_app, run_app, standard, task_seen};
+ghost use Rattle.bayou_command.specs.Rows.{TakesNumbers, connect_with, connect_words, plain_connection, plain_service, serve_with, serve_words};
 ghost use Rattle.bayou_command.specs.Inner.Stops.{StopsAt};
 
+mod connect;
+mod connecting;
+mod options;
 mod serve;
 mod serving;
 
 use clap::builder::ValueParser;
 use clap::error::ErrorKind;
 use clap::{Arg, ArgMatches, Command, Error};
+use connect::{connect_command, connecting_in};
+pub use connecting::Connecting;
 use serve::{serve_command, serving_in};
 pub use serving::Serving;
 use std::alloc::{AllocError, Global};
@@ -57,7 +62,8 @@ The session didn't read its own Write: its read at place 2, at server 1, lacks t
 the verdict is clean.
 
 `bayou run --help` has each line of a script, `bayou net --help` how a script is run over sockets, with journals in files,
-`bayou audit --help` each line of an audit file, `bayou serve --help` how one server is kept at a socket for clients of any kind.
+`bayou audit --help` each line of an audit file, `bayou serve --help` how one server is kept at a socket for clients of any kind, and
+`bayou connect --help` how a person writes and reads at such servers.
 Exit status: 0 nothing is wrong; 1 a verdict is broken; 2 the input or the command line is refused, or a verdict is; 3 memory, a
 device, the network, the input or the output failed.
 docs/TROUBLE.md says what to do about each fault; examples/ has scripts and audit files to begin from."#;
@@ -246,6 +252,8 @@ pub enum Task<'a> {
     Net { folder: &'a str, script: Source<'a> },
     /// To serve one server of a store.
     Serve(Serving<'a>),
+    /// To ask the servers of a store what lines say.
+    Connect(Connecting<'a>),
 }
 
 /// Why the words name no task.
@@ -346,11 +354,12 @@ fn bayou_command<'a>(alloc: Global) -> Result<Command<'a>, AllocError>
         .subcommand(run_command(alloc)?)?
         .subcommand(net_command(alloc)?)?
         .subcommand(serve_command(alloc)?)?
+        .subcommand(connect_command(alloc)?)?
         .subcommand(audit_command(alloc)?)
 }
 
 /// The input that a command names.
-fn source_in<'a>(found: &ArgMatches<'a>) -> Source<'a>
+pub(crate) fn source_in<'a>(found: &ArgMatches<'a>) -> Source<'a>
     ensures { input_seen result ≡ input_of (rows_of (found_of found.now)) }
 {
     let Some(name) = found.get_str("FILE") else {
@@ -380,6 +389,7 @@ fn task_in<'a>(alloc: Global, matches: &ArgMatches<'a>) -> Result<Task<'a>, Allo
             script: source_in(found),
         },
         Some(("serve", found)) => Task::Serve(serving_in(alloc, found)?),
+        Some(("connect", found)) => Task::Connect(connecting_in(alloc, found)?),
         Some((_, found)) => Task::Run(source_in(found)),
         None => Task::Run(Source::Standard),
     })
@@ -425,9 +435,10 @@ pub fn commands_are_named()
     ensures serve_idle { AskFor (serve_with (codes "--idle" ∷ codes "5" ∷ [])) (a_serve (record plain_service { idle_seconds = 5 })) }
     ensures serve_until_input_ends { AskFor (serve_with (codes "--until-input-ends" ∷ [])) (a_serve (record plain_service { until_input_ends = true })) }
     ensures serve_new { AskFor (serve_with (codes "--new" ∷ [])) (a_serve (record plain_service { is_new = true })) }
+    ensures serve_restore { AskFor (serve_with (codes "--restore" ∷ [])) (a_serve (record plain_service { restores = true })) }
     ensures serve_anyone { AskFor (serve_with (codes "--anyone" ∷ [])) (a_serve (record plain_service { serves_anyone = true })) }
-    ensures serve_whole { AskFor (serve_with (codes "--peer" ∷ codes "0=h:2" ∷ codes "--peer" ∷ codes "2=h:3" ∷ codes "--every" ∷ codes "2" ∷ codes "--limit" ∷ codes "3" ∷ codes "--connections" ∷ codes "4" ∷ codes "--idle" ∷ codes "5" ∷ codes "--until-input-ends" ∷ codes "--new" ∷ codes "--anyone" ∷ [])) (a_serve (record plain_service { peers = codes "0=h:2" ∷ codes "2=h:3" ∷ []; every_seconds = 2; limit = 3; connections = 4; idle_seconds = 5; until_input_ends = true; is_new = true; serves_anyone = true })) }
-    ensures serve_turned { AskFor (serve_words (codes "--anyone" ∷ codes "--idle" ∷ codes "5" ∷ codes "--peer" ∷ codes "0=h:2" ∷ codes "--listen" ∷ codes "h:1" ∷ codes "--limit" ∷ codes "3" ∷ codes "--new" ∷ codes "--id" ∷ codes "1" ∷ codes "--connections" ∷ codes "4" ∷ codes "--peer" ∷ codes "2=h:3" ∷ codes "--dir" ∷ codes "d" ∷ codes "--every" ∷ codes "2" ∷ codes "--until-input-ends" ∷ codes "--servers" ∷ codes "3" ∷ [])) (a_serve (record plain_service { peers = codes "0=h:2" ∷ codes "2=h:3" ∷ []; every_seconds = 2; limit = 3; connections = 4; idle_seconds = 5; until_input_ends = true; is_new = true; serves_anyone = true })) }
+    ensures serve_whole { AskFor (serve_with (codes "--peer" ∷ codes "0=h:2" ∷ codes "--peer" ∷ codes "2=h:3" ∷ codes "--every" ∷ codes "2" ∷ codes "--limit" ∷ codes "3" ∷ codes "--connections" ∷ codes "4" ∷ codes "--idle" ∷ codes "5" ∷ codes "--until-input-ends" ∷ codes "--new" ∷ codes "--restore" ∷ codes "--anyone" ∷ [])) (a_serve (record plain_service { peers = codes "0=h:2" ∷ codes "2=h:3" ∷ []; every_seconds = 2; limit = 3; connections = 4; idle_seconds = 5; until_input_ends = true; is_new = true; restores = true; serves_anyone = true })) }
+    ensures serve_turned { AskFor (serve_words (codes "--anyone" ∷ codes "--idle" ∷ codes "5" ∷ codes "--peer" ∷ codes "0=h:2" ∷ codes "--listen" ∷ codes "h:1" ∷ codes "--limit" ∷ codes "3" ∷ codes "--restore" ∷ codes "--new" ∷ codes "--id" ∷ codes "1" ∷ codes "--connections" ∷ codes "4" ∷ codes "--peer" ∷ codes "2=h:3" ∷ codes "--dir" ∷ codes "d" ∷ codes "--every" ∷ codes "2" ∷ codes "--until-input-ends" ∷ codes "--servers" ∷ codes "3" ∷ [])) (a_serve (record plain_service { peers = codes "0=h:2" ∷ codes "2=h:3" ∷ []; every_seconds = 2; limit = 3; connections = 4; idle_seconds = 5; until_input_ends = true; is_new = true; restores = true; serves_anyone = true })) }
     ensures serve_least { AskFor (serve_words (codes "--id" ∷ codes "0" ∷ codes "--servers" ∷ codes "1" ∷ codes "--dir" ∷ codes "d" ∷ codes "--listen" ∷ codes "h:1" ∷ codes "--every" ∷ codes "1" ∷ codes "--limit" ∷ codes "1" ∷ codes "--connections" ∷ codes "1" ∷ codes "--idle" ∷ codes "1" ∷ [])) (a_serve (record plain_service { id = 0; servers = 1; limit = 1; connections = 1; idle_seconds = 1 })) }
     ensures serve_most { AskFor (serve_words (codes "--id" ∷ codes "15" ∷ codes "--servers" ∷ codes "16" ∷ codes "--dir" ∷ codes "d" ∷ codes "--listen" ∷ codes "h:1" ∷ codes "--every" ∷ codes "86400" ∷ codes "--limit" ∷ codes "65536" ∷ codes "--connections" ∷ codes "4096" ∷ codes "--idle" ∷ codes "86400" ∷ [])) (a_serve (record plain_service { id = 15; servers = 16; every_seconds = 86400; connections = 4096; idle_seconds = 86400 })) }
     ensures serve_bare { faults_of (serve_words []) ≡ ErrorKind.MissingRequiredArgument ∷ [] }
@@ -455,12 +466,12 @@ pub fn commands_are_named()
 /// A law: whatever stands behind `--limit=`, a number from 1 to 65536 in decimal digits is taken as the limit that it is, and any other text is
 /// refused. So it is, each in its range, with the other options of `bayou serve` that take numbers.
 pub fn numbers_are_taken()
-    ensures id { TakesNumbers 0 15 (λ text. serve_words ((codes "--id=" ++ text) ∷ codes "--servers" ∷ codes "3" ∷ codes "--dir" ∷ codes "d" ∷ codes "--listen" ∷ codes "h:1" ∷ [])) (λ number. record plain_service { id = number }) }
-    ensures servers { TakesNumbers 1 16 (λ text. serve_words ((codes "--servers=" ++ text) ∷ codes "--id" ∷ codes "1" ∷ codes "--dir" ∷ codes "d" ∷ codes "--listen" ∷ codes "h:1" ∷ [])) (λ number. record plain_service { servers = number }) }
-    ensures every { TakesNumbers 1 86400 (λ text. serve_with ((codes "--every=" ++ text) ∷ [])) (λ number. record plain_service { every_seconds = number }) }
-    ensures limit { TakesNumbers 1 65536 (λ text. serve_with ((codes "--limit=" ++ text) ∷ [])) (λ number. record plain_service { limit = number }) }
-    ensures connections { TakesNumbers 1 4096 (λ text. serve_with ((codes "--connections=" ++ text) ∷ [])) (λ number. record plain_service { connections = number }) }
-    ensures idle { TakesNumbers 1 86400 (λ text. serve_with ((codes "--idle=" ++ text) ∷ [])) (λ number. record plain_service { idle_seconds = number }) }
+    ensures id { TakesNumbers 0 15 (λ text. serve_words ((codes "--id=" ++ text) ∷ codes "--servers" ∷ codes "3" ∷ codes "--dir" ∷ codes "d" ∷ codes "--listen" ∷ codes "h:1" ∷ [])) (λ number. a_serve (record plain_service { id = number })) }
+    ensures servers { TakesNumbers 1 16 (λ text. serve_words ((codes "--servers=" ++ text) ∷ codes "--id" ∷ codes "1" ∷ codes "--dir" ∷ codes "d" ∷ codes "--listen" ∷ codes "h:1" ∷ [])) (λ number. a_serve (record plain_service { servers = number })) }
+    ensures every { TakesNumbers 1 86400 (λ text. serve_with ((codes "--every=" ++ text) ∷ [])) (λ number. a_serve (record plain_service { every_seconds = number })) }
+    ensures limit { TakesNumbers 1 65536 (λ text. serve_with ((codes "--limit=" ++ text) ∷ [])) (λ number. a_serve (record plain_service { limit = number })) }
+    ensures connections { TakesNumbers 1 4096 (λ text. serve_with ((codes "--connections=" ++ text) ∷ [])) (λ number. a_serve (record plain_service { connections = number })) }
+    ensures idle { TakesNumbers 1 86400 (λ text. serve_with ((codes "--idle=" ++ text) ∷ [])) (λ number. a_serve (record plain_service { idle_seconds = number })) }
 {}
 
 /// A law: whatever stands behind `--listen=`, `--dir=` and `--peer=` is taken as it stands, where a folder's name has a byte, and the peers in
@@ -469,4 +480,51 @@ pub fn texts_are_taken()
     ensures listen { (text : List ℕ) → AskFor (serve_words ((codes "--listen=" ++ text) ∷ codes "--id" ∷ codes "1" ∷ codes "--servers" ∷ codes "3" ∷ codes "--dir" ∷ codes "d" ∷ [])) (a_serve (record plain_service { listen = text })) }
     ensures dir { (byte : ℕ) (text : List ℕ) → AskFor (serve_words ((codes "--dir=" ++ byte ∷ text) ∷ codes "--id" ∷ codes "1" ∷ codes "--servers" ∷ codes "3" ∷ codes "--listen" ∷ codes "h:1" ∷ [])) (a_serve (record plain_service { folder = byte ∷ text })) }
     ensures peers { (first second : List ℕ) → AskFor (serve_with ((codes "--peer=" ++ first) ∷ (codes "--peer=" ++ second) ∷ [])) (a_serve (record plain_service { peers = first ∷ second ∷ [] })) }
+{}
+
+/// A law: `bayou connect` with one server or more asks for a session at them, with each option as it is given, in any order, and with the lines
+/// of the standard input or of the file. Without a server, with a number out of its range, with one of its options but `--server` twice, with a
+/// file of no name, with two files or with an option that it doesn't have it is refused.
+pub fn connections_are_named()
+    ensures plain { AskFor (connect_with []) (a_connect plain_connection) }
+    ensures joined { AskFor (connect_words (codes "--server=0=h:1" ∷ [])) (a_connect plain_connection) }
+    ensures servers { AskFor (connect_with (codes "--server" ∷ codes "2=h:3" ∷ [])) (a_connect (record plain_connection { servers = codes "0=h:1" ∷ codes "2=h:3" ∷ [] })) }
+    ensures count { AskFor (connect_with (codes "--servers" ∷ codes "3" ∷ [])) (a_connect (record plain_connection { count = Some 3 })) }
+    ensures asks { AskFor (connect_with (codes "--session" ∷ codes "ryw,mr" ∷ [])) (a_connect (record plain_connection { asks = Some (codes "ryw,mr") })) }
+    ensures state { AskFor (connect_with (codes "--state" ∷ codes "s" ∷ [])) (a_connect (record plain_connection { state = Some (codes "s") })) }
+    ensures book { AskFor (connect_with (codes "--book" ∷ codes "b" ∷ [])) (a_connect (record plain_connection { book = Some (codes "b") })) }
+    ensures wait { AskFor (connect_with (codes "--wait" ∷ codes "5" ∷ [])) (a_connect (record plain_connection { wait_seconds = 5 })) }
+    ensures named { AskFor (connect_with (codes "a.txt" ∷ [])) (a_connect (record plain_connection { input = file (codes "a.txt") })) }
+    ensures dash { AskFor (connect_with (codes "-" ∷ [])) (a_connect plain_connection) }
+    ensures whole { AskFor (connect_with (codes "--server" ∷ codes "2=h:3" ∷ codes "--servers" ∷ codes "3" ∷ codes "--session" ∷ codes "ryw,mr" ∷ codes "--state" ∷ codes "s" ∷ codes "--book" ∷ codes "b" ∷ codes "--wait" ∷ codes "5" ∷ codes "a.txt" ∷ [])) (a_connect (record plain_connection { servers = codes "0=h:1" ∷ codes "2=h:3" ∷ []; count = Some 3; asks = Some (codes "ryw,mr"); state = Some (codes "s"); book = Some (codes "b"); wait_seconds = 5; input = file (codes "a.txt") })) }
+    ensures turned { AskFor (connect_words (codes "a.txt" ∷ codes "--wait" ∷ codes "5" ∷ codes "--server" ∷ codes "0=h:1" ∷ codes "--book" ∷ codes "b" ∷ codes "--state" ∷ codes "s" ∷ codes "--server" ∷ codes "2=h:3" ∷ codes "--session" ∷ codes "ryw,mr" ∷ codes "--servers" ∷ codes "3" ∷ [])) (a_connect (record plain_connection { servers = codes "0=h:1" ∷ codes "2=h:3" ∷ []; count = Some 3; asks = Some (codes "ryw,mr"); state = Some (codes "s"); book = Some (codes "b"); wait_seconds = 5; input = file (codes "a.txt") })) }
+    ensures least { AskFor (connect_with (codes "--servers" ∷ codes "1" ∷ codes "--wait" ∷ codes "0" ∷ [])) (a_connect (record plain_connection { count = Some 1 })) }
+    ensures most { AskFor (connect_with (codes "--servers" ∷ codes "16" ∷ codes "--wait" ∷ codes "86400" ∷ [])) (a_connect (record plain_connection { count = Some 16; wait_seconds = 86400 })) }
+    ensures bare { faults_of (connect_words []) ≡ ErrorKind.MissingRequiredArgument ∷ [] }
+    ensures no_server { faults_of (connect_words (codes "--servers" ∷ codes "3" ∷ codes "--session" ∷ codes "ryw" ∷ codes "--state" ∷ codes "s" ∷ codes "--book" ∷ codes "b" ∷ codes "--wait" ∷ codes "5" ∷ codes "a.txt" ∷ [])) ≡ ErrorKind.MissingRequiredArgument ∷ [] }
+    ensures count_below { faults_of (connect_with (codes "--servers" ∷ codes "0" ∷ [])) ≡ ErrorKind.ValueValidation ∷ [] }
+    ensures count_above { faults_of (connect_with (codes "--servers" ∷ codes "17" ∷ [])) ≡ ErrorKind.ValueValidation ∷ [] }
+    ensures wait_below { faults_of (connect_with (codes "--wait=-1" ∷ [])) ≡ ErrorKind.ValueValidation ∷ [] }
+    ensures wait_above { faults_of (connect_with (codes "--wait" ∷ codes "86401" ∷ [])) ≡ ErrorKind.ValueValidation ∷ [] }
+    ensures state_unnamed { faults_of (connect_with (codes "--state" ∷ [] ∷ [])) ≡ ErrorKind.InvalidValue ∷ [] }
+    ensures book_unnamed { faults_of (connect_with (codes "--book" ∷ [] ∷ [])) ≡ ErrorKind.InvalidValue ∷ [] }
+    ensures count_twice { faults_of (connect_with (codes "--servers" ∷ codes "3" ∷ codes "--servers" ∷ codes "3" ∷ [])) ≡ ErrorKind.ArgumentConflict ∷ [] }
+    ensures asks_twice { faults_of (connect_with (codes "--session" ∷ codes "ryw" ∷ codes "--session" ∷ codes "ryw" ∷ [])) ≡ ErrorKind.ArgumentConflict ∷ [] }
+    ensures state_twice { faults_of (connect_with (codes "--state" ∷ codes "s" ∷ codes "--state" ∷ codes "s" ∷ [])) ≡ ErrorKind.ArgumentConflict ∷ [] }
+    ensures book_twice { faults_of (connect_with (codes "--book" ∷ codes "b" ∷ codes "--book" ∷ codes "b" ∷ [])) ≡ ErrorKind.ArgumentConflict ∷ [] }
+    ensures wait_twice { faults_of (connect_with (codes "--wait" ∷ codes "5" ∷ codes "--wait" ∷ codes "5" ∷ [])) ≡ ErrorKind.ArgumentConflict ∷ [] }
+    ensures two_files { faults_of (connect_with (codes "a.txt" ∷ codes "b.txt" ∷ [])) ≡ ErrorKind.UnknownArgument ∷ [] }
+    ensures no_option { faults_of (connect_with (codes "--walk" ∷ [])) ≡ ErrorKind.UnknownArgument ∷ [] }
+{}
+
+/// A law: whatever stands behind `--servers=` and `--wait=` is taken as the number in decimal digits that it is, where that is in its range, and
+/// any other text is refused. What stands behind `--server=`, `--session=`, `--state=` and `--book=` is taken as it stands, where the name of a
+/// file has a byte, and the servers in their order.
+pub fn connections_are_taken()
+    ensures count { TakesNumbers 1 16 (λ text. connect_with ((codes "--servers=" ++ text) ∷ [])) (λ number. a_connect (record plain_connection { count = Some number })) }
+    ensures wait { TakesNumbers 0 86400 (λ text. connect_with ((codes "--wait=" ++ text) ∷ [])) (λ number. a_connect (record plain_connection { wait_seconds = number })) }
+    ensures servers { (first second : List ℕ) → AskFor (connect_words ((codes "--server=" ++ first) ∷ (codes "--server=" ++ second) ∷ [])) (a_connect (record plain_connection { servers = first ∷ second ∷ [] })) }
+    ensures asks { (text : List ℕ) → AskFor (connect_with ((codes "--session=" ++ text) ∷ [])) (a_connect (record plain_connection { asks = Some text })) }
+    ensures state { (byte : ℕ) (text : List ℕ) → AskFor (connect_with ((codes "--state=" ++ byte ∷ text) ∷ [])) (a_connect (record plain_connection { state = Some (byte ∷ text) })) }
+    ensures book { (byte : ℕ) (text : List ℕ) → AskFor (connect_with ((codes "--book=" ++ byte ∷ text) ∷ [])) (a_connect (record plain_connection { book = Some (byte ∷ text) })) }
 {}

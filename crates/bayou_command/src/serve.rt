@@ -1,17 +1,18 @@
 //! The words behind `serve`: its options, and what they ask for.
-ghost use Rattle.std.specs.Prelude.{◌≡◌, ◌≤◌, ◌<◌, ◌^◌, IfOk, false, map};
+ghost use Rattle.std.specs.Prelude.{◌≡◌, IfOk, false};
 ghost use Rattle.clap.specs.declared.builder.command.Command.TheViews.{out-Command as fields_of};
-ghost use Rattle.clap.specs.Words.{app_of, found_of, rows_of, rule_of};
-ghost use Rattle.bayou_command.specs.Serve.{choice_rules, flag_of, flag_rule, flag_rules, needed_rules, number_of, number_rule, option_rule, serve_app, service_of, service_seen, text_of, texts_of, with_rules};
+ghost use Rattle.clap.specs.Words.{app_of, found_of, rows_of};
+ghost use Rattle.bayou_command.specs.Options.{with_rules};
+ghost use Rattle.bayou_command.specs.Serve.{choice_rules, flag_rules, needed_rules, serve_app, service_of, service_seen};
 
+use crate::options::{flag, flag_in, number_in, number_option, text_in, texts_in, value_option};
 use crate::serving::Serving;
 use crate::{folder_in, folder_option};
 use bayou_base::limits::{
     DEFAULT_CONNECTIONS, DEFAULT_EVERY_SECONDS, DEFAULT_IDLE_SECONDS, MAX_CONNECTIONS, MAX_SECONDS,
     MAX_WRITES, SERVERS,
 };
-use clap::builder::ValueParser;
-use clap::{Arg, ArgAction, ArgMatches, Command};
+use clap::{ArgAction, ArgMatches, Command};
 use std::alloc::{AllocError, Global};
 
 const SERVE_ABOUT: &str =
@@ -40,6 +41,8 @@ const IDLE: &str =
 const UNTIL: &str = "Ends where the standard input ends";
 
 const NEW: &str = "Makes the journal, for a server that is new";
+
+const RESTORE: &str = "Makes the journal, for a server that lost it, of what its peers hold";
 
 const ANYONE: &str = "Listens at an address that other machines reach, too";
 
@@ -77,43 +80,6 @@ is refused; 3 a device, the journal (it isn't there, is another server's, or is 
 
 Pages: docs/SERVE.md (a store that lives, day by day), docs/PROTOCOL.md (what clients ask and are answered), docs/RECOVERY.md (what a
 journal keeps)."#;
-
-/// An option with a value, which the usage calls `value`.
-fn value_option<'a>(alloc: Global, name: &'a str, value: &'a str, help: &'a str) -> Arg<'a>
-    ensures rule { rule_of result ≡ option_rule name.entry.now }
-    ensures local { result.global ≡ false }
-{
-    Arg::new(alloc, name)
-        .long(name)
-        .value_name(value)
-        .help(help)
-}
-
-/// An option whose value is a number from `least` to `most`.
-fn number_option<'a>(
-    alloc: Global,
-    name: &'a str,
-    value: &'a str,
-    help: &'a str,
-    least: u32,
-    most: u32,
-) -> Arg<'a>
-    ensures rule { rule_of result ≡ number_rule name.entry.now least most }
-    ensures local { result.global ≡ false }
-{
-    let range = ValueParser::Signed(i64::from(least), i64::from(most));
-    value_option(alloc, name, value, help).value_parser(range)
-}
-
-fn flag<'a>(alloc: Global, name: &'a str, help: &'a str) -> Arg<'a>
-    ensures rule { rule_of result ≡ flag_rule name.entry.now }
-    ensures local { result.global ≡ false }
-{
-    Arg::new(alloc, name)
-        .long(name)
-        .action(ArgAction::SetTrue)
-        .help(help)
-}
 
 // The command with the options that must be there.
 fn with_needed<'a>(alloc: Global, command: Command<'a>) -> Result<Command<'a>, AllocError>
@@ -156,6 +122,7 @@ fn with_flags<'a>(alloc: Global, command: Command<'a>) -> Result<Command<'a>, Al
     command
         .arg(flag(alloc, "until-input-ends", UNTIL))?
         .arg(flag(alloc, "new", NEW))?
+        .arg(flag(alloc, "restore", RESTORE))?
         .arg(flag(alloc, "anyone", ANYONE))
 }
 
@@ -169,50 +136,6 @@ pub(crate) fn serve_command<'a>(alloc: Global) -> Result<Command<'a>, AllocError
     let command = with_needed(alloc, command)?;
     let command = with_choices(alloc, command)?;
     with_flags(alloc, command)
-}
-
-/// The number that an option gives, or `other` where it isn't there. No command is entered with one out of its range.
-fn number_in(found: &ArgMatches, name: &str, least: u32, most: u32, other: u32) -> u32
-    requires { (least ≤ other) × (other ≤ most) }
-    ensures value { result ≡ number_of name.now least most other (rows_of (found_of found.now)) }
-    ensures within { (least ≤ result) × (result ≤ most) }
-{
-    match found.get_one::<u32>(name) {
-        Some(number) if least <= number && number <= most => number,
-        _ => other,
-    }
-}
-
-/// The text that an option gives. A command that must have it isn't entered without it.
-fn text_in<'a>(found: &ArgMatches<'a>, name: &str) -> &'a str
-    ensures { result.now ≡ text_of name.now (rows_of (found_of found.now)) }
-{
-    found.get_str(name).unwrap_or("")
-}
-
-/// Whether a flag is there.
-fn flag_in(found: &ArgMatches, name: &str) -> bool
-    ensures { result ≡ flag_of name.now (rows_of (found_of found.now)) }
-{
-    match found.get_str(name) {
-        Some(text) => text == "true",
-        None => false,
-    }
-}
-
-/// The texts that an option gives, in the order of the words.
-fn texts_in<'a>(
-    alloc: Global,
-    found: &ArgMatches<'a>,
-    name: &str,
-) -> Result<Vec<&'a str>, AllocError>
-    ensures { IfOk result (λ texts. map (λ text. text.now) texts.items ≡ texts_of name.now (rows_of (found_of found.now))) }
-{
-    let mut texts = Vec::new(alloc);
-    if let Some(given) = found.get_strs(name) {
-        texts.extend_from_slice(given)?;
-    }
-    Ok(texts)
 }
 
 /// What the options ask for.
@@ -242,6 +165,7 @@ pub(crate) fn serving_in<'a>(
         idle_seconds: number_in(found, "idle", 1, MAX_SECONDS, DEFAULT_IDLE_SECONDS),
         until_input_ends: flag_in(found, "until-input-ends"),
         is_new: flag_in(found, "new"),
+        restores: flag_in(found, "restore"),
         serves_anyone: flag_in(found, "anyone"),
     })
 }

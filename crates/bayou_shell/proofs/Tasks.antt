@@ -1,13 +1,13 @@
 -- What words ask for, and what becomes of it.
 use Rattle.std.proofs.Common.{◌≡◌, ◌<◌, ◌≤◌, ◌∙◌, ℕ, Bool, List, [], Option, None, Some, IfSome, IfErr, Result, Ok, Err, ap, arith, inl, sym}
 use Rattle.std.proofs.KnownBytes.{Keeps-refl}
-use Rattle.bayou_command.specs.Words.{AreMistaken, AskFor, AskForText, Asked, Input as Named, a_net, a_run, a_serve, an_audit, file, standard}
+use Rattle.bayou_command.specs.Words.{AreMistaken, AskFor, AskForText, Asked, Input as Named, a_connect, a_net, a_run, a_serve, an_audit, file, standard}
 use Rattle.bayou_print.specs.declared.ended.Ended.{Ended}
 use Rattle.bayou_print.specs.declared.fault.RunFault.{RunFault}
 use Rattle.bayou_print.specs.declared.fault.RunFault.TheVariants.{Line, Memory, Device, Network, Input, Output}
 use Rattle.bayou_print.specs.Fault.{exit_status, status_of}
 use Rattle.bayou_shell.specs.Net.{Runs}
-use Rattle.bayou_shell.specs.Program.{Serves, Works}
+use Rattle.bayou_shell.specs.Program.{Connects, Serves, Works}
 use Rattle.bayou_print.specs.Telling.{TellsEnd, TellsFault}
 use Rattle.bayou_print.specs.Turns.{EndsReading, EndsWriting, cut_lines}
 use Rattle.bayou_streams.specs.Account.{Account, Pays}
@@ -17,29 +17,30 @@ pub asked_once : (words : List (List ℕ)) (one other : Asked) → AskFor words 
 asked_once words one other first second = sym first.entered ∙ second.entered
 
 -- it ended so
-pub works_so : (runs : List ℕ → Runs) (serves : Serves) (known : Option (List ℕ)) (asked : Asked) (result : Result Ended RunFault) (status : ℕ) (old new : Option (List ℕ)) (read_fails write_fails : Bool) (reads writes : ℕ) (told telling : Account) (has_failed : Bool)
-    → IfSome known (λ text. Works runs serves asked text result old new) → status ≡ exit_status result → IfErr result (EndsReading read_fails reads) → IfErr result (EndsWriting write_fails writes)
+pub works_so : (runs : List ℕ → Runs) (serves : Serves) (connects : Connects) (known : Option (List ℕ)) (asked : Asked) (result : Result Ended RunFault) (status : ℕ) (old new : Option (List ℕ)) (read_fails write_fails : Bool) (reads writes : ℕ) (told telling : Account) (has_failed : Bool)
+    → IfSome known (λ text. Works runs serves connects asked text result old new) → status ≡ exit_status result → IfErr result (EndsReading read_fails reads) → IfErr result (EndsWriting write_fails writes)
     → TellsEnd result told telling has_failed
-    → IfSome known (λ text. (ended : Result Ended RunFault) × Works runs serves asked text ended old new × (status ≡ exit_status ended)
+    → IfSome known (λ text. (ended : Result Ended RunFault) × Works runs serves connects asked text ended old new × (status ≡ exit_status ended)
     × IfErr ended (EndsReading read_fails reads) × IfErr ended (EndsWriting write_fails writes) × TellsEnd ended told telling has_failed)
-works_so runs serves None asked result status old new read_fails write_fails reads writes told telling has_failed works is read written tells = tt
-works_so runs serves (Some text) asked result status old new read_fails write_fails reads writes told telling has_failed works is read written tells =
+works_so runs serves connects None asked result status old new read_fails write_fails reads writes told telling has_failed works is read written tells = tt
+works_so runs serves connects (Some text) asked result status old new read_fails write_fails reads writes told telling has_failed works is read written tells =
     (result, works, is, read, written, tells)
 
-kept : (runs : List ℕ → Runs) (serves : Serves) (asked : Asked) (text : List ℕ) (contents : Option (List ℕ)) → Works runs serves asked text (Err Memory) contents contents
-kept runs serves (a_run source) text contents = inl (Keeps-refl contents)
-kept runs serves (an_audit source) text contents = inl (Keeps-refl contents)
-kept runs serves (a_net folder source) text contents = inl (Keeps-refl contents)
-kept runs serves (a_serve service) text contents = Keeps-refl contents
+kept : (runs : List ℕ → Runs) (serves : Serves) (connects : Connects) (asked : Asked) (text : List ℕ) (contents : Option (List ℕ)) → Works runs serves connects asked text (Err Memory) contents contents
+kept runs serves connects (a_run source) text contents = inl (Keeps-refl contents)
+kept runs serves connects (an_audit source) text contents = inl (Keeps-refl contents)
+kept runs serves connects (a_net folder source) text contents = inl (Keeps-refl contents)
+kept runs serves connects (a_serve service) text contents = Keeps-refl contents
+kept runs serves connects (a_connect connection) text contents = Keeps-refl contents
 
 -- want of memory before anything was read is an end of each task
-pub works_unread : (runs : List ℕ → Runs) (serves : Serves) (known : Option (List ℕ)) (asked : Asked) (status : ℕ) (contents : Option (List ℕ)) (read_fails write_fails : Bool) (reads writes : ℕ) (told telling : Account) (has_failed : Bool)
+pub works_unread : (runs : List ℕ → Runs) (serves : Serves) (connects : Connects) (known : Option (List ℕ)) (asked : Asked) (status : ℕ) (contents : Option (List ℕ)) (read_fails write_fails : Bool) (reads writes : ℕ) (told telling : Account) (has_failed : Bool)
     → status ≡ status_of Memory → TellsFault told telling has_failed
-    → IfSome known (λ text. (ended : Result Ended RunFault) × Works runs serves asked text ended contents contents × (status ≡ exit_status ended)
+    → IfSome known (λ text. (ended : Result Ended RunFault) × Works runs serves connects asked text ended contents contents × (status ≡ exit_status ended)
     × IfErr ended (EndsReading read_fails reads) × IfErr ended (EndsWriting write_fails writes) × TellsEnd ended told telling has_failed)
-works_unread runs serves None asked status contents read_fails write_fails reads writes told telling has_failed is tells = tt
-works_unread runs serves (Some text) asked status contents read_fails write_fails reads writes told telling has_failed is tells =
-    (Err Memory, kept runs serves asked text contents, is, tt, tt, tells)
+works_unread runs serves connects None asked status contents read_fails write_fails reads writes told telling has_failed is tells = tt
+works_unread runs serves connects (Some text) asked status contents read_fails write_fails reads writes told telling has_failed is tells =
+    (Err Memory, kept runs serves connects asked text contents, is, tt, tt, tells)
 
 abbrev name_in : Named → List ℕ
 name_in standard = []

@@ -1,5 +1,6 @@
-//! Networks that scripts are run over, and that servers live at.
+//! Networks that scripts are run over, that servers live at, and that a person reaches servers by.
 ghost use Rattle.std.specs.Prelude.{◌≡◌, ◌≤◌, IfErr, IfOk, List, OnOk, Result, ℕ};
+ghost use Rattle.bayou_command.specs.Connect.{Connection, connection_seen};
 ghost use Rattle.bayou_command.specs.Serve.{Service, service_seen};
 ghost use Rattle.bayou_print.specs.declared.fault.RunFault.TheVariants.{Memory};
 ghost use Rattle.bayou_print.specs.declared.ended.Ended.{Ended as Told};
@@ -10,14 +11,15 @@ ghost use Rattle.bayou_socket_run.specs.Faults.{IsNetFault, KeepsUnstarted};
 ghost use Rattle.bayou_print.specs.Turns.{EndsWriting};
 ghost use Rattle.bayou_streams.specs.Account.{TakesBytes, account};
 
-use bayou_command::Serving;
+use bayou_command::{Connecting, Serving};
 use bayou_print::{Ended, RunFault};
 use bayou_script::NetworkScript;
 use bayou_streams::Output;
 use std::alloc::Global;
 use std::io::Write;
 
-/// Where a script is run whose servers have journals in a folder and answer over connections, and where a server lives.
+/// Where a script is run whose servers have journals in a folder and answer over connections, where a server lives, and
+/// where servers are asked what lines say.
 pub trait Networks {
     /// Whether running this script, with the servers' journals in the folder of this name, may end so.
     ghost runs: { List ℕ → Plan → Result Told Cause → Type 0 };
@@ -47,5 +49,14 @@ pub trait Networks {
     /// then.
     fn serve(&mut self, alloc: Global, serving: &Serving<'_>) -> Result<Ended, RunFault>
         ensures served { IfOk result (serves (service_seen serving.now)) }
+        ensures memory { IfErr result (λ fault. fault ≡ Memory) };
+
+    /// Whether servers that are to be asked what lines say may be asked so.
+    ghost connects: { Connection → Told → Type 0 };
+
+    /// Asks servers what lines say, as the words ask for it, to the end of the lines; or takes it, to be done so once the words were read. What
+    /// refuses it is told then.
+    fn connect(&mut self, alloc: Global, connecting: &Connecting<'_>) -> Result<Ended, RunFault>
+        ensures connected { IfOk result (connects (connection_seen connecting.now)) }
         ensures memory { IfErr result (λ fault. fault ≡ Memory) };
 }

@@ -84,14 +84,15 @@ pub fn refuse_words<E: Write>(errors: &mut Output<E>, error: &io::Error) -> u8
     REFUSED
 }
 
-/// Where the input of a task comes from. A server that is to live has none, which is the standard input that isn't read.
+/// Where the input of a task comes from. A server that is to live has none, and lines for servers are read only as they are done: for both it
+/// is the standard input, which isn't read.
 fn source_of<'a>(task: &Task<'a>) -> Source<'a>
     ensures { input_seen result ≡ input_of_asked (task_seen task.now) }
 {
     match task {
         Task::Run(source) | Task::Audit(source) => *source,
         Task::Net { script, .. } => *script,
-        Task::Serve(_) => Source::Standard,
+        Task::Serve(_) | Task::Connect(_) => Source::Standard,
     }
 }
 
@@ -103,7 +104,7 @@ fn work<N: Networks, R: Read, W: Write>(
     input: &mut CountedChannel<R, ()>,
     output: &mut Output<W>,
 ) -> Result<Ended, RunFault>
-    ensures works { IfSome (R.remaining input.old.reader) (λ text. Works N.runs N.serves (task_seen task.entry) text result (W.contents output.old.channel.writer) (W.contents output.new.channel.writer)) }
+    ensures works { IfSome (R.remaining input.old.reader) (λ text. Works N.runs N.serves N.connects (task_seen task.entry) text result (W.contents output.old.channel.writer) (W.contents output.new.channel.writer)) }
     ensures read { IfErr result (EndsReading input.new.read_failed input.new.turns_left) }
     ensures written { IfErr result (EndsWriting output.new.channel.write_failed output.new.channel.turns_left) }
     ensures turns { input.new.turns_left ≤ input.old.turns_left }
@@ -114,6 +115,7 @@ fn work<N: Networks, R: Read, W: Write>(
         Task::Audit(_) => run_audit(alloc, input, output),
         Task::Net { folder, .. } => run_net(alloc, networks, folder, input, output),
         Task::Serve(serving) => networks.serve(alloc, &serving),
+        Task::Connect(connecting) => networks.connect(alloc, &connecting),
     }
 }
 
@@ -125,7 +127,7 @@ fn work_on<F: Files + Networks, W: Write>(
     files: &mut F,
     output: &mut Output<W>,
 ) -> Result<Ended, RunFault>
-    ensures works { WorksOn (F.opens name.now) (F.refuses name.now) F.runs F.serves ⟦<F::Reader as Read>⟧.remaining (F.kept files.new) (task_seen task.entry) result (W.contents output.old.channel.writer) (W.contents output.new.channel.writer) }
+    ensures works { WorksOn (F.opens name.now) (F.refuses name.now) F.runs F.serves F.connects ⟦<F::Reader as Read>⟧.remaining (F.kept files.new) (task_seen task.entry) result (W.contents output.old.channel.writer) (W.contents output.new.channel.writer) }
     ensures written { IfErr result (EndsWriting output.new.channel.write_failed output.new.channel.turns_left) }
     ensures paid { Pays (account W.contents output.old) (account W.contents output.new) (cut_lines result) }
 {
@@ -149,9 +151,9 @@ fn do_task<F: Files + Networks, R: Read, W: Write>(
     output: &mut Output<W>,
 ) -> Result<Ended, RunFault>
     ensures standard { input_of_asked (task_seen task.entry) ≡ standard → IfSome (R.remaining input.old.reader) (λ text.
-        Works F.runs F.serves (task_seen task.entry) text result (W.contents output.old.channel.writer) (W.contents output.new.channel.writer)) }
+        Works F.runs F.serves F.connects (task_seen task.entry) text result (W.contents output.old.channel.writer) (W.contents output.new.channel.writer)) }
     ensures named { (name : List ℕ) → input_of_asked (task_seen task.entry) ≡ file name
-        → WorksOn (F.opens name) (F.refuses name) F.runs F.serves ⟦<F::Reader as Read>⟧.remaining (F.kept files.new) (task_seen task.entry) result (W.contents output.old.channel.writer) (W.contents output.new.channel.writer) }
+        → WorksOn (F.opens name) (F.refuses name) F.runs F.serves F.connects ⟦<F::Reader as Read>⟧.remaining (F.kept files.new) (task_seen task.entry) result (W.contents output.old.channel.writer) (W.contents output.new.channel.writer) }
     ensures unread { ¬ (input_of_asked (task_seen task.entry) ≡ standard) → input.new ≡ input.old }
     ensures read { input_of_asked (task_seen task.entry) ≡ standard → IfErr result (EndsReading input.new.read_failed input.new.turns_left) }
     ensures written { IfErr result (EndsWriting output.new.channel.write_failed output.new.channel.turns_left) }
@@ -175,12 +177,12 @@ pub fn run_main<'a, S: AsStr, F: Files + Networks, R: Read, W: Write, E: Write>(
 ) -> u8
     // A task on the standard input.
     ensures standard { (asked : Asked) → AskFor (map S.text words.entry.now) asked → input_of_asked asked ≡ standard → IfSome (R.remaining input.old.reader) (λ text. (ended : Result Ended RunFault)
-        × Works F.runs F.serves asked text ended (W.contents output.old.channel.writer) (W.contents output.new.channel.writer) × (result ≡ exit_status ended)
+        × Works F.runs F.serves F.connects asked text ended (W.contents output.old.channel.writer) (W.contents output.new.channel.writer) × (result ≡ exit_status ended)
         × IfErr ended (EndsReading input.new.read_failed input.new.turns_left) × IfErr ended (EndsWriting output.new.channel.write_failed output.new.channel.turns_left)
         × TellsEnd ended (account E.contents errors.old) (account E.contents errors.new) errors.new.channel.write_failed) }
     // A task on a file.
     ensures named { (asked : Asked) (name : List ℕ) → AskFor (map S.text words.entry.now) asked → input_of_asked asked ≡ file name → (ended : Result Ended RunFault)
-        × WorksOn (F.opens name) (F.refuses name) F.runs F.serves ⟦<F::Reader as Read>⟧.remaining (F.kept files.new) asked ended (W.contents output.old.channel.writer) (W.contents output.new.channel.writer)
+        × WorksOn (F.opens name) (F.refuses name) F.runs F.serves F.connects ⟦<F::Reader as Read>⟧.remaining (F.kept files.new) asked ended (W.contents output.old.channel.writer) (W.contents output.new.channel.writer)
         × (result ≡ exit_status ended) × IfErr ended (EndsWriting output.new.channel.write_failed output.new.channel.turns_left)
         × TellsEnd ended (account E.contents errors.old) (account E.contents errors.new) errors.new.channel.write_failed }
     // The standard input isn't read where nothing is asked for of it.

@@ -2,7 +2,7 @@ use Rattle.std.proofs.Common.{◌∙◌, ap, ap₂}
 use Rattle.std.proofs.lemmas.Result.{IfOk-weaker}
 use Rattle.clap.specs.Words.{app_of, rule_of, with_rule}
 use Rattle.clap.specs.declared.builder.arg.Arg.{Arg}
-use Rattle.bayou_command.specs.Serve.{needed}
+use Rattle.bayou_command.specs.Options.{needed}
 use Rattle.bayou_command.proofs.Given.{stays_local}
 use Rattle.bayou_command.proofs.serve.with_needed.Goals as goal
 

@@ -13,7 +13,7 @@ pub returns-in-Ok-clause-named : goal.returns-in-Ok-clause-named
 returns-in-Ok-clause-named g c =
     λ what name is from. let same = asked_once (map g.S.AsStr.text c.args.words.now) what (task_seen c.in-Ok.task) is c.in-Ok.ensures in (
       c.do_task-ended.result,
-      subst (λ (a : Asked). WorksOn {R = g.row.F-Reader.Denot} (g.F.Files.opens name) (g.F.Files.refuses name) g.F.Networks.runs g.F.Networks.serves g.F.Reader.Read.remaining (g.F.Files.kept c.do_task-ended.new.files) a c.do_task-ended.result
+      subst (λ (a : Asked). WorksOn {R = g.row.F-Reader.Denot} (g.F.Files.opens name) (g.F.Files.refuses name) g.F.Networks.runs g.F.Networks.serves g.F.Networks.connects g.F.Reader.Read.remaining (g.F.Files.kept c.do_task-ended.new.files) a c.do_task-ended.result
           (g.W.Write.contents c.args.output.now.channel.writer) (g.W.Write.contents c.do_task-ended.new.output.channel.writer)) (sym same)
           (c.do_task-ended.ensures.named name (sym (ap input_of_asked same) ∙ from)),
       c.finish.ensures.status,
@@ -28,7 +28,7 @@ returns-in-Err-Asked-clause-others g c =
 
 pub returns-in-Err-Memory-clause-standard : goal.returns-in-Err-Memory-clause-standard
 returns-in-Err-Memory-clause-standard g c =
-    λ what is from. works_unread g.F.Networks.runs g.F.Networks.serves (g.R.Read.remaining c.args.input.now.reader) what c.tell.result (g.W.Write.contents c.args.output.now.channel.writer)
+    λ what is from. works_unread g.F.Networks.runs g.F.Networks.serves g.F.Networks.connects (g.R.Read.remaining c.args.input.now.reader) what c.tell.result (g.W.Write.contents c.args.output.now.channel.writer)
     c.args.input.now.read_failed c.args.output.now.channel.write_failed c.args.input.now.turns_left c.args.output.now.channel.turns_left _ _ _ c.tell.ensures.status c.tell.ensures.told
 
 pub returns-in-Err-Memory-clause-named : goal.returns-in-Err-Memory-clause-named
@@ -39,7 +39,7 @@ returns-in-Ok-clause-standard g c =
     λ what is from. let same = asked_once (map g.S.AsStr.text c.args.words.now) what (task_seen c.in-Ok.task) is c.in-Ok.ensures in
     let here = sym (ap input_of_asked same) ∙ from in
     rw same
-    (works_so g.F.Networks.runs g.F.Networks.serves (g.R.Read.remaining c.args.input.now.reader) (task_seen c.in-Ok.task) c.do_task-ended.result c.finish.result (g.W.Write.contents c.args.output.now.channel.writer)
+    (works_so g.F.Networks.runs g.F.Networks.serves g.F.Networks.connects (g.R.Read.remaining c.args.input.now.reader) (task_seen c.in-Ok.task) c.do_task-ended.result c.finish.result (g.W.Write.contents c.args.output.now.channel.writer)
     (g.W.Write.contents c.do_task-ended.new.output.channel.writer) _ _ _ _ _ _ _ (c.do_task-ended.ensures.standard here) c.finish.ensures.status
     (c.do_task-ended.ensures.read here) c.do_task-ended.ensures.written c.finish.ensures.told)
 

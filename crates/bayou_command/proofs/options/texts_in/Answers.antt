@@ -1,8 +1,8 @@
 use Rattle.std.proofs.Common.{◌≡◌, ◌∙◌, ap, map, rules, unwrap_or, []}
 use Rattle.clap.proofs.WalkLemmas.{raw_values-rows}
 use Rattle.clap.specs.Words.{found_of}
-use Rattle.bayou_command.proofs.serve.texts_in.Goals.{in-Some+in_ok-extend_from_slice, in_default}
-use Rattle.bayou_command.proofs.serve.texts_in.Goals as goal
+use Rattle.bayou_command.proofs.options.texts_in.Goals.{in-Some+in_ok-extend_from_slice, in_default}
+use Rattle.bayou_command.proofs.options.texts_in.Goals as goal
 
 pub returns : goal.returns
 returns c =

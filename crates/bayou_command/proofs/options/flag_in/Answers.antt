@@ -2,7 +2,7 @@ use Rattle.std.proofs.Common.{◌≡◌, ◌∙◌, None, Some, codes, rules}
 use Rattle.std.specs.Str.{bytes_eq}
 use Rattle.clap.specs.Words.{found_of}
 use Rattle.bayou_command.proofs.Given.{flag_named}
-use Rattle.bayou_command.proofs.serve.flag_in.Goals as goal
+use Rattle.bayou_command.proofs.options.flag_in.Goals as goal
 
 pub returns-in-Some : goal.returns-in-Some
 returns-in-Some c =

@@ -1,0 +1,5 @@
+pub mod Claiming
+pub mod Once
+pub mod Sound
+pub mod Telling
+pub mod Zipped

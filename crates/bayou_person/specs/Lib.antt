@@ -1,0 +1,3 @@
+pub mod Doing
+pub mod Inner
+pub mod Wishes

@@ -1,0 +1,103 @@
+-- What a person asks for in a line: its words, and what they say. The forms are this project's own.
+use Rattle.std.specs.Prelude.{◌≡◌, ◌⊎◌, ◌≤◌, ◌+◌, ◌==◌, ◌&&◌, if◌then◌else◌, ℕ, ℤ, Bool, true, false, List, [], ◌∷◌, ◌++◌, All, FitsSigned, Some, codes, filter, length, nat_le, nat_lt}
+use Rattle.std.specs.Int.{w64}
+use Rattle.std.specs.List.{list_any, slice_split}
+use Rattle.std.specs.Str.{bytes_eq}
+use Rattle.std.specs.Str.Parse.{IsNumeral, digits_value, signed_digits_value, without_leading_plus, without_leading_sign}
+use Rattle.bayou_base.specs.Key.{key_fault}
+use Rattle.bayou_base.specs.Text.{IsShort}
+use Rattle.bayou_base.specs.declared.limits.TheConstants.{MAX_ALTERNATIVES}
+use Rattle.bayou_base.specs.declared.server.ServerId.{ServerId}
+use Rattle.bayou_base.specs.declared.value.Value.{Value}
+use Rattle.bayou_base.specs.declared.value.Value.TheVariants.{Num, Text}
+use Rattle.bayou_lang.specs.Ranges.{IsKey}
+use Rattle.bayou_person.specs.declared.wish.Wish.{Wish}
+use Rattle.bayou_person.specs.declared.wish.Wish.TheVariants.{Put, Add, Del, Claim, Get, At, List as Whole, Servers, Session, Dump}
+use Rattle.bayou_person.specs.declared.wish.WishFault.{WishFault}
+use Rattle.bayou_person.specs.declared.wish.WishFault.TheVariants as fault
+
+-- a word, as its bytes
+abbrev pub Word : Type 0
+Word = List ℕ
+
+-- the words of a line: its parts between spaces that have a byte
+abbrev pub words_of : List ℕ → List Word
+words_of text = filter (λ part. nat_lt 0 (length part)) (slice_split (λ byte. byte == 32) text)
+
+-- the word reads as this number, in decimal digits, behind a sign or none, and the number is an i64
+pub record Reads (word : Word) (number : ℤ) : Type 0 where
+  pub digits : IsNumeral 10 (without_leading_sign word)
+  pub fits : FitsSigned w64 (signed_digits_value 10 word)
+  pub is : number ≡ signed_digits_value 10 word
+
+-- the word reads as the number of this server
+pub record ReadsServer (word : Word) (server : ServerId) : Type 0 where
+  pub digits : IsNumeral 10 (without_leading_plus word)
+  pub is : server.index ≡ digits_value 10 (without_leading_plus word)
+
+-- a value is a number where the word reads as one, and else the word as a text, where that is short enough
+abbrev pub IsValueOf : Word → Value → Type 0
+IsValueOf word (Num number) = Reads word number
+IsValueOf word (Text text) = (text ≡ word) × IsShort word × ((number : ℤ) → ¬ (Reads word number))
+
+-- the words say this
+abbrev pub Says : List Word → Wish → Type 0
+Says words (Put key value) = (word : Word) × (words ≡ codes "put" ∷ key ∷ word ∷ []) × IsKey key × IsValueOf word value
+Says words (Add key number) = (word : Word) × (words ≡ codes "add" ∷ key ∷ word ∷ []) × IsKey key × Reads word number
+Says words (Del key) = (words ≡ codes "del" ∷ key ∷ []) × IsKey key
+Says words (Claim key others value) =
+    (word : Word) × (words ≡ codes "claim" ∷ key ∷ others.items ++ word ∷ []) × (length others.items ≤ MAX_ALTERNATIVES) × IsKey key × All IsKey others.items × IsValueOf word value
+Says words (Get key) = (words ≡ codes "get" ∷ key ∷ []) × IsKey key
+Says words (At server) = (word : Word) × (words ≡ codes "at" ∷ word ∷ []) × ReadsServer word server
+Says words Whole = words ≡ codes "list" ∷ []
+Says words Servers = words ≡ codes "servers" ∷ []
+Says words Session = words ≡ codes "session" ∷ []
+Says words Dump = words ≡ codes "dump" ∷ []
+
+-- the line says this
+abbrev pub Wishes : List ℕ → Wish → Type 0
+Wishes text wish = Says (words_of text) wish
+
+-- whether the word is one of these
+abbrev pub is_one_of : List Word → Word → Bool
+is_one_of words word = list_any (bytes_eq word) words
+
+-- whether a line begins so
+abbrev pub is_first : Word → Bool
+is_first word =
+    is_one_of (codes "put" ∷ codes "add" ∷ codes "del" ∷ codes "claim" ∷ codes "get" ∷ codes "at" ∷ codes "list" ∷ codes "servers" ∷ codes "session" ∷ codes "dump" ∷ []) word
+
+-- whether so many words may stand behind the first
+abbrev pub takes : Word → ℕ → Bool
+takes first count =
+    if is_one_of (codes "put" ∷ codes "add" ∷ []) first then count == 2
+    else if is_one_of (codes "del" ∷ codes "get" ∷ codes "at" ∷ []) first then count == 1
+    else if bytes_eq first (codes "claim") then nat_le 2 count && nat_le count (MAX_ALTERNATIVES + 2)
+    else count == 0
+
+-- whether a word with so many before it, the first aside, and so many behind it is to be a key
+abbrev pub is_key_place : Word → ℕ → ℕ → Bool
+is_key_place first before after =
+    if bytes_eq first (codes "claim") then nat_lt 0 after else is_one_of (codes "put" ∷ codes "add" ∷ codes "del" ∷ codes "get" ∷ []) first && (before == 0)
+
+-- a line begins so, and has so many words
+pub record IsFormed (words : List Word) (first : Word) (behind : List Word) : Type 0 where
+  pub is : words ≡ first ∷ behind
+  pub known : is_first first ≡ true
+  pub fits : takes first (length behind) ≡ true
+
+-- the first fault that the words have: that of the first word, then that of their number, then those of the words from the left
+abbrev pub Faults : List Word → WishFault → Type 0
+Faults words fault.Word = (words ≡ []) ⊎ ((first : Word) × (behind : List Word) × (words ≡ first ∷ behind) × (is_first first ≡ false))
+Faults words fault.Count = (first : Word) × (behind : List Word) × (words ≡ first ∷ behind) × (is_first first ≡ true) × (takes first (length behind) ≡ false)
+Faults words (fault.Key why) = (first : Word) × (good : List Word) × (key : Word) × (after : List Word) × IsFormed words first (good ++ key ∷ after)
+    × (is_key_place first (length good) (length after) ≡ true) × All IsKey good × (key_fault key ≡ Some why)
+Faults words fault.Value = (first : Word) × (keys : List Word) × (word : Word) × IsFormed words first (keys ++ word ∷ [])
+    × (is_one_of (codes "put" ∷ codes "claim" ∷ []) first ≡ true) × All IsKey keys × ((value : Value) → ¬ (IsValueOf word value))
+Faults words fault.Number = (key : Word) × (word : Word) × (words ≡ codes "add" ∷ key ∷ word ∷ []) × IsKey key × ((number : ℤ) → ¬ (Reads word number))
+Faults words fault.Server = (word : Word) × (words ≡ codes "at" ∷ word ∷ []) × ((server : ServerId) → ¬ (ReadsServer word server))
+Faults words fault.OutOfMemory = Unit {0}
+
+-- the line says nothing, for this fault; memory may run out
+abbrev pub IsFaultOf : List ℕ → WishFault → Type 0
+IsFaultOf text why = Faults (words_of text) why

@@ -1,0 +1,17 @@
+//! What a person at a store types: short lines, and what each of them does.
+//!
+//! Callers see a line as a [`Wish`]: `put room kim` is to set the key `room` to the text `kim`. `Says` in `specs/Wishes` says which words are
+//! which wish, a row for each form, and `Faults` why words are none. Of a wish that is a Write [`Wish::program`] is what the Write does; what
+//! that means for a database stands in `specs/Doing`, in the words of the merge language.
+//!
+//! Nothing here knows of servers, sessions or connections, or takes memory but for the list of a line's words.
+#![tactic(auto)]
+
+pub mod doing;
+pub mod laws;
+pub mod reading;
+pub mod wish;
+mod words;
+
+pub use reading::wish_in;
+pub use wish::{Wish, WishFault};
