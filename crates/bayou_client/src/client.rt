@@ -103,6 +103,27 @@ impl<K: Ledgers> Client<K> {
         (self.session, self.share)
     }
 
+    /// A session with its share, and with the Write that it may ask again, if there is one.
+    pub fn resume(session: Session, share: Share<K>, asked: Option<Asked>) -> Self
+        requires share { share.session ≡ session.id }
+        requires asked { IsSome asked → IsSome session.asked }
+        ensures { result ≡ record { session = session; share = share; asked = asked } }
+    {
+        Client {
+            session,
+            share,
+            asked,
+        }
+    }
+
+    /// The session, its share, and the Write that it may ask again.
+    pub fn into_parts(self) -> (Session, Share<K>, Option<Asked>)
+        ensures parts { (result.0 ≡ self.session) × (result.1 ≡ self.share) × (result.2 ≡ self.asked) }
+        ensures owed { (self.share.session ≡ self.session.id) × (IsSome self.asked → IsSome self.session.asked) }
+    {
+        (self.session, self.share, self.asked)
+    }
+
     /// How many places are left to the session, of [`MAX_PLACES`](bayou_base::MAX_PLACES).
     pub fn left(&self) -> u32
         ensures { result + self.now.session.begun ≡ MAX_PLACES }

@@ -8,6 +8,7 @@ use Rattle.bayou_base.specs.declared.asks.Asks.{Asks}
 use Rattle.bayou_base.specs.declared.session.SessionId.{SessionId}
 use Rattle.bayou_base.specs.declared.tag.Tag.{Tag}
 use Rattle.bayou_base.specs.Vector.{AreCounts, joined, raised}
+use Rattle.bayou_session.specs.declared.past.Past.{Past}
 
 -- A session: its name, what it asks for, the run of the program that it belongs to, how many places it has begun, the place
 -- of the Write that it may ask again, if there is one, the join of the vectors that its served reads saw (read-set), and the
@@ -28,6 +29,11 @@ HasCounts session = AreCounts session.reads × AreCounts session.writes
 -- a session that has tried nothing yet
 abbrev pub new_session : SessionId → ℕ → Asks → Told
 new_session id run asks = record { id = id; asks = asks; run = run; begun = 0; asked = None; reads = replicate SERVERS 0; writes = replicate SERVERS 0 }
+
+-- a session that goes on from what it was told and tried before
+abbrev pub resumed : SessionId → Asks → Past → Told
+resumed id asks past =
+    record { id = id; asks = asks; run = past.run; begun = past.begun; asked = past.asked; reads = past.reads; writes = past.writes }
 
 -- it has begun one place more, for an operation that is never asked again: what it asked before it, it asks no more
 abbrev pub one_place_more : Told → Told

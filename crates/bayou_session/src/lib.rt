@@ -9,9 +9,13 @@
 //! served, and nothing of a refusal. A Write has a tag, the name of its asking: where it was refused, or no reply came, it may
 //! be asked again with the same tag, until another operation is tried. The crate doesn't promise that a server looks at the
 //! need or at the tag.
+//!
+//! A session goes on from its past ([`Session::resume`]), which whoever keeps it hands in: a session that is kept so is the one that it was.
 #![tactic(auto)]
 
 pub mod laws;
+pub mod past;
 pub mod session;
 
+pub use past::Past;
 pub use session::{FIRST_RUN, Session};

@@ -1,7 +1,8 @@
 ghost use Rattle.std.specs.Prelude.{◌≡◌, ◌+◌, ◌<◌, ◌≤◌, ℕ, Some, None, IfSome, MatchOption};
 ghost use Rattle.bayou_base.specs.declared.limits.TheConstants.{MAX_PLACES};
-ghost use Rattle.bayou_session.specs.Needs.{HasCounts, IsTagOf, after_read, after_write, asks_again, asks_first, if_asked, new_session, one_place_more, read_need, write_need};
+ghost use Rattle.bayou_session.specs.Needs.{HasCounts, IsTagOf, after_read, after_write, asks_again, asks_first, if_asked, new_session, one_place_more, read_need, resumed, write_need};
 
+use crate::past::Past;
 use bayou_base::{Accepted, Asks, MAX_PLACES, Seen, SessionId, Tag, Vector};
 use std::marker::Model;
 
@@ -62,6 +63,42 @@ impl Session {
         }
     }
 
+    /// A session that goes on from where it was: with what it read and wrote then, in that run and at that place.
+    pub fn resume(id: SessionId, asks: Asks, past: Past) -> Self
+        ensures value { result ≡ resumed id asks past }
+        ensures counts { HasCounts result }
+    {
+        let Past {
+            run,
+            begun,
+            asked,
+            reads,
+            writes,
+        } = past;
+        Session {
+            id,
+            asks,
+            run,
+            begun,
+            asked,
+            reads,
+            writes,
+        }
+    }
+
+    /// What it was told and tried so far.
+    pub fn past(&self) -> Past
+        ensures { resumed self.now.id self.now.asks result ≡ self.now }
+    {
+        Past {
+            run: self.run,
+            begun: self.begun,
+            asked: self.asked,
+            reads: self.reads,
+            writes: self.writes,
+        }
+    }
+
     /// Its name.
     pub fn id(&self) -> SessionId
         ensures { result ≡ self.now.id }
@@ -119,6 +156,14 @@ impl Session {
             run: self.run,
             number,
         }
+    }
+
+    /// The tag of the Write that may be asked again, if there is one.
+    pub fn asked(&self) -> Option<Tag>
+        ensures { MatchOption result (self.now.asked ≡ None) (λ tag. (number : ℕ) × (self.now.asked ≡ Some number) × IsTagOf self.now number tag) }
+    {
+        let number = self.asked?;
+        Some(self.tag(number))
     }
 
     /// Begins the next place, for an operation that is tried: 1, 2, 3, and so on. What was asked before it can't be asked again.
