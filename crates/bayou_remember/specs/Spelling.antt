@@ -1,0 +1,54 @@
+-- What is kept of a session, and its one spelling: this project's own format.
+use Rattle.std.specs.Prelude.{◌≡◌, ◌≢◌, ℕ, Bool, true, false, List, [], ◌∷◌, ◌++◌, Option, None, Some}
+use Rattle.bayou_base.specs.declared.asks.Asks.{Asks}
+use Rattle.bayou_base.specs.declared.server.ServerId.{ServerId}
+use Rattle.bayou_base.specs.declared.tag.Tag.{Tag}
+use Rattle.bayou_client.specs.declared.client.Asked.{Asked}
+use Rattle.bayou_remember.specs.declared.layout.TheConstants as layout
+use Rattle.bayou_session.specs.Needs.{IsTagOf, Told}
+use Rattle.bayou_wire.specs.declared.frame.Frame.{Frame}
+use Rattle.bayou_wire.specs.declared.frame.Frame.TheVariants as frames
+use Rattle.bayou_wire.specs.Spelling.{u32_bytes}
+use Rattle.bayou_wire.specs.Stream.{spellings}
+
+-- a session, and the Write that it may ask again, if there is one
+pub record Keeping : Type 0 where
+  pub session : Told
+  pub asked : Option Asked
+
+-- whether a guarantee is asked for
+abbrev pub flag_byte : Bool → ℕ
+flag_byte true = layout.ASKED
+flag_byte false = layout.NOT_ASKED
+
+-- what a session asks for: Read Your Writes, Monotonic Reads, Writes Follow Reads, Monotonic Writes
+abbrev pub asks_bytes : Asks → List ℕ
+asks_bytes asks = flag_byte asks.ryw ∷ flag_byte asks.mr ∷ flag_byte asks.wfr ∷ flag_byte asks.mw ∷ []
+
+-- the server at which a Write may be asked again, if there is one
+abbrev pub server_bytes : Option ServerId → List ℕ
+server_bytes None = layout.NOTHING ∷ []
+server_bytes (Some server) = layout.A_WRITE ∷ server.index ∷ []
+
+-- What stands before the frames: the version, whose it is, what it asks for, how many places it has begun, and where a Write may be asked again.
+abbrev pub head_bytes : (session : ℕ) → Asks → (begun : ℕ) → Option ServerId → List ℕ
+head_bytes session asks begun server = layout.KEPT_VERSION ∷ session ∷ (asks_bytes asks ++ (u32_bytes begun ++ server_bytes server))
+
+-- where a Write may be asked again
+abbrev pub server_of : Option Asked → Option ServerId
+server_of None = None
+server_of (Some asked) = Some asked.server
+
+-- The request under whose tag the Write was asked, with whatever need; nothing where nothing may be asked again.
+abbrev pub AreAskedFrames : Told → Option Asked → List Frame → Type 0
+AreAskedFrames session None asking = (session.asked ≡ None) × (asking ≡ [])
+AreAskedFrames session (Some asked) asking =
+    (number : ℕ) × (tag : Tag) × (need : List ℕ) × (session.asked ≡ Some number) × IsTagOf session number tag
+    × (asking ≡ frames.Write tag need asked.program ∷ [])
+
+-- The bytes are what is kept: the head, what it read and what it wrote, each as an Offer, and the Write that may be asked again.
+pub record SpellsKept (bytes : List ℕ) (kept : Keeping) : Type 0 where
+  pub asking : List Frame
+  pub asks : AreAskedFrames kept.session kept.asked asking
+  pub spelled : bytes ≡ head_bytes kept.session.id.index kept.session.asks kept.session.begun (server_of kept.asked)
+      ++ spellings (frames.Offer kept.session.reads ∷ frames.Offer kept.session.writes ∷ asking)
