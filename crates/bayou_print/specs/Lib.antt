@@ -1,4 +1,5 @@
 pub mod Booked
+pub mod Connected
 pub mod Fault
 pub mod Faults
 pub mod Laws

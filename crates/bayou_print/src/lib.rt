@@ -12,6 +12,7 @@
 #![tactic(auto)]
 
 pub mod book;
+pub mod connected;
 pub mod ended;
 pub mod fault;
 pub mod living;
@@ -23,6 +24,10 @@ pub mod waiting;
 pub mod writing;
 
 pub use book::{Entries, Holding, servers_line};
+pub use connected::{
+    LIST_LOST, REOPEN_AWAY, away_line, dumped_line, listed_keys_line, row_line, seat_line,
+    server_line,
+};
 pub use ended::Ended;
 pub use fault::RunFault;
 pub use living::{held_line, serving_line};

@@ -48,7 +48,7 @@ fn json_of(alloc: Global, text: &str) -> Result<String, AllocError>
 }
 
 /// What a read found.
-fn found(alloc: Global, value: &Option<Value>) -> Result<String, AllocError>
+pub(crate) fn found(alloc: Global, value: &Option<Value>) -> Result<String, AllocError>
     ensures { IfOk result (λ text. string_bytes text ≡ value_text value.now) }
 {
     match value {
