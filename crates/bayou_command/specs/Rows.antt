@@ -30,7 +30,6 @@ plain_service = record {
   idle_seconds = 60;
   until_input_ends = false;
   is_new = false;
-  restores = false;
   serves_anyone = false;
 }
 

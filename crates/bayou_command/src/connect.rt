@@ -46,6 +46,7 @@ A calendar, at two of three servers (bayou serve --help starts them). The lines 
       bayou connect --server 0=127.0.0.1:7000 --server 1=127.0.0.1:7001 --servers 3 --session ryw,mr --state kim.session
       > claim mon/9 mon/10 mon/11 kim
       0 wrote 0:1 clock 1 deps 0,0,0
+      0 read mon/9 text "kim" at 1,0,0
       > get mon/9
       0 read mon/9 text "kim" at 1,0,0
 
@@ -54,13 +55,15 @@ Lines. K is a key, of 1 to 32 bytes of a-z 0-9 . _ - /; V an integer, or a text 
   put K V               sets K to V
   add K N               adds N to the number of K; where K has no value it becomes N
   del K                 K has no value from then on
-  claim K1 [K2..] V     sets the first of these keys that has no value to V, and no other; up to four behind K1
+  claim K1 [K2..] V     sets the first of these keys that has no value to V, and no other; up to four behind K1. Behind it each
+                        key is read, up to the first that has V
   get K                 reads K
+  again                 asks the last Write once more, where its reply was lost or it was refused
   at I                  server I is the first to be asked from here on
   list                  each key that has a value at the first server, and that value
   servers               each server, and what it holds, or that it is away
   session               what the session read and wrote
-  dump                  the Writes that the first server holds, as lines of an audit file (bayou audit --help)
+  dump                  puts what each server holds into the book (--book), once, at the end
 
 A line that begins with [ is a line of a script (bayou run --help), and is done at just the server that it names:
 
@@ -70,15 +73,15 @@ A line that begins with [ is a line of a script (bayou run --help), and is done 
 
 A short line goes to the first server. Where that is away or refuses, and nothing was done, it goes to the next in the order of the
 words; with --wait the round begins anew until a server serves it, or the time is over. A Write whose reply was lost goes to no other
-server, since it may have been done: `I lost` says so, and ["again",0] asks it again, which makes no second one of it.
+server, since it may have been done: `I lost` says so, and `again` asks it again, which makes no second one of it.
 
 Answers are those of bayou net. `I wrote ..` says that the Write is held, not that it did what it was meant to: another Write may still come
-before it. So behind a claim ask who has the key. New are
+before it. So later ask again who has the key. New are
   I refused away        no server could be reached: nothing was sent
   server I at V         server I holds so many Writes of each server; `server I away` where it can't be reached
 
 --state keeps the session in FILE, before an answer is printed, so that the next call goes on as the same session, at any server: it sees what
-this one saw, and a Write that was under way is asked again by ["again",0]. Each person has a file of his own, and one call at a time uses it.
+this one saw, and a Write that was under way is asked again by `again`. Each person has a file of his own, and one call at a time uses it.
 --book writes what was served to FILE, as an audit file; with the dumps of all servers bayou audit tells whether the session had what it
 asked for.
 

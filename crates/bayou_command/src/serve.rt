@@ -42,8 +42,6 @@ const UNTIL: &str = "Ends where the standard input ends";
 
 const NEW: &str = "Makes the journal, for a server that is new";
 
-const RESTORE: &str = "Makes the journal, for a server that lost it, of what its peers hold";
-
 const ANYONE: &str = "Listens at an address that other machines reach, too";
 
 const SERVE_FORM: &str =
@@ -122,7 +120,6 @@ fn with_flags<'a>(alloc: Global, command: Command<'a>) -> Result<Command<'a>, Al
     command
         .arg(flag(alloc, "until-input-ends", UNTIL))?
         .arg(flag(alloc, "new", NEW))?
-        .arg(flag(alloc, "restore", RESTORE))?
         .arg(flag(alloc, "anyone", ANYONE))
 }
 
@@ -165,7 +162,6 @@ pub(crate) fn serving_in<'a>(
         idle_seconds: number_in(found, "idle", 1, MAX_SECONDS, DEFAULT_IDLE_SECONDS),
         until_input_ends: flag_in(found, "until-input-ends"),
         is_new: flag_in(found, "new"),
-        restores: flag_in(found, "restore"),
         serves_anyone: flag_in(found, "anyone"),
     })
 }

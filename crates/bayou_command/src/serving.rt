@@ -26,8 +26,6 @@ pub struct Serving<'a> {
     pub until_input_ends: bool,
     /// Whether its journal is to be made, of nothing.
     pub is_new: bool,
-    /// Whether its journal is to be made of what its peers hold.
-    pub restores: bool,
     /// Whether it may listen at an address that other machines reach.
     pub serves_anyone: bool,
     pub ghost id_in_range: { id < SERVERS },

@@ -17,8 +17,7 @@ returns c =
       idle_seconds = c.number_in-4.result;
       until_input_ends = c.flag_in.result;
       is_new = c.flag_in-2.result;
-      restores = c.flag_in-3.result;
-      serves_anyone = c.flag_in-4.result;
+      serves_anyone = c.flag_in-3.result;
     }) (service_of (rows_of (found_of c.args.found.now))) = λ i. record {
       id = c.number_in.ensures.value i;
       servers = c.number_in-2.ensures.value i;
@@ -31,7 +30,6 @@ returns c =
       idle_seconds = c.number_in-4.ensures.value i;
       until_input_ends = c.flag_in.ensures i;
       is_new = c.flag_in-2.ensures i;
-      restores = c.flag_in-3.ensures i;
-      serves_anyone = c.flag_in-4.ensures i;
+      serves_anyone = c.flag_in-3.ensures i;
     } in
     same
