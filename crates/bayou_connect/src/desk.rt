@@ -1,0 +1,235 @@
+//! A person's desk: what a line asks for is done, and what becomes of it is printed.
+ghost use Rattle.std.specs.Prelude.{◌<◌, ◌≤◌};
+ghost use Rattle.bayou_base.specs.declared.limits.TheConstants.{SERVERS as NUMBER};
+
+use crate::anywhere::anywhere;
+use crate::asking::Attempt;
+use crate::fault::ConnectFault;
+use crate::saying::told_line;
+use crate::store::Store;
+use crate::told::Told;
+use bayou_answers::Answer;
+use bayou_base::{Asks, Key, SESSIONS, ServerId, SessionId, Value};
+use bayou_lang::RestingProgram;
+use bayou_net::Sockets;
+use bayou_print::{last_line, write_text};
+use bayou_streams::Output;
+use bayou_text::{Attempt as Said, Command, Operation, Trial, TrialKind};
+use std::alloc::Global;
+use std::io::Write;
+use std::sync::Wait;
+use std::time::Clock;
+
+/// The session of short lines.
+pub(crate) const OWN: SessionId = SessionId { index: 0 };
+
+/// What a person has at hand.
+#[derive(Drop)]
+pub(crate) struct Desk {
+    pub(crate) alloc: Global,
+    pub(crate) store: Store,
+    /// How many counts of a vector are printed.
+    pub(crate) servers: u8,
+    /// The run of a session that is opened.
+    pub(crate) run: u32,
+    /// The server that short lines ask first, by its place in the list.
+    pub(crate) first: usize,
+    /// How often a short line goes round once more, each time behind a rest.
+    pub(crate) rounds: u64,
+    /// Which sessions a line has opened.
+    pub(crate) opened: [bool; SESSIONS],
+    /// Whether each operation was served so far.
+    pub(crate) is_served: bool,
+    pub(crate) ghost number: { servers ≤ NUMBER },
+    pub(crate) ghost runs: { 0 < run },
+}
+
+/// Puts a line to the output at once.
+pub(crate) fn print<W: Write>(output: &mut Output<W>, line: &str) -> Result<(), ConnectFault> {
+    write_text(output, line.as_bytes())?;
+    Ok(())
+}
+
+impl Desk {
+    // Prints what an operation was told, of which the key is one if it is a read.
+    fn finish<W: Write>(
+        &mut self,
+        output: &mut Output<W>,
+        who: SessionId,
+        key: &Option<Key>,
+        told: Told,
+    ) -> Result<(), ConnectFault> {
+        if !matches!(told, Told::Seen(_) | Told::Accepted(_)) {
+            self.is_served = false;
+        }
+        let line = told_line(self.alloc, self.servers, who, key, told)?;
+        print(output, line.as_str())
+    }
+
+    // A script's operation: at the server that it names, once.
+    fn operate_at<W: Write, T: Sockets + Wait>(
+        &mut self,
+        rt: &T,
+        output: &mut Output<W>,
+        who: SessionId,
+        server: ServerId,
+        key: Option<Key>,
+        attempt: Attempt,
+    ) -> Result<bool, ConnectFault> {
+        let Some(at) = self.store.place_of(server) else {
+            return Ok(false);
+        };
+        if self.store.session(who).is_none() {
+            return Ok(false);
+        }
+        let told = self.store.ask(rt, who, at, attempt)?;
+        self.finish(output, who, &key, told)?;
+        Ok(true)
+    }
+
+    // The Write that may be asked again, once more, or that there is none.
+    pub(crate) fn ask_again<W: Write, T: Sockets + Wait>(
+        &mut self,
+        rt: &T,
+        output: &mut Output<W>,
+        who: SessionId,
+    ) -> Result<bool, ConnectFault> {
+        let server = match self.store.session(who) {
+            None => return Ok(false),
+            Some(kept) => match kept.asked() {
+                None => None,
+                Some(asked) => Some(asked.server),
+            },
+        };
+        match server {
+            Some(server) => self.operate_at(rt, output, who, server, None, Attempt::Again),
+            None => {
+                let line = last_line(self.alloc, self.servers, &Answer::NotAgain { session: who })?;
+                print(output, line.as_str())?;
+                Ok(true)
+            }
+        }
+    }
+
+    // A script's operation.
+    fn operate<W: Write, T: Sockets + Wait>(
+        &mut self,
+        rt: &T,
+        output: &mut Output<W>,
+        operation: Operation,
+    ) -> Result<bool, ConnectFault> {
+        let who = operation.session;
+        match operation.attempt {
+            Said::Write { server, program } => {
+                self.operate_at(rt, output, who, server, None, Attempt::Write(program))
+            }
+            Said::Read { server, key } => {
+                let asked = Attempt::Read(key.copy());
+                self.operate_at(rt, output, who, server, Some(key), asked)
+            }
+            Said::Again => self.ask_again(rt, output, who),
+        }
+    }
+
+    // Opens the session, unless a line did so before.
+    fn open(&mut self, who: SessionId, asks: Asks) -> bool {
+        let at = usize::from(who.index);
+        if self.opened[at] {
+            return false;
+        }
+        self.opened[at] = true;
+        self.store.open(who, self.run, asks);
+        true
+    }
+
+    /// Does what a script's line asks for. Whether the line is in its place here.
+    pub(crate) fn command<W: Write, T: Sockets + Wait>(
+        &mut self,
+        rt: &T,
+        output: &mut Output<W>,
+        command: Command,
+    ) -> Result<bool, ConnectFault> {
+        match command {
+            Command::Session { session, asks } => Ok(self.open(session, asks)),
+            Command::Operation(operation) => self.operate(rt, output, operation),
+            Command::Trial(
+                Trial {
+                    server,
+                    kind: TrialKind::Reopen,
+                },
+            ) => self.reopen(rt, output, server),
+            Command::Trial(_)
+            | Command::Drop(_)
+            | Command::Exchange(_)
+            | Command::Question(_)
+            | Command::Phase => Ok(false),
+        }
+    }
+
+    /// A short line's read, at any server.
+    pub(crate) fn get<W: Write, T: Sockets + Wait + Clock>(
+        &mut self,
+        rt: &T,
+        output: &mut Output<W>,
+        key: Key,
+    ) -> Result<(), ConnectFault> {
+        let attempt = Attempt::Read(key.copy());
+        let served = anywhere(rt, &mut self.store, OWN, &attempt, self.first, self.rounds)?;
+        self.finish(output, OWN, &Some(key), served.told)
+    }
+
+    /// A short line's Write, at any server: which one accepted it, by its place in the list, if one did.
+    pub(crate) fn write<W: Write, T: Sockets + Wait + Clock>(
+        &mut self,
+        rt: &T,
+        output: &mut Output<W>,
+        program: RestingProgram,
+    ) -> Result<Option<usize>, ConnectFault> {
+        let attempt = Attempt::Write(program);
+        let served = anywhere(rt, &mut self.store, OWN, &attempt, self.first, self.rounds)?;
+        let at = match served.told {
+            Told::Accepted(_) => Some(served.at),
+            _ => None,
+        };
+        self.finish(output, OWN, &None, served.told)?;
+        Ok(at)
+    }
+
+    // Has the server of this place in the list read the key, and prints what it told. Whether it told another value than this.
+    fn tell_key<W: Write, T: Sockets + Wait>(
+        &mut self,
+        rt: &T,
+        output: &mut Output<W>,
+        at: usize,
+        key: &Key,
+        value: &Value,
+    ) -> Result<bool, ConnectFault> {
+        let told = self.store.ask(rt, OWN, at, Attempt::Read(key.copy()))?;
+        let is_other = match &told {
+            Told::Seen(seen) => seen.value.as_ref() != Some(value),
+            Told::Away | Told::Accepted(_) | Told::Refused(_) | Told::Lost => false,
+        };
+        self.finish(output, OWN, &Some(key.copy()), told)?;
+        Ok(is_other)
+    }
+
+    /// Prints what became of a claim, by the server that accepted it: what each key has, up to the first that has the value.
+    pub(crate) fn tell_claim<W: Write, T: Sockets + Wait>(
+        &mut self,
+        rt: &T,
+        output: &mut Output<W>,
+        at: usize,
+        key: &Key,
+        others: &[Key],
+        value: &Value,
+    ) -> Result<(), ConnectFault> {
+        let mut is_other = self.tell_key(rt, output, at, key, value)?;
+        for key in others {
+            if !is_other {
+                break;
+            }
+            is_other = self.tell_key(rt, output, at, key, value)?;
+        }
+        Ok(())
+    }
+}

@@ -1,0 +1,101 @@
+use crate::lines::LineFault;
+use bayou_print::RunFault;
+use std::alloc::{AllocError, AllocFailed};
+use thiserror::Error;
+
+/// Why no line more is done.
+#[derive(Clone, Copy, Debug, PartialEq, Eq, Error)]
+pub enum ConnectFault {
+    #[error("input")]
+    Input,
+    #[error("output")]
+    Output,
+    #[error("memory")]
+    Memory,
+    /// The system gives no random number, for a run that nobody else has.
+    #[error("no random number")]
+    Random,
+    /// The state file can't be opened or locked.
+    #[error("it can't be opened, or another process has it")]
+    StateNotOpened,
+    /// The state file is something else.
+    #[error("it is no state of sessions; nothing was changed")]
+    NotAState,
+    /// What stands behind the whole entries of the state file is more than one that was torn.
+    #[error("it is whole up to byte {whole}, and the {behind} bytes behind that are damaged; nothing was changed")]
+    StateDamaged { whole: usize, behind: usize },
+    /// A call of the state file failed.
+    #[error("a call of the file failed")]
+    State,
+    /// The file of the book can't be opened or locked, or is of another number of servers.
+    #[error("it can't be opened, another process has it, or it is of other servers")]
+    BookNotOpened,
+    /// A call of the book's file failed.
+    #[error("a call of the file failed")]
+    Book,
+}
+
+impl ConnectFault {
+    /// Whether it is the state file's, so that this is to be named.
+    pub fn is_of_state(self) -> bool {
+        match self {
+            ConnectFault::StateNotOpened
+            | ConnectFault::NotAState
+            | ConnectFault::StateDamaged { .. }
+            | ConnectFault::State => true,
+            ConnectFault::Input
+            | ConnectFault::Output
+            | ConnectFault::Memory
+            | ConnectFault::Random
+            | ConnectFault::BookNotOpened
+            | ConnectFault::Book => false,
+        }
+    }
+
+    /// Whether it is the book's, so that its file is to be named.
+    pub fn is_of_book(self) -> bool {
+        matches!(self, ConnectFault::BookNotOpened | ConnectFault::Book)
+    }
+}
+
+impl From<AllocError> for ConnectFault {
+    ghost use Rattle.std.specs.Prelude.{◌≡◌};
+    ghost use Rattle.bayou_connect.specs.declared.fault.ConnectFault.TheVariants.{Memory};
+
+    ghost from_gives = { λ _ fault. fault ≡ Memory };
+
+    fn from(_error: AllocError) -> ConnectFault {
+        ConnectFault::Memory
+    }
+}
+
+impl<T: Drop> From<AllocFailed<T>> for ConnectFault {
+    ghost use Rattle.std.specs.Prelude.{◌≡◌};
+    ghost use Rattle.bayou_connect.specs.declared.fault.ConnectFault.TheVariants.{Memory};
+
+    ghost from_gives = { λ _ fault. fault ≡ Memory };
+
+    fn from(_error: AllocFailed<T>) -> ConnectFault {
+        ConnectFault::Memory
+    }
+}
+
+impl From<LineFault> for ConnectFault {
+    fn from(fault: LineFault) -> ConnectFault {
+        match fault {
+            LineFault::Input => ConnectFault::Input,
+            LineFault::OutOfMemory => ConnectFault::Memory,
+        }
+    }
+}
+
+impl From<RunFault> for ConnectFault {
+    fn from(fault: RunFault) -> ConnectFault {
+        match fault {
+            RunFault::Memory => ConnectFault::Memory,
+            RunFault::Input => ConnectFault::Input,
+            RunFault::Output | RunFault::Line { .. } | RunFault::Device | RunFault::Network =>
+                ConnectFault::Output,
+        }
+    }
+}

@@ -1,0 +1,144 @@
+//! What is asked of servers beside a session's operations.
+use crate::desk::{Desk, OWN, print};
+use crate::fault::ConnectFault;
+use crate::listing::rows_of;
+use bayou_answers::{Answer, Recovery};
+use bayou_base::{ServerId, Wid};
+use bayou_client::LinkFault;
+use bayou_net::{Sockets, reopen_fault_of};
+use bayou_print::{
+    LIST_LOST, REOPEN_AWAY, dumped_line, last_line, listed_keys_line, row_line, seat_line,
+    server_line,
+};
+use bayou_streams::Output;
+use std::io::Write;
+use std::sync::Wait;
+
+// What a reopening came to, unless no reply came that tells it.
+fn recovery_of(server: ServerId, told: Result<Option<Wid>, LinkFault>) -> Option<Recovery> {
+    match told {
+        Ok(adopted) => Some(Recovery::Reopened { server, adopted }),
+        Err(LinkFault::Refused(refusal)) => {
+            Some(Recovery::NotReopened(reopen_fault_of(refusal)?))
+        }
+        Err(LinkFault::Lost | LinkFault::BadFrame | LinkFault::OutOfMemory) => None,
+    }
+}
+
+impl Desk {
+    /// Has a server open its journal again. Whether it is one that is at hand.
+    pub(crate) fn reopen<W: Write, T: Sockets>(
+        &mut self,
+        rt: &T,
+        output: &mut Output<W>,
+        server: ServerId,
+    ) -> Result<bool, ConnectFault> {
+        let Some(at) = self.store.place_of(server) else {
+            return Ok(false);
+        };
+        let recovery = match self.store.reopen(rt, at) {
+            None => None,
+            Some(told) => recovery_of(server, told),
+        };
+        match recovery {
+            Some(recovery) => {
+                if let Recovery::NotReopened(_) = recovery {
+                    self.is_served = false;
+                }
+                let line = last_line(self.alloc, self.servers, &Answer::Recovered(recovery))?;
+                print(output, line.as_str())?;
+            }
+            None => {
+                self.is_served = false;
+                print(output, REOPEN_AWAY)?;
+            }
+        }
+        Ok(true)
+    }
+
+    /// Prints what each server holds.
+    pub(crate) fn tell_servers<W: Write, T: Sockets + Wait>(
+        &mut self,
+        rt: &T,
+        output: &mut Output<W>,
+    ) -> Result<(), ConnectFault> {
+        for at in 0..self.store.len() {
+            let Some(server) = self.store.server_at(at) else {
+                break;
+            };
+            let held = self.store.held_at(rt, at)?;
+            if held.is_none() {
+                self.is_served = false;
+            }
+            let line = server_line(self.alloc, server, self.servers, &held)?;
+            print(output, line.as_str())?;
+        }
+        Ok(())
+    }
+
+    /// Prints what the session of short lines has read and written.
+    pub(crate) fn tell_session<W: Write>(
+        &mut self,
+        output: &mut Output<W>,
+    ) -> Result<(), ConnectFault> {
+        let Some(kept) = self.store.session(OWN) else {
+            return Ok(());
+        };
+        let past = kept.session().past();
+        let line = seat_line(self.alloc, OWN, self.servers, &past.reads, &past.writes)?;
+        print(output, line.as_str())
+    }
+
+    /// Prints the database of the server that is asked first: each key that has a value, in order, and how many there are.
+    pub(crate) fn list<W: Write, T: Sockets>(
+        &mut self,
+        rt: &T,
+        output: &mut Output<W>,
+    ) -> Result<(), ConnectFault> {
+        let Some(writes) = self.store.dump(rt, self.first)? else {
+            self.is_served = false;
+            return print(output, LIST_LOST);
+        };
+        let rows = rows_of(self.alloc, &writes)?;
+        for row in &rows {
+            let line = row_line(self.alloc, &row.key, &row.value)?;
+            print(output, line.as_str())?;
+        }
+        match self.store.server_at(self.first) {
+            None => Ok(()),
+            Some(server) => {
+                let line = listed_keys_line(self.alloc, server, rows.len())?;
+                print(output, line.as_str())
+            }
+        }
+    }
+
+    /// Puts what each server holds into the book. Whether there is one.
+    pub(crate) fn dump<W: Write, T: Sockets>(
+        &mut self,
+        rt: &T,
+        output: &mut Output<W>,
+    ) -> Result<bool, ConnectFault> {
+        if !self.store.has_book() {
+            return Ok(false);
+        }
+        for at in 0..self.store.len() {
+            let Some(server) = self.store.server_at(at) else {
+                break;
+            };
+            let sent = match self.store.dump(rt, at)? {
+                None => {
+                    self.is_served = false;
+                    None
+                }
+                Some(writes) => {
+                    self.store.hold(server, &writes)?;
+                    Some(writes.len())
+                }
+            };
+            let line = dumped_line(self.alloc, server, sent)?;
+            print(output, line.as_str())?;
+        }
+        Ok(true)
+    }
+}

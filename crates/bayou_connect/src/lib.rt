@@ -1,0 +1,34 @@
+//! A person, or a program that pipes lines, at the servers of a store.
+//!
+//! Callers see [`connect_plan`], which does the lines of an input as they come, until it ends: a script's own lines of sessions, reads, Writes and
+//! reopenings, each at just the server that it names, and short lines (`bayou_person`), each at one server after another until one of them
+//! serves it, or may have done it ([`first_served`]). What a session read and wrote is kept on a device (`bayou_remember`), where the
+//! [`Plan`] names one, before anything of it is printed; a Write is kept before it is sent.
+//!
+//! Callers owe that one process has a state file at a time. It isn't promised that a server answers, that a file holds what was written to
+//! it, or that a socket's time runs out.
+#![tactic(auto)]
+
+mod anywhere;
+pub mod asking;
+mod audit_file;
+pub mod connecting;
+mod desk;
+pub mod fault;
+mod inquiring;
+mod lines;
+mod listing;
+pub mod plan;
+mod reach;
+mod remembering;
+pub mod round;
+mod saying;
+mod store;
+pub mod told;
+mod wishes;
+
+pub use connecting::{Ended, Input, Names, Wrong, connect_plan};
+pub use fault::ConnectFault;
+pub use plan::{Place, Plan, PlanFault};
+pub use round::{Ways, first_served};
+pub use told::Told;

@@ -1,0 +1,123 @@
+//! The file in which sessions are kept.
+ghost use Rattle.std.specs.Prelude.{◌≡◌, ◌<◌, vec_len};
+ghost use Rattle.bayou_base.specs.declared.limits.TheConstants.{SESSIONS as NUMBER};
+
+use crate::fault::ConnectFault;
+use bayou_device::{CarefulDevice, FileDevice};
+use bayou_journal::OpenFault;
+use bayou_journal::format::ENTRY_BYTES;
+use bayou_remember::{KeepFault, Kept, Memory, RememberFault};
+use bayou_session::FIRST_RUN;
+use std::alloc::Global;
+use std::fs;
+use std::fs::{File, Files};
+
+/// The device of a state file.
+pub(crate) type StateDevice = CarefulDevice<FileDevice<File>>;
+
+/// How many entries a state file has at the most before it is written anew, with what is kept of each session at last.
+const MOST_ENTRIES: u64 = 65_536;
+
+/// A state file, with what it keeps of each session, by its number.
+#[derive(Drop)]
+pub(crate) struct Remembered {
+    pub(crate) memory: Memory<StateDevice>,
+    pub(crate) all: Vec<Option<Kept>>,
+    pub(crate) ghost one_each: { vec_len all ≡ NUMBER },
+}
+
+// What a state file that can't be used is told as.
+fn fault_of(fault: RememberFault, device: &StateDevice) -> ConnectFault {
+    match (fault, device.damage()) {
+        (RememberFault::Journal(OpenFault::Device), Some(damage)) => ConnectFault::StateDamaged {
+            whole: damage.whole,
+            behind: damage.behind,
+        },
+        (RememberFault::Journal(OpenFault::Device), None) => ConnectFault::State,
+        (RememberFault::Journal(OpenFault::NotAJournal | OpenFault::OtherServer), _)
+        | (RememberFault::NotKept(_), _) => ConnectFault::NotAState,
+        (RememberFault::Journal(OpenFault::OutOfMemory) | RememberFault::OutOfMemory, _) => {
+            ConnectFault::Memory
+        }
+    }
+}
+
+/// What a session that wasn't kept is told as.
+pub(crate) fn fault_of_keeping(fault: KeepFault) -> ConnectFault {
+    match fault {
+        KeepFault::Device | KeepFault::TooLong => ConnectFault::State,
+        KeepFault::OutOfMemory => ConnectFault::Memory,
+    }
+}
+
+// The file of this name, as far as it is a state of sessions. A missing file is made.
+fn open_at<T: Files<File = File>>(
+    rt: &T,
+    alloc: Global,
+    path: &str,
+    run: u32,
+) -> Result<Remembered, ConnectFault>
+    requires { 0 < run }
+{
+    let Ok(file) = FileDevice::open(rt, path) else {
+        return Err(ConnectFault::StateNotOpened);
+    };
+    let device = CarefulDevice::new(file, ENTRY_BYTES);
+    match Memory::open(alloc, device, run) {
+        Ok((memory, all)) => Ok(Remembered { memory, all }),
+        Err(refused) => Err(fault_of(refused.fault, &refused.device)),
+    }
+}
+
+// Writes what is kept of each session at last to a file that is new.
+fn write_part<T: Files<File = File>>(
+    rt: &T,
+    alloc: Global,
+    part: &str,
+    all: &[Option<Kept>],
+) -> Result<(), ConnectFault> {
+    // What an interrupted call left of it.
+    let _ = fs::remove_file(rt, part);
+    let Remembered { mut memory, .. } = open_at(rt, alloc, part, FIRST_RUN)?;
+    for kept in all.iter().flatten() {
+        if let Err(fault) = memory.keep(alloc, kept) {
+            return Err(fault_of_keeping(fault));
+        }
+    }
+    Ok(())
+}
+
+// Puts a file with what is kept of each session at last in the place of the longer one, and opens it.
+fn write_anew<T: Files<File = File>>(
+    rt: &T,
+    alloc: Global,
+    path: &str,
+    run: u32,
+    all: &[Option<Kept>],
+) -> Result<Remembered, ConnectFault>
+    requires { 0 < run }
+{
+    let part = format!(in alloc; "{path}.part")?;
+    write_part(rt, alloc, part.as_str(), all)?;
+    if fs::rename(rt, part.as_str(), path).is_err() {
+        return Err(ConnectFault::State);
+    }
+    open_at(rt, alloc, path, run)
+}
+
+/// What the file of this name keeps of each session; those that have nothing to ask again go on in this run. It is locked as long as it is
+/// used, and is written anew where it has grown long.
+pub(crate) fn remember<T: Files<File = File>>(
+    rt: &T,
+    alloc: Global,
+    path: &str,
+    run: u32,
+) -> Result<Remembered, ConnectFault>
+    requires { 0 < run }
+{
+    let remembered = open_at(rt, alloc, path, run)?;
+    if remembered.memory.entries() <= MOST_ENTRIES {
+        return Ok(remembered);
+    }
+    write_anew(rt, alloc, path, run, remembered.all.as_slice())
+}

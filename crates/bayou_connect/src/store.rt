@@ -1,0 +1,283 @@
+//! The servers of a store and the sessions of a person there: each operation, with what is kept of it.
+ghost use Rattle.std.specs.Prelude.{◌≡◌, ◌<◌, vec_len};
+ghost use Rattle.bayou_base.specs.declared.limits.TheConstants.{MAX_PLACES, SESSIONS as NUMBER};
+
+use crate::asking::{Attempt, Done, operate};
+use crate::audit_file::AuditFile;
+use crate::fault::ConnectFault;
+use crate::plan::Place;
+use crate::reach::Access;
+use crate::remembering::{StateDevice, fault_of_keeping};
+use crate::told::Told;
+use bayou_base::{Asks, Entry, Key, ServerId, SessionId, Vector, Wid};
+use bayou_client::{Asked, LinkFault};
+use bayou_lang::RestingWrite;
+use bayou_net::Sockets;
+use bayou_remember::{Kept, Memory};
+use bayou_session::{FIRST_RUN, Session};
+use std::alloc::{AllocError, Global};
+use std::sync::Wait;
+
+/// Whose read asks what a server holds: it is of no session that is kept.
+const NOBODY: SessionId = SessionId { index: 0 };
+
+/// What such a read reads.
+const ANY_KEY: &str = "a";
+
+/// What a person has at hand.
+#[derive(Drop)]
+pub(crate) struct Store {
+    alloc: Global,
+    accesses: Vec<Access>,
+    /// What each session is, by its number, where it was opened or kept.
+    sessions: Vec<Option<Kept>>,
+    memory: Option<Memory<StateDevice>>,
+    book: Option<AuditFile>,
+    ghost one_each: { vec_len sessions ≡ NUMBER },
+}
+
+// What is kept of the session before this is asked of the server: the Write under way, if it is one.
+fn under_way(
+    alloc: Global,
+    kept: &Kept,
+    server: ServerId,
+    attempt: &Attempt,
+) -> Result<Option<Kept>, ConnectFault>
+    requires { kept.now.session.begun < MAX_PLACES }
+{
+    let mut session = *kept.session();
+    match (attempt, kept.asked()) {
+        (Attempt::Read(_), _) | (Attempt::Again, None) => Ok(None),
+        (Attempt::Write(program), _) => {
+            session.ask();
+            let program = program.copy(alloc)?;
+            Ok(Some(Kept::new(session, Some(Asked { server, program }))))
+        }
+        (Attempt::Again, Some(asked)) => {
+            session.again();
+            let program = asked.program.copy(alloc)?;
+            Ok(Some(Kept::new(
+                session,
+                Some(Asked {
+                    server: asked.server,
+                    program,
+                }),
+            )))
+        }
+    }
+}
+
+// Keeps the session, where anything is kept.
+fn keep(
+    alloc: Global,
+    memory: &mut Option<Memory<StateDevice>>,
+    kept: &Kept,
+) -> Result<(), ConnectFault> {
+    let Some(memory) = memory else {
+        return Ok(());
+    };
+    match memory.keep(alloc, kept) {
+        Ok(()) => Ok(()),
+        Err(fault) => Err(fault_of_keeping(fault)),
+    }
+}
+
+// Enters what was served or refused, where there is a book.
+fn enter(
+    alloc: Global,
+    book: &mut Option<AuditFile>,
+    entry: &Option<Entry>,
+) -> Result<(), ConnectFault> {
+    match (book, entry) {
+        (Some(book), Some(entry)) => book.enter(alloc, entry),
+        _ => Ok(()),
+    }
+}
+
+impl Store {
+    /// The servers at these places, with what is kept of each session, by its number.
+    pub(crate) fn new(
+        alloc: Global,
+        places: &[Place],
+        sessions: Vec<Option<Kept>>,
+        memory: Option<Memory<StateDevice>>,
+        book: Option<AuditFile>,
+    ) -> Result<Self, AllocError>
+        requires { vec_len sessions ≡ NUMBER }
+    {
+        let mut accesses = Vec::with_capacity(alloc, places.len())?;
+        for place in places {
+            accesses.push(Access::new(*place))?;
+        }
+        Ok(Store {
+            alloc,
+            accesses,
+            sessions,
+            memory,
+            book,
+        })
+    }
+
+    /// Its allocator.
+    pub(crate) fn alloc(&self) -> Global {
+        self.alloc
+    }
+
+    /// How many servers there are.
+    pub(crate) fn len(&self) -> usize
+        ensures { result ≡ vec_len self.now.accesses }
+    {
+        self.accesses.len()
+    }
+
+    /// The place of this server in the list.
+    pub(crate) fn place_of(&self, server: ServerId) -> Option<usize> {
+        self.accesses
+            .iter()
+            .position(|access| access.place.id == server)
+    }
+
+    /// What is kept of a session that is open.
+    pub(crate) fn session(&self, who: SessionId) -> Option<&Kept> {
+        self.sessions[usize::from(who.index)].as_ref()
+    }
+
+    /// Opens the session, which asks for this: anew, or from where it was kept.
+    pub(crate) fn open(&mut self, who: SessionId, run: u32, asks: Asks)
+        requires { 0 < run }
+    {
+        let at = usize::from(who.index);
+        let kept = match self.sessions[at].take() {
+            None => Kept::new(Session::new(who, run, asks), None),
+            Some(kept) => {
+                let (session, asked) = kept.into_parts();
+                Kept::new(Session::resume(who, asks, session.past()), asked)
+            }
+        };
+        self.sessions[at] = Some(kept);
+    }
+
+    /// Has the session do this at a server, by its place in the list. A Write is kept before it is sent, and what was told before anybody
+    /// is told of it.
+    pub(crate) fn ask<T: Sockets + Wait>(
+        &mut self,
+        rt: &T,
+        who: SessionId,
+        at: usize,
+        attempt: Attempt,
+    ) -> Result<Told, ConnectFault> {
+        let Store {
+            alloc,
+            accesses,
+            sessions,
+            memory,
+            book,
+        } = self;
+        let Some(access) = accesses.get_mut(at) else {
+            return Ok(Told::Away);
+        };
+        let server = access.place.id;
+        let Some(link) = access.link(rt) else {
+            return Ok(Told::Away);
+        };
+        let session = &mut sessions[usize::from(who.index)];
+        let Some(kept) = session.take() else {
+            return Ok(Told::Lost);
+        };
+        if kept.session().left() == 0 {
+            *session = Some(kept);
+            return Ok(Told::Lost);
+        }
+        if let Some(begun) = under_way(*alloc, &kept, server, &attempt)? {
+            keep(*alloc, memory, &begun)?;
+        }
+        let done = operate(rt, *alloc, kept, link, server, attempt)?;
+        keep(*alloc, memory, &done.kept)?;
+        enter(*alloc, book, &done.entry)?;
+        *session = Some(done.kept);
+        Ok(done.told)
+    }
+
+    /// Which server is at this place in the list.
+    pub(crate) fn server_at(&self, at: usize) -> Option<ServerId> {
+        match self.accesses.get(at) {
+            Some(access) => Some(access.place.id),
+            None => None,
+        }
+    }
+
+    /// What the server of this place in the list holds, if it tells that: as a read tells it that needs nothing, of a session that nobody keeps.
+    pub(crate) fn held_at<T: Sockets + Wait>(
+        &mut self,
+        rt: &T,
+        at: usize,
+    ) -> Result<Option<Vector>, ConnectFault> {
+        let alloc = self.alloc;
+        let Some(access) = self.accesses.get_mut(at) else {
+            return Ok(None);
+        };
+        let server = access.place.id;
+        let Some(link) = access.link(rt) else {
+            return Ok(None);
+        };
+        let nobody = Kept::new(Session::new(NOBODY, FIRST_RUN, Asks::default()), None);
+        let Ok(key) = Key::new(ANY_KEY) else {
+            return Ok(None);
+        };
+        let done = operate(rt, alloc, nobody, link, server, Attempt::Read(key))?;
+        let Done { told, .. } = done;
+        match told {
+            Told::Seen(seen) => Ok(Some(seen.vector)),
+            Told::Away | Told::Accepted(_) | Told::Refused(_) | Told::Lost => Ok(None),
+        }
+    }
+
+    /// What the server of this place in the list tells as it is to open its journal again, if it is reached.
+    pub(crate) fn reopen<T: Sockets>(
+        &mut self,
+        rt: &T,
+        at: usize,
+    ) -> Option<Result<Option<Wid>, LinkFault>> {
+        let alloc = self.alloc;
+        let access = self.accesses.get_mut(at)?;
+        let link = access.link(rt)?;
+        Some(link.reopen(alloc))
+    }
+
+    /// What the server of this place in the list sends of what it holds, if it sends all of it.
+    pub(crate) fn dump<T: Sockets>(
+        &mut self,
+        rt: &T,
+        at: usize,
+    ) -> Result<Option<Vec<RestingWrite>>, ConnectFault> {
+        let alloc = self.alloc;
+        let Some(access) = self.accesses.get_mut(at) else {
+            return Ok(None);
+        };
+        let Some(link) = access.link(rt) else {
+            return Ok(None);
+        };
+        match link.dump(alloc) {
+            Ok(writes) => Ok(Some(writes)),
+            Err(LinkFault::OutOfMemory) => Err(ConnectFault::Memory),
+            Err(_) => Ok(None),
+        }
+    }
+
+    /// Whether there is a book.
+    pub(crate) fn has_book(&self) -> bool {
+        self.book.is_some()
+    }
+
+    /// Puts what the server holds into the book, where there is one.
+    pub(crate) fn hold(
+        &mut self,
+        server: ServerId,
+        writes: &[RestingWrite],
+    ) -> Result<(), ConnectFault> {
+        match &mut self.book {
+            Some(book) => book.hold(self.alloc, server, writes),
+            None => Ok(()),
+        }
+    }
+}

@@ -1,0 +1,55 @@
+//! What short lines ask for.
+use crate::desk::Desk;
+use crate::fault::ConnectFault;
+use bayou_net::Sockets;
+use bayou_person::Wish;
+use bayou_streams::Output;
+use std::io::Write;
+use std::sync::Wait;
+use std::time::Clock;
+
+impl Desk {
+    // Does what a wish that is a Write asks for, and tells what became of a claim.
+    fn wish_write<W: Write, T: Sockets + Wait + Clock>(
+        &mut self,
+        rt: &T,
+        output: &mut Output<W>,
+        wish: &Wish,
+    ) -> Result<(), ConnectFault> {
+        let Some(program) = wish.program() else {
+            return Ok(());
+        };
+        let program = program.rest(self.alloc)?;
+        let Some(at) = self.write(rt, output, program)? else {
+            return Ok(());
+        };
+        match wish {
+            Wish::Claim { key, others, value } => {
+                self.tell_claim(rt, output, at, key, others.as_slice(), value)
+            }
+            _ => Ok(()),
+        }
+    }
+
+    /// Does what a short line asks for. Whether it can be done here.
+    pub(crate) fn wish<W: Write, T: Sockets + Wait + Clock>(
+        &mut self,
+        rt: &T,
+        output: &mut Output<W>,
+        wish: Wish,
+    ) -> Result<bool, ConnectFault> {
+        match wish {
+            Wish::Get { key } => self.get(rt, output, key)?,
+            Wish::At(server) => match self.store.place_of(server) {
+                Some(at) => self.first = at,
+                None => return Ok(false),
+            },
+            Wish::List => self.list(rt, output)?,
+            Wish::Servers => self.tell_servers(rt, output)?,
+            Wish::Session => self.tell_session(output)?,
+            Wish::Dump => return self.dump(rt, output),
+            write => self.wish_write(rt, output, &write)?,
+        }
+        Ok(true)
+    }
+}
