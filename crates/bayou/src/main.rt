@@ -7,9 +7,12 @@ ghost use Rattle.std.specs.Thread.{IsSend};
 mod progress;
 
 use bayou_command::{Connecting, Serving};
+use bayou_connect::Input;
 use bayou_print::{Ended, RunFault};
 use bayou_script::NetworkScript;
-use bayou_shell::{Files, Networks, Service, refuse_words, run_main, run_served, run_taken};
+use bayou_shell::{
+    Call, Files, Networks, Service, refuse_words, run_connected, run_main, run_served, run_taken,
+};
 use bayou_streams::{CountedChannel, Output};
 use progress::{Counted, Screen, tell_progress};
 use std::alloc::Global;
@@ -17,6 +20,7 @@ use std::fs::File;
 use std::io::{IsTerminal, Stderr, Stdin, Stdout, Write};
 use std::net::{Net, TcpListener, TcpStream};
 use std::process::ExitCode;
+use std::random::RandomSource;
 use std::sync::{Mutex, Wait};
 use std::thread::Threads;
 use std::time::{Clock, Duration};
@@ -32,6 +36,8 @@ enum Taken {
     },
     /// A server is to live.
     Serve(Service),
+    /// Servers are to be asked what lines say.
+    Connect(Call),
 }
 
 /// The files of this machine, of whose content nothing is known, and the script that its sockets are wanted for.
@@ -87,7 +93,8 @@ impl<T> Networks for Host<'_, T> {
 
     ghost connects = { λ connection ended. Unit {0} };
 
-    fn connect(&mut self, _alloc: Global, _connecting: &Connecting<'_>) -> Result<Ended, RunFault> {
+    fn connect(&mut self, alloc: Global, connecting: &Connecting<'_>) -> Result<Ended, RunFault> {
+        self.taken = Some(Taken::Connect(Call::of(alloc, connecting)?));
         Ok(Ended::Clean)
     }
 }
@@ -112,6 +119,7 @@ fn run<
     T: Threads
         + Wait
         + Clock
+        + RandomSource
         + fs::Files<File = File>
         + Net<Stream = TcpStream, Listener = TcpListener>
         + Send
@@ -167,6 +175,17 @@ fn run<
             let (mut input, ()) = input.into_parts();
             run_served(rt, alloc, service, &mut input, &mut output, told)
         }
+        Some(Taken::Connect(call)) => {
+            // So is a person.
+            screen.lock(rt).end();
+            let (reader, ()) = input.into_parts();
+            let is_terminal = reader.is_terminal();
+            let input = Input {
+                reader,
+                is_terminal,
+            };
+            run_connected(rt, alloc, call, input, &mut output, told)
+        }
     }
 }
 
@@ -176,6 +195,7 @@ fn run_told<
     T: Threads
         + Wait
         + Clock
+        + RandomSource
         + fs::Files<File = File>
         + Net<Stream = TcpStream, Listener = TcpListener>
         + Send

@@ -17,6 +17,7 @@
 #![tactic(auto)]
 
 pub mod audit;
+pub mod connected;
 pub mod files;
 pub mod net;
 pub mod networks;
@@ -26,6 +27,7 @@ pub mod run;
 pub mod served;
 
 pub use audit::run_audit;
+pub use connected::{Call, run_connected};
 pub use files::Files;
 pub use net::run_net;
 pub use networks::Networks;

@@ -1,0 +1,179 @@
+//! A person at a store, from the words to the exit status.
+ghost use Rattle.std.specs.Prelude.{◌≡◌, ◌≢◌, ◌⊎◌, IfErr, IfOk};
+ghost use Rattle.bayou_connect.specs.declared.plan.PlanFault.TheVariants.{OutOfMemory};
+
+use bayou_command::{Connecting, Source};
+use bayou_connect::{ConnectFault, Ended, Input, Names, Plan, PlanFault, connect_plan};
+use bayou_net::Sockets;
+use bayou_streams::Output;
+use std::alloc::{AllocError, Global};
+use std::fs;
+use std::fs::File;
+use std::io::{IsTerminal, Read, Write};
+use std::random::RandomSource;
+use std::sync::Wait;
+use std::time::Clock;
+
+/// What a person asked for by the words: whom to ask, or why the words make no plan, and the names of files.
+#[derive(Drop)]
+pub struct Call {
+    plan: Result<Plan, PlanFault>,
+    state: Option<String>,
+    book: Option<String>,
+    input: Option<String>,
+}
+
+/// The exit status where some operation wasn't served.
+const UNSERVED: u8 = 1;
+
+/// The exit status of words, or of a line, that can't be done.
+const REFUSED: u8 = 2;
+
+/// The exit status of every other fault.
+const FAILED: u8 = 3;
+
+// The name, kept.
+fn kept_name(alloc: Global, name: Option<&str>) -> Result<Option<String>, AllocError> {
+    match name {
+        None => Ok(None),
+        Some(name) => Ok(Some(name.to_string(alloc)?)),
+    }
+}
+
+impl Call {
+    /// What the words ask for. What can't be done of them is told once it is to be done; want of memory alone is told at once.
+    pub fn of(alloc: Global, connecting: &Connecting<'_>) -> Result<Self, AllocError>
+        ensures { IfOk result (λ call. IfErr call.plan (λ fault. fault ≢ OutOfMemory)) }
+    {
+        let input = match connecting.input {
+            Source::Standard => None,
+            Source::File(name) => Some(name),
+        };
+        let (state, book) = (connecting.state, connecting.book);
+        let (state, book) = (kept_name(alloc, state)?, kept_name(alloc, book)?);
+        let input = kept_name(alloc, input)?;
+        match Plan::new(
+            alloc,
+            connecting.servers.as_slice(),
+            connecting.count,
+            connecting.asks,
+            connecting.wait_seconds,
+        ) {
+            Err(PlanFault::OutOfMemory) => Err(AllocError),
+            plan => Ok(Call {
+                plan,
+                state,
+                book,
+                input,
+            }),
+        }
+    }
+}
+
+// The line that tells a fault, with the file that is at fault.
+fn fault_line(alloc: Global, names: Names<'_>, fault: ConnectFault) -> Result<String, AllocError> {
+    let file = match (fault.is_of_state(), fault.is_of_book()) {
+        (true, _) => names.state,
+        (false, true) => names.book,
+        (false, false) => None,
+    };
+    match file {
+        Some(path) => format!(in alloc; "bayou: {path}: {fault}\n"),
+        None => format!(in alloc; "bayou: {fault}\n"),
+    }
+}
+
+// Tells the line that was made, or that memory ran out, as far as it can be told.
+fn tell_line<E: Write>(errors: &mut E, made: Result<String, AllocError>) {
+    let _ = match made {
+        Ok(line) => errors.write_all(line.as_bytes()),
+        Err(_) => errors.write_all(b"bayou: memory\n"),
+    };
+}
+
+// The exit status of lines that ended so.
+fn status_of(ended: Ended) -> u8
+    ensures { (result ≡ 0) ⊎ (result ≡ UNSERVED) ⊎ (result ≡ REFUSED) }
+{
+    match ended {
+        Ended::Served => 0,
+        Ended::Unserved => UNSERVED,
+        Ended::Refused => REFUSED,
+    }
+}
+
+// Does the lines of the file of this name, or of the input that was handed in.
+fn connect_on<I, W, E, T>(
+    rt: &T,
+    alloc: Global,
+    plan: &Plan,
+    names: Names<'_>,
+    name: &Option<String>,
+    input: Input<I>,
+    output: &mut Output<W>,
+    errors: &mut E,
+) -> Result<Ended, ConnectFault>
+where
+    I: Read + Drop,
+    W: Write,
+    E: Write,
+    T: Wait + Clock + RandomSource + fs::Files<File = File> + Sockets,
+{
+    let Some(name) = name else {
+        return connect_plan(rt, alloc, plan, names, input, output, errors);
+    };
+    let Ok(reader) = File::open(rt, name.as_str()) else {
+        return Err(ConnectFault::Input);
+    };
+    let is_terminal = reader.is_terminal();
+    let file = Input {
+        reader,
+        is_terminal,
+    };
+    connect_plan(rt, alloc, plan, names, file, output, errors)
+}
+
+/// Does what was asked for, tells a fault, and gives the exit status.
+pub fn run_connected<I, W, E, T>(
+    rt: &T,
+    alloc: Global,
+    call: Call,
+    input: Input<I>,
+    output: &mut Output<W>,
+    errors: E,
+) -> u8
+where
+    I: Read + Drop,
+    W: Write,
+    E: Write + Drop,
+    T: Wait + Clock + RandomSource + fs::Files<File = File> + Sockets,
+    ensures status { (result ≡ 0) ⊎ (result ≡ UNSERVED) ⊎ (result ≡ REFUSED) ⊎ (result ≡ FAILED) }
+    // Of words that can't be done nothing is asked or printed.
+    ensures refused { IfErr call.plan (λ _. (result ≡ REFUSED) × (output.new ≡ output.old)) }
+{
+    let mut errors = errors;
+    let Call {
+        plan,
+        state,
+        book,
+        input: name,
+    } = call;
+    let plan = match plan {
+        Ok(plan) => plan,
+        Err(fault) => {
+            tell_line(&mut errors, format!(in alloc; "bayou: {fault}\n"));
+            return REFUSED;
+        }
+    };
+    let names = Names {
+        state: state.as_deref(),
+        book: book.as_deref(),
+    };
+    match connect_on(rt, alloc, &plan, names, &name, input, output, &mut errors) {
+        Ok(ended) => status_of(ended),
+        Err(fault) => {
+            tell_line(&mut errors, fault_line(alloc, names, fault));
+            FAILED
+        }
+    }
+}
