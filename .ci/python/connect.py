@@ -1,0 +1,388 @@
+"""A person at a store, tried from outside. Call: connect.py PROGRAM [GROUP..]."""
+import json
+import os
+import random
+import shutil
+import signal
+import socket
+import subprocess
+import sys
+import tempfile
+import threading
+import time
+
+from checks import Checks
+from living import SECONDS, Server
+
+sys.path.insert(0, os.path.join("..", "clients", "python"))
+import bayou  # noqa: E402
+
+CALENDAR = os.path.join("..", "examples", "calendar")
+HEADER_BYTES = 10
+ENTRY_BYTES = 179
+
+
+class DropReply:
+    """A way to a server on which the reply to the n-th request is dropped, and the connection with it."""
+
+    def __init__(self, port, dropped):
+        self.port, self.dropped = port, dropped
+        self.listener = socket.socket()
+        self.listener.bind(("127.0.0.1", 0))
+        self.listener.listen()
+        self.address = "127.0.0.1:%d" % self.listener.getsockname()[1]
+        threading.Thread(target=self.serve, daemon=True).start()
+
+    def serve(self):
+        while True:
+            try:
+                near, _ = self.listener.accept()
+            except OSError:
+                return
+            with near, socket.create_connection(("127.0.0.1", self.port)) as far:
+                while True:
+                    request = near.recv(65536)
+                    if not request:
+                        break
+                    far.sendall(request)
+                    reply = far.recv(65536)
+                    self.dropped -= 1
+                    if self.dropped == 0 or not reply:
+                        break
+                    near.sendall(reply)
+
+
+class Tries:
+    def __init__(self, program, room):
+        self.program, self.room, self.checks = program, room, Checks()
+        self.servers = []
+
+    def folder(self):
+        return tempfile.mkdtemp(dir=self.room)
+
+    def that(self, name, told, expected=True):
+        self.checks.that(name, told, expected)
+
+    def start(self, folder, index=0, servers=1, new=True, **more):
+        """A server that serves."""
+        server = Server(self.program, folder, index, servers=servers, new=new, **more)
+        self.that("server %d serves" % index, server.serving() is not None)
+        self.servers.append(server)
+        return server
+
+    def stop_all(self):
+        for server in self.servers:
+            if server.process.poll() is None:
+                server.kill()
+        self.servers = []
+
+    def call(self, servers, lines, words=(), seconds=SECONDS):
+        """What `bayou connect` prints for these lines at these servers, what it tells, and its status."""
+        call = [self.program, "connect"]
+        for index, address in servers:
+            call += ["--server", "%d=%s" % (index, address)]
+        text = "".join(line + "\n" for line in lines).encode()
+        done = subprocess.run(call + list(words), input=text, stdout=subprocess.PIPE, stderr=subprocess.PIPE, timeout=seconds)
+        return done.returncode, done.stdout.decode().splitlines(), done.stderr.decode().splitlines()
+
+    def row(self, name, servers, lines, printed, status=0, told=(), words=()):
+        self.that(name, self.call(servers, lines, words), (status, list(printed), list(told)))
+
+    # Groups.
+
+    def words(self):
+        usage = "bayou: --server takes I=ADDRESS:PORT, with an address of numbers, I being a server's number"
+        for name, words, line in [
+            ("a server with no number", ["--server", "127.0.0.1:1"], usage),
+            ("a server beyond all", ["--server", "16=127.0.0.1:1"], usage),
+            ("a server by name", ["--server", "0=localhost:1"], usage),
+            ("a server twice", ["--server", "0=127.0.0.1:1", "--server", "0=127.0.0.1:2"], "bayou: --server names a server twice"),
+            ("too few servers", ["--server", "2=127.0.0.1:1", "--servers", "2"], "bayou: --servers is above each server's number"),
+            ("no such guarantee", ["--server", "0=127.0.0.1:1", "--session", "ryw,all"],
+             "bayou: --session takes any of ryw, mr, wfr and mw, with commas between them, or all, or none"),
+        ]:
+            self.row(name, [], ["session"], [], 2, [line], words)
+        status, printed, told = self.call([], ["session"])
+        self.that("no server", (status, printed, bool(told)), (2, [], True))
+        self.row("a file that isn't there", [(0, "127.0.0.1:1")], [], [], 3, ["bayou: input"], [os.path.join(self.room, "none")])
+        self.row("a state in a folder that isn't there", [(0, "127.0.0.1:1")], [], [], 3,
+                 ["bayou: %s/none/state: it can't be opened, or another process has it" % self.room], ["--state", self.room + "/none/state"])
+        self.row("a book in a folder that isn't there", [(0, "127.0.0.1:1")], [], [], 3,
+                 ["bayou: %s/none/book: it can't be opened, another process has it, or it is of other servers" % self.room],
+                 ["--book", self.room + "/none/book"])
+
+    def lines(self):
+        server = self.start(self.folder())
+        at = [(0, server.address())]
+        self.row("a put is read", at, ["put room kim", "get room", "get none"],
+                 ["0 wrote 0:1 clock 1 deps 0", '0 read room text "kim" at 1', "0 read none none at 1"])
+        self.row("a number", at, ["put n 007", "add n -9", "get n", "add m 5", "get m", "add room 1", "get room"],
+                 ["0 wrote 0:2 clock 2 deps 1", "0 wrote 0:3 clock 3 deps 2", "0 read n num -2 at 3", "0 wrote 0:4 clock 4 deps 3", "0 read m num 5 at 4",
+                  "0 wrote 0:5 clock 5 deps 4", '0 read room text "kim" at 5'])
+        self.row("a key is removed", at, ["del n", "get n", "", "   "], ["0 wrote 0:6 clock 6 deps 5", "0 read n none at 6"])
+        self.row("a claim that is had", at, ["claim a b lee"], ["0 wrote 0:7 clock 7 deps 6", '0 read a text "lee" at 7'])
+        self.row("a claim that falls back", at, ["claim a b kim"],
+                 ["0 wrote 0:8 clock 8 deps 7", '0 read a text "lee" at 8', '0 read b text "kim" at 8'])
+        self.row("a claim of what is taken", at, ["claim a b jo"],
+                 ["0 wrote 0:9 clock 9 deps 8", '0 read a text "lee" at 9', '0 read b text "kim" at 9'])
+        self.row("a list", at, ["list", "servers", "session", "at 0"],
+                 ['a text "lee"', 'b text "kim"', "m num 5", 'room text "kim"', "list 0 keys 4", "server 0 at 9", "session 0 read 0 wrote 0"])
+        self.row("a script's lines", at, ['["session",3,["ryw"]]', '["write",3,0,{"update":[["put","x","a b"]]}]', '["read",3,0,"x"]', '["reopen",0]',
+                                          '["again",3]', "again"],
+                 ["3 wrote 0:10 clock 10 deps 9", '3 read x text "a b" at 10', "reopen refused notdown", "3 again none", "0 again none"], 1)
+        for name, line, fault in [
+            ("an unknown word", "put1 a b", "unknown word"), ("too few words", "put a", "wrong number of words"), ("no key", "get A", "bad key"),
+            ("no number", "add a b", "bad number"), ("no server", "at 16", "bad server"), ("a server that isn't named", "at 1", "out of place"),
+            ("a long text", "put a " + 33 * "x", "bad value"), ("no JSON", "[1,", "not JSON"), ("no command", '["none",1]', "bad shape"),
+            ("a capital in a script's line", '["read",0,0,"A"]', "bad key"), ("a line for scripts alone", '["log",0]', "out of place"),
+            ("a session that isn't open", '["read",1,0,"a"]', "out of place"), ("a server of a script that isn't named", '["read",0,1,"a"]', "out of place"),
+            ("a dump without a book", "dump", "out of place"), ("a line that is too long", "put a " + 65531 * "x", "bad shape"),
+        ]:
+            self.row(name, at, ["get x", line, "get x"], ['0 read x text "a b" at 10'], 2, ["bayou: line 2: " + fault])
+        self.row("a session opened twice", at, ['["session",0,[]]', '["session",0,[]]'], [], 2, ["bayou: line 2: out of place"])
+        path = os.path.join(self.room, "lines")
+        with open(path, "w") as file:
+            file.write("get x")
+        self.row("lines of a file", at, [], ['0 read x text "a b" at 10'], words=[path])
+        session = bayou.Session([server.address()], asks=["ryw"])
+        session.write({"update": [["put", "shared", "python"]]})
+        self.row("a Write of the client in python", at, ["get shared"], ['0 read shared text "python" at 11'])
+        self.stop_all()
+
+    def turns(self):
+        folder = self.folder()
+        first, second = self.start(folder, 0, 2), self.start(folder, 1, 2)
+        both = [(0, first.address()), (1, second.address())]
+        self.row("the server at hand is asked first", both, ["put a 1", "at 1", "put b 2", "servers"],
+                 ["0 wrote 0:1 clock 1 deps 0,0", "0 wrote 1:1 clock 1 deps 0,0", "server 0 at 1,0", "server 1 at 0,1"])
+        self.row("one that is behind is passed by", both, ["put c 3", "at 1", "get c"],
+                 ["0 wrote 0:2 clock 2 deps 1,0", "0 read c num 3 at 2,0"], words=["--session", "ryw"])
+        self.row("a script's line goes nowhere else", both, ["put c 3", '["read",0,1,"c"]'],
+                 ["0 wrote 0:3 clock 3 deps 2,0", "0 refused behind at 0,1"], 1, words=["--session", "ryw"])
+        first.kill()
+        self.row("one that is away is passed by", both, ["get b", "servers", "list"],
+                 ["0 read b num 2 at 0,1", "server 0 away", "server 1 at 0,1", "list lost"], 1)
+        second.kill()
+        self.row("all away", both, ["get b", "put b 1", "servers", '["read",0,0,"b"]', '["reopen",1]'],
+                 ["0 refused away", "0 refused away", "server 0 away", "server 1 away", "0 refused away", "reopen refused away"], 1)
+        begun = time.monotonic()
+        self.row("a wait that is over", both, ["get b"], ["0 refused away"], 1, words=["--wait", "1"])
+        self.that("it waited", time.monotonic() - begun >= 1)
+        threading.Timer(1, lambda: self.start(folder, 1, 2, new=False, port=second.port)).start()
+        self.row("a wait for a server that comes", both, ["get b"], ["0 read b num 2 at 0,1"], words=["--wait", "20"])
+        self.stop_all()
+
+    def lost(self):
+        folder, state = self.folder(), os.path.join(self.room, "lost")
+        server = self.start(folder)
+        other = self.start(folder, 1, 2)
+        way = DropReply(server.port, 2)
+        self.row("a Write whose reply is lost goes nowhere else", [(0, way.address), (1, other.address())], ["get a", "put a 1"],
+                 ["0 read a none at 0,0", "0 lost"], 1, words=["--state", state])
+        at = [(0, server.address())]
+        self.row("it is asked again by the next call", at, ["again", "again", "get a"],
+                 ["0 wrote 0:1 clock 1 deps 0", "0 again none", "0 read a num 1 at 1"], words=["--state", state])
+        way = DropReply(server.port, 1)
+        self.row("a Write that is lost", [(0, way.address)], ["add a 1"], ["0 lost"], 1, words=["--state", state])
+        self.row("it may be asked again no more behind a read", at, ["get a", "again"],
+                 ["0 read a num 2 at 2", "0 again none"], words=["--state", state])
+        self.stop_all()
+
+    def kept(self):
+        folder, state = self.folder(), os.path.join(self.room, "kept")
+        server = self.start(folder)
+        at = [(0, server.address())]
+        self.row("what is kept", at, ["put a 1", "get a", "session"],
+                 ["0 wrote 0:1 clock 1 deps 0", "0 read a num 1 at 1", "session 0 read 1 wrote 1"], words=["--state", state, "--session", "all"])
+        self.row("it goes on", at, ["session", "put a 2", "session"],
+                 ["session 0 read 1 wrote 1", "0 wrote 0:2 clock 2 deps 1", "session 0 read 1 wrote 2"], words=["--state", state])
+        with open(state, "rb") as file:
+            whole = file.read()
+        # Two entries for each Write, of which the first has its program too, and one for the read.
+        ends, at_byte = [], HEADER_BYTES
+        while at_byte < len(whole):
+            at_byte += 34 + int.from_bytes(whole[at_byte:at_byte + 2], "big")
+            ends.append(at_byte)
+        self.that("so many entries", (len(ends), ends[1] - ends[0], at_byte), (5, ENTRY_BYTES, len(whole)))
+        seen = ["0 wrote 0", "0 wrote 1", "1 wrote 1", "1 wrote 1", "1 wrote 2"]
+        for length in range(len(whole)):
+            with open(state, "wb") as file:
+                file.write(whole[:length])
+            count = sum(end <= length for end in ends)
+            expected = "session 0 read %s" % ("0 wrote 0" if count == 0 else seen[count - 1])
+            self.that("torn at byte %d" % length, self.call([(0, "127.0.0.1:1")], ["session"], ["--state", state]), (0, [expected], []))
+        for name, content, fault in [
+            ("something else", b"hello, hello", "it is no state of sessions; nothing was changed"),
+            ("a server's journal", open(os.path.join(folder, "server-0.journal"), "rb").read(), "it is no state of sessions; nothing was changed"),
+        ]:
+            with open(state, "wb") as file:
+                file.write(content)
+            self.row(name, at, ["session"], [], 3, ["bayou: %s: %s" % (state, fault)], ["--state", state])
+            with open(state, "rb") as file:
+                self.that(name + " stays", file.read(), content)
+        self.damaged(state)
+        with open(state, "wb") as file:
+            file.write(whole)
+        holder = subprocess.Popen([self.program, "connect", "--server", "0=" + server.address(), "--state", state], stdin=subprocess.PIPE,
+                                  stdout=subprocess.PIPE)
+        holder.stdin.write(b"session\n")
+        holder.stdin.flush()
+        self.that("one holds it", holder.stdout.readline(), b"session 0 read 1 wrote 2\n")
+        self.row("a state in use", at, ["session"], [], 3, ["bayou: %s: it can't be opened, or another process has it" % state], ["--state", state])
+        holder.stdin.close()
+        self.that("the holder ends", holder.wait(SECONDS), 0)
+        self.stop_all()
+
+    def damaged(self, state):
+        """A state of which more than a torn entry is broken: it is told, and stays."""
+        server = self.start(self.folder())
+        at = [(0, server.address())]
+        os.remove(state)
+        self.call(at, ["get a"] * 60, ["--state", state])
+        with open(state, "rb") as file:
+            content = bytearray(file.read())
+        content[HEADER_BYTES + ENTRY_BYTES + 40] ^= 1
+        with open(state, "wb") as file:
+            file.write(content)
+        whole = HEADER_BYTES + ENTRY_BYTES
+        self.row("a damaged state", at, ["session"], [], 3,
+                 ["bayou: %s: it is whole up to byte %d, and the %d bytes behind that are damaged; nothing was changed" % (state, whole, len(content) - whole)],
+                 ["--state", state])
+        with open(state, "rb") as file:
+            self.that("it stays", file.read(), bytes(content))
+        os.remove(state)
+
+    def killed(self):
+        folder, state = self.folder(), os.path.join(self.room, "killed")
+        server = self.start(folder)
+        seed = random.randrange(2**32)
+        chance = random.Random(seed)
+        wrote = 0
+        for turn in range(12):
+            process = subprocess.Popen([self.program, "connect", "--server", "0=" + server.address(), "--state", state, "--session", "all"],
+                                       stdin=subprocess.PIPE, stdout=subprocess.PIPE)
+            threading.Timer(chance.uniform(0.02, 0.3), lambda p=process: p.send_signal(signal.SIGKILL)).start()
+            try:
+                process.stdin.write(b"again\n" + b"add n 1\n" * 4000)
+                process.stdin.close()
+            except BrokenPipeError:
+                pass
+            for line in process.stdout.read().decode().splitlines():
+                if " wrote 0:" in line:
+                    wrote = max(wrote, int(line.split(" wrote 0:")[1].split()[0]))
+            process.wait(SECONDS)
+            status, printed, told = self.call([(0, server.address())], ["session"], ["--state", state])
+            kept = int(printed[0].rsplit(" ", 1)[1]) if printed else -1
+            self.that("turn %d of seed %d: what was printed is remembered" % (turn, seed), (status, kept >= wrote), (0, True))
+        status, printed, told = self.call([(0, server.address())], ["again", "get n"], ["--state", state])
+        held = bayou.Link(server.address()).dump()
+        self.that("each Write acts once", printed[-1].startswith("0 read n num %d at %d" % (len(held), len(held))))
+        self.stop_all()
+
+    def moves(self, asks, breaks):
+        """A session that moves between two servers over ten calls, and what its book says."""
+        folder, name = self.folder(), "moves-" + asks
+        state, book = os.path.join(self.room, name), os.path.join(self.room, name + ".book")
+        servers = [self.start(folder, index, 2) for index in range(2)]
+        places = [(index, server.address()) for index, server in enumerate(servers)]
+        words = ["--servers", "2", "--state", state, "--book", book]
+        for turn in range(10):
+            here = places[turn % 2]
+            self.call([here], ["add n 1", "get n"], words + (["--session", asks] if turn == 0 else []))
+        status, printed, told = self.call(places, ["dump"], ["--book", book])
+        self.that("%s: the dumps are in the book" % asks, (status, [line.rsplit(" ", 1)[0] for line in printed]), (0, ["dump 0 writes", "dump 1 writes"]))
+        audit = subprocess.run([self.program, "audit", book], stdout=subprocess.PIPE, timeout=SECONDS)
+        lines = audit.stdout.decode().splitlines()
+        self.that("%s: the book is clean" % asks, (audit.returncode, lines[:1]), (0, ["clean"]))
+        self.that("%s: a breach is surveyed" % asks, "broken" in lines[-1], breaks)
+        self.stop_all()
+
+    def guarantees(self):
+        self.moves("all", False)
+        self.moves("none", True)
+        server = self.start(self.folder())
+        book = os.path.join(self.room, "torn.book")
+        self.call([(0, server.address())], ["put a 1"], ["--book", book])
+        with open(book) as file:
+            text = file.read()
+        with open(book, "w") as file:
+            file.write(text[:-5])
+        self.call([(0, server.address())], ["dump"], ["--book", book])
+        with open(book) as file:
+            self.that("a torn line of a book is cut", [json.loads(line)[0] for line in file.read().splitlines()], ["servers", "held"])
+        self.row("a book of other servers", [(0, server.address())], ["dump"], [], 3,
+                 ["bayou: %s: it can't be opened, another process has it, or it is of other servers" % book], ["--book", book, "--servers", "3"])
+        self.stop_all()
+
+    def calendar(self):
+        """The day of examples/calendar: three servers, each apart in turn, and what a person prints at each."""
+        folder = self.folder()
+        book = os.path.join(self.room, "day.book")
+        ports = {}
+        states = {}
+        with open(os.path.join(CALENDAR, "day.json")) as file:
+            day = json.load(file)
+        for index in range(3):
+            ports[index] = self.start(folder, index, 3).port
+        for number, step in enumerate(day):
+            if "meet" in step:
+                self.meet(folder, ports, *step["meet"])
+                continue
+            who = step["who"]
+            words = ["--servers", "3", "--state", states.setdefault(who, os.path.join(self.room, "day-" + who)), "--book", book + "." + who]
+            with open(os.path.join(CALENDAR, step["lines"] + ".txt")) as file:
+                lines = file.read().splitlines()
+            with open(os.path.join(CALENDAR, step["lines"] + ".expected")) as file:
+                printed = file.read().splitlines()
+            at = [(index, "127.0.0.1:%d" % ports[index]) for index in step["at"]]
+            self.row("%s, step %d" % (who, number), at, lines, printed, step.get("status", 0), words=words + step.get("words", []))
+        places = [(index, "127.0.0.1:%d" % port) for index, port in ports.items()]
+        for who in states:
+            self.that("%s: dumps" % who, self.call(places, ["dump"], ["--book", book + "." + who])[0], 0)
+            audit = subprocess.run([self.program, "audit", book + "." + who], stdout=subprocess.PIPE, timeout=SECONDS)
+            self.that("%s: the day is clean" % who, (audit.returncode, audit.stdout.decode().splitlines()[:1]), (0, ["clean"]))
+        self.stop_all()
+
+    def meet(self, folder, ports, to, of):
+        """Server `to` takes what server `of` has: it is started again for so long with that one as its peer."""
+        by_port = {server.port: server for server in self.servers}
+        server = by_port[ports[to]]
+        self.that("server %d ends" % to, server.end()[0], 0)
+        self.servers.remove(server)
+        met = Server(self.program, folder, to, servers=3, port=ports[to], peers=[(of, ports[of])])
+        self.servers.append(met)
+        self.that("server %d serves again" % to, met.serving() is not None)
+        self.that("server %d met %d" % (to, of), met.told.find(r"bayou: peer %d reached pulled [0-9]+ had [0-9]+" % of) is not None)
+        self.that("server %d ends again" % to, met.end()[0], 0)
+        self.servers.remove(met)
+        again = Server(self.program, folder, to, servers=3, port=ports[to])
+        self.servers.append(again)
+        self.that("server %d is apart again" % to, again.serving() is not None)
+
+
+GROUPS = ["words", "lines", "turns", "lost", "kept", "killed", "guarantees", "calendar"]
+
+
+def main():
+    program = sys.argv[1]
+    groups = sys.argv[2:] or GROUPS
+    room = tempfile.mkdtemp()
+    tries = Tries(program, room)
+    try:
+        for group in groups:
+            begun = time.monotonic()
+            try:
+                getattr(tries, group)()
+            except Exception as fault:  # a check that can't go on has failed
+                tries.that("%s goes on" % group, repr(fault), "")
+                tries.stop_all()
+            print("%s: %.1f s" % (group, time.monotonic() - begun))
+    finally:
+        tries.stop_all()
+        shutil.rmtree(room, ignore_errors=True)
+    print("%d passed, %d failed" % (tries.checks.passed, tries.checks.failed))
+    return 1 if tries.checks.failed else 0
+
+
+if __name__ == "__main__":
+    sys.exit(main())
