@@ -23,8 +23,6 @@ mod items;
 #[cfg(test)]
 mod lists;
 #[cfg(test)]
-mod losing;
-#[cfg(test)]
 mod meetings;
 #[cfg(test)]
 mod memory;
