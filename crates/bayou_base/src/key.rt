@@ -84,6 +84,14 @@ impl Key {
         Ok(Key { text })
     }
 
+    /// The key of this text, which is one's name.
+    pub(crate) fn of(text: ArrayString<MAX_KEY_BYTES>) -> Self
+        requires { key_fault text.bytes ≡ None }
+        ensures { result ≡ text.bytes }
+    {
+        Key { text }
+    }
+
     /// The name.
     pub fn as_str(&self) -> &str
         ensures value { result.now ≡ self.now }

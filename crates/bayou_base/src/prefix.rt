@@ -65,7 +65,10 @@ impl Prefix {
     pub fn first_key(&self) -> Option<Key>
         ensures { MatchOption result (self.now ≡ []) (λ key. key ≡ self.now) }
     {
-        Key::new(self.as_str()).ok()
+        if self.text.is_empty() {
+            return None;
+        }
+        Some(Key::of(self.text))
     }
 
     /// The same prefix again, which takes no memory.

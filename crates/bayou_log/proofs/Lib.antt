@@ -9,5 +9,6 @@ pub mod Merging
 pub mod Missed
 pub mod Picked
 pub mod Prefixed
+pub mod Rooms
 pub mod Slots
 pub mod Undone

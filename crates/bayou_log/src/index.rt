@@ -1,73 +1,82 @@
 //! Where the Writes of each server stand in the order of receipt.
-ghost use Rattle.std.specs.Prelude.{◌≡◌, ◌≢◌, ℕ, ◌+◌, ◌<◌, ◌≤◌, [], OnOk, length};
+ghost use Rattle.std.specs.Prelude.{◌≡◌, ◌≢◌, ℕ, ◌+◌, ◌<◌, ◌≤◌, [], ◌∷◌, ◌++◌, All, OnOk, length, map, slice_index_or, vec_items};
 ghost use Rattle.bayou_base.specs.declared.limits.TheConstants.{SERVERS};
-ghost use Rattle.bayou_log.specs.Inner.Index.{place_in};
+ghost use Rattle.bayou_log.specs.Inner.Index.{place_in, places_of};
 
 use bayou_base::{SERVERS, Wid};
 use std::alloc::{AllocError, Global};
+use std::array;
 use std::marker::Model;
 
-/// A row for each sequence number, with the places of the Writes that have it, one for each server. Each place fits two bytes, since a log
-/// holds at most `MAX_WRITES` Writes.
+/// For how many Writes room is taken at once, of each server, so that few Writes go over all servers for it.
+const AHEAD: usize = 64;
+
+/// The places of each server's Writes, in the order of their sequence numbers. Each place fits two bytes, since a log holds at most
+/// `MAX_WRITES` Writes.
 #[derive(Drop)]
 pub(crate) struct Index {
-    rows: Vec<[u16; SERVERS]>,
+    places: [Vec<u16>; SERVERS],
+    // For how many Writes more there is room, whichever servers they are of.
+    room: usize,
 }
 
 impl Model for Index {
-    ghost use Rattle.std.specs.Prelude.{◌≡◌, ◌-◌, All, length, vec_capacity, vec_len};
+    ghost use Rattle.std.specs.Prelude.{◌≡◌, ◌+◌, ◌≤◌, All, length, map, vec_capacity, vec_items, vec_len};
     ghost use Rattle.bayou_base.specs.declared.limits.TheConstants.{SERVERS};
     ghost use Rattle.bayou_log.specs.Inner.Index.{Rows};
 
     ghost Value = { Rows };
 
-    ghost view = { λ i. record { rows = i.rows.items; room = vec_capacity i.rows - vec_len i.rows } };
+    ghost view = { λ i. record { rows = map vec_items i.places; room = i.room } };
 
-    ghost invariant = { λ i. All (λ row. length row ≡ SERVERS) i.rows.items };
+    ghost invariant = { λ i. (length i.places ≡ SERVERS) × All (λ own. vec_len own + i.room ≤ vec_capacity own) i.places };
 }
 
 impl Index {
     pub(crate) fn new(alloc: Global) -> Self
-        ensures { result.rows ≡ [] }
+        ensures { All (λ row. row ≡ []) result.rows }
     {
-        Index {
-            rows: Vec::new(alloc),
-        }
+        let places = array::from_fn(
+            |_| -> Vec<u16>
+                ensures { result.items ≡ [] }
+            { Vec::new(alloc) },
+        );
+        Index { places, room: 0 }
     }
 
-    /// Takes room for one more Write.
+    /// Takes room for one more Write, whichever server's it is.
     pub(crate) fn reserve(&mut self) -> Result<(), AllocError>
         ensures same { self.new.rows ≡ self.old.rows }
         ensures kept { self.old.room ≤ self.new.room }
         ensures ok { OnOk result (0 < self.new.room) }
     {
-        self.rows.try_reserve(1)
+        if self.room > 0 {
+            return Ok(());
+        }
+        for server in 0..SERVERS {
+            self.places[server].try_reserve(AHEAD)?;
+        }
+        self.room = AHEAD;
+        Ok(())
     }
 
     /// The place of the Write of this server that has this sequence number.
     pub(crate) fn place(&self, server: usize, seq: u32) -> usize
         requires server { server < SERVERS }
-        requires seq { (0 < seq) × (seq ≤ length self.now.rows) }
+        requires seq { (0 < seq) × (seq ≤ length (places_of self.now.rows server)) }
         ensures { result ≡ place_in self.now.rows server seq }
     {
-        self.rows[seq as usize - 1][server] as usize
+        self.places[server][seq as usize - 1] as usize
     }
 
-    /// Sets the place of the Write, which takes no memory.
+    /// Adds the place of the server's next Write, which takes no memory.
     pub(crate) fn add(&mut self, wid: Wid, place: u16)
-        requires seq { wid.seq ≤ length self.old.rows + 1 }
+        requires seq { wid.seq ≡ length (places_of self.old.rows wid.origin.index) + 1 }
         requires room { 0 < self.old.room }
-        ensures here { place_in self.new.rows wid.origin.index wid.seq ≡ place }
-        ensures others { (server seq : ℕ) → 0 < seq → seq ≤ length self.old.rows → (server ≡ wid.origin.index → seq ≢ wid.seq)
-            → place_in self.new.rows server seq ≡ place_in self.old.rows server seq }
-        ensures rows { (wid.seq ≤ length self.new.rows) × (length self.old.rows ≤ length self.new.rows) }
+        ensures own { places_of self.new.rows wid.origin.index ≡ places_of self.old.rows wid.origin.index ++ place ∷ [] }
+        ensures others { (server : ℕ) → server ≢ wid.origin.index → places_of self.new.rows server ≡ places_of self.old.rows server }
     {
-        let row = wid.seq as usize - 1;
-        if row == self.rows.len() {
-            self.rows.push_reserved([0; SERVERS]);
-        }
-        let mut places = self.rows[row];
-        places[usize::from(wid.origin.index)] = place;
-        self.rows[row] = places;
+        self.places[usize::from(wid.origin.index)].push_reserved(place);
+        self.room -= 1;
     }
 }
