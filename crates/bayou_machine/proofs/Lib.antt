@@ -4,6 +4,7 @@ pub mod Fewer
 pub mod Kept
 pub mod Standing
 pub mod Turned
+pub mod Lending
 pub mod Operations
 pub mod Seated
 pub mod Tagged

@@ -4,13 +4,14 @@ use Rattle.bayou_base.specs.declared.asks.Asks.{Asks}
 use Rattle.bayou_base.specs.declared.entry.Entry.{Entry}
 use Rattle.bayou_base.specs.declared.server.ServerId.{ServerId}
 use Rattle.bayou_base.specs.declared.session.SessionId.{SessionId}
-use Rattle.bayou_judge.specs.History.{lists_of}
+use Rattle.bayou_judge.specs.History.{lent_lists, lists_of}
 use Rattle.bayou_text.specs.Said.{Said, servers, session, write, read, again, drop, log, fuse, lose, reopen, restart, pull, resend, totals, judge, survey, book, phase, entry, held}
 use Rattle.bayou_script.specs.declared.audit.AuditFile.{AuditFile}
 use Rattle.bayou_script.specs.Script.{Plan}
 use Rattle.bayou_answers.specs.declared.answer.Answer.{Answer}
 use Rattle.bayou_answers.specs.declared.answer.Answer.TheVariants.{Booked, Counted, Done, NotAgain, Recovered}
 use Rattle.bayou_answers.specs.declared.answer.Recovery.{Recovery}
+use Rattle.bayou_machine.specs.declared.lent.Lent.{Lent}
 use Rattle.bayou_machine.specs.declared.script_server.ScriptServer.{ScriptServer}
 use Rattle.bayou_machine.specs.Exchange.{Exchanges, own_counts, zero_counts}
 use Rattle.bayou_machine.specs.Filed.{Files, Filings, totals_filed, what_told}
@@ -182,6 +183,12 @@ pub record IsBooked (state : ScriptState) (answer : Answer) : Type 0 where
   pub count : file.count ≡ state.standing.count
   pub entries : file.entries.items ≡ state.book.entries
   pub dumps : lists_of file.dumps.items ≡ dumps_of state.standing
+
+-- what is lent is what the file has
+pub record LendsFile (file : AuditFile) (lent : Lent) : Type 0 where
+  pub count : lent.count ≡ file.count
+  pub entries : lent.entries.now ≡ file.entries.items
+  pub dumps : lent_lists lent.dumps.items ≡ lists_of file.dumps.items
 
 -- From old, what a line says may get this answer and leave new: what sessions are told is filed, and the totals, the verdict, the survey
 -- and the book are those of what was filed so far.

@@ -13,11 +13,13 @@
 #![tactic(auto)]
 
 mod exchange;
+pub mod lent;
 pub mod machine;
 mod parties;
 mod script_book;
 pub mod script_server;
 mod seat;
 
+pub use lent::Lent;
 pub use machine::Machine;
 pub use script_server::ScriptServer;

@@ -3,12 +3,14 @@ ghost use Rattle.std.specs.Prelude.{◌≡◌, ◌≢◌, ◌<◌, [], IfErr, If
 ghost use Rattle.bayou_answers.specs.declared.answer.Answer.TheVariants.{Booked};
 ghost use Rattle.bayou_audit.specs.Blanks.{AreBlanksOf, named};
 ghost use Rattle.bayou_base.specs.declared.limits.TheConstants.{SESSIONS as SESSIONS_NUMBER};
+ghost use Rattle.bayou_script.specs.declared.audit.AuditFile.{AuditFile};
 ghost use Rattle.bayou_script.specs.Script.{is_served};
 ghost use Rattle.bayou_script.specs.Capacity.{operation_of};
-ghost use Rattle.bayou_machine.specs.Run.{IsBooked, IsJudged, IsSurveyed, TakesMemory, Turn};
+ghost use Rattle.bayou_machine.specs.Run.{IsBooked, IsJudged, IsSurveyed, LendsFile, TakesMemory, Turn};
 ghost use Rattle.bayou_machine.specs.Standing.{FailsToBegin, HasBegun};
 ghost use Rattle.bayou_text.specs.Said.{command_said, operation_said, question_said};
 
+use crate::lent::Lent;
 use crate::parties::Parties;
 use crate::script_book::ScriptBook;
 use bayou_answers::{Answer, BeginFault, judged, surveyed};
@@ -78,6 +80,17 @@ impl<K: Ledgers> Machine<K> {
             entries,
             dumps,
         })
+    }
+
+    /// What was filed so far, and what the servers hold, lent: what the book is answered, with nothing copied.
+    pub fn lend(&self) -> Lent<'_>
+        ensures { (file : AuditFile) × IsBooked self.now (Booked file) × LendsFile file result }
+    {
+        Lent {
+            count: self.parties.count(),
+            entries: self.book.filed(),
+            dumps: self.parties.lend(),
+        }
     }
 
     /// The verdict on that.

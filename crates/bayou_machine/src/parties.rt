@@ -1,5 +1,5 @@
 //! The servers and the sessions of a script.
-ghost use Rattle.std.specs.Prelude.{◌≡◌, ◌<◌, ◌≤◌, ℕ, IfOk, IfErr, IsTrue, List, length};
+ghost use Rattle.std.specs.Prelude.{◌≡◌, ◌<◌, ◌≤◌, ◌^◌, ℕ, All, IfOk, IfErr, IsTrue, List, length};
 ghost use Rattle.std.specs.Option.{option_map};
 ghost use Rattle.bayou_script.specs.Script.{is_served};
 ghost use Rattle.bayou_base.specs.declared.limits.TheConstants.{SERVERS as SERVERS_NUMBER, SESSIONS as SESSIONS_NUMBER};
@@ -118,6 +118,7 @@ impl Parties {
     pub(crate) fn lend(&self) -> ArrayVec<&[RestingWrite], SERVERS>
         ensures lists { lent_lists result.items ≡ dumps_of self.now }
         ensures one_each { length result.items ≡ self.now.count }
+        ensures few { All (λ dump. length dump.now < 2 ^ 63) result.items }
     {
         let mut lent = ArrayVec::new();
         for server in &self.servers {

@@ -1,11 +1,11 @@
 -- One text behind another.
 use Rattle.std.proofs.Common.{◌≡◌, ◌≤◌, ◌<◌, ◌⊎◌, ◌∙◌, ◌++◌, ℕ, zero, suc, List, [], Result, OnOk, inl, inr, length, get_or, ap, sym, subst, arith, append_assoc}
 use Rattle.std.proofs.lemmas.Bool.{cases_lt}
-use Rattle.std.specs.Global.{Vec}
+use Rattle.std.specs.Borrow.{Bor}
 use Rattle.std.proofs.lemmas.List.{append-nil, get_or-map}
 use Rattle.std.proofs.lemmas.Result.{on_ok_weaker}
 use Rattle.bayou_lang.specs.declared.write.Write.{Write}
-use Rattle.bayou_judge.specs.History.{dump_of, lists_of}
+use Rattle.bayou_judge.specs.History.{dump_of, lent_lists}
 use Rattle.bayou_print.specs.Booked.{dumps_text, held_text}
 use Rattle.bayou_print.specs.declared.fault.RunFault.{RunFault}
 use Rattle.bayou_print.specs.Waiting.{Gathers, Stage}
@@ -60,6 +60,6 @@ dumps_more count dumps at a b c text before is whole =
     Gathers-trans a b c (dumps_text count dumps at) (held_text count at (dump_of dumps at)) [] before (subst (λ held. Gathers b c held []) is whole)
 
 -- the dump that is found at its place
-pub dump_at : (dumps : List (Vec Write)) (at : ℕ) (dump : Vec Write) → at < length dumps → dump ≡ get_or dumps at dump → dump.items ≡ dump_of (lists_of dumps) at
+pub dump_at : (dumps : List (Bor (List Write))) (at : ℕ) (dump : Bor (List Write)) → at < length dumps → dump ≡ get_or dumps at dump → dump.now ≡ dump_of (lent_lists dumps) at
 dump_at dumps at dump within found =
-    ap (λ (d : Vec Write). d.items) found ∙ sym (get_or-map (λ (d : Vec Write). d.items) dumps at dump [] within)
+    ap (λ (d : Bor (List Write)). d.now) found ∙ sym (get_or-map (λ (d : Bor (List Write)). d.now) dumps at dump [] within)

@@ -33,7 +33,7 @@ pub use fault::RunFault;
 pub use living::{held_line, serving_line};
 pub use printed::{last_line, pulling_word, settled_line};
 pub use printer::{Listing, Printer, Survey};
-pub use telling::{write_answer, write_each};
+pub use telling::{write_answer, write_book, write_each};
 pub use verdict::verdict_line;
 pub use waiting::Waiting;
 pub use writing::write_text;

@@ -1,7 +1,7 @@
 //! Answers to what is written for them, line by line.
 ghost use Rattle.std.specs.Prelude.{◌≡◌, ◌<◌, ◌≤◌, [], List, ℕ, IfErr, OnOk, flat_map, length};
 ghost use Rattle.bayou_base.specs.declared.limits.TheConstants.{SERVERS};
-ghost use Rattle.bayou_judge.specs.History.{lists_of};
+ghost use Rattle.bayou_judge.specs.History.{lent_lists, lists_of};
 ghost use Rattle.bayou_print.specs.Booked.{book_text, dumps_text, evidence_text};
 ghost use Rattle.bayou_print.specs.Printed.{answer_text, last_text, lines_text};
 ghost use Rattle.bayou_print.specs.Faults.{IsRunFault};
@@ -14,7 +14,8 @@ use crate::printed::last_line;
 use crate::printer::{Listing, Printer, Survey};
 use crate::waiting::Waiting;
 use bayou_answers::Answer;
-use bayou_base::ServerId;
+use bayou_base::{Entry, ServerId};
+use bayou_judge::lend_dumps;
 use bayou_lang::RestingWrite;
 use bayou_script::AuditFile;
 use bayou_streams::Output;
@@ -46,16 +47,16 @@ pub fn write_each<P: Printer, W: Write>(
 fn write_dumps<W: Write>(
     alloc: Global,
     count: u8,
-    dumps: &[Vec<RestingWrite>],
+    dumps: &[&[RestingWrite]],
     output: &mut Output<W>,
     waiting: &mut Waiting,
 ) -> Result<(), RunFault>
     requires servers { (0 < count) × (count ≤ SERVERS) }
     requires dumps { length dumps.now ≡ count }
-    ensures whole { OnOk result (Gathers (stage W.contents output.old waiting.old) (stage W.contents output.new waiting.new) (dumps_text count (lists_of dumps.now) count) []) }
+    ensures whole { OnOk result (Gathers (stage W.contents output.old waiting.old) (stage W.contents output.new waiting.new) (dumps_text count (lent_lists dumps.now) count) []) }
     ensures fault { IfErr result IsRunFault }
     ensures ended { IfErr result (EndsWriting output.new.channel.write_failed output.new.channel.turns_left) }
-    ensures part { (missing : List ℕ) × Gathers (stage W.contents output.old waiting.old) (stage W.contents output.new waiting.new) (dumps_text count (lists_of dumps.now) count) missing }
+    ensures part { (missing : List ℕ) × Gathers (stage W.contents output.old waiting.old) (stage W.contents output.new waiting.new) (dumps_text count (lent_lists dumps.now) count) missing }
     ensures ready { OnOk result (output.old.channel.turns_left ≤ output.new.channel.turns_left) }
 {
     for index in 0..count {
@@ -63,7 +64,7 @@ fn write_dumps<W: Write>(
             server: ServerId { index },
             count,
         };
-        let dump = dumps[usize::from(index)].as_slice();
+        let dump = dumps[usize::from(index)];
         write_each(alloc, &holding, dump, output, waiting)?;
     }
     Ok(())
@@ -72,23 +73,48 @@ fn write_dumps<W: Write>(
 /// Writes the lines of an audit file behind its first.
 fn write_evidence<W: Write>(
     alloc: Global,
-    file: &AuditFile,
+    count: u8,
+    entries: &[Entry],
+    dumps: &[&[RestingWrite]],
     output: &mut Output<W>,
     waiting: &mut Waiting,
 ) -> Result<(), RunFault>
-    ensures whole { OnOk result (Gathers (stage W.contents output.old waiting.old) (stage W.contents output.new waiting.new) (evidence_text file.now.count file.now.entries.items (lists_of file.now.dumps.items)) []) }
+    requires servers { (0 < count) × (count ≤ SERVERS) }
+    requires dumps { length dumps.now ≡ count }
+    ensures whole { OnOk result (Gathers (stage W.contents output.old waiting.old) (stage W.contents output.new waiting.new) (evidence_text count entries.now (lent_lists dumps.now)) []) }
     ensures fault { IfErr result IsRunFault }
     ensures ended { IfErr result (EndsWriting output.new.channel.write_failed output.new.channel.turns_left) }
-    ensures part { (missing : List ℕ) × Gathers (stage W.contents output.old waiting.old) (stage W.contents output.new waiting.new) (evidence_text file.now.count file.now.entries.items (lists_of file.now.dumps.items)) missing }
+    ensures part { (missing : List ℕ) × Gathers (stage W.contents output.old waiting.old) (stage W.contents output.new waiting.new) (evidence_text count entries.now (lent_lists dumps.now)) missing }
     ensures ready { OnOk result (output.old.channel.turns_left ≤ output.new.channel.turns_left) }
 {
-    let entries = Entries { count: file.count };
-    write_each(alloc, &entries, file.entries.as_slice(), output, waiting)?;
-    write_dumps(alloc, file.count, file.dumps.as_slice(), output, waiting)
+    write_each(alloc, &Entries { count }, entries, output, waiting)?;
+    write_dumps(alloc, count, dumps, output, waiting)
 }
 
-/// Writes the lines of an audit file.
-fn write_book<W: Write>(
+/// Writes the lines of an audit file: of these entries, and of what each of so many servers holds. It copies one of them at a time.
+pub fn write_book<W: Write>(
+    alloc: Global,
+    count: u8,
+    entries: &[Entry],
+    dumps: &[&[RestingWrite]],
+    output: &mut Output<W>,
+    waiting: &mut Waiting,
+) -> Result<(), RunFault>
+    requires servers { (0 < count) × (count ≤ SERVERS) }
+    requires dumps { length dumps.now ≡ count }
+    ensures whole { OnOk result (Gathers (stage W.contents output.old waiting.old) (stage W.contents output.new waiting.new) (book_text count entries.now (lent_lists dumps.now)) []) }
+    ensures fault { IfErr result IsRunFault }
+    ensures ended { IfErr result (EndsWriting output.new.channel.write_failed output.new.channel.turns_left) }
+    ensures part { (missing : List ℕ) × Gathers (stage W.contents output.old waiting.old) (stage W.contents output.new waiting.new) (book_text count entries.now (lent_lists dumps.now)) missing }
+    ensures ready { OnOk result (output.old.channel.turns_left ≤ output.new.channel.turns_left) }
+{
+    let line = servers_line(alloc, count)?;
+    waiting.print(output, line.as_bytes())?;
+    write_evidence(alloc, count, entries, dumps, output, waiting)
+}
+
+/// Writes the lines of an audit file that is kept.
+fn write_file<W: Write>(
     alloc: Global,
     file: &AuditFile,
     output: &mut Output<W>,
@@ -100,9 +126,8 @@ fn write_book<W: Write>(
     ensures part { (missing : List ℕ) × Gathers (stage W.contents output.old waiting.old) (stage W.contents output.new waiting.new) (book_text file.now.count file.now.entries.items (lists_of file.now.dumps.items)) missing }
     ensures ready { OnOk result (output.old.channel.turns_left ≤ output.new.channel.turns_left) }
 {
-    let line = servers_line(alloc, file.count)?;
-    waiting.print(output, line.as_bytes())?;
-    write_evidence(alloc, file, output, waiting)
+    let dumps = lend_dumps(&file.dumps);
+    write_book(alloc, file.count, &file.entries, &dumps, output, waiting)
 }
 
 /// Writes the lines of the parts of an answer, if it has such.
@@ -134,7 +159,7 @@ fn write_parts<W: Write>(
             Ok(list) => write_each(alloc, &Survey, list.as_slice(), output, waiting),
             Err(_) => Ok(()),
         },
-        Answer::Booked(file) => write_book(alloc, file, output, waiting),
+        Answer::Booked(file) => write_file(alloc, file, output, waiting),
         // The others have a last line alone, or none.
         _ => Ok(()),
     }

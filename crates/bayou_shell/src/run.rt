@@ -7,7 +7,7 @@ ghost use Rattle.bayou_base.specs.declared.limits.TheConstants.{SESSIONS as SESS
 ghost use Rattle.bayou_audit.specs.Blanks.{AreBlanksOf, named};
 ghost use Rattle.bayou_script.specs.Capacity.{operation_of};
 ghost use Rattle.bayou_print.specs.Printed.{answer_text};
-ghost use Rattle.bayou_machine.specs.Run.{IsNewRun, Turn};
+ghost use Rattle.bayou_machine.specs.Run.{IsBooked, IsNewRun, Turn};
 ghost use Rattle.bayou_shell.specs.Run.{Prints, PrintsPart, RunsAs};
 ghost use Rattle.bayou_print.specs.Fault.{answer_status, ended_status};
 ghost use Rattle.bayou_print.specs.Faults.{IsRunFault};
@@ -19,14 +19,35 @@ use crate::reading::read_script;
 use bayou_audit::{Blanks, Four, Ledgers};
 use bayou_base::SESSIONS;
 use bayou_machine::Machine;
-use bayou_print::{Ended, RunFault, Waiting, write_answer};
+use bayou_print::{Ended, RunFault, Waiting, write_answer, write_book};
 use bayou_script::{Script, Servers, capacity_for};
 use bayou_streams::{CountedChannel, Output};
-use bayou_text::Command;
+use bayou_text::{Command, Question};
 use std::alloc::Global;
 use std::io::{Read, Write};
 use std::marker::Brand;
 use std::sync::ledger::{Blank, Ledger};
+
+/// Writes the book as the machine lends it, or has it wait.
+fn write_lent<K: Ledgers, W: Write>(
+    alloc: Global,
+    servers: Servers,
+    machine: &Machine<K>,
+    output: &mut Output<W>,
+    waiting: &mut Waiting,
+) -> Result<Ended, RunFault>
+    ensures answered { (answer : Answer) × IsBooked machine.now answer × MatchResult result
+        (λ ended. (ended_status ended ≡ answer_status answer)
+        × Gathers (stage W.contents output.old waiting.old) (stage W.contents output.new waiting.new) (answer_text servers.count answer) [])
+        (λ fault. IsRunFault fault
+        × (missing : List ℕ) × Gathers (stage W.contents output.old waiting.old) (stage W.contents output.new waiting.new) (answer_text servers.count answer) missing) }
+    ensures ended { IfErr result (EndsWriting output.new.channel.write_failed output.new.channel.turns_left) }
+    ensures ready { OnOk result (output.old.channel.turns_left ≤ output.new.channel.turns_left) }
+{
+    let lent = machine.lend();
+    write_book(alloc, lent.count, lent.entries, &lent.dumps, output, waiting)?;
+    Ok(Ended::Clean)
+}
 
 /// Answers one command, and writes what is printed for it, or has it wait. Where a log wants memory, nothing is printed for it.
 fn answer_one<K: Ledgers, W: Write>(
@@ -49,6 +70,9 @@ fn answer_one<K: Ledgers, W: Write>(
     ensures ended { IfErr result (EndsWriting output.new.channel.write_failed output.new.channel.turns_left) }
     ensures ready { OnOk result (output.old.channel.turns_left ≤ output.new.channel.turns_left) }
 {
+    if matches!(command, Command::Question(Question::Book)) {
+        return write_lent(alloc, servers, machine, output, waiting);
+    }
     let answer = machine.answer(alloc, command)?;
     write_answer(alloc, servers.count, &answer, output, waiting)?;
     Ok(Ended::of(&answer))

@@ -1,6 +1,6 @@
 use Rattle.std.proofs.Common.{List, [], None, ℕ, ◌∙◌, subst, sym}
 use Rattle.std.specs.Io.{IsEmptyOrEndsWith}
-use Rattle.bayou_judge.specs.History.{lists_of}
+use Rattle.bayou_judge.specs.History.{lent_lists}
 use Rattle.bayou_print.specs.Booked.{evidence_text, line_text}
 use Rattle.bayou_print.specs.Laws.Ends.{line_ends}
 use Rattle.bayou_text.specs.Said.{servers}
@@ -14,31 +14,28 @@ returns-in_err-line-clause-part g c = (_, Gathers-none _ _)
 
 pub print-requires : goal.print-requires
 print-requires g c =
-    subst (λ (text : List ℕ). IsEmptyOrEndsWith text 10) (sym (c.as_bytes.ensures.value ∙ c.in_ok-line.ensures)) (line_ends (servers c.args.file.now.count None))
+    subst (λ (text : List ℕ). IsEmptyOrEndsWith text 10) (sym (c.as_bytes.ensures.value ∙ c.in_ok-line.ensures)) (line_ends (servers c.args.count None))
 
 pub returns-in_err-print-clause-part : goal.returns-in_err-print-clause-part
 returns-in_err-print-clause-part g c =
-    let file = c.args.file.now in
     let now = stage g.W.Write.contents in
-    first_part (now c.args.output.now c.args.waiting.now) (now c.print.new.output c.print.new.self) (line_text (servers file.count None))
-    (evidence_text file.count file.entries.items (lists_of file.dumps.items))
+    first_part (now c.args.output.now c.args.waiting.now) (now c.print.new.output c.print.new.self) (line_text (servers c.args.count None))
+    (evidence_text c.args.count c.args.entries.now (lent_lists c.args.dumps.now))
     (subst (λ text. (missing : List ℕ) × Gathers (now c.args.output.now c.args.waiting.now) (now c.print.new.output c.print.new.self) text missing)
     (c.as_bytes.ensures.value ∙ c.in_ok-line.ensures) c.in_err-print.ensures.part)
 
 pub returns-clause-whole : goal.returns-clause-whole
 returns-clause-whole g c =
-    let file = c.args.file.now in
     let now = stage g.W.Write.contents in
     both_whole (now c.args.output.now c.args.waiting.now) (now c.print.new.output c.print.new.self) (now c.write_evidence.new.output c.write_evidence.new.waiting)
-    (line_text (servers file.count None)) (evidence_text file.count file.entries.items (lists_of file.dumps.items)) c.write_evidence.result
+    (line_text (servers c.args.count None)) (evidence_text c.args.count c.args.entries.now (lent_lists c.args.dumps.now)) c.write_evidence.result
     (subst (λ text. Gathers (now c.args.output.now c.args.waiting.now) (now c.print.new.output c.print.new.self) text [])
     (c.as_bytes.ensures.value ∙ c.in_ok-line.ensures) c.in_ok-print.ensures.whole) c.write_evidence.ensures.whole
 
 pub returns-clause-part : goal.returns-clause-part
 returns-clause-part g c =
-    let file = c.args.file.now in
     let now = stage g.W.Write.contents in
     second_part (now c.args.output.now c.args.waiting.now) (now c.print.new.output c.print.new.self) (now c.write_evidence.new.output c.write_evidence.new.waiting)
-    (line_text (servers file.count None)) (evidence_text file.count file.entries.items (lists_of file.dumps.items))
+    (line_text (servers c.args.count None)) (evidence_text c.args.count c.args.entries.now (lent_lists c.args.dumps.now))
     (subst (λ text. Gathers (now c.args.output.now c.args.waiting.now) (now c.print.new.output c.print.new.self) text [])
     (c.as_bytes.ensures.value ∙ c.in_ok-line.ensures) c.in_ok-print.ensures.whole) c.write_evidence.ensures.part

@@ -1,5 +1,5 @@
 use Rattle.std.proofs.Common.{◌∙◌, ap, add-one, arith, get_or}
-use Rattle.bayou_judge.specs.History.{lists_of}
+use Rattle.bayou_judge.specs.History.{lent_lists}
 use Rattle.bayou_print.specs.Booked.{held_text}
 use Rattle.bayou_print.specs.Waiting.{stage}
 use Rattle.bayou_print.proofs.Sequence.{dump_at, dumps_more, dumps_part}
@@ -10,9 +10,9 @@ loop-index-preserved g c =
     let (before, ready) = c.loop-index.invariant in
     let now = stage g.W.Write.contents in
     let at = c.loop-index.index in
-    let lists = lists_of c.args.dumps.now in
+    let lists = lent_lists c.args.dumps.now in
     let is = ap (held_text c.args.count at)
-    (c.as_slice-dump.ensures.value ∙ dump_at c.args.dumps.now at c.index-dumps-from.result (omega (arith, c.loop-index-test.true, c.requires.dumps))
+    (dump_at c.args.dumps.now at c.index-dumps-from.result (omega (arith, c.loop-index-test.true, c.requires.dumps))
     (c.index-dumps-from.is ∙ ap (λ i. get_or c.args.dumps.now i c.index-dumps-from.result) c.from.ensures)) in (
       rw add-one
           (dumps_more c.args.count lists at (now c.args.output.now c.args.waiting.now) (now c.loop-index.output c.loop-index.waiting)
@@ -26,8 +26,8 @@ returns-in_err-write_each-clause-part g c =
     let (missing, some) = c.in_err-write_each.ensures.part in
     let now = stage g.W.Write.contents in
     let at = c.loop-index.index in
-    dumps_part c.args.count (lists_of c.args.dumps.now) c.args.count at (now c.args.output.now c.args.waiting.now) (now c.loop-index.output c.loop-index.waiting)
+    dumps_part c.args.count (lent_lists c.args.dumps.now) c.args.count at (now c.args.output.now c.args.waiting.now) (now c.loop-index.output c.loop-index.waiting)
     (now c.write_each.new.output c.write_each.new.waiting) _ missing (omega (arith, c.loop-index-test.true)) before
     (ap (held_text c.args.count at)
-    (c.as_slice-dump.ensures.value ∙ dump_at c.args.dumps.now at c.index-dumps-from.result (omega (arith, c.loop-index-test.true, c.requires.dumps))
+    (dump_at c.args.dumps.now at c.index-dumps-from.result (omega (arith, c.loop-index-test.true, c.requires.dumps))
     (c.index-dumps-from.is ∙ ap (λ i. get_or c.args.dumps.now i c.index-dumps-from.result) c.from.ensures))) some
