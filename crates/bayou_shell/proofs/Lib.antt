@@ -1,5 +1,6 @@
 pub mod Asked
 pub mod Audited
+pub mod Lent
 pub mod Nets
 pub mod Read
 pub mod Runs

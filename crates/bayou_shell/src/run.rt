@@ -45,7 +45,14 @@ fn write_lent<K: Ledgers, W: Write>(
     ensures ready { OnOk result (output.old.channel.turns_left ≤ output.new.channel.turns_left) }
 {
     let lent = machine.lend();
-    write_book(alloc, lent.count, lent.entries, &lent.dumps, output, waiting)?;
+    write_book(
+        alloc,
+        lent.count,
+        lent.entries,
+        &lent.dumps,
+        output,
+        waiting,
+    )?;
     Ok(Ended::Clean)
 }
 
