@@ -5,7 +5,7 @@ ghost use Rattle.bayou_base.specs.declared.limits.TheConstants.{SESSIONS as NUMB
 use crate::fault::ConnectFault;
 use bayou_device::{CarefulDevice, FileDevice};
 use bayou_journal::OpenFault;
-use bayou_journal::format::ENTRY_BYTES;
+use bayou_journal::with_care;
 use bayou_remember::{KeepFault, Kept, Memory, RememberFault};
 use bayou_session::FIRST_RUN;
 use std::alloc::Global;
@@ -62,7 +62,7 @@ fn open_at<T: Files<File = File>>(
     let Ok(file) = FileDevice::open(rt, path) else {
         return Err(ConnectFault::StateNotOpened);
     };
-    let device = CarefulDevice::new(file, ENTRY_BYTES);
+    let device = with_care(file);
     match Memory::open(alloc, device, run) {
         Ok((memory, all)) => Ok(Remembered { memory, all }),
         Err(refused) => Err(fault_of(refused.fault, &refused.device)),
