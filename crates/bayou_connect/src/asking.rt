@@ -1,9 +1,12 @@
 //! One operation of a session at one server, with a book of its own.
-ghost use Rattle.std.specs.Prelude.{◌≡◌, ◌+◌, ◌<◌, IfOk};
+ghost use Rattle.std.specs.Prelude.{◌≡◌, ◌+◌, ◌<◌, IfOk, OnOk};
 ghost use Rattle.bayou_audit.specs.Blanks.{AreBlanksOf, named};
 ghost use Rattle.bayou_base.specs.declared.limits.TheConstants.{MAX_PLACES};
+ghost use Rattle.bayou_connect.specs.Keeping.{IsKeptLast, IsReady};
 
+use crate::fault::ConnectFault;
 use crate::reach::SocketLink;
+use crate::remembering::StateFile;
 use crate::told::Told;
 use bayou_audit::{AuditBook, Blanks, Four, Ledgers, Share};
 use bayou_base::{Entry, Key, ServerId};
@@ -222,17 +225,39 @@ where
     })
 }
 
-/// Does it at this server, which the link goes to, and tells what became of the session, and what is entered of it.
+/// Keeps the session, where a file keeps sessions.
+pub(crate) fn keep(
+    alloc: Global,
+    state: &mut Option<StateFile>,
+    kept: &Kept,
+) -> Result<(), ConnectFault>
+    ensures { OnOk result (IsKeptLast state.new kept.now) }
+{
+    match state {
+        None => Ok(()),
+        Some(file) => file.keep(alloc, kept),
+    }
+}
+
+/// Does it at this server, which the link goes to, and tells what became of the session, which is kept by then, and what is entered of it. A Write
+/// that it sends was kept before.
 pub(crate) fn operate<T: Wait>(
     rt: &T,
     alloc: Global,
+    state: &mut Option<StateFile>,
     kept: Kept,
     link: &mut SocketLink,
     server: ServerId,
     asking: Attempt,
-) -> Result<Done, AllocError>
-    requires { kept.session.begun < MAX_PLACES }
+) -> Result<Done, ConnectFault>
+    requires left { kept.session.begun < MAX_PLACES }
+    requires ready { IsReady state.old kept server asking }
+    ensures { IfOk result (λ done. IsKeptLast state.new done.kept) }
 {
     let blanks = blanks(kept.session().id().index + 1);
-    operate_with::<Brand, Brand, Brand, Brand, T>(rt, alloc, blanks, kept, link, server, asking)
+    let done = operate_with::<Brand, Brand, Brand, Brand, T>(
+        rt, alloc, blanks, kept, link, server, asking,
+    )?;
+    keep(alloc, state, &done.kept)?;
+    Ok(done)
 }

@@ -1,5 +1,5 @@
 //! Whom a person is at, as the words of the command line say it.
-ghost use Rattle.std.specs.Prelude.{◌≡◌, ◌≢◌, ◌<◌, ◌≤◌, All, IfOk, IfSome, false, length, true};
+ghost use Rattle.std.specs.Prelude.{◌≡◌, ◌≢◌, ◌<◌, ◌≤◌, All, AllPairs, IfOk, IfSome, false, length, true};
 ghost use Rattle.bayou_base.specs.declared.limits.TheConstants.{SERVERS as NUMBER};
 
 use bayou_base::{Asks, ServerId};
@@ -27,6 +27,7 @@ pub struct Plan {
     pub wait_seconds: u32,
     pub ghost some: { 0 < length places.items },
     pub ghost among: { All (λ place. place.id.index < servers) places.items },
+    pub ghost once: { AllPairs (λ one other. one.id ≢ other.id) places.items },
     pub ghost number: { (0 < servers) × (servers ≤ NUMBER) },
 }
 
@@ -102,6 +103,7 @@ fn has_place(places: &[Place], id: ServerId) -> bool
 // The servers that the words say, none of them twice.
 fn places_of(alloc: Global, words: &[&str]) -> Result<Vec<Place>, PlanFault>
     ensures number { IfOk result (λ places. length places.items ≡ length words.now) }
+    ensures once { IfOk result (λ places. AllPairs (λ one other. one.id ≢ other.id) places.items) }
 {
     let mut places: Vec<Place> = Vec::new(alloc);
     for word in words {

@@ -84,6 +84,14 @@ pub record HasKept {D : Type 0} (d : Ghosts D) (old : MemoryState D) (kept : Kee
   pub synced : d.kept new.device ≡ d.content new.device
   pub others : new ≡ record old { device = new.device; last = link old.last body; entries = one_more old.entries }
 
+-- what stands last in the journal is this
+pub record EndsWith {D : Type 0} (memory : MemoryState D) (kept : Keeping) : Type 0 where
+  pub before : List ℕ
+  pub body : List ℕ
+  pub spelled : SpellsKept body kept
+  pub ends : memory.last ≡ link before body
+  pub up : memory.is_down ≡ false
+
 -- A call of the device failed before, and nothing was done; or one failed as the entry was to be added.
 pub record HasFailedToKeep {D : Type 0} (d : Ghosts D) (old : MemoryState D) (kept : Keeping) (new : MemoryState D) : Type 0 where
   pub before : old.is_down ≡ true → new ≡ old

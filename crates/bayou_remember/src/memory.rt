@@ -1,7 +1,7 @@
 //! What is kept, on a device.
 ghost use Rattle.std.specs.Prelude.{◌≡◌, ◌<◌, ◌++◌, ◌∷◌, [], IfErr, IfOk, List, OnOk};
 ghost use Rattle.bayou_journal.specs.Opening.{KeepsChains};
-ghost use Rattle.bayou_remember.specs.Memory.{AreLast, HasAll, HasNotRemembered, HasRemembered, Keeps, Remembers};
+ghost use Rattle.bayou_remember.specs.Memory.{AreLast, EndsWith, HasAll, HasNotRemembered, HasRemembered, Keeps, Remembers};
 ghost use Rattle.bayou_remember.specs.Inner.Reading.{CantTell};
 ghost use Rattle.bayou_remember.specs.Spelling.{Keeping};
 
@@ -163,6 +163,7 @@ impl<D: Device + Drop> Memory<D> {
     /// Keeps it, behind all else and synced. Behind a call of the device that failed nothing more is kept.
     pub fn keep(&mut self, alloc: Global, kept: &Kept) -> Result<(), KeepFault>
         ensures keeps { Keeps D.Device self.old kept.now result self.new }
+        ensures ends { OnOk result (EndsWith self.new kept.now) }
         // A device that had these and nothing else has this one too, last.
         ensures all { D.is_modelled → OnOk result ((all : List Keeping) → HasAll D.Device self.old all → HasAll D.Device self.new (all ++ kept.now ∷ [])) }
         ensures safe { D.is_modelled → KeepsChains (D.kept self.old.device) (D.kept self.new.device) }
