@@ -1,3 +1,4 @@
+pub mod Serving
 pub mod Shares
 pub mod Telling
 pub mod Turns

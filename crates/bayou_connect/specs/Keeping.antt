@@ -3,9 +3,11 @@ use Rattle.std.specs.Prelude.{◌≡◌, ◌⊎◌, ℕ, List, Option, None, Som
 use Rattle.bayou_base.specs.declared.server.ServerId.{ServerId}
 use Rattle.bayou_connect.specs.declared.asking.Attempt.{Attempt}
 use Rattle.bayou_connect.specs.declared.asking.Attempt.TheVariants as attempts
+use Rattle.bayou_connect.specs.declared.reach.Access.{Access}
 use Rattle.bayou_connect.specs.declared.remembering.StateFile.{StateFile}
 use Rattle.bayou_connect.specs.declared.told.Told.{Told}
 use Rattle.bayou_connect.specs.declared.told.Told.TheVariants.{Away, Lost}
+use Rattle.bayou_connect.specs.Operating.{HasDone}
 use Rattle.bayou_remember.specs.Memory.{EndsWith}
 use Rattle.bayou_remember.specs.Spelling.{Keeping}
 use Rattle.bayou_session.specs.Needs.{asks_again, asks_first}
@@ -29,11 +31,16 @@ pub record IsUnsent (old new : List (Option Keeping)) (told : Told) : Type 0 whe
   pub same : new ≡ old
   pub none : (told ≡ Away) ⊎ (told ≡ Lost)
 
--- What was told is kept: the session is as it is kept last.
-pub record IsTold (new : List (Option Keeping)) (state : Option StateFile) (who : ℕ) : Type 0 where
+-- The session did this at the server of that place, and is kept last as it was told.
+pub record IsTold (places : List Access) (at : ℕ) (attempt : Attempt) (old new : List (Option Keeping)) (state : Option StateFile) (who : ℕ) (told : Told) : Type 0 where
+  pub server : ServerId
+  pub place : IfSome (slice_get places at) (λ access. access.place.id ≡ server)
+  pub was : Keeping
+  pub had : slice_get old who ≡ Some (Some was)
   pub kept : Keeping
+  pub done : HasDone attempt server was kept told
   pub is : slice_get new who ≡ Some (Some kept)
   pub last : IsKeptLast state kept
 
-abbrev pub HasAsked : (old new : List (Option Keeping)) → Option StateFile → (who : ℕ) → Told → Type 0
-HasAsked old new state who told = IsUnsent old new told ⊎ IsTold new state who
+abbrev pub HasAsked : (places : List Access) (at : ℕ) → Attempt → (old new : List (Option Keeping)) → Option StateFile → (who : ℕ) → Told → Type 0
+HasAsked places at attempt old new state who told = IsUnsent old new told ⊎ IsTold places at attempt old new state who told

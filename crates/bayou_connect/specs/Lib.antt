@@ -1,2 +1,3 @@
 pub mod Keeping
+pub mod Operating
 pub mod Round

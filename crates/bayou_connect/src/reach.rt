@@ -66,7 +66,9 @@ fn open_to<T: Sockets>(rt: &T, place: Place) -> Option<Open> {
 
 impl Access {
     /// Nothing is open yet.
-    pub(crate) fn new(place: Place) -> Self {
+    pub(crate) fn new(place: Place) -> Self
+        ensures { result.place ≡ place }
+    {
         Access { place, open: None }
     }
 

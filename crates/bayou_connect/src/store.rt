@@ -174,7 +174,7 @@ impl Store {
 
     // Writes the state file anew, where it has grown long.
     fn shorten<T: Files<File = File>>(&mut self, rt: &T) -> Result<(), ConnectFault>
-        ensures { OnOk result (self.new.sessions ≡ self.old.sessions) }
+        ensures { OnOk result ((self.new.sessions ≡ self.old.sessions) × (self.new.accesses ≡ self.old.accesses)) }
     {
         if let Some(state) = self.state.take() {
             self.state = Some(state.shortened(rt, self.alloc)?);
@@ -191,7 +191,7 @@ impl Store {
         at: usize,
         attempt: Attempt,
     ) -> Result<Told, ConnectFault>
-        ensures { IfOk result (λ told. HasAsked self.old.sessions.items self.new.sessions.items self.new.state who.index told) }
+        ensures { IfOk result (λ told. HasAsked self.old.accesses.items at attempt self.old.sessions.items self.new.sessions.items self.new.state who.index told) }
     {
         self.shorten(rt)?;
         let alloc = self.alloc;
