@@ -18,9 +18,9 @@ returns g c =
     let began = c.into_parts-session.ensures.parts in
     let ended = c.into_parts-session-2.ensures.parts in
     let old : kept_in c.resume-client.result ≡ c.args.kept =
-        same_kept (kept_in c.resume-client.result) c.args.kept (ap (λ (s : Sharing). s.session) c.resume-client.ensures ∙ began.0) (ap (λ (s : Sharing). s.asked) c.resume-client.ensures ∙ began.1) in
+    same_kept (kept_in c.resume-client.result) c.args.kept (ap (λ (s : Sharing). s.session) c.resume-client.ensures ∙ began.0) (ap (λ (s : Sharing). s.asked) c.resume-client.ensures ∙ began.1) in
     let new : ◌≡◌ {A = Keeping} (record { session = c.into_parts-session-2.result.0; asked = c.into_parts-session-2.result.2 }) (kept_in c.told_of-told.new.client) =
-        same_kept _ (kept_in c.told_of-told.new.client) ended.0 ended.2 in
+    same_kept _ (kept_in c.told_of-told.new.client) ended.0 ended.2 in
     let done = subst (λ (k : Keeping). HasDone c.args.asking c.args.server k (kept_in c.told_of-told.new.client) c.told_of-told.result) old c.told_of-told.ensures in
     let is_owed = owed c.args.asking c.args.server c.args.kept (kept_in c.told_of-told.new.client) c.told_of-told.result c.into_parts-session.ensures.owed done in
     subst (λ (k : Keeping). HasDone c.args.asking c.args.server c.args.kept k c.told_of-told.result) (sym (c.kept_of.ensures (subst IsOwed (sym new) is_owed) ∙ new)) done
