@@ -1,4 +1,6 @@
 //! Links to servers, which are opened as they are needed.
+ghost use Rattle.std.specs.Prelude.{◌≡◌};
+
 use crate::plan::Place;
 use bayou_client::Link;
 use bayou_net::Sockets;
