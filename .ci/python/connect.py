@@ -1,4 +1,5 @@
 """A person at a store, tried from outside. Call: connect.py PROGRAM [GROUP..]."""
+import hashlib
 import json
 import os
 import random
@@ -20,6 +21,17 @@ import bayou  # noqa: E402
 CALENDAR = os.path.join("..", "examples", "calendar")
 HEADER_BYTES = 10
 ENTRY_BYTES = 179
+MOST_ENTRIES = 65536
+
+
+def chained(header, body, count):
+    """A journal with so many entries of this body."""
+    sized = len(body).to_bytes(2, "big") + body
+    entries, digest = [header], hashlib.sha256(header).digest()
+    for _ in range(count):
+        digest = hashlib.sha256(digest + sized).digest()
+        entries += [sized, digest]
+    return b"".join(entries)
 
 
 class DropReply:
@@ -233,6 +245,25 @@ class Tries:
         self.that("the holder ends", holder.wait(SECONDS), 0)
         self.stop_all()
 
+    def grown(self):
+        """A state that has grown long: it is written anew as it is opened, and while it is used."""
+        state = os.path.join(self.room, "grown")
+        server = self.start(self.folder())
+        at, words = [(0, server.address())], ["--state", state, "--session", "all"]
+        self.row("a Write", at, ["put a 1", "get a"], ["0 wrote 0:1 clock 1 deps 0", "0 read a num 1 at 1"], words=words)
+        with open(state, "rb") as file:
+            whole = file.read()
+        last = whole[-ENTRY_BYTES:]
+        body = last[2:-32]
+        for name, count, lines, left in [("is opened", MOST_ENTRIES + 1, 0, 1), ("is used", MOST_ENTRIES - 2, 10, 8), ("is full", MOST_ENTRIES, 0, MOST_ENTRIES)]:
+            with open(state, "wb") as file:
+                file.write(chained(whole[:HEADER_BYTES], body, count))
+            self.row("a state that %s" % name, at, ["get a"] * lines + ["session"], ["0 read a num 1 at 1"] * lines + ["session 0 read 1 wrote 1"], words=words)
+            self.that("entries of a state that %s" % name, (os.path.getsize(state) - HEADER_BYTES) / ENTRY_BYTES, left)
+            self.row("a state that %s goes on" % name, at, ["session"], ["session 0 read 1 wrote 1"], words=words)
+            self.that("nothing is left of it", os.path.exists(state + ".part"), False)
+        self.stop_all()
+
     def damaged(self, state):
         """A state of which more than a torn entry is broken: it is told, and stays."""
         server = self.start(self.folder())
@@ -360,7 +391,7 @@ class Tries:
         self.that("server %d is apart again" % to, again.serving() is not None)
 
 
-GROUPS = ["words", "lines", "turns", "lost", "kept", "killed", "guarantees", "calendar"]
+GROUPS = ["words", "lines", "turns", "lost", "kept", "grown", "killed", "guarantees", "calendar"]
 
 
 def main():

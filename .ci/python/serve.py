@@ -274,6 +274,28 @@ class Tries:
         for server in servers:
             self.that("a told end of a peer", server.end()[0], 0)
 
+    def hanging(self):
+        """A peer that takes connections and says nothing holds nobody up, and is pulled from again once it goes on."""
+        servers, _ = self.fleet(self.folder())
+        self.that("three servers for one that hangs", all([server.serving() is not None for server in servers]))
+        addresses = [server.address() for server in servers]
+        self.that("it is reached before", servers[0].told.find("bayou: peer 1 reached pulled 0 had 0") is not None)
+        os.kill(servers[1].process.pid, signal.SIGSTOP)
+        try:
+            with bayou.Session([addresses[0], None, addresses[2]]) as session:
+                begun = time.monotonic()
+                session.write({"update": [["put", "passed", 1]]}, server=0)
+                self.that("a Write passes a peer that hangs", soon(lambda: session.read("passed", 2)), 1)
+                self.that("and waits for none", time.monotonic() - begun <= 6)
+            self.that("a peer that hangs is told", servers[0].told.find("bayou: peer 1 pull fault read") is not None)
+        finally:
+            os.kill(servers[1].process.pid, signal.SIGCONT)
+        with bayou.Session([None, addresses[1]]) as session:
+            self.that("a Write reaches a peer that goes on", soon(lambda: session.read("passed", 1)), 1)
+        self.that("a peer that goes on is told", servers[0].told.find("bayou: peer 1 reached pulled 0 had 0", count=2) is not None)
+        for server in servers:
+            self.that("a told end of a peer that hung, or beside one", server.end()[0], 0)
+
     def own_lost(self, folder, servers, start):
         path = os.path.join(folder, "server-2.journal")
         servers[2].end()
@@ -482,7 +504,7 @@ def asked_again(session, stop):
     return None
 
 
-GROUPS = ["words", "guards", "clients", "repeats", "patience", "strangers", "short_connections", "crowds", "peers", "full_disk", "killed"]
+GROUPS = ["words", "guards", "clients", "repeats", "patience", "strangers", "short_connections", "crowds", "peers", "hanging", "full_disk", "killed"]
 
 
 def main():

@@ -1,15 +1,14 @@
-//! Servers that live, as far as no socket is wanted: words that are handed over, patience, plans, and what is news of a peer.
+//! Servers that live and sessions of a person: words that are handed over.
 use crate::fakes::FakeReader;
 use crate::memory::must_be_so;
 use bayou_command::{Connecting, Serving};
 use bayou_print::{Ended, RunFault};
 use bayou_script::NetworkScript;
-use bayou_serve::hall::patience_for;
 use bayou_shell::{Files, Networks, run_main};
-use bayou_streams::{CountedChannel, Output, Patience, Patient};
+use bayou_streams::{CountedChannel, Output};
 use std::alloc::Global;
 use std::io;
-use std::io::{ErrorKind, Read, Write};
+use std::io::{ErrorKind, Write};
 
 /// A host that has no file and no network, and remembers the server that it was to let live (its number, how many there are, how many peers it
 /// has, and whether its journal is new), and the servers that it was to ask: how many it was told of, how many there are, how long it waits, and
@@ -162,89 +161,4 @@ fn words_hand_a_session_over(rt: HostRuntime) {
     );
     let (status, host) = handed(rt.alloc(), &["bayou", "connect", "lines"]);
     must_be_so(&rt, status == 2 && host.asked.is_none(), 2);
-}
-
-/// Whoever waits so often, and counts how often that was asked.
-#[derive(Drop)]
-struct Waits {
-    left: u32,
-    asked: u64,
-    is_out: bool,
-}
-
-impl Patience for Waits {
-    ghost use Rattle.std.specs.Prelude.{◌≡◌, true};
-
-    ghost is_out = { λ waits. waits.is_out ≡ true };
-
-    ghost asked = { λ waits. waits.asked };
-
-    fn waits_on(&mut self) -> bool {
-        self.asked = self.asked.saturating_add(1);
-        self.is_out = self.left == 0;
-        self.left = self.left.saturating_sub(1);
-        !self.is_out
-    }
-}
-
-/// A reader that ends so many waits, and then gives a byte.
-#[derive(Drop)]
-struct Slow {
-    waits: u32,
-}
-
-impl Read for Slow {
-    fn read(&mut self, buf: &mut [u8]) -> io::Result<usize> {
-        if self.waits > 0 {
-            self.waits -= 1;
-            return Err(io::Error::from(ErrorKind::WouldBlock));
-        }
-        match buf {
-            [place, ..] => {
-                *place = 7;
-                Ok(1)
-            }
-            [] => Ok(0),
-        }
-    }
-}
-
-/// Whether a byte that comes behind so many waits is read where there is patience for so many.
-fn is_read(waits: u32, patience: u32) -> bool {
-    let asking = Waits {
-        left: patience,
-        asked: 0,
-        is_out: false,
-    };
-    let mut piece = [0; 4];
-    Patient::new(Slow { waits }, asking)
-        .read(&mut piece)
-        .is_ok()
-}
-
-#[test]
-fn a_byte_is_waited_for_as_long_as_there_is_patience(rt: HostRuntime) {
-    for waits in 0..5_u32 {
-        for patience in 0..7_u32 {
-            let is_so = is_read(waits, patience) == (patience > waits);
-            must_be_so(&rt, is_so, u64::from(waits * 10 + patience));
-        }
-    }
-}
-
-/// How many desks are taken, how many there are, how long a connection may say nothing, and how long it may then.
-static CROWDS: [(u64, u64, u64, u64); 6] = [
-    (0, 64, 60_000, 60_000),
-    (63, 64, 60_000, 60_000),
-    (64, 64, 60_000, 2_000),
-    (65, 64, 60_000, 2_000),
-    (2, 2, 1_000, 1_000),
-    (0, 1, 1_000, 1_000),
-];
-
-#[test]
-fn a_crowd_is_served_sooner(rt: HostRuntime) {
-    for (at, (busy, desks, idle, told)) in CROWDS.iter().enumerate() {
-        must_be_so(&rt, patience_for(*busy, *desks, *idle) == *told, at as u64);
-    }
 }

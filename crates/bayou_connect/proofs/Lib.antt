@@ -1,2 +1,5 @@
+pub mod Serving
 pub mod Shares
+pub mod Telling
 pub mod Turns
+pub mod Zipped

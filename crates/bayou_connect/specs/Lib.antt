@@ -1,1 +1,5 @@
+pub mod Keeping
+pub mod Listing
+pub mod Operating
+pub mod Plans
 pub mod Round

@@ -6,6 +6,7 @@ use crate::store::Store;
 use crate::told::Told;
 use bayou_base::SessionId;
 use bayou_net::Sockets;
+use std::fs::{File, Files};
 use std::sync::Wait;
 use std::thread;
 use std::time::{Clock, Duration};
@@ -27,7 +28,7 @@ struct SameAtAll<'a, T> {
     last: usize,
 }
 
-impl<T: Sockets + Wait> Ways for SameAtAll<'_, T> {
+impl<T: Files<File = File> + Sockets + Wait> Ways for SameAtAll<'_, T> {
     type Fault = ConnectFault;
 
     ghost asks = { λ old at new told. Unit {0} };
@@ -47,7 +48,7 @@ pub(crate) struct Served {
 }
 
 /// Has the session ask each server in turn, from this one on, and round again so often while each was away or refused.
-pub(crate) fn anywhere<T: Sockets + Wait + Clock>(
+pub(crate) fn anywhere<T: Files<File = File> + Sockets + Wait + Clock>(
     rt: &T,
     store: &mut Store,
     who: SessionId,
@@ -76,7 +77,7 @@ pub(crate) fn anywhere<T: Sockets + Wait + Clock>(
 }
 
 // Has the session ask each server in this order once.
-fn once_round<T: Sockets + Wait>(
+fn once_round<T: Files<File = File> + Sockets + Wait>(
     rt: &T,
     store: &mut Store,
     who: SessionId,

@@ -1,9 +1,14 @@
 //! One operation of a session at one server, with a book of its own.
-ghost use Rattle.std.specs.Prelude.{◌≡◌, ◌+◌, ◌<◌, IfOk};
+ghost use Rattle.std.specs.Prelude.{◌≡◌, ◌+◌, ◌<◌, ◌↔◌, IfOk, IsSome, OnOk};
 ghost use Rattle.bayou_audit.specs.Blanks.{AreBlanksOf, named};
 ghost use Rattle.bayou_base.specs.declared.limits.TheConstants.{MAX_PLACES};
+ghost use Rattle.bayou_base.specs.declared.server.ServerId.{ServerId as ServerNumber};
+ghost use Rattle.bayou_connect.specs.Keeping.{IsKeptLast, IsReady};
+ghost use Rattle.bayou_connect.specs.Operating.{HasDone, IsNoService};
 
+use crate::fault::ConnectFault;
 use crate::reach::SocketLink;
+use crate::remembering::StateFile;
 use crate::told::Told;
 use bayou_audit::{AuditBook, Blanks, Four, Ledgers, Share};
 use bayou_base::{Entry, Key, ServerId};
@@ -51,7 +56,9 @@ pub(crate) struct Done {
 }
 
 // What a refused operation is told. A refusal that answers none is as no reply.
-fn refused(refusal: Refusal) -> Told {
+fn refused(refusal: Refusal) -> Told
+    ensures { IsNoService result }
+{
     match write_fault_of(refusal) {
         Some(fault) => Told::Refused(fault),
         None => Told::Lost,
@@ -59,7 +66,10 @@ fn refused(refusal: Refusal) -> Told {
 }
 
 // What an operation is told that wasn't served.
-fn unserved(fault: ClientFault) -> Told {
+fn unserved(fault: ClientFault) -> Told
+    ensures none { IsNoService result }
+    ensures full { fault ≡ ClientFault.AuditFull → result ≡ Told.Lost }
+{
     match fault {
         ClientFault::Link(LinkFault::Refused(refusal)) => refused(refusal),
         ClientFault::Link(LinkFault::OutOfMemory) => Told::Refused(WriteFault::OutOfMemory),
@@ -80,6 +90,7 @@ fn told_read<K: Ledgers, R: Read, W: Write, T: Wait>(
     key: &Key,
 ) -> Told
     requires { client.old.session.begun < MAX_PLACES }
+    ensures { HasDone (Attempt.Read key.now) server (record { session = client.old.session; asked = client.old.asked }) (record { session = client.new.session; asked = client.new.asked }) result }
 {
     match client.read(rt, alloc, book, link, server, key) {
         Ok(seen) => Told::Seen(seen),
@@ -98,6 +109,7 @@ fn told_write<K: Ledgers, R: Read, W: Write, T: Wait>(
     program: RestingProgram,
 ) -> Told
     requires { client.old.session.begun < MAX_PLACES }
+    ensures { HasDone (Attempt.Write program) server (record { session = client.old.session; asked = client.old.asked }) (record { session = client.new.session; asked = client.new.asked }) result }
 {
     match client.write(rt, alloc, book, link, server, program) {
         Ok(accepted) => Told::Accepted(accepted),
@@ -114,6 +126,7 @@ fn told_again<K: Ledgers, R: Read, W: Write, T: Wait>(
     link: &mut Link<R, W>,
 ) -> Told
     requires { client.old.session.begun < MAX_PLACES }
+    ensures { (server : ServerNumber) → HasDone Attempt.Again server (record { session = client.old.session; asked = client.old.asked }) (record { session = client.new.session; asked = client.new.asked }) result }
 {
     if client.asked_at().is_none() {
         return Told::Lost;
@@ -135,6 +148,7 @@ pub fn told_of<K: Ledgers, R: Read, W: Write, T: Wait>(
     attempt: Attempt,
 ) -> Told
     requires { client.old.session.begun < MAX_PLACES }
+    ensures { HasDone attempt server (record { session = client.old.session; asked = client.old.asked }) (record { session = client.new.session; asked = client.new.asked }) result }
 {
     match attempt {
         Attempt::Read(key) => told_read(rt, alloc, book, client, link, server, &key),
@@ -157,7 +171,9 @@ fn blanks(shares: u8) -> Blanks
 }
 
 // What is kept of the session, with the Write that it may ask again: none, where its program isn't there.
-fn kept_of(session: Session, asked: Option<Asked>) -> Kept {
+fn kept_of(session: Session, asked: Option<Asked>) -> Kept
+    ensures { (IsSome asked ↔ IsSome session.asked) → result ≡ record { session = session; asked = asked } }
+{
     let past = session.past();
     match (past.asked, asked) {
         (Some(_), Some(asked)) => Kept::new(session, Some(asked)),
@@ -203,6 +219,7 @@ where
     T: Wait,
     requires blanks { AreBlanksOf blanks (named S.name S.parts) (named R.name R.parts) (named W.name W.parts) (named F.name F.parts) (kept.session.id.index + 1) }
     requires left { kept.session.begun < MAX_PLACES }
+    ensures { IfOk result (λ done. HasDone asking server kept done.kept done.told) }
 {
     let (session, asked) = kept.into_parts();
     let shares = session.id().index + 1;
@@ -222,17 +239,40 @@ where
     })
 }
 
-/// Does it at this server, which the link goes to, and tells what became of the session, and what is entered of it.
+/// Keeps the session, where a file keeps sessions.
+pub(crate) fn keep(
+    alloc: Global,
+    state: &mut Option<StateFile>,
+    kept: &Kept,
+) -> Result<(), ConnectFault>
+    ensures { OnOk result (IsKeptLast state.new kept.now) }
+{
+    match state {
+        None => Ok(()),
+        Some(file) => file.keep(alloc, kept),
+    }
+}
+
+/// Does it at this server, which the link goes to, and tells what became of the session, which is kept by then, and what is entered of it. A Write
+/// that it sends was kept before.
 pub(crate) fn operate<T: Wait>(
     rt: &T,
     alloc: Global,
+    state: &mut Option<StateFile>,
     kept: Kept,
     link: &mut SocketLink,
     server: ServerId,
     asking: Attempt,
-) -> Result<Done, AllocError>
-    requires { kept.session.begun < MAX_PLACES }
+) -> Result<Done, ConnectFault>
+    requires left { kept.session.begun < MAX_PLACES }
+    requires ready { IsReady state.old kept server asking }
+    ensures done { IfOk result (λ done. HasDone asking server kept done.kept done.told) }
+    ensures kept { IfOk result (λ done. IsKeptLast state.new done.kept) }
 {
     let blanks = blanks(kept.session().id().index + 1);
-    operate_with::<Brand, Brand, Brand, Brand, T>(rt, alloc, blanks, kept, link, server, asking)
+    let done = operate_with::<Brand, Brand, Brand, Brand, T>(
+        rt, alloc, blanks, kept, link, server, asking,
+    )?;
+    keep(alloc, state, &done.kept)?;
+    Ok(done)
 }

@@ -1,6 +1,5 @@
 //! The lines of an input, done as they come.
-ghost use Rattle.std.specs.Prelude.{◌≡◌, ◌<◌, ◌≤◌, IfOk, vec_len};
-ghost use Rattle.bayou_base.specs.declared.limits.TheConstants.{SESSIONS as NUMBER};
+ghost use Rattle.std.specs.Prelude.{◌<◌, ◌≤◌, IfOk};
 
 use crate::anywhere::ROUNDS_PER_SECOND;
 use crate::audit_file::AuditFile;
@@ -8,12 +7,12 @@ use crate::desk::{Desk, OWN};
 use crate::fault::ConnectFault;
 use crate::lines::{Lines, Next};
 use crate::plan::Plan;
-use crate::remembering::{Remembered, remember};
+use crate::remembering::{Remembered, StateFile, remember};
 use crate::store::Store;
 use bayou_base::{Asks, SESSIONS};
 use bayou_net::Sockets;
 use bayou_person::{WishFault, wish_in};
-use bayou_remember::Kept;
+use bayou_remember::nothing_kept;
 use bayou_script::ScriptFault;
 use bayou_streams::Output;
 use bayou_text::{Line, LineFault, read_line};
@@ -80,7 +79,7 @@ fn wrong_of(fault: LineFault) -> Result<Wrong, ConnectFault> {
 }
 
 // Does a line of a script, and tells what is wrong with it, if anything.
-fn do_script_line<W: Write, T: Sockets + Wait>(
+fn do_script_line<W: Write, T: Files<File = File> + Sockets + Wait>(
     rt: &T,
     desk: &mut Desk,
     output: &mut Output<W>,
@@ -98,7 +97,7 @@ fn do_script_line<W: Write, T: Sockets + Wait>(
 }
 
 // Does a short line, and tells what is wrong with it, if anything.
-fn do_short_line<W: Write, T: Sockets + Wait + Clock>(
+fn do_short_line<W: Write, T: Files<File = File> + Sockets + Wait + Clock>(
     rt: &T,
     desk: &mut Desk,
     output: &mut Output<W>,
@@ -124,7 +123,7 @@ fn do_short_line<W: Write, T: Sockets + Wait + Clock>(
 }
 
 // Does a line, and tells what is wrong with it, if anything.
-fn do_line<W: Write, T: Sockets + Wait + Clock>(
+fn do_line<W: Write, T: Files<File = File> + Sockets + Wait + Clock>(
     rt: &T,
     desk: &mut Desk,
     output: &mut Output<W>,
@@ -162,7 +161,7 @@ where
     I: Read + Drop,
     W: Write,
     E: Write,
-    T: Sockets + Wait + Clock,
+    T: Files<File = File> + Sockets + Wait + Clock,
 {
     let Input {
         reader,
@@ -202,17 +201,6 @@ fn drawn_run<T: RandomSource>(rt: &T) -> Result<u32, ConnectFault>
     Ok(u32::from_be_bytes(bytes).max(1))
 }
 
-// What is kept of sessions: nothing of each, where no file keeps them.
-fn nothing_kept(alloc: Global) -> Result<Vec<Option<Kept>>, ConnectFault>
-    ensures { IfOk result (λ sessions. vec_len sessions ≡ NUMBER) }
-{
-    let mut sessions = Vec::with_capacity(alloc, SESSIONS)?;
-    for _ in 0..SESSIONS {
-        sessions.push(None)?;
-    }
-    Ok(sessions)
-}
-
 // The store that the plan asks for, with what is kept of its sessions.
 fn store_of<T: Files<File = File>>(
     rt: &T,
@@ -223,18 +211,19 @@ fn store_of<T: Files<File = File>>(
 ) -> Result<Store, ConnectFault>
     requires { 0 < run }
 {
-    let (memory, sessions) = match names.state {
+    let (state, sessions) = match names.state {
         None => (None, nothing_kept(alloc)?),
         Some(path) => {
             let Remembered { memory, all } = remember(rt, alloc, path, run)?;
-            (Some(memory), all)
+            let path = path.to_string(alloc)?;
+            (Some(StateFile::new(memory, path, run)), all)
         }
     };
     let book = match names.book {
         None => None,
         Some(path) => Some(AuditFile::open(rt, alloc, path, plan.servers)?),
     };
-    Ok(Store::new(alloc, &plan.places, sessions, memory, book)?)
+    Ok(Store::new(alloc, &plan.places, sessions, state, book)?)
 }
 
 // What the session of short lines asks for: what the plan says, else what it asked for when it was kept, else nothing.
@@ -261,7 +250,7 @@ where
     I: Read + Drop,
     W: Write,
     E: Write,
-    T: Wait + Clock + RandomSource + Files<File = File> + Sockets,
+    T: Files<File = File> + Sockets + Wait + Clock + RandomSource,
 {
     let run = drawn_run(rt)?;
     let mut store = store_of(rt, alloc, plan, names, run)?;

@@ -16,6 +16,7 @@ use bayou_print::{last_line, write_text};
 use bayou_streams::Output;
 use bayou_text::{Attempt as Said, Command, Operation, Trial, TrialKind};
 use std::alloc::Global;
+use std::fs::{File, Files};
 use std::io::Write;
 use std::sync::Wait;
 use std::time::Clock;
@@ -67,7 +68,7 @@ impl Desk {
     }
 
     // A script's operation: at the server that it names, once.
-    fn operate_at<W: Write, T: Sockets + Wait>(
+    fn operate_at<W: Write, T: Files<File = File> + Sockets + Wait>(
         &mut self,
         rt: &T,
         output: &mut Output<W>,
@@ -88,7 +89,7 @@ impl Desk {
     }
 
     // The Write that may be asked again, once more, or that there is none.
-    pub(crate) fn ask_again<W: Write, T: Sockets + Wait>(
+    pub(crate) fn ask_again<W: Write, T: Files<File = File> + Sockets + Wait>(
         &mut self,
         rt: &T,
         output: &mut Output<W>,
@@ -112,7 +113,7 @@ impl Desk {
     }
 
     // A script's operation.
-    fn operate<W: Write, T: Sockets + Wait>(
+    fn operate<W: Write, T: Files<File = File> + Sockets + Wait>(
         &mut self,
         rt: &T,
         output: &mut Output<W>,
@@ -143,7 +144,7 @@ impl Desk {
     }
 
     /// Does what a script's line asks for. Whether the line is in its place here.
-    pub(crate) fn command<W: Write, T: Sockets + Wait>(
+    pub(crate) fn command<W: Write, T: Files<File = File> + Sockets + Wait>(
         &mut self,
         rt: &T,
         output: &mut Output<W>,
@@ -167,7 +168,7 @@ impl Desk {
     }
 
     /// A short line's read, at any server.
-    pub(crate) fn get<W: Write, T: Sockets + Wait + Clock>(
+    pub(crate) fn get<W: Write, T: Files<File = File> + Sockets + Wait + Clock>(
         &mut self,
         rt: &T,
         output: &mut Output<W>,
@@ -179,7 +180,7 @@ impl Desk {
     }
 
     /// A short line's Write, at any server: which one accepted it, by its place in the list, if one did.
-    pub(crate) fn write<W: Write, T: Sockets + Wait + Clock>(
+    pub(crate) fn write<W: Write, T: Files<File = File> + Sockets + Wait + Clock>(
         &mut self,
         rt: &T,
         output: &mut Output<W>,
@@ -196,7 +197,7 @@ impl Desk {
     }
 
     // Has the server of this place in the list read the key, and prints what it told. Whether it told another value than this.
-    fn tell_key<W: Write, T: Sockets + Wait>(
+    fn tell_key<W: Write, T: Files<File = File> + Sockets + Wait>(
         &mut self,
         rt: &T,
         output: &mut Output<W>,
@@ -214,7 +215,7 @@ impl Desk {
     }
 
     /// Prints what became of a claim, by the server that accepted it: what each key has, up to the first that has the value.
-    pub(crate) fn tell_claim<W: Write, T: Sockets + Wait>(
+    pub(crate) fn tell_claim<W: Write, T: Files<File = File> + Sockets + Wait>(
         &mut self,
         rt: &T,
         output: &mut Output<W>,

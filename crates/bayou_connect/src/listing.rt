@@ -1,6 +1,12 @@
 //! What a server holds, as a database: the Writes that it sends, applied here in stamp order (Terry et al. 1995).
+ghost use Rattle.std.specs.Prelude.{All, IfOk};
+ghost use Rattle.bayou_connect.specs.Listing.{IsRow};
+ghost use Rattle.bayou_log.specs.Db.{database_of};
+ghost use Rattle.bayou_log.specs.Replay.{replay};
+
 use bayou_base::{Key, Value};
 use bayou_lang::{Op, RestingProgram, RestingWrite};
+use bayou_log::db::Db;
 use bayou_log::plain::replayed;
 use std::alloc::{AllocError, Global};
 
@@ -46,10 +52,10 @@ fn keys_of(alloc: Global, writes: &[RestingWrite]) -> Result<Vec<Key>, AllocErro
     Ok(keys)
 }
 
-/// The keys that have a value once these Writes are applied, each with it, in order.
-pub(crate) fn rows_of(alloc: Global, writes: &[RestingWrite]) -> Result<Vec<Row>, AllocError> {
-    let keys = keys_of(alloc, writes)?;
-    let database = replayed(alloc, writes)?;
+// Those of the keys that have a value, each with it.
+fn listed(alloc: Global, database: &Db, keys: Vec<Key>) -> Result<Vec<Row>, AllocError>
+    ensures { IfOk result (λ rows. All (IsRow (database_of database.now)) rows.items) }
+{
     let mut rows = Vec::new(alloc);
     for key in keys {
         let value = database.get(&key);
@@ -58,4 +64,13 @@ pub(crate) fn rows_of(alloc: Global, writes: &[RestingWrite]) -> Result<Vec<Row>
         }
     }
     Ok(rows)
+}
+
+/// The keys that have a value once these Writes are applied, each with it, in order.
+pub(crate) fn rows_of(alloc: Global, writes: &[RestingWrite]) -> Result<Vec<Row>, AllocError>
+    ensures { IfOk result (λ rows. All (IsRow (replay writes.now)) rows.items) }
+{
+    let keys = keys_of(alloc, writes)?;
+    let database = replayed(alloc, writes)?;
+    listed(alloc, &database, keys)
 }

@@ -1,6 +1,8 @@
 //! Whom a person is at, as the words of the command line say it.
-ghost use Rattle.std.specs.Prelude.{◌≡◌, ◌≢◌, ◌<◌, ◌≤◌, All, IfOk, IfSome, false, length, true};
+ghost use Rattle.std.specs.Prelude.{◌≡◌, ◌≢◌, ◌<◌, ◌≤◌, All, AllPairs, IfOk, IfSome, false, length, true};
+ghost use Rattle.std.specs.List.{AllZip};
 ghost use Rattle.bayou_base.specs.declared.limits.TheConstants.{SERVERS as NUMBER};
+ghost use Rattle.bayou_connect.specs.Plans.{SaysPlace};
 
 use bayou_base::{Asks, ServerId};
 use std::alloc::{AllocError, Global};
@@ -27,6 +29,7 @@ pub struct Plan {
     pub wait_seconds: u32,
     pub ghost some: { 0 < length places.items },
     pub ghost among: { All (λ place. place.id.index < servers) places.items },
+    pub ghost once: { AllPairs (λ one other. one.id ≢ other.id) places.items },
     pub ghost number: { (0 < servers) × (servers ≤ NUMBER) },
 }
 
@@ -85,7 +88,9 @@ fn asks_in(text: &str) -> Option<Asks> {
 }
 
 // The server that a word says, if it says one.
-fn place_of(word: &str) -> Option<Place> {
+fn place_of(word: &str) -> Option<Place>
+    ensures { IfSome result (SaysPlace word.now) }
+{
     let (number, address) = word.split_once('=')?;
     let id = ServerId::new(number.parse::<u8>().ok()?)?;
     let address = address.parse::<SocketAddr>().ok()?;
@@ -102,6 +107,8 @@ fn has_place(places: &[Place], id: ServerId) -> bool
 // The servers that the words say, none of them twice.
 fn places_of(alloc: Global, words: &[&str]) -> Result<Vec<Place>, PlanFault>
     ensures number { IfOk result (λ places. length places.items ≡ length words.now) }
+    ensures said { IfOk result (λ places. AllZip (λ word place. SaysPlace word.now place) words.now places.items) }
+    ensures once { IfOk result (λ places. AllPairs (λ one other. one.id ≢ other.id) places.items) }
 {
     let mut places: Vec<Place> = Vec::new(alloc);
     for word in words {
@@ -147,6 +154,7 @@ impl Plan {
         wait_seconds: u32,
     ) -> Result<Plan, PlanFault>
         requires { IfSome count (λ count. count ≤ NUMBER) }
+        ensures said { IfOk result (λ plan. AllZip (λ word place. SaysPlace word.now place) servers.now plan.places.items) }
         ensures same { IfOk result (λ plan. (plan.wait_seconds ≡ wait_seconds) × (length plan.places.items ≡ length servers.now)) }
     {
         let places = places_of(alloc, servers)?;

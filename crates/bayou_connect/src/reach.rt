@@ -1,4 +1,6 @@
 //! Links to servers, which are opened as they are needed.
+ghost use Rattle.std.specs.Prelude.{◌≡◌};
+
 use crate::plan::Place;
 use bayou_client::Link;
 use bayou_net::Sockets;
@@ -66,7 +68,9 @@ fn open_to<T: Sockets>(rt: &T, place: Place) -> Option<Open> {
 
 impl Access {
     /// Nothing is open yet.
-    pub(crate) fn new(place: Place) -> Self {
+    pub(crate) fn new(place: Place) -> Self
+        ensures { result.place ≡ place }
+    {
         Access { place, open: None }
     }
 

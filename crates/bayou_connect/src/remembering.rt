@@ -1,11 +1,12 @@
 //! The file in which sessions are kept.
-ghost use Rattle.std.specs.Prelude.{◌≡◌, ◌<◌, vec_len};
+ghost use Rattle.std.specs.Prelude.{◌≡◌, ◌<◌, OnOk, vec_len};
 ghost use Rattle.bayou_base.specs.declared.limits.TheConstants.{SESSIONS as NUMBER};
+ghost use Rattle.bayou_remember.specs.Memory.{EndsWith};
 
 use crate::fault::ConnectFault;
 use bayou_device::{CarefulDevice, FileDevice};
 use bayou_journal::OpenFault;
-use bayou_journal::format::ENTRY_BYTES;
+use bayou_journal::with_care;
 use bayou_remember::{KeepFault, Kept, Memory, RememberFault};
 use bayou_session::FIRST_RUN;
 use std::alloc::Global;
@@ -26,6 +27,15 @@ pub(crate) struct Remembered {
     pub(crate) ghost one_each: { vec_len all ≡ NUMBER },
 }
 
+/// A state file that is used, by its name, in this run.
+#[derive(Drop)]
+pub(crate) struct StateFile {
+    pub(crate) memory: Memory<StateDevice>,
+    path: String,
+    run: u32,
+    ghost runs: { 0 < run },
+}
+
 // What a state file that can't be used is told as.
 fn fault_of(fault: RememberFault, device: &StateDevice) -> ConnectFault {
     match (fault, device.damage()) {
@@ -42,8 +52,8 @@ fn fault_of(fault: RememberFault, device: &StateDevice) -> ConnectFault {
     }
 }
 
-/// What a session that wasn't kept is told as.
-pub(crate) fn fault_of_keeping(fault: KeepFault) -> ConnectFault {
+// What a session that wasn't kept is told as.
+fn fault_of_keeping(fault: KeepFault) -> ConnectFault {
     match fault {
         KeepFault::Device | KeepFault::TooLong => ConnectFault::State,
         KeepFault::OutOfMemory => ConnectFault::Memory,
@@ -62,7 +72,7 @@ fn open_at<T: Files<File = File>>(
     let Ok(file) = FileDevice::open(rt, path) else {
         return Err(ConnectFault::StateNotOpened);
     };
-    let device = CarefulDevice::new(file, ENTRY_BYTES);
+    let device = with_care(file);
     match Memory::open(alloc, device, run) {
         Ok((memory, all)) => Ok(Remembered { memory, all }),
         Err(refused) => Err(fault_of(refused.fault, &refused.device)),
@@ -120,4 +130,38 @@ pub(crate) fn remember<T: Files<File = File>>(
         return Ok(remembered);
     }
     write_anew(rt, alloc, path, run, remembered.all.as_slice())
+}
+
+impl StateFile {
+    /// The state file of this name, which was opened in this run.
+    pub(crate) fn new(memory: Memory<StateDevice>, path: String, run: u32) -> Self
+        requires { 0 < run }
+    {
+        StateFile { memory, path, run }
+    }
+
+    /// Keeps the session, last.
+    pub(crate) fn keep(&mut self, alloc: Global, kept: &Kept) -> Result<(), ConnectFault>
+        ensures { OnOk result (EndsWith self.new.memory kept.now) }
+    {
+        match self.memory.keep(alloc, kept) {
+            Ok(()) => Ok(()),
+            Err(fault) => Err(fault_of_keeping(fault)),
+        }
+    }
+
+    /// The same, written anew where it has grown long meanwhile. It is let go for a moment then.
+    pub(crate) fn shortened<T: Files<File = File>>(
+        self,
+        rt: &T,
+        alloc: Global,
+    ) -> Result<Self, ConnectFault> {
+        if self.memory.entries() <= MOST_ENTRIES {
+            return Ok(self);
+        }
+        let StateFile { memory, path, run } = self;
+        drop(memory);
+        let Remembered { memory, .. } = remember(rt, alloc, path.as_str(), run)?;
+        Ok(StateFile { memory, path, run })
+    }
 }

@@ -1,21 +1,23 @@
 //! The servers of a store and the sessions of a person there: each operation, with what is kept of it.
-ghost use Rattle.std.specs.Prelude.{◌≡◌, ◌<◌, vec_len};
+ghost use Rattle.std.specs.Prelude.{◌≡◌, ◌<◌, ◌↔◌, false, IfOk, IsTrue, MatchOption, OnOk, vec_len};
 ghost use Rattle.bayou_base.specs.declared.limits.TheConstants.{MAX_PLACES, SESSIONS as NUMBER};
+ghost use Rattle.bayou_connect.specs.Keeping.{HasAsked, IsReady, begun_of};
 
-use crate::asking::{Attempt, Done, operate};
+use crate::asking::{Attempt, Done, keep, operate};
 use crate::audit_file::AuditFile;
 use crate::fault::ConnectFault;
 use crate::plan::Place;
 use crate::reach::Access;
-use crate::remembering::{StateDevice, fault_of_keeping};
+use crate::remembering::StateFile;
 use crate::told::Told;
 use bayou_base::{Asks, Entry, Key, ServerId, SessionId, Vector, Wid};
 use bayou_client::{Asked, LinkFault};
 use bayou_lang::RestingWrite;
 use bayou_net::Sockets;
-use bayou_remember::{Kept, Memory};
+use bayou_remember::Kept;
 use bayou_session::{FIRST_RUN, Session};
 use std::alloc::{AllocError, Global};
+use std::fs::{File, Files};
 use std::sync::Wait;
 
 /// Whose read asks what a server holds: it is of no session that is kept.
@@ -31,9 +33,19 @@ pub(crate) struct Store {
     accesses: Vec<Access>,
     /// What each session is, by its number, where it was opened or kept.
     sessions: Vec<Option<Kept>>,
-    memory: Option<Memory<StateDevice>>,
+    state: Option<StateFile>,
     book: Option<AuditFile>,
     ghost one_each: { vec_len sessions ≡ NUMBER },
+}
+
+// Whether there is a session, with a place left.
+fn may_ask(kept: &Option<Kept>) -> bool
+    ensures { MatchOption kept.now (result ≡ false) (λ kept. IsTrue result ↔ (kept.session.begun < MAX_PLACES)) }
+{
+    match kept {
+        None => false,
+        Some(kept) => kept.session().left() > 0,
+    }
 }
 
 // What is kept of the session before this is asked of the server: the Write under way, if it is one.
@@ -44,6 +56,7 @@ fn under_way(
     attempt: &Attempt,
 ) -> Result<Option<Kept>, ConnectFault>
     requires { kept.now.session.begun < MAX_PLACES }
+    ensures { IfOk result (λ begun. begun ≡ begun_of kept.now server attempt.now) }
 {
     let mut session = *kept.session();
     match (attempt, kept.asked()) {
@@ -67,18 +80,20 @@ fn under_way(
     }
 }
 
-// Keeps the session, where anything is kept.
-fn keep(
+// Keeps the Write that is about to be asked of the server, where it is one.
+fn begin(
     alloc: Global,
-    memory: &mut Option<Memory<StateDevice>>,
+    state: &mut Option<StateFile>,
     kept: &Kept,
-) -> Result<(), ConnectFault> {
-    let Some(memory) = memory else {
-        return Ok(());
-    };
-    match memory.keep(alloc, kept) {
-        Ok(()) => Ok(()),
-        Err(fault) => Err(fault_of_keeping(fault)),
+    server: ServerId,
+    attempt: &Attempt,
+) -> Result<(), ConnectFault>
+    requires { kept.now.session.begun < MAX_PLACES }
+    ensures { OnOk result (IsReady state.new kept.now server attempt.now) }
+{
+    match under_way(alloc, kept, server, attempt)? {
+        None => Ok(()),
+        Some(begun) => keep(alloc, state, &begun),
     }
 }
 
@@ -100,7 +115,7 @@ impl Store {
         alloc: Global,
         places: &[Place],
         sessions: Vec<Option<Kept>>,
-        memory: Option<Memory<StateDevice>>,
+        state: Option<StateFile>,
         book: Option<AuditFile>,
     ) -> Result<Self, AllocError>
         requires { vec_len sessions ≡ NUMBER }
@@ -113,7 +128,7 @@ impl Store {
             alloc,
             accesses,
             sessions,
-            memory,
+            state,
             book,
         })
     }
@@ -157,44 +172,47 @@ impl Store {
         self.sessions[at] = Some(kept);
     }
 
+    // Writes the state file anew, where it has grown long.
+    fn shorten<T: Files<File = File>>(&mut self, rt: &T) -> Result<(), ConnectFault>
+        ensures { OnOk result ((self.new.sessions ≡ self.old.sessions) × (self.new.accesses ≡ self.old.accesses)) }
+    {
+        if let Some(state) = self.state.take() {
+            self.state = Some(state.shortened(rt, self.alloc)?);
+        }
+        Ok(())
+    }
+
     /// Has the session do this at a server, by its place in the list. A Write is kept before it is sent, and what was told before anybody
     /// is told of it.
-    pub(crate) fn ask<T: Sockets + Wait>(
+    pub(crate) fn ask<T: Files<File = File> + Sockets + Wait>(
         &mut self,
         rt: &T,
         who: SessionId,
         at: usize,
         attempt: Attempt,
-    ) -> Result<Told, ConnectFault> {
-        let Store {
-            alloc,
-            accesses,
-            sessions,
-            memory,
-            book,
-        } = self;
-        let Some(access) = accesses.get_mut(at) else {
+    ) -> Result<Told, ConnectFault>
+        ensures { IfOk result (λ told. HasAsked self.old.accesses.items at attempt self.old.sessions.items self.new.sessions.items self.new.state who.index told) }
+    {
+        self.shorten(rt)?;
+        let alloc = self.alloc;
+        let Some(access) = self.accesses.get_mut(at) else {
             return Ok(Told::Away);
         };
         let server = access.place.id;
         let Some(link) = access.link(rt) else {
             return Ok(Told::Away);
         };
-        let session = &mut sessions[usize::from(who.index)];
-        let Some(kept) = session.take() else {
+        let place = usize::from(who.index);
+        if !may_ask(&self.sessions[place]) {
             return Ok(Told::Lost);
+        }
+        let Some(kept) = self.sessions[place].take() else {
+            unreachable!();
         };
-        if kept.session().left() == 0 {
-            *session = Some(kept);
-            return Ok(Told::Lost);
-        }
-        if let Some(begun) = under_way(*alloc, &kept, server, &attempt)? {
-            keep(*alloc, memory, &begun)?;
-        }
-        let done = operate(rt, *alloc, kept, link, server, attempt)?;
-        keep(*alloc, memory, &done.kept)?;
-        enter(*alloc, book, &done.entry)?;
-        *session = Some(done.kept);
+        begin(alloc, &mut self.state, &kept, server, &attempt)?;
+        let done = operate(rt, alloc, &mut self.state, kept, link, server, attempt)?;
+        enter(alloc, &mut self.book, &done.entry)?;
+        self.sessions[place] = Some(done.kept);
         Ok(done.told)
     }
 
@@ -224,7 +242,15 @@ impl Store {
         let Ok(key) = Key::new(ANY_KEY) else {
             return Ok(None);
         };
-        let done = operate(rt, alloc, nobody, link, server, Attempt::Read(key))?;
+        let done = operate(
+            rt,
+            alloc,
+            &mut None,
+            nobody,
+            link,
+            server,
+            Attempt::Read(key),
+        )?;
         let Done { told, .. } = done;
         match told {
             Told::Seen(seen) => Ok(Some(seen.vector)),

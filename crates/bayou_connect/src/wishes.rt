@@ -4,13 +4,14 @@ use crate::fault::ConnectFault;
 use bayou_net::Sockets;
 use bayou_person::Wish;
 use bayou_streams::Output;
+use std::fs::{File, Files};
 use std::io::Write;
 use std::sync::Wait;
 use std::time::Clock;
 
 impl Desk {
     // Does what a wish that is a Write asks for, and tells what became of a claim.
-    fn wish_write<W: Write, T: Sockets + Wait + Clock>(
+    fn wish_write<W: Write, T: Files<File = File> + Sockets + Wait + Clock>(
         &mut self,
         rt: &T,
         output: &mut Output<W>,
@@ -32,7 +33,7 @@ impl Desk {
     }
 
     /// Does what a short line asks for. Whether it can be done here.
-    pub(crate) fn wish<W: Write, T: Sockets + Wait + Clock>(
+    pub(crate) fn wish<W: Write, T: Files<File = File> + Sockets + Wait + Clock>(
         &mut self,
         rt: &T,
         output: &mut Output<W>,

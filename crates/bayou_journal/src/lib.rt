@@ -15,6 +15,7 @@
 //! real file holds, nor that a digest is never met by chance.
 #![tactic(auto)]
 
+pub mod care;
 mod chain;
 pub mod fault;
 pub mod format;
@@ -23,6 +24,7 @@ pub mod laws;
 pub mod opened;
 mod restore;
 
+pub use care::with_care;
 pub use fault::{AppendFault, NotOpened, OpenFault};
 pub use journal::Journal;
 pub use opened::Opened;

@@ -5,6 +5,8 @@
 #[cfg(test)]
 mod agains;
 #[cfg(test)]
+mod attending;
+#[cfg(test)]
 mod breaks;
 #[cfg(test)]
 mod clients;

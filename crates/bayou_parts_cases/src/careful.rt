@@ -3,8 +3,7 @@ use crate::fixtures::{must_be_so, server_id};
 use crate::journals::takes;
 use crate::notation::repeated;
 use bayou_device::{CarefulDevice, Damage, Device, MemoryDevice, OpenGate};
-use bayou_journal::format::ENTRY_BYTES;
-use bayou_journal::{Journal, OpenFault};
+use bayou_journal::{Journal, OpenFault, with_care};
 use std::alloc::Global;
 use std::process::Abort;
 
@@ -113,7 +112,7 @@ fn journal_of(rt: &impl Abort, alloc: Global, count: usize) -> Vec<u8> {
 
 /// What an opening of these bytes with care tells: how many bodies, or the damage.
 fn opens(rt: &impl Abort, alloc: Global, bytes: Vec<u8>) -> Result<usize, Option<(usize, usize)>> {
-    let device = CarefulDevice::new(MemoryDevice::with_bytes(bytes, OpenGate), ENTRY_BYTES);
+    let device = with_care(MemoryDevice::with_bytes(bytes, OpenGate));
     match Journal::open(alloc, server_id(rt, 0), device) {
         Ok((_, found)) => Ok(found.len()),
         Err(refused) => match (refused.fault, refused.device.damage()) {

@@ -1,5 +1,5 @@
 //! Whether another server has Writes of a server's own that it lost.
-ghost use Rattle.std.specs.Prelude.{◌≡◌, ◌≢◌, ◌≤◌, ◌<◌, ◌++◌, ℕ, List, [], Ok, Err, All, Any, Contains, IfErr, IfOk, IfSome, IsSome, OnOk, true, false, length};
+ghost use Rattle.std.specs.Prelude.{◌≡◌, ◌≢◌, ◌≤◌, ◌<◌, ◌↔◌, ◌++◌, ℕ, List, [], Ok, Err, All, Any, Contains, IfErr, IfOk, IfSome, IsSome, IsTrue, OnOk, true, false, length};
 ghost use Rattle.std.specs.Io.KnownBytes.{Appends, Consumes, IsAtEnd};
 ghost use Rattle.bayou_base.specs.declared.limits.TheConstants.{MAX_WRITES as MOST, SERVERS as NUMBER};
 ghost use Rattle.bayou_frames.specs.declared.fault.ChannelFault.TheVariants.{BadFrame, Cut};
@@ -14,7 +14,7 @@ ghost use Rattle.bayou_streams.specs.Written.{AppendsFront};
 ghost use Rattle.bayou_wire.specs.declared.frame.Frame.TheVariants.{End, Item, Offer};
 ghost use Rattle.bayou_wire.specs.Stream.{spelling};
 
-use bayou_base::{MAX_WRITES, SERVERS, ServerId, Vector};
+use bayou_base::{MAX_WRITES, SERVERS, ServerId, Vector, Wid};
 use bayou_frames::{ChannelFault, read_frame, send};
 use bayou_streams::CountedChannel;
 use bayou_wire::{Frame, encode_frame};
@@ -32,6 +32,13 @@ pub fn all_but_own(id: ServerId, own: u32) -> Option<Vector>
     Vector::from_counts(counts)
 }
 
+// Whether the Write of this name is one of this server behind its first `own`.
+fn is_beyond(wid: Wid, id: ServerId, own: u32) -> bool
+    ensures { IsTrue result ↔ ((wid.origin.index ≡ id.index) × (own < wid.seq)) }
+{
+    wid.origin == id && wid.seq > own
+}
+
 // What the first frame of an answer says.
 fn tells_loss(frame: &Frame, id: ServerId, own: u32) -> Result<bool, ChannelFault>
     ensures lost { result ≡ Ok true → (write : Written) × IsBeyond id.index own write × (frame.now ≡ Item write) }
@@ -39,7 +46,7 @@ fn tells_loss(frame: &Frame, id: ServerId, own: u32) -> Result<bool, ChannelFaul
     ensures fault { IfErr result (λ fault. (fault ≡ BadFrame) × (frame.now ≢ End 0) × ((write : Written) → IsBeyond id.index own write → frame.now ≢ Item write)) }
 {
     match frame {
-        Frame::Item(write) if write.wid().origin == id && write.wid().seq > own => Ok(true),
+        Frame::Item(write) if is_beyond(write.wid(), id, own) => Ok(true),
         Frame::End(0) => Ok(false),
         _ => Err(ChannelFault::BadFrame),
     }

@@ -1,6 +1,8 @@
 -- What is kept of a session, and its one spelling: this project's own format.
-use Rattle.std.specs.Prelude.{◌≡◌, ◌≢◌, ℕ, Bool, true, false, List, [], ◌∷◌, ◌++◌, Option, None, Some}
+use Rattle.std.specs.Prelude.{◌≡◌, ℕ, ◌≤◌, Bool, true, false, List, [], ◌∷◌, ◌++◌, Option, None, Some, IfSome}
+use Rattle.std.specs.List.{AllByRecursion}
 use Rattle.bayou_base.specs.declared.asks.Asks.{Asks}
+use Rattle.bayou_base.specs.declared.limits.TheConstants.{MAX_PLACES}
 use Rattle.bayou_base.specs.declared.server.ServerId.{ServerId}
 use Rattle.bayou_base.specs.declared.tag.Tag.{Tag}
 use Rattle.bayou_client.specs.declared.client.Asked.{Asked}
@@ -8,7 +10,7 @@ use Rattle.bayou_remember.specs.declared.layout.TheConstants as layout
 use Rattle.bayou_session.specs.Needs.{IsTagOf, Told}
 use Rattle.bayou_wire.specs.declared.frame.Frame.{Frame}
 use Rattle.bayou_wire.specs.declared.frame.Frame.TheVariants as frames
-use Rattle.bayou_wire.specs.Spelling.{u32_bytes}
+use Rattle.bayou_wire.specs.Spelling.{IsFrame, u32_bytes}
 use Rattle.bayou_wire.specs.Stream.{spellings}
 
 -- a session, and the Write that it may ask again, if there is one
@@ -46,9 +48,25 @@ AreAskedFrames session (Some asked) asking =
     (number : ℕ) × (tag : Tag) × (need : List ℕ) × (session.asked ≡ Some number) × IsTagOf session number tag
     × (asking ≡ frames.Write tag need asked.program ∷ [])
 
--- The bytes are what is kept: the head, what it read and what it wrote, each as an Offer, and the Write that may be asked again.
+-- The frames that tell it: what it read and what it wrote, each as an Offer, and the request for the Write that may be asked again.
+abbrev pub frames_of : Keeping → (asking : List Frame) → List Frame
+frames_of kept asking = frames.Offer kept.session.reads ∷ frames.Offer kept.session.writes ∷ asking
+
+-- The bytes are what is kept: the head, and the frames, each of which has a spelling. A Write may be asked again that was asked at one of the
+-- places which were begun.
 pub record SpellsKept (bytes : List ℕ) (kept : Keeping) : Type 0 where
+  pub begun : kept.session.begun ≤ MAX_PLACES
+  pub asked : IfSome kept.session.asked (λ number. number ≤ kept.session.begun)
   pub asking : List Frame
   pub asks : AreAskedFrames kept.session kept.asked asking
-  pub spelled : bytes ≡ head_bytes kept.session.id.index kept.session.asks kept.session.begun (server_of kept.asked)
-      ++ spellings (frames.Offer kept.session.reads ∷ frames.Offer kept.session.writes ∷ asking)
+  pub frames : AllByRecursion IsFrame (frames_of kept asking)
+  pub spelled : bytes ≡ head_bytes kept.session.id.index kept.session.asks kept.session.begun (server_of kept.asked) ++ spellings (frames_of kept asking)
+
+-- the run in which a session goes on: its own, where it has something to ask again, else this one
+abbrev pub run_in : (run : ℕ) → (asked : Option ℕ) → (own : ℕ) → ℕ
+run_in run None own = run
+run_in run (Some number) own = own
+
+-- The same in that run. Where nothing may be asked again no spelling tells the run.
+abbrev pub in_run : ℕ → Keeping → Keeping
+in_run run kept = record kept { session = record kept.session { run = run_in run kept.session.asked kept.session.run } }

@@ -1,91 +1,39 @@
 //! What is kept, from its bytes.
-ghost use Rattle.std.specs.Prelude.{◌≡◌, ◌≢◌, ◌<◌, ◌≤◌, ◌↔◌, ◌∷◌, ◌++◌, [], ℕ, Bool, IfOk, IfSome, IsTrue, List, MatchOption, None, Some};
-ghost use Rattle.bayou_remember.specs.Inner.Reading.{IsKeptBy};
-ghost use Rattle.bayou_remember.specs.Spelling.{SpellsKept, asks_bytes, flag_byte, head_bytes, server_bytes};
+ghost use Rattle.std.specs.Prelude.{◌≡◌, ◌≢◌, ◌<◌, ◌≤◌, ◌↔◌, ◌∷◌, ◌++◌, [], ℕ, IfOk, IsTrue, List, MatchOption, None, Some};
+ghost use Rattle.bayou_base.specs.declared.tag.Tag.{Tag as TagSaid};
+ghost use Rattle.bayou_lang.specs.declared.program.Program.{Program};
+ghost use Rattle.bayou_remember.specs.Inner.Reading.{AreFrames, IsKeptBy};
+ghost use Rattle.bayou_remember.specs.Spelling.{Keeping, SpellsKept, in_run};
+ghost use Rattle.bayou_wire.specs.declared.frame.Frame.{Frame as FrameSaid};
 ghost use Rattle.bayou_wire.specs.declared.frame.Frame.TheVariants.{Offer, Write as WriteFrame};
-ghost use Rattle.bayou_wire.specs.Stream.{spellings};
 
+use crate::head::{Head, head_of};
 use crate::kept::Kept;
-use crate::layout::{A_WRITE, ASKED, KEPT_VERSION, NOT_ASKED, NOTHING};
-use bayou_base::{Asks, ServerId, SessionId, Tag, Vector};
+use crate::laws::bytes_keep_one_session;
+use bayou_base::{ServerId, Tag, Vector};
 use bayou_client::Asked;
 use bayou_lang::RestingProgram;
 use bayou_session::{Past, Session};
+use bayou_wire::laws::one_reading;
 use bayou_wire::{FeedFault, Frame, Frames};
 use std::alloc::{AllocError, Global};
 
-// What stands before the frames: whose it is, what it asks for, how many places it began, and where a Write may be asked again.
-#[derive(Clone, Copy, Debug, PartialEq, Eq)]
-struct Head {
-    session: SessionId,
-    asks: Asks,
-    begun: u32,
-    server: Option<ServerId>,
-}
-
-fn flag_of(byte: u8) -> Option<bool>
-    ensures { MatchOption result ((flag : Bool) → byte ≢ flag_byte flag) (λ flag. byte ≡ flag_byte flag) }
-{
-    match byte {
-        NOT_ASKED => Some(false),
-        ASKED => Some(true),
-        _ => None,
-    }
-}
-
-fn asks_of(ryw: u8, mr: u8, wfr: u8, mw: u8) -> Option<Asks>
-    ensures { IfSome result (λ asks. ryw ∷ mr ∷ wfr ∷ mw ∷ [] ≡ asks_bytes asks) }
-{
-    Some(Asks {
-        ryw: flag_of(ryw)?,
-        mr: flag_of(mr)?,
-        wfr: flag_of(wfr)?,
-        mw: flag_of(mw)?,
-    })
-}
-
-// Where a Write may be asked again, if anywhere, and the bytes behind that.
-fn server_of(bytes: &[u8]) -> Option<(Option<ServerId>, &[u8])>
-    ensures { IfSome result (λ given. bytes.now ≡ server_bytes given.0 ++ given.1.now) }
-{
-    match bytes {
-        [NOTHING, rest @ ..] => Some((None, rest)),
-        [A_WRITE, index, rest @ ..] => Some((Some(ServerId::new(*index)?), rest)),
-        _ => None,
-    }
-}
-
-fn head_of(bytes: &[u8]) -> Option<(Head, &[u8])>
-    ensures { IfSome result (λ given. bytes.now ≡ head_bytes given.0.session.index given.0.asks given.0.begun given.0.server ++ given.1.now) }
-{
-    let [version, session, ryw, mr, wfr, mw, a, b, c, d, rest @ ..] = bytes else {
-        return None;
-    };
-    if *version != KEPT_VERSION {
-        return None;
-    }
-    let session = SessionId::new(*session)?;
-    let asks = asks_of(*ryw, *mr, *wfr, *mw)?;
-    let (server, rest) = server_of(rest)?;
-    let head = Head {
-        session,
-        asks,
-        begun: u32::from_be_bytes([*a, *b, *c, *d]),
-        server,
-    };
-    Some((head, rest))
-}
-
 // The frames that the bytes are, all of them, if they are some.
 fn frames_of(alloc: Global, bytes: &[u8]) -> Result<Option<Vec<Frame>>, AllocError>
-    ensures { IfOk result (λ given. IfSome given (λ frames. bytes.now ≡ spellings frames.items)) }
+    ensures { IfOk result (λ given. MatchOption given ((all : List FrameSaid) → ¬ AreFrames bytes.now all) (λ frames. AreFrames bytes.now frames.items)) }
 {
+    one_reading();
     let mut frames = Frames::new(alloc);
-    match frames.feed(bytes) {
-        Ok(given) if frames.is_between() => Ok(Some(given)),
-        Err(FeedFault::OutOfMemory) => Err(AllocError),
-        _ => Ok(None),
+    let given = match frames.feed(bytes) {
+        Ok(given) => given,
+        Err(FeedFault::Fault(_fault)) => return Ok(None),
+        Err(FeedFault::Failed) => unreachable!(),
+        Err(FeedFault::OutOfMemory) => return Err(AllocError),
+    };
+    if !frames.is_between() {
+        return Ok(None);
     }
+    Ok(Some(given))
 }
 
 // What was read and written, where the frames are the two offers of these vectors.
@@ -102,7 +50,7 @@ fn vectors_of(frames: &[Frame]) -> Option<(Vector, Vector)>
 fn without_asking(run: u32, head: Head, frames: &[Frame]) -> Option<Kept>
     requires run { 0 < run }
     requires none { head.server ≡ None }
-    ensures { IfSome result (λ kept. IsKeptBy head frames.now kept × (kept.session.run ≡ run)) }
+    ensures { MatchOption result ((kept : Keeping) → ¬ IsKeptBy head frames.now kept) (λ kept. IsKeptBy head frames.now kept × (in_run run kept ≡ kept)) }
 {
     let (reads, writes) = vectors_of(frames)?;
     let past = Past {
@@ -128,7 +76,8 @@ fn asking(head: Head, tag: Tag, asked: Asked, frames: &[Frame]) -> Option<Kept>
     requires begun { tag.number ≤ head.begun }
     requires whose { tag.session.index ≡ head.session.index }
     requires at { head.server ≡ Some asked.server }
-    ensures { IfSome result (λ kept. (need : List ℕ) → IsKeptBy head (frames.now ++ WriteFrame tag need asked.program ∷ []) kept) }
+    ensures { (need : List ℕ) → MatchOption result ((kept : Keeping) → ¬ IsKeptBy head (frames.now ++ WriteFrame tag need asked.program ∷ []) kept)
+        (λ kept. IsKeptBy head (frames.now ++ WriteFrame tag need asked.program ∷ []) kept × ((run : ℕ) → in_run run kept ≡ kept)) }
 {
     let (reads, writes) = vectors_of(frames)?;
     let past = Past {
@@ -144,7 +93,7 @@ fn asking(head: Head, tag: Tag, asked: Asked, frames: &[Frame]) -> Option<Kept>
 
 // What a request for a Write asks for: under which tag, and of which program.
 fn request_in(frame: Frame) -> Option<(Tag, RestingProgram)>
-    ensures { IfSome result (λ told. (need : List ℕ) × (frame ≡ WriteFrame told.0 need told.1)) }
+    ensures { MatchOption result ((tag : TagSaid) (need : List ℕ) (program : Program) → frame ≢ WriteFrame tag need program) (λ told. (need : List ℕ) × (frame ≡ WriteFrame told.0 need told.1)) }
 {
     match frame {
         Frame::Write(tag, _, program) => Some((tag, program)),
@@ -155,7 +104,7 @@ fn request_in(frame: Frame) -> Option<(Tag, RestingProgram)>
 // A session that may ask a Write again at this server.
 fn with_asking(head: Head, server: ServerId, frames: Vec<Frame>) -> Option<Kept>
     requires { head.server ≡ Some server }
-    ensures { IfSome result (IsKeptBy head frames.items) }
+    ensures { MatchOption result ((kept : Keeping) → ¬ IsKeptBy head frames.items kept) (λ kept. IsKeptBy head frames.items kept × ((run : ℕ) → in_run run kept ≡ kept)) }
 {
     let mut frames = frames;
     let last = frames.pop()?;
@@ -166,11 +115,14 @@ fn with_asking(head: Head, server: ServerId, frames: Vec<Frame>) -> Option<Kept>
     asking(head, tag, Asked { server, program }, &frames)
 }
 
-/// What the bytes keep, all of them, if they do. A session that has nothing to ask again goes on in this run.
+/// What the bytes keep, all of them, if they do. A session that has nothing to ask again goes on in this run. What [`encode_kept`](crate::encode_kept)
+/// gave is read as it was.
 pub fn decode_kept(alloc: Global, run: u32, bytes: &[u8]) -> Result<Option<Kept>, AllocError>
     requires { 0 < run }
-    ensures { IfOk result (λ given. IfSome given (λ kept. SpellsKept bytes.now kept)) }
+    ensures told { IfOk result (λ given. MatchOption given ((kept : Keeping) → ¬ SpellsKept bytes.now kept) (λ kept. SpellsKept bytes.now kept)) }
+    ensures again { IfOk result (λ given. (kept : Keeping) → SpellsKept bytes.now kept → given ≡ Some (in_run run kept)) }
 {
+    bytes_keep_one_session();
     let Some((head, rest)) = head_of(bytes) else {
         return Ok(None);
     };

@@ -1,9 +1,11 @@
 //! What is kept, as bytes.
 ghost use Rattle.std.specs.Prelude.{◌≡◌, ◌↔◌, ◌++◌, IfOk, IsSome, List, OnOk, replicate};
+ghost use Rattle.std.specs.List.{AllByRecursion};
 ghost use Rattle.bayou_base.specs.declared.limits.TheConstants.{SERVERS};
 ghost use Rattle.bayou_remember.specs.Spelling.{AreAskedFrames, SpellsKept, asks_bytes, flag_byte as flag, head_bytes, server_bytes, server_of};
 ghost use Rattle.bayou_wire.specs.declared.frame.Frame.{Frame as FrameSaid};
 ghost use Rattle.bayou_wire.specs.declared.frame.Frame.TheVariants.{Write as WriteFrame};
+ghost use Rattle.bayou_wire.specs.Spelling.{IsFrame};
 ghost use Rattle.bayou_wire.specs.Stream.{spelling, spellings};
 
 use crate::kept::Kept;
@@ -61,7 +63,7 @@ fn put_head(out: &mut Vec<u8>, session: &Session, asked: &Option<Asked>) -> Resu
 
 #[tactic(auto, using(bayou_wire::specs::Laws::Frames::spelling_of))]
 fn put_frame(alloc: Global, out: &mut Vec<u8>, frame: &Frame) -> Result<(), AllocError>
-    ensures { OnOk result (out.new.items ≡ out.old.items ++ spelling frame.now) }
+    ensures { OnOk result (IsFrame frame.now × (out.new.items ≡ out.old.items ++ spelling frame.now)) }
 {
     let bytes = encode_frame(alloc, frame)?;
     out.extend_from_slice(&bytes)
@@ -69,7 +71,7 @@ fn put_frame(alloc: Global, out: &mut Vec<u8>, frame: &Frame) -> Result<(), Allo
 
 // The request that the Write was asked by, with no need: that is the session's, as it is asked again.
 fn put_request(alloc: Global, out: &mut Vec<u8>, tag: Tag, asked: &Asked) -> Result<(), AllocError>
-    ensures { OnOk result (out.new.items ≡ out.old.items ++ spelling (WriteFrame tag (replicate SERVERS 0) asked.now.program)) }
+    ensures { OnOk result (IsFrame (WriteFrame tag (replicate SERVERS 0) asked.now.program) × (out.new.items ≡ out.old.items ++ spelling (WriteFrame tag (replicate SERVERS 0) asked.now.program))) }
 {
     let request = Frame::Write(tag, Vector::zero(), asked.program.copy(alloc)?);
     put_frame(alloc, out, &request)
@@ -83,7 +85,7 @@ fn put_asking(
     asked: &Option<Asked>,
 ) -> Result<(), AllocError>
     requires { IsSome asked.now ↔ IsSome session.now.asked }
-    ensures { OnOk result ((asking : List FrameSaid) × AreAskedFrames session.now asked.now asking × (out.new.items ≡ out.old.items ++ spellings asking)) }
+    ensures { OnOk result ((asking : List FrameSaid) × AreAskedFrames session.now asked.now asking × AllByRecursion IsFrame asking × (out.new.items ≡ out.old.items ++ spellings asking)) }
 {
     match (session.asked(), asked) {
         (Some(tag), Some(asked)) => {

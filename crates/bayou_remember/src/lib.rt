@@ -11,11 +11,13 @@
 
 pub mod decode;
 pub mod encode;
+mod head;
 pub mod kept;
+pub mod laws;
 pub mod layout;
 pub mod memory;
 
 pub use decode::decode_kept;
 pub use encode::encode_kept;
 pub use kept::Kept;
-pub use memory::{KeepFault, Memory, NotRemembered, RememberFault};
+pub use memory::{KeepFault, Memory, NotRemembered, RememberFault, nothing_kept};

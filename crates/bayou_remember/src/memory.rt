@@ -1,6 +1,9 @@
 //! What is kept, on a device.
-ghost use Rattle.std.specs.Prelude.{◌≡◌, ◌<◌, IfOk, vec_len};
-ghost use Rattle.bayou_base.specs.declared.limits.TheConstants.{SESSIONS as NUMBER};
+ghost use Rattle.std.specs.Prelude.{◌≡◌, ◌<◌, ◌++◌, ◌∷◌, [], IfErr, IfOk, List, OnOk};
+ghost use Rattle.bayou_journal.specs.Opening.{KeepsChains};
+ghost use Rattle.bayou_remember.specs.Memory.{AreLast, EndsWith, HasAll, HasNotRemembered, HasRemembered, Keeps, Remembers};
+ghost use Rattle.bayou_remember.specs.Inner.Reading.{CantTell};
+ghost use Rattle.bayou_remember.specs.Spelling.{Keeping};
 
 use crate::decode::decode_kept;
 use crate::encode::encode_kept;
@@ -8,11 +11,13 @@ use crate::kept::Kept;
 use bayou_base::limits::MAX_BODY_BYTES;
 use bayou_base::{SESSIONS, ServerId};
 use bayou_device::Device;
+use bayou_journal::laws::an_append_leaves_an_honest_device;
 use bayou_journal::{AppendFault, Journal, OpenFault, Opened};
 use std::alloc::{AllocError, Global};
+use std::marker::Model;
 
 /// Whose the journal of what is kept is, as its header says: the first server's, since sessions are no server's.
-const KEEPER: u8 = 0;
+pub const KEEPER: u8 = 0;
 
 /// Why nothing is remembered.
 #[derive(Clone, Copy, Debug, PartialEq, Eq)]
@@ -61,9 +66,21 @@ pub struct Memory<D> {
     entries: u64,
 }
 
-// Nothing of each session.
-fn nothing(alloc: Global) -> Result<Vec<Option<Kept>>, AllocError>
-    ensures { IfOk result (λ all. vec_len all ≡ NUMBER) }
+impl<D> Model for Memory<D> {
+    ghost use Rattle.std.specs.Prelude.{◌≡◌};
+    ghost use Rattle.bayou_remember.specs.Memory.{MemoryState};
+    ghost use Rattle.bayou_remember.specs.declared.memory.TheConstants.{KEEPER};
+
+    ghost Value = { MemoryState D };
+
+    ghost view = { λ m. record { device = m.journal.device; last = m.journal.last; is_down = m.journal.is_down; entries = m.entries } };
+
+    ghost invariant = { λ m. m.journal.server ≡ KEEPER };
+}
+
+/// Nothing of each session.
+pub fn nothing_kept(alloc: Global) -> Result<Vec<Option<Kept>>, AllocError>
+    ensures { IfOk result (λ all. AreLast [] all.items) }
 {
     let mut all = Vec::with_capacity(alloc, SESSIONS)?;
     for _ in 0..SESSIONS {
@@ -75,9 +92,10 @@ fn nothing(alloc: Global) -> Result<Vec<Option<Kept>>, AllocError>
 // What the bodies keep of each session at last.
 fn kept_in(alloc: Global, run: u32, opened: &Opened) -> Result<Vec<Option<Kept>>, RememberFault>
     requires { 0 < run }
-    ensures { IfOk result (λ all. vec_len all ≡ NUMBER) }
+    ensures told { IfOk result (λ all. Remembers run opened.now.bodies all.items) }
+    ensures refused { IfErr result (CantTell opened.now.bodies) }
 {
-    let Ok(mut all) = nothing(alloc) else {
+    let Ok(mut all) = nothing_kept(alloc) else {
         return Err(RememberFault::OutOfMemory);
     };
     for at in 0..opened.len() {
@@ -102,7 +120,10 @@ impl<D: Device + Drop> Memory<D> {
         run: u32,
     ) -> Result<(Memory<D>, Vec<Option<Kept>>), NotRemembered<D>>
         requires { 0 < run }
-        ensures { IfOk result (λ opened. vec_len opened.1 ≡ NUMBER) }
+        ensures opened { IfOk result (λ opened. HasRemembered D.Device run device opened.0 opened.1.items) }
+        ensures refused { IfErr result (λ refused. HasNotRemembered D.Device device refused.device refused.fault) }
+        ensures safe { D.is_modelled → IfOk result (λ opened. KeepsChains (D.kept device) (D.kept opened.0.device)) }
+        ensures safe_refused { D.is_modelled → IfErr result (λ refused. KeepsChains (D.kept device) (D.kept refused.device)) }
     {
         match Journal::open(alloc, ServerId { index: KEEPER }, device) {
             Err(refused) => Err(NotRemembered {
@@ -127,18 +148,28 @@ impl<D: Device + Drop> Memory<D> {
 
     /// Its device.
     pub fn close(self) -> D
-        ensures { result ≡ self.journal.device }
+        ensures { result ≡ self.device }
     {
         self.journal.close()
     }
 
     /// How many entries there are, of all sessions, of which the last of each counts.
-    pub fn entries(&self) -> u64 {
+    pub fn entries(&self) -> u64
+        ensures { result ≡ self.now.entries }
+    {
         self.entries
     }
 
-    /// Keeps it, behind all else and synced.
-    pub fn keep(&mut self, alloc: Global, kept: &Kept) -> Result<(), KeepFault> {
+    /// Keeps it, behind all else and synced. Behind a call of the device that failed nothing more is kept.
+    pub fn keep(&mut self, alloc: Global, kept: &Kept) -> Result<(), KeepFault>
+        ensures keeps { Keeps D.Device self.old kept.now result self.new }
+        ensures ends { OnOk result (EndsWith self.new kept.now) }
+        // A device that had these and nothing else has this one too, last.
+        ensures all { D.is_modelled → OnOk result ((all : List Keeping) → HasAll D.Device self.old all → HasAll D.Device self.new (all ++ kept.now ∷ [])) }
+        ensures safe { D.is_modelled → KeepsChains (D.kept self.old.device) (D.kept self.new.device) }
+        ensures calls { D.leads_to 2 self.old.device self.new.device }
+    {
+        an_append_leaves_an_honest_device::<D>();
         let body = encode_kept(alloc, kept)?;
         if body.is_empty() || body.len() > MAX_BODY_BYTES {
             return Err(KeepFault::TooLong);

@@ -9,8 +9,10 @@
 #![tactic(auto)]
 
 pub mod fault;
+pub mod filling;
 pub mod hall;
 mod keeper;
+mod lines;
 mod peers;
 pub mod plan;
 mod reception;

@@ -1,17 +1,19 @@
 //! The other servers of the store, from which a server that lives takes what it lacks.
+ghost use Rattle.bayou_serve.specs.Visits.{Visited};
+
 use crate::hall::Hall;
+use crate::lines::news_line;
 use crate::plan::Peer;
 use crate::teller::Teller;
-use crate::visit::{News, Visit, news_behind, visit_of};
+use crate::visit::{Acquaintance, Visit, visit_of};
 use crate::waiting::{Most, Renewing, Since, TICK_MILLISECONDS, Waiting};
 use bayou_device::Device;
 use bayou_net::{Sockets, pull_tallied};
 use bayou_node::{Desks, Node};
-use bayou_peer::{Pulled, has_lost};
-use bayou_print::pulling_word;
+use bayou_peer::has_lost;
 use bayou_streams::{CountedChannel, Patient};
-use std::alloc::{AllocError, Global};
-use std::io::Write;
+use std::alloc::Global;
+use std::io::{Read, Write};
 use std::net::TcpStream;
 use std::sync::Wait;
 use std::thread;
@@ -58,6 +60,26 @@ fn reach<T: Sockets>(rt: &T, peer: Peer) -> Option<TcpStream> {
     }
 }
 
+// Takes once what comes of the node's Offer over these streams, whose waits end by `WouldBlock`, and tells what became of that.
+fn visit_over<D: Device, L: Desks, R: Read + Drop, W: Write + Drop, T: Wait + Clock>(
+    rt: &T,
+    alloc: Global,
+    node: &Node<D, L>,
+    hall: &Hall,
+    reader: R,
+    writer: W,
+) -> Visit
+    ensures { Visited L.begun (R.remaining reader) (W.contents writer) result }
+{
+    let since = Since::now(rt);
+    let patience = Waiting::new(rt, hall, &since, Most::Milliseconds(ANSWER_MILLISECONDS));
+    let reader = Renewing::new(Patient::new(reader, patience), rt, &since);
+    let writer = Renewing::new(writer, rt, &since);
+    let mut channel = CountedChannel::new(reader, writer);
+    let counts = node.offer(rt);
+    visit_of(pull_tallied(rt, alloc, node, &counts, &mut channel))
+}
+
 // Takes once what this peer has and the server lacks.
 fn visit<D: Device, L: Desks, T: Wait + Clock + Sockets>(
     rt: &T,
@@ -66,15 +88,10 @@ fn visit<D: Device, L: Desks, T: Wait + Clock + Sockets>(
     peer: Peer,
     hall: &Hall,
 ) -> Visit {
-    let Some(stream) = reach(rt, peer) else {
-        return Visit::Away;
-    };
-    let since = Since::now(rt);
-    let patience = Waiting::new(rt, hall, &since, Most::Milliseconds(ANSWER_MILLISECONDS));
-    let reader = Renewing::new(Patient::new(&stream, patience), rt, &since);
-    let writer = Renewing::new(&stream, rt, &since);
-    let mut channel = CountedChannel::new(reader, writer);
-    visit_of(pull_tallied(rt, alloc, node, &node.offer(rt), &mut channel))
+    match reach(rt, peer) {
+        Some(stream) => visit_over(rt, alloc, node, hall, &stream, &stream),
+        None => Visit::Away,
+    }
 }
 
 /// Whether the peer has a Write of this server which the server lacks. One that can't be asked has none, as far as is known. What an answer
@@ -98,25 +115,7 @@ pub(crate) fn has_own_beyond<D: Device, L: Desks, T: Wait + Clock + Sockets>(
     matches!(answer, Ok(true))
 }
 
-// The line that tells news of a peer.
-fn news_line(alloc: Global, peer: Peer, news: &News) -> Result<String, AllocError> {
-    let (id, address) = (peer.id.index, peer.address);
-    match news {
-        News::Away => format!(in alloc; "bayou: peer {id} at {address} away\n"),
-        News::Reached(Pulled { taken, had }) => {
-            format!(in alloc; "bayou: peer {id} reached pulled {taken} had {had}\n")
-        }
-        News::Pulled(Pulled { taken, had }) => {
-            format!(in alloc; "bayou: peer {id} pulled {taken} had {had}\n")
-        }
-        News::Failed(fault) => {
-            let why = pulling_word(fault);
-            format!(in alloc; "bayou: peer {id} pull fault {why}\n")
-        }
-    }
-}
-
-/// Pulls from the peer every so many seconds, until the server ends, and tells what is news: that is [`news_behind`]'s. That it pulls, and how
+/// Pulls from the peer every so many seconds, until the server ends, and tells what is news: that is [`Acquaintance`]'s. That it pulls, and how
 /// often, no clause can say.
 pub(crate) fn keep_pulling<D: Device, L: Desks, E: Write, T: Wait + Clock + Sockets>(
     rt: &T,
@@ -127,16 +126,15 @@ pub(crate) fn keep_pulling<D: Device, L: Desks, E: Write, T: Wait + Clock + Sock
     hall: &Hall,
     teller: &Teller<E>,
 ) {
-    let mut last = None;
+    let mut known = Acquaintance::new();
     for _ in rt.forever() {
         if hall.is_over() {
             return;
         }
         let visit = visit(rt, alloc, node, peer, hall);
-        if let Some(news) = news_behind(last, visit) {
+        if let Some(news) = known.visited(visit) {
             teller.tell_made(rt, news_line(alloc, peer, &news));
         }
-        last = Some(visit);
         rest(rt, hall, every_seconds);
     }
 }

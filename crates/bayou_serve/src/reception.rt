@@ -1,4 +1,5 @@
 //! How a connection is served for as long as there is patience with it.
+ghost use Rattle.bayou_serve.specs.Receiving.{ServedOver};
 
 use crate::hall::Hall;
 use crate::peers::is_timed;
@@ -9,7 +10,7 @@ use bayou_net::{Attendant, Host, NoGate, drop_rest, serve};
 use bayou_node::{Desk, Desks, Node};
 use bayou_streams::{CountedChannel, Patient};
 use std::alloc::Global;
-use std::io::Write;
+use std::io::{Read, Write};
 use std::net::{Shutdown, TcpStream};
 use std::sync::Wait;
 use std::thread;
@@ -30,6 +31,26 @@ pub(crate) struct Reception<'a, D, L: Desks, C, E> {
     pub(crate) teller: &'a Teller<E>,
 }
 
+// Serves the requests that come in time over these streams, whose waits end by `WouldBlock`.
+fn serve_over<D: Device, L: Desks, C: Clock, R: Read + Drop, W: Write + Drop, T: Wait>(
+    rt: &T,
+    alloc: Global,
+    node: &Node<D, L>,
+    desk: Desk<L>,
+    hall: &Hall,
+    clock: &C,
+    reader: R,
+    writer: W,
+) -> Desk<L>
+    ensures { ServedOver L.begun desk result (R.remaining reader) (W.contents writer) }
+{
+    let since = Since::now(clock);
+    let reader = Patient::new(reader, Waiting::new(clock, hall, &since, Most::Hall));
+    let writer = Renewing::new(writer, clock, &since);
+    let mut channel = CountedChannel::new(reader, writer);
+    serve(rt, alloc, node, desk, &NoGate, &mut channel).1
+}
+
 impl<D: Device, L: Desks, C: Clock, E> Reception<'_, D, L, C, E> {
     // Serves the requests that come in time, and then says that no more replies come.
     fn serve_requests<T: Wait>(
@@ -39,12 +60,9 @@ impl<D: Device, L: Desks, C: Clock, E> Reception<'_, D, L, C, E> {
         desk: Desk<L>,
         stream: &TcpStream,
     ) -> Desk<L> {
-        let since = Since::now(self.clock);
-        let patience = Waiting::new(self.clock, self.hall, &since, Most::Hall);
-        let reader = Patient::new(stream, patience);
-        let writer = Renewing::new(stream, self.clock, &since);
-        let mut channel = CountedChannel::new(reader, writer);
-        let desk = serve(rt, alloc, self.node, desk, &NoGate, &mut channel).1;
+        let desk = serve_over(
+            rt, alloc, self.node, desk, self.hall, self.clock, stream, stream,
+        );
         let _ = stream.shutdown(Shutdown::Write);
         desk
     }

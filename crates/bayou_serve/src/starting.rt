@@ -6,7 +6,7 @@ ghost use Rattle.bayou_serve.specs.declared.fault.ServeFault.TheVariants.{Missin
 use crate::fault::{ServeFault, fault_of};
 use crate::plan::Plan;
 use bayou_device::{CarefulDevice, FileDevice};
-use bayou_journal::format::ENTRY_BYTES;
+use bayou_journal::with_care;
 use bayou_server::Server;
 use std::alloc::Global;
 use std::fs;
@@ -60,7 +60,7 @@ pub(crate) fn start_at<T: Files<File = File>>(
     let Ok(file) = FileDevice::open(rt, path) else {
         return Err(ServeFault::NotOpened);
     };
-    let device = CarefulDevice::new(file, ENTRY_BYTES);
+    let device = with_care(file);
     match Server::start(alloc, plan.id, plan.servers, plan.habits.limit, device) {
         Ok((server, dropped)) => Ok(Started { server, dropped }),
         Err(refused) => Err(fault_of(refused.fault, refused.device.damage())),

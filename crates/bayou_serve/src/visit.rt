@@ -1,5 +1,5 @@
 //! What became of visits to a peer, and what of it is news.
-ghost use Rattle.std.specs.Prelude.{◌≡◌, ◌≢◌, ◌<◌, ◌↔◌, IfErr, IfOk, IfSome, None};
+ghost use Rattle.std.specs.Prelude.{◌≡◌, ◌≢◌, ◌<◌, ◌↔◌, IfErr, IfOk, IfSome, None, Some};
 ghost use Rattle.bayou_serve.specs.News.{IsNoNews, Tells};
 ghost use Rattle.bayou_serve.specs.declared.visit.Visit.TheVariants.{Failed, Pulled as Came};
 
@@ -42,8 +42,8 @@ pub fn visit_of(ended: Result<Pulled, PullStopped>) -> Visit
     }
 }
 
-/// What is to be told of a visit behind the last one: that the peer's state changed, or that Writes came.
-pub fn news_behind(last: Option<Visit>, visit: Visit) -> Option<News>
+// What is to be told of a visit behind the last one: that the peer's state changed, or that Writes came.
+fn news_behind(last: Option<Visit>, visit: Visit) -> Option<News>
     ensures none { result ≡ None ↔ IsNoNews last visit }
     ensures told { IfSome result (Tells last visit) }
 {
@@ -61,5 +61,31 @@ pub fn news_behind(last: Option<Visit>, visit: Visit) -> Option<News>
             Some(Visit::Failed(before)) if before == fault => None,
             _ => Some(News::Failed(fault)),
         },
+    }
+}
+
+/// What is known of a peer: what the last visit to it came to, if there was one.
+#[derive(Clone, Copy, Debug, PartialEq, Eq)]
+pub struct Acquaintance {
+    last: Option<Visit>,
+}
+
+impl Acquaintance {
+    /// A peer that wasn't visited yet.
+    pub fn new() -> Self
+        ensures { result.last ≡ None }
+    {
+        Acquaintance { last: None }
+    }
+
+    /// Has one visit more behind it: what is to be told of that, if anything is.
+    pub fn visited(&mut self, visit: Visit) -> Option<News>
+        ensures last { self.new.last ≡ Some visit }
+        ensures none { result ≡ None ↔ IsNoNews self.old.last visit }
+        ensures told { IfSome result (Tells self.old.last visit) }
+    {
+        let news = news_behind(self.last, visit);
+        self.last = Some(visit);
+        news
     }
 }

@@ -7,7 +7,7 @@ ghost use Rattle.bayou_streams.specs.Account.{account};
 
 use bayou_base::ServerId;
 use bayou_device::{CarefulDevice, Damage, FileDevice};
-use bayou_journal::format::ENTRY_BYTES;
+use bayou_journal::with_care;
 use bayou_print::{RunFault, write_text};
 use bayou_script::Servers;
 use bayou_server::{Server, StartFault};
@@ -106,7 +106,7 @@ fn start_one<T: Files<File = File>, E: Write>(
         ServerId { index },
         servers.count,
         servers.limit,
-        CarefulDevice::new(device, ENTRY_BYTES),
+        with_care(device),
     ) {
         Ok((server, _)) => boxed(alloc, server),
         Err(refused) => {

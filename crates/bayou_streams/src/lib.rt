@@ -16,10 +16,12 @@
 //! that a stream gives or takes anything.
 #![tactic(auto)]
 
+pub mod called;
 pub mod channel;
 pub mod output;
 pub mod patient;
 
+pub use called::CalledReader;
 pub use channel::{CountedChannel, StreamFault, Turn};
 pub use output::Output;
 pub use patient::{Patience, Patient};

@@ -1,10 +1,11 @@
 //! A reader that waits for bytes as long as there is patience.
-ghost use Rattle.std.specs.Prelude.{◌≡◌, ◌⊎◌, ℕ, true, false, OnErr};
+ghost use Rattle.std.specs.Prelude.{◌≡◌, ℕ, true, false};
 ghost use Rattle.std.specs.Io.{ReadsAtMost};
 ghost use Rattle.std.specs.Io.KnownBytes.{ReadConsumes};
-ghost use Rattle.bayou_base.specs.declared.limits.TheConstants.{MAX_WAITS};
 ghost use Rattle.bayou_streams.specs.Lines.{counted};
+ghost use Rattle.bayou_streams.specs.Waits.{WaitsFor};
 
+use crate::called::CalledReader;
 use bayou_base::limits::MAX_WAITS;
 use std::io;
 use std::io::{ErrorKind, Read};
@@ -26,49 +27,56 @@ pub trait Patience: Drop {
 /// A reader whose waits end by `WouldBlock`, as those of a socket with a read timeout do, and somebody who says whether to wait again.
 #[derive(Drop)]
 pub struct Patient<R, P> {
-    reader: R,
+    reader: CalledReader<R>,
     patience: P,
-    /// Whether a call of the reader failed otherwise than by the end of a wait.
-    has_failed: bool,
 }
 
 impl<R, P> Patient<R, P> {
     /// The reader, and who says whether it is waited for.
     pub fn new(reader: R, patience: P) -> Self
-        ensures reader { result.reader ≡ reader }
+        ensures reader { (result.reader.reader ≡ reader) × (result.reader.calls ≡ 0) }
         ensures patience { result.patience ≡ patience }
-        ensures clean { result.has_failed ≡ false }
     {
         Patient {
-            reader,
+            reader: CalledReader::new(reader),
             patience,
-            has_failed: false,
         }
+    }
+
+    /// How often the reader was called. At the greatest count it stays.
+    pub fn calls(&self) -> u64
+        ensures { result ≡ self.now.reader.calls }
+    {
+        self.reader.calls()
+    }
+
+    /// Who says whether it is waited for.
+    pub fn patience(&self) -> &P
+        ensures { result.now ≡ self.now.patience }
+    {
+        &self.patience
     }
 }
 
 impl<R: Read, P: Patience> Read for Patient<R, P> {
-    ghost remaining = { λ p. R.remaining p.reader };
+    ghost remaining = { λ p. R.remaining p.reader.reader };
 
-    /// Reads what comes first, as the reader does. Before each wait it is asked whether to wait; it fails only where the reader failed, where
-    /// the answer was no, or behind [`MAX_WAITS`] waits, each of which was asked for. That the reader is called once for each yes no clause can
-    /// say: a reader doesn't tell how often it was called.
+    /// Reads what comes first, as the reader does. Before each call of it the patience is asked whether to wait. So the reader is called once
+    /// for each yes, and for nothing else; and bytes are given up only where a call failed, where the answer was no, or behind [`MAX_WAITS`]
+    /// calls.
     fn read(&mut self, buf: &mut [u8]) -> io::Result<usize>
         ensures bound { ReadsAtMost result buf.new }
-        ensures bytes { ReadConsumes (R.remaining self.old.reader) (R.remaining self.new.reader) result buf.new }
-        ensures stopped { OnErr result ((self.new.has_failed ≡ true)
-            ⊎ (P.is_out self.new.patience ⊎ (P.asked self.new.patience ≡ counted (P.asked self.old.patience) MAX_WAITS))) }
+        ensures bytes { ReadConsumes (R.remaining self.old.reader.reader) (R.remaining self.new.reader.reader) result buf.new }
+        ensures waited { WaitsFor (P.asked self.old.patience) (P.asked self.new.patience) self.old.reader.calls self.new.reader.calls
+            (self.new.reader.has_failed ≡ true) (P.is_out self.new.patience) result }
     {
         for _ in 0..MAX_WAITS {
             if !self.patience.waits_on() {
                 break;
             }
-            match self.reader.read(buf) {
+            match self.reader.call(buf) {
                 Err(error) if error.kind() == ErrorKind::WouldBlock => {}
-                Err(error) => {
-                    self.has_failed = true;
-                    return Err(error);
-                }
+                Err(error) => return Err(error),
                 Ok(count) => return Ok(count),
             }
         }

@@ -1,6 +1,13 @@
--- one server for each word so far
-use Rattle.std.proofs.Common.{◌≡◌, length}
+-- one server for each word so far, as it says, and none twice
+use Rattle.std.proofs.Common.{◌≡◌, ◌≢◌, AllPairs, List, length, take, ℕ}
+use Rattle.std.specs.List.{AllZip}
+use Rattle.bayou_connect.specs.Plans.{SaysPlace}
+use Rattle.bayou_connect.specs.declared.plan.Place.{Place}
 use Rattle.bayou_connect.proofs.plan.places_of.Given as goal
 
 abbrev pub invariant-loop-word : goal.invariant-loop-word
-invariant-loop-word l = length l.places.items ≡ l.word-index
+invariant-loop-word l = record {
+  said : AllZip (λ word place. SaysPlace word.now place) (take l.word-index l.words) l.places.items;
+  once : AllPairs (λ (one other : Place). one.id ≢ other.id) l.places.items;
+  number : length l.places.items ≡ l.word-index;
+}

@@ -11,5 +11,6 @@ returns-in_ok-put_request-in-Some-Some c =
     let request = WriteFrame c.in-Some-Some.tag (replicate SERVERS 0) c.in-Some-Some.asked.program in (
       request ∷ [],
       asked_frames c.args.session.now c.args.asked.now c.in-Some-Some.tag c.in-Some-Some.asked c.asked.result c.in-Some-Some.is-0 c.in-Some-Some.is-1 c.asked.ensures,
-      one_more c.put_request.new.out.items c.args.out.now.items request (c.in_ok-put_request-in-Some-Some.ensures),
+      (c.in_ok-put_request-in-Some-Some.ensures.0, tt),
+      one_more c.put_request.new.out.items c.args.out.now.items request c.in_ok-put_request-in-Some-Some.ensures.1,
     )

@@ -1,0 +1,10 @@
+use Rattle.std.proofs.Common.{refl}
+use Rattle.bayou_client.specs.Operating.{reading}
+use Rattle.bayou_connect.specs.declared.asking.Attempt.TheVariants as attempts
+use Rattle.bayou_connect.proofs.Serving.{unserved}
+use Rattle.bayou_connect.proofs.asking.told_read.Goals as goal
+
+pub returns-in-Err : goal.returns-in-Err
+returns-in-Err g c =
+    unserved (reading c.args.client.now.session c.args.key.now) (attempts.Read c.args.key.now) c.args.server c.args.client.now c.read.new.self _ _ c.in-Err.ensures.operates.0 _ _ _ c.in-Err.fault c.unserved.result refl
+    c.in-Err.ensures.operates.2 c.unserved.ensures.none c.unserved.ensures.full
