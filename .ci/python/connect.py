@@ -24,11 +24,11 @@ ENTRY_BYTES = 179
 MOST_ENTRIES = 65536
 
 
-def chained(header, body, count):
-    """A journal with so many entries of this body."""
-    sized = len(body).to_bytes(2, "big") + body
+def chained(header, bodies):
+    """A journal with entries of these bodies."""
     entries, digest = [header], hashlib.sha256(header).digest()
-    for _ in range(count):
+    for body in bodies:
+        sized = len(body).to_bytes(2, "big") + body
         digest = hashlib.sha256(digest + sized).digest()
         entries += [sized, digest]
     return b"".join(entries)
@@ -246,22 +246,25 @@ class Tries:
         self.stop_all()
 
     def grown(self):
-        """A state that has grown long: it is written anew as it is opened, and while it is used."""
+        """A state that has grown long: it is written anew as it is opened, and while it is used, with the last of each session."""
         state = os.path.join(self.room, "grown")
         server = self.start(self.folder())
         at, words = [(0, server.address())], ["--state", state, "--session", "all"]
-        self.row("a Write", at, ["put a 1", "get a"], ["0 wrote 0:1 clock 1 deps 0", "0 read a num 1 at 1"], words=words)
+        self.row("a Write and two reads", at, ["put a 1", '["session",1,["mr"]]', '["read",1,0,"a"]', "get a"],
+                 ["0 wrote 0:1 clock 1 deps 0", "1 read a num 1 at 1", "0 read a num 1 at 1"], words=words)
         with open(state, "rb") as file:
             whole = file.read()
-        last = whole[-ENTRY_BYTES:]
-        body = last[2:-32]
-        for name, count, lines, left in [("is opened", MOST_ENTRIES + 1, 0, 1), ("is used", MOST_ENTRIES - 2, 10, 8), ("is full", MOST_ENTRIES, 0, MOST_ENTRIES)]:
+        first, last = [whole[end - ENTRY_BYTES + 2:end - 32] for end in (len(whole) - ENTRY_BYTES, len(whole))]
+        for name, count, lines, left in [("is opened", MOST_ENTRIES + 1, 0, 2), ("is used", MOST_ENTRIES - 2, 10, 9)]:
             with open(state, "wb") as file:
-                file.write(chained(whole[:HEADER_BYTES], body, count))
-            self.row("a state that %s" % name, at, ["get a"] * lines + ["session"], ["0 read a num 1 at 1"] * lines + ["session 0 read 1 wrote 1"], words=words)
+                file.write(chained(whole[:HEADER_BYTES], [first] + [last] * (count - 1)))
+            told = self.call(at, ["get a"] * lines + ["session"], words, 4 * SECONDS)
+            self.that("a state that %s" % name, told, (0, ["0 read a num 1 at 1"] * lines + ["session 0 read 1 wrote 1"], []))
             self.that("entries of a state that %s" % name, (os.path.getsize(state) - HEADER_BYTES) / ENTRY_BYTES, left)
-            self.row("a state that %s goes on" % name, at, ["session"], ["session 0 read 1 wrote 1"], words=words)
             self.that("nothing is left of it", os.path.exists(state + ".part"), False)
+            with open(state, "rb") as file:
+                kept = file.read()
+            self.that("the other session of a state that %s" % name, first in kept, True)
         self.stop_all()
 
     def damaged(self, state):

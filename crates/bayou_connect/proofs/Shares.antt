@@ -1,5 +1,5 @@
 -- The share of a session, where shares were made for it and for each one before it.
-use Rattle.std.proofs.Common.{arith, ◌≡◌, ℕ, ◌+◌, ◌<◌, List, [], ◌∷◌, ◌++◌, length, length-append, Some, ap, sym, ◌∙◌, subst, get_or}
+use Rattle.std.proofs.Common.{arith, ◌≡◌, ℕ, ◌+◌, ◌<◌, List, [], ◌∷◌, ◌++◌, length, length-append, Some, ap, ◌∙◌, subst, get_or}
 use Rattle.std.specs.Coded.{le_prop}
 use Rattle.std.specs.List.{slice_get}
 use Rattle.std.proofs.Math.Seq.{get_or-append_seam}

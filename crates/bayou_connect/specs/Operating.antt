@@ -1,5 +1,5 @@
 -- What becomes of a session at one server, by what it is told: this project's own (sessions by Terry et al. 1994).
-use Rattle.std.specs.Prelude.{◌≡◌, ◌⊎◌, List, Option, None, Some}
+use Rattle.std.specs.Prelude.{◌≡◌, ◌⊎◌, Option, None, Some}
 use Rattle.bayou_base.specs.declared.server.ServerId.{ServerId}
 use Rattle.bayou_client.specs.declared.client.Asked.{Asked}
 use Rattle.bayou_connect.specs.declared.asking.Attempt.{Attempt}

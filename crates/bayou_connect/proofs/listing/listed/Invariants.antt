@@ -1,5 +1,5 @@
 -- the keys so far that have a value, each with it
-use Rattle.std.proofs.Common.{◌≡◌, All}
+use Rattle.std.proofs.Common.{All}
 use Rattle.bayou_connect.specs.Listing.{IsRow}
 use Rattle.bayou_log.specs.Db.{database_of}
 use Rattle.bayou_connect.proofs.listing.listed.Given as goal

@@ -1,5 +1,5 @@
 -- one server for each word so far, as it says, and none twice
-use Rattle.std.proofs.Common.{◌≡◌, ◌≢◌, AllPairs, List, length, take, ℕ}
+use Rattle.std.proofs.Common.{◌≡◌, ◌≢◌, AllPairs, length, take}
 use Rattle.std.specs.List.{AllZip}
 use Rattle.bayou_connect.specs.Plans.{SaysPlace}
 use Rattle.bayou_connect.specs.declared.plan.Place.{Place}

@@ -1,5 +1,5 @@
 -- what the servers behind these tell is what all of them do
-use Rattle.std.proofs.Common.{◌≡◌, drop}
+use Rattle.std.proofs.Common.{drop}
 use Rattle.bayou_connect.specs.Round.{AsksInTurn}
 use Rattle.bayou_connect.specs.declared.told.Told.{Told}
 use Rattle.bayou_connect.specs.declared.told.Told.TheVariants.{Away}
