@@ -4,8 +4,7 @@ ghost use Rattle.bayou_base.specs.declared.limits.TheConstants.{SESSIONS as NUMB
 
 use crate::fault::ConnectFault;
 use bayou_device::{CarefulDevice, FileDevice};
-use bayou_journal::OpenFault;
-use bayou_journal::with_care;
+use bayou_journal::{OpenFault, with_care};
 use bayou_remember::{KeepFault, Kept, Memory, RememberFault};
 use bayou_session::FIRST_RUN;
 use std::alloc::Global;
