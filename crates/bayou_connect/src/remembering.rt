@@ -5,8 +5,7 @@ ghost use Rattle.bayou_remember.specs.Memory.{EndsWith};
 
 use crate::fault::ConnectFault;
 use bayou_device::{CarefulDevice, FileDevice};
-use bayou_journal::OpenFault;
-use bayou_journal::with_care;
+use bayou_journal::{OpenFault, with_care};
 use bayou_remember::{KeepFault, Kept, Memory, RememberFault};
 use bayou_session::FIRST_RUN;
 use std::alloc::Global;
