@@ -8,7 +8,7 @@ _bayou() {
         net) words='--dir -h --help' ;;
         serve)
             words='--id --servers --dir --listen --peer --every --limit --connections --idle'
-            words+=' --until-input-ends --new --anyone -h --help'
+            words+=' --until-input-ends --new --restore --anyone -h --help'
             ;;
         connect) words='--server --servers --session --state --book --wait -h --help' ;;
         help) words='run net audit serve connect help' ;;

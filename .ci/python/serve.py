@@ -78,7 +78,7 @@ class Tries:
     def guards(self):
         folder = self.folder()
         path = os.path.join(folder, "server-0.journal")
-        self.refused("no journal", folder, 3, "bayou: %s: there is no journal; --new makes one" % path)
+        self.refused("no journal", folder, 3, "bayou: %s: there is no journal; --new makes one, and --restore makes a lost one again" % path)
         self.that("no journal is made without --new", os.listdir(folder), [])
         server = Server(self.program, folder, 0, new=True)
         self.that("a new server", server.serving(), "serving 0 at 127.0.0.1:%s holds 0,0,0" % server.port)
@@ -87,7 +87,7 @@ class Tries:
             for number in range(200):
                 session.write(numbered(number))
         self.that("a told end", server.end(), (0, ["serving 0 at 127.0.0.1:%d holds 0,0,0" % server.port, "settled 0 accepted 200 adopted 0", "log 0 at 200,0,0"]))
-        self.refused("a journal that is there already", folder, 3, "bayou: %s: there is a journal; without --new it is gone on from" % path, new=True)
+        self.refused("a journal that is there already", folder, 3, "bayou: %s: there is a journal; without --new and --restore it is gone on from" % path, new=True)
         whole = open(path, "rb").read()
         self.damage(folder, path, whole)
         self.others(folder, path)
@@ -248,7 +248,7 @@ class Tries:
     def fleet(self, folder, count=3, new=True, **more):
         ports = [free_port() for _ in range(count)]
         peers = lambda index: [(other, ports[other]) for other in range(count) if other != index]  # noqa: E731
-        start = lambda index, new: Server(self.program, folder, index, count, ports[index], peers(index), new, **more)  # noqa: E731
+        start = lambda index, new, words=(): Server(self.program, folder, index, count, ports[index], peers(index), new, words=words, **more)  # noqa: E731
         return [start(index, new) for index in range(count)], start
 
     def peers(self):
@@ -316,6 +316,149 @@ class Tries:
         self.that("a new journal in the place of a lost one is refused", server.ended()[0], 3)
         open(path, "wb").write(old)
 
+    def restores(self):
+        """A journal that is lost is made again of what the peers have, under the same names."""
+        folder = self.folder()
+        path = os.path.join(folder, "server-0.journal")
+        servers, start = self.fleet(folder)
+        for server in servers:
+            server.serving()
+        addresses = [server.address() for server in servers]
+        session = bayou.Session(addresses, asks=["ryw", "mr", "wfr", "mw"])
+        for number in range(8):
+            for index in (0, 1, 2, 0):
+                written = {"update": [["put", "k%d/%d" % (number, index), number]]}
+                self.that("a Write behind what was seen", soon(lambda: session.write(written, index)) is not None)
+                if number % 2:
+                    soon(lambda: session.read("k%d/%d" % (number, index), (index + 1) % 3))
+        before = soon_alike(servers)
+        own = sorted(write for write in before or [] if struct_of(write)[0] == 0)
+        self.that("own Writes are there", len(own), 16)
+        servers[0].kill()
+        os.remove(path)
+        self.unrestored(folder, path, start)
+        servers[0] = start(0, False, ["--restore"])
+        self.that("restored", servers[0].serving() is not None)
+        self.that("told as restored", servers[0].told.find("bayou: restored 16 own writes") is not None)
+        self.that("its journal alone is there", sorted(os.listdir(folder)), ["server-%d.journal" % index for index in range(3)])
+        self.that("its own Writes are the same", sorted(write for write in dump_of(servers[0]) if struct_of(write)[0] == 0) == own)
+        self.that("all hold the same again", soon_alike(servers) == before)
+        self.that("what a session saw it sees there", soon(lambda: session.read("k7/0", 0)), 7)
+        accepted = session.write(PUT, 0)
+        self.that("the next name is the next one", (accepted.origin, accepted.seq), (0, 17))
+        self.refused("a restoring of a journal in use", folder, 3, "bayou: %s: there is a journal; without --new and --restore it is gone on from" % path, words=["--restore"])
+        self.that("it goes on as ever", soon_alike(servers) is not None)
+        servers[0].end()
+        servers[0] = start(0, False)
+        self.that("its journal is gone on from", servers[0].serving() is not None)
+        session.close()
+        for server in servers:
+            self.that("a told end behind a restoring", server.end()[0], 0)
+        self.bad_peers()
+        self.fewer_own()
+        self.killed_restoring()
+
+    def unrestored(self, folder, path, start):
+        """What begins no server in the place of one whose journal is lost."""
+        self.refused("no journal to go on from", folder, 3, "bayou: %s: there is no journal; --new makes one, and --restore makes a lost one again" % path)
+        server = start(0, True)
+        self.that("a new one in its place", (server.ended(), server.told.find("bayou: .*server-0.journal: it lacks Writes of its own server that server [12] has") is not None), ((3, []), True))
+        os.remove(path)
+        self.refused("new and restored at once", folder, 2, "bayou: --new and --restore are two ways to begin: give one of them", new=True, words=["--restore"])
+        server = start(0, False, ["--restore", "--limit", "20"])
+        ended, _ = server.ended()
+        self.that("more Writes than it may hold", (ended, server.told.all()[-1:]), (3, ["bayou: %s: not restored: it would have more Writes than --limit" % path]))
+        self.that("nothing is left of what wasn't restored", sorted(os.listdir(folder)), ["server-1.journal", "server-2.journal"])
+
+    def bad_peers(self):
+        """Peers that are away, or that don't answer as a server does."""
+        folder = self.folder()
+        path = os.path.join(folder, "server-0.journal")
+        self.refused("a restoring without peers", folder, 3, "bayou: %s: not restored: no peer was reached" % path, words=["--restore"])
+        ports = [free_port(), free_port()]
+        server = Server(self.program, folder, 0, peers=list(zip((1, 2), ports)), words=["--restore"])
+        told = ["bayou: peer %d at 127.0.0.1:%d away" % peer for peer in zip((1, 2), ports)]
+        self.that("a restoring whose peers are away", (server.ended()[0], server.told.all()), (3, told + ["bayou: %s: not restored: no peer was reached" % path]))
+        program = ([], [("put", "a", ("lit", 1))], [])
+        first, other = (0, 1, 1, frames.ZERO, program), (1, 1, 1, frames.ZERO, program)
+        whole = [first, other, (0, 2, 2, frames.counts(1, 1), program)]
+        no_items = "server 1 didn't answer whole"
+        for name, answer, line in [
+            ("says nothing", b"", no_items),
+            ("stops within", items(whole), no_items),
+            ("tells another number", items(whole) + ended(2), no_items),
+            ("leaves a Write out", items(whole[1:]) + ended(2), no_items),
+            ("has a Write of a server that there isn't", items([(3, 1, 1, frames.ZERO, program)]) + ended(1), no_items),
+            ("has an own Write that forgets", items(whole + [(0, 3, 3, frames.counts(2), program)]) + ended(4), "the peers' Write 3 of this server can't be its own"),
+        ]:
+            with Fake(answer) as fake:
+                server = Server(self.program, folder, 0, peers=[(1, fake.port)], words=["--restore"])
+                self.that("a peer that " + name, (server.ended()[0], server.told.all()[-1:]), (3, ["bayou: %s: not restored: %s" % (path, line)]))
+        self.that("nothing is left of any of them", os.listdir(folder), [])
+        with Fake(items(whole) + ended(3), asks=1) as fake:
+            server = Server(self.program, folder, 0, peers=[(1, fake.port)], words=["--restore"])
+            self.that("a peer that answers well", (server.serving(), server.told.find("bayou: restored 2 own writes") is not None),
+                      ("serving 0 at 127.0.0.1:%s holds 2,1,0" % server.port, True))
+            server.end()
+
+    def fewer_own(self):
+        """The peer with most own Writes is the one; what no peer has is lost, and its name is given anew."""
+        folder = self.folder()
+        path = os.path.join(folder, "server-0.journal")
+        servers, start = self.fleet(folder)
+        for server in servers:
+            server.serving()
+        with bayou.Session([servers[0].address()]) as session:
+            for count, killed in ((3, 1), (6, 2), (8, 0)):
+                while session.write(PUT).seq < count:
+                    pass
+                for server in servers[1:] if killed == 1 else servers[2:] if killed == 2 else []:
+                    self.that("it has what was written", soon(lambda: count_of(server, 0) == count), True)
+                servers[killed].kill()
+        os.remove(path)
+        ports = [server.port for server in servers]
+        alone = [Server(self.program, folder, index, port=ports[index]) for index in (1, 2)]
+        for server in alone:
+            server.serving()
+        server = start(0, False, ["--restore"])
+        self.that("of two the peer with more is taken", server.serving() is not None and server.told.find("bayou: restored 6 own writes") is not None)
+        with bayou.Session([server.address()], number=1) as session:
+            self.that("a name that no peer knows is given anew", session.write(PUT).seq, 7)
+        for server in alone + [server]:
+            server.end()
+
+    def killed_restoring(self):
+        """A restoring that is killed leaves no journal, and the next one makes it."""
+        folder = self.folder()
+        path, part = (os.path.join(folder, "server-0.journal" + more) for more in ("", ".part"))
+        servers, start = self.fleet(folder, 2)
+        for server in servers:
+            server.serving()
+        with bayou.Session([servers[0].address()]) as session:
+            for number in range(3000):
+                session.write(numbered(number))
+        self.that("the peer has all", soon(lambda: count_of(servers[1], 0) == 3000), True)
+        servers[0].kill()
+        cut = 0
+        for _ in range(10):
+            if os.path.exists(path):
+                os.remove(path)
+            server = start(0, False, ["--restore"])
+            while not os.path.exists(path) and not (os.path.exists(part) and os.path.getsize(part) > 20000):
+                time.sleep(0.001)
+            server.kill()
+            cut += not os.path.exists(path)
+            if cut == 3:
+                break
+        self.that("killed within a restoring", cut, 3)
+        self.that("what was begun is no journal", os.path.exists(path), False)
+        server = start(0, False, ["--restore"])
+        self.that("restored behind kills", (server.serving() is not None, server.told.find("bayou: restored 3000 own writes") is not None), (True, True))
+        self.that("nothing else is left", sorted(os.listdir(folder)), ["server-0.journal", "server-1.journal"])
+        self.that("with the same Writes", sorted(dump_of(server)) == sorted(dump_of(servers[1])))
+        for one in (server, servers[1]):
+            one.end()
+
     def full_disk(self):
         limit = lambda: (signal.signal(signal.SIGXFSZ, signal.SIG_IGN), resource.setrlimit(resource.RLIMIT_FSIZE, (4000, 4000)))  # noqa: E731
         server = Server(self.program, self.folder(), 0, servers=1, new=True, before=limit)
@@ -376,6 +519,43 @@ class Tries:
         done = subprocess.run([self.program, "audit", path], stdin=subprocess.DEVNULL, capture_output=True, timeout=120)
         self.that("each session had what it asked for", (done.returncode, done.stdout.split(b"\n")[0], done.stderr), (0, b"clean", b""))
         self.that("reads and Writes were served", {entry[5] for each in entries for entry in each}, {"read", "write"})
+
+
+def items(writes):
+    return b"".join(frames.frame(frames.ITEM, frames.write_bytes(write)) for write in writes)
+
+
+def ended(number):
+    return frames.frame(frames.END, number.to_bytes(4, "big"))
+
+
+class Fake:
+    """A peer that answers the first of what it is asked so, and closes each later connection at once."""
+
+    def __init__(self, answer, asks=1):
+        self.answer, self.asks = answer, asks
+        self.listener = socket.create_server(("127.0.0.1", 0))
+        self.port = self.listener.getsockname()[1]
+        threading.Thread(target=self.serve, daemon=True).start()
+
+    def serve(self):
+        while True:
+            try:
+                stream, _ = self.listener.accept()
+            except OSError:
+                return
+            with stream:
+                if self.asks > 0:
+                    self.asks -= 1
+                    stream.settimeout(SECONDS)
+                    stream.recv(4096)
+                    stream.sendall(self.answer)
+
+    def __enter__(self):
+        return self
+
+    def __exit__(self, *fault):
+        self.listener.close()
 
 
 def session_request(session):
@@ -504,7 +684,7 @@ def asked_again(session, stop):
     return None
 
 
-GROUPS = ["words", "guards", "clients", "repeats", "patience", "strangers", "short_connections", "crowds", "peers", "hanging", "full_disk", "killed"]
+GROUPS = ["words", "guards", "clients", "repeats", "patience", "strangers", "short_connections", "crowds", "peers", "hanging", "restores", "full_disk", "killed"]
 
 
 def main():

@@ -30,6 +30,7 @@ plain_service = record {
   idle_seconds = 60;
   until_input_ends = false;
   is_new = false;
+  is_restored = false;
   serves_anyone = false;
 }
 

@@ -16,7 +16,7 @@ choice_rules = record (option_rule (codes "peer")) { action = Some Append } ∷ 
     ∷ number_rule (codes "connections") 1 MAX_CONNECTIONS ∷ number_rule (codes "idle") 1 MAX_SECONDS ∷ []
 
 abbrev pub flag_rules : List Rule
-flag_rules = flag_rule (codes "until-input-ends") ∷ flag_rule (codes "new") ∷ flag_rule (codes "anyone") ∷ []
+flag_rules = flag_rule (codes "until-input-ends") ∷ flag_rule (codes "new") ∷ flag_rule (codes "restore") ∷ flag_rule (codes "anyone") ∷ []
 
 -- `serve` takes options alone
 abbrev pub serve_app : App
@@ -35,6 +35,7 @@ pub record Service : Type 0 where
   pub idle_seconds : ℕ
   pub until_input_ends : Bool
   pub is_new : Bool
+  pub is_restored : Bool
   pub serves_anyone : Bool
 
 -- what the options ask for
@@ -51,6 +52,7 @@ service_of rows = record {
   idle_seconds = number_of (codes "idle") 1 MAX_SECONDS DEFAULT_IDLE_SECONDS rows;
   until_input_ends = flag_of (codes "until-input-ends") rows;
   is_new = flag_of (codes "new") rows;
+  is_restored = flag_of (codes "restore") rows;
   serves_anyone = flag_of (codes "anyone") rows;
 }
 
@@ -68,5 +70,6 @@ service_seen serving = record {
   idle_seconds = serving.idle_seconds;
   until_input_ends = serving.until_input_ends;
   is_new = serving.is_new;
+  is_restored = serving.is_restored;
   serves_anyone = serving.serves_anyone;
 }

@@ -42,12 +42,18 @@ const UNTIL: &str = "Ends where the standard input ends";
 
 const NEW: &str = "Makes the journal, for a server that is new";
 
+const RESTORE: &str =
+    "Makes the journal again, of what the peers have, for a server that has lost it";
+
 const ANYONE: &str = "Listens at an address that other machines reach, too";
 
 const SERVE_FORM: &str =
     r#"Server I of a store of N servers answers clients at ADDRESS:PORT, and pulls from each peer what it lacks. It keeps its journal in the file
 DIR/server-I.journal. DIR must exist. --new makes the journal, so give it the first time alone: without it a journal that isn't there is a
 fault, since a wrong DIR would else be a store that has lost everything.
+
+--restore takes the place of --new for a server whose journal is lost: it makes the journal again, of the Writes that its peers have of it.
+What none of them has is lost, and its names are given to other Writes (docs/RECOVERY.md).
 
 Three servers on one machine, each in a terminal of its own:
 
@@ -120,6 +126,7 @@ fn with_flags<'a>(alloc: Global, command: Command<'a>) -> Result<Command<'a>, Al
     command
         .arg(flag(alloc, "until-input-ends", UNTIL))?
         .arg(flag(alloc, "new", NEW))?
+        .arg(flag(alloc, "restore", RESTORE))?
         .arg(flag(alloc, "anyone", ANYONE))
 }
 
@@ -162,6 +169,7 @@ pub(crate) fn serving_in<'a>(
         idle_seconds: number_in(found, "idle", 1, MAX_SECONDS, DEFAULT_IDLE_SECONDS),
         until_input_ends: flag_in(found, "until-input-ends"),
         is_new: flag_in(found, "new"),
+        is_restored: flag_in(found, "restore"),
         serves_anyone: flag_in(found, "anyone"),
     })
 }

@@ -26,6 +26,8 @@ pub struct Serving<'a> {
     pub until_input_ends: bool,
     /// Whether its journal is to be made, of nothing.
     pub is_new: bool,
+    /// Whether its journal, which is lost, is to be made again of what its peers have.
+    pub is_restored: bool,
     /// Whether it may listen at an address that other machines reach.
     pub serves_anyone: bool,
     pub ghost id_in_range: { id < SERVERS },

@@ -1,8 +1,13 @@
 -- Why nothing is served, or no more: this project's own.
-use Rattle.std.specs.Prelude.{◌≡◌, ◌≢◌, Bool, false, true, Option, None, Some}
+use Rattle.std.specs.Prelude.{◌≡◌, ◌≢◌, Option, None, Some}
 use Rattle.bayou_device.specs.declared.careful.Damage.{Damage}
 use Rattle.bayou_serve.specs.declared.fault.ServeFault.{ServeFault}
-use Rattle.bayou_serve.specs.declared.fault.ServeFault.TheVariants.{Missing, Present, Device, Damaged, NotAJournal, OtherServer, BadRecord, Gap, LogFull, OwnLost, Memory, Port, Output}
+use Rattle.bayou_serve.specs.declared.fault.ServeFault.TheVariants.{NotOpened, Missing, Present, Device, Damaged, NotAJournal, OtherServer, BadRecord, Gap, LogFull, OwnLost, NotRestored, Memory, Port, Output}
+use Rattle.bayou_serve.specs.declared.fault.Unrestored.TheVariants as why
+use Rattle.bayou_serve.specs.declared.plan.Beginning.{Beginning}
+use Rattle.bayou_serve.specs.declared.plan.Beginning.TheVariants.{GoOn}
+use Rattle.bayou_restore.specs.declared.fault.RestoreFault.{RestoreFault}
+use Rattle.bayou_restore.specs.declared.fault.RestoreFault.TheVariants as restores
 use Rattle.bayou_server.specs.declared.fault.JournalFault.TheVariants as journals
 use Rattle.bayou_server.specs.declared.fault.StartFault.{StartFault}
 use Rattle.bayou_server.specs.declared.fault.StartFault.TheVariants as starts
@@ -22,12 +27,35 @@ told_as (starts.Gap entry) damage = Gap entry
 told_as starts.LogFull damage = LogFull
 told_as starts.OutOfMemory damage = Memory
 
--- what may end a start: no peer was asked yet, no socket and no output is there, and a journal is missing only where none is to be made, and in
--- the way only where one is
-abbrev pub MayEndStart : (is_new : Bool) → ServeFault → Type 0
-MayEndStart is_new Missing = is_new ≡ false
-MayEndStart is_new Present = is_new ≡ true
-MayEndStart is_new (OwnLost peer) = ⊥
-MayEndStart is_new Port = ⊥
-MayEndStart is_new Output = ⊥
-MayEndStart is_new _ = Unit {0}
+-- a restoring that failed is told by its own name; a file that isn't empty, though it was cut, is one of which a call failed
+abbrev pub unrestored_as : RestoreFault → ServeFault
+unrestored_as (restores.Misfit number) = NotRestored (why.Misfit number)
+unrestored_as restores.LogFull = NotRestored why.LogFull
+unrestored_as restores.Device = NotRestored why.Device
+unrestored_as restores.NotEmpty = NotRestored why.Device
+unrestored_as restores.OutOfMemory = Memory
+
+-- what may end the look for a journal: it is missing only where none is to be made, and in the way only where one is
+abbrev pub MayEndLook : Beginning → ServeFault → Type 0
+MayEndLook beginning Missing = beginning ≡ GoOn
+MayEndLook beginning Present = beginning ≢ GoOn
+MayEndLook beginning NotOpened = Unit {0}
+MayEndLook beginning _ = ⊥
+
+-- what may end a start: the same, or what the journal or memory is at fault for; no peer was asked yet, and no socket and no output is there
+abbrev pub MayEndStart : Beginning → ServeFault → Type 0
+MayEndStart beginning Missing = beginning ≡ GoOn
+MayEndStart beginning Present = beginning ≢ GoOn
+MayEndStart beginning (OwnLost peer) = ⊥
+MayEndStart beginning (NotRestored why) = ⊥
+MayEndStart beginning Port = ⊥
+MayEndStart beginning Output = ⊥
+MayEndStart beginning _ = Unit {0}
+
+-- What may end a restoring: a journal in the way, or what it wasn't made again for, or memory.
+abbrev pub MayEndRestoring : ServeFault → Type 0
+MayEndRestoring NotOpened = Unit {0}
+MayEndRestoring Present = Unit {0}
+MayEndRestoring (NotRestored why) = Unit {0}
+MayEndRestoring Memory = Unit {0}
+MayEndRestoring _ = ⊥

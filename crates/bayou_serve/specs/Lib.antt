@@ -1,3 +1,4 @@
+pub mod Beginnings
 pub mod Faults
 pub mod Fullness
 pub mod Lived

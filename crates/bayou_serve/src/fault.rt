@@ -2,9 +2,33 @@ ghost use Rattle.std.specs.Prelude.{◌≡◌};
 ghost use Rattle.bayou_serve.specs.Faults.{told_as};
 
 use bayou_device::Damage;
+use bayou_restore::RestoreFault;
 use bayou_server::{JournalFault, StartFault};
 use std::alloc::AllocError;
 use thiserror::Error;
+
+/// Why a lost journal wasn't made again.
+#[derive(Clone, Copy, Debug, PartialEq, Eq, Error)]
+pub enum Unrestored {
+    #[error("no peer was reached")]
+    NoPeer,
+    /// The answer of this server ended early, or can't be one.
+    #[error("server {0} didn't answer whole")]
+    BadAnswer(u8),
+    /// The own Write of this number can't have been made behind those that it counts.
+    #[error("the peers' Write {0} of this server can't be its own")]
+    Misfit(u32),
+    #[error("it would have more Writes than --limit")]
+    LogFull,
+    /// The file that is to be the journal can't be opened or locked.
+    #[error("its .part can't be opened, or another process has it")]
+    NotOpened,
+    /// A call of that file failed.
+    #[error("a call of its .part failed")]
+    Device,
+    #[error("no random number")]
+    Random,
+}
 
 /// Why nothing is served, or no more.
 #[derive(Clone, Copy, Debug, PartialEq, Eq, Error)]
@@ -12,9 +36,9 @@ pub enum ServeFault {
     /// The journal's file can't be opened or locked.
     #[error("it can't be opened, or another process has it")]
     NotOpened,
-    #[error("there is no journal; --new makes one")]
+    #[error("there is no journal; --new makes one, and --restore makes a lost one again")]
     Missing,
-    #[error("there is a journal; without --new it is gone on from")]
+    #[error("there is a journal; without --new and --restore it is gone on from")]
     Present,
     /// A call of the file failed.
     #[error("a call of the file failed")]
@@ -37,6 +61,8 @@ pub enum ServeFault {
     /// A peer, of this number, has a Write of this server, which its journal lacks.
     #[error("it lacks Writes of its own server that server {0} has")]
     OwnLost(u8),
+    #[error("not restored: {0}")]
+    NotRestored(Unrestored),
     #[error("memory")]
     Memory,
     #[error("no socket can be listened at there")]
@@ -68,6 +94,24 @@ impl From<AllocError> for ServeFault {
 
     fn from(_error: AllocError) -> ServeFault {
         ServeFault::Memory
+    }
+}
+
+impl From<RestoreFault> for ServeFault {
+    ghost use Rattle.std.specs.Prelude.{◌≡◌};
+    ghost use Rattle.bayou_serve.specs.Faults.{unrestored_as};
+
+    ghost from_gives = { λ refusal fault. fault ≡ unrestored_as refusal };
+
+    fn from(fault: RestoreFault) -> ServeFault {
+        match fault {
+            RestoreFault::Misfit(number) => ServeFault::NotRestored(Unrestored::Misfit(number)),
+            RestoreFault::LogFull => ServeFault::NotRestored(Unrestored::LogFull),
+            RestoreFault::Device | RestoreFault::NotEmpty => {
+                ServeFault::NotRestored(Unrestored::Device)
+            }
+            RestoreFault::OutOfMemory => ServeFault::Memory,
+        }
     }
 }
 

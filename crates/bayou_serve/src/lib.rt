@@ -2,7 +2,8 @@
 //!
 //! Callers see [`serve_plan`], which serves what a [`Plan`] says until it is told to end, or for ever. Each connection is served at a desk
 //! of its own (`bayou_net`), as long as there is patience with it: a client that says nothing holds nobody up. One thread a peer pulls every
-//! so often; one more opens the journal again where a fault of the device took the server down, and tells when the server fills up.
+//! so often; one more opens the journal again where a fault of the device took the server down, and tells when the server fills up. A journal that is
+//! lost is made again of what the peers have (`bayou_restore`), where the plan asks for that.
 //!
 //! Callers owe a folder in which one process has the journal of a server at a time: a journal in use is refused. It isn't promised that
 //! a thread gets on, that a peer answers, or that a file holds what was written to it.
@@ -16,13 +17,14 @@ mod lines;
 mod peers;
 pub mod plan;
 mod reception;
+mod restoring;
 pub mod serving;
 mod starting;
 pub mod teller;
 pub mod visit;
 pub mod waiting;
 
-pub use fault::ServeFault;
-pub use plan::{Habits, Peer, Plan, PlanFault};
+pub use fault::{ServeFault, Unrestored};
+pub use plan::{Beginning, Habits, Peer, Plan, PlanFault};
 pub use serving::serve_plan;
 pub use teller::Teller;

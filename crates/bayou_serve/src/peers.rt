@@ -23,7 +23,7 @@ use std::time::{Clock, Duration};
 const REACH_SECONDS: u64 = 2;
 
 /// How long a peer has between two pieces of its answer, in milliseconds.
-const ANSWER_MILLISECONDS: u64 = 10_000;
+pub(crate) const ANSWER_MILLISECONDS: u64 = 10_000;
 
 const TICKS_PER_SECOND: u64 = 1_000 / TICK_MILLISECONDS;
 
@@ -46,8 +46,8 @@ pub(crate) fn is_timed(stream: &TcpStream) -> bool {
     stream.set_read_timeout(Some(tick)).is_ok() && stream.set_write_timeout(Some(answer)).is_ok()
 }
 
-// A connection to the peer, whose reads and writes end in time, if one comes about.
-fn reach<T: Sockets>(rt: &T, peer: Peer) -> Option<TcpStream> {
+/// A connection to the peer, whose reads and writes end in time, if one comes about.
+pub(crate) fn reach<T: Sockets>(rt: &T, peer: Peer) -> Option<TcpStream> {
     let stream = TcpStream::connect_timeout(
         rt,
         &peer.address,

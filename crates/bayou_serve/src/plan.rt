@@ -1,6 +1,7 @@
 //! What a server that lives is to do, as the words of its command line say it.
 ghost use Rattle.std.specs.Prelude.{◌≡◌, ◌≢◌, ◌<◌, ◌≤◌, All, AllPairs, Err, IfOk, false, length};
 ghost use Rattle.bayou_base.specs.declared.limits.TheConstants.{MAX_WRITES, SERVERS};
+ghost use Rattle.bayou_serve.specs.Beginnings.{beginning_of};
 ghost use Rattle.bayou_serve.specs.declared.plan.PlanFault.TheVariants.{NoServer};
 
 use bayou_base::ServerId;
@@ -13,6 +14,31 @@ use thiserror::Error;
 pub struct Peer {
     pub id: ServerId,
     pub address: SocketAddr,
+}
+
+/// How a server begins.
+#[derive(Clone, Copy, Debug, PartialEq, Eq)]
+pub enum Beginning {
+    /// With its journal, which must be there.
+    GoOn,
+    /// With a journal that is made of nothing, and isn't there yet.
+    New,
+    /// With a journal that is made again of what its peers have, and isn't there any more.
+    Restore,
+}
+
+impl Beginning {
+    /// The way to begin that these words ask for, or `None` where they ask for two.
+    pub fn of(is_new: bool, is_restored: bool) -> Option<Beginning>
+        ensures { result ≡ beginning_of is_new is_restored }
+    {
+        match (is_new, is_restored) {
+            (false, false) => Some(Beginning::GoOn),
+            (true, false) => Some(Beginning::New),
+            (false, true) => Some(Beginning::Restore),
+            (true, true) => None,
+        }
+    }
 }
 
 /// How a server lives.
@@ -28,8 +54,7 @@ pub struct Habits {
     pub idle_seconds: u32,
     /// Whether it ends as its input does.
     pub until_input_ends: bool,
-    /// Whether its journal is to be made, and isn't there yet.
-    pub is_new: bool,
+    pub beginning: Beginning,
     pub ghost limit_in_range: { limit ≤ MAX_WRITES },
 }
 
@@ -59,6 +84,8 @@ pub enum PlanFault {
     NoPeer,
     #[error("--peer names a server twice")]
     SamePeer,
+    #[error("--new and --restore are two ways to begin: give one of them")]
+    TwoBeginnings,
     #[error("memory")]
     OutOfMemory,
 }

@@ -1,5 +1,5 @@
 //! A server that lives, from its start to its end.
-ghost use Rattle.std.specs.Prelude.{◌≡◌, ℕ, List, IfErr, MatchResult, OnOk, vec_len};
+ghost use Rattle.std.specs.Prelude.{◌≡◌, ℕ, List, IfErr, IfOk, MatchResult, OnOk, vec_len};
 ghost use Rattle.std.specs.Thread.{IsSend};
 ghost use Rattle.bayou_node.specs.Books.{IsBlankOf, begun_of};
 ghost use Rattle.bayou_print.specs.Living.{serving_text};
@@ -11,8 +11,9 @@ use crate::fault::ServeFault;
 use crate::hall::Hall;
 use crate::keeper::keep_up;
 use crate::peers::{has_own_beyond, keep_pulling};
-use crate::plan::Plan;
+use crate::plan::{Beginning, Plan};
 use crate::reception::Reception;
+use crate::restoring::restore_journal;
 use crate::starting::{Careful, Started, start_at};
 use crate::teller::Teller;
 use bayou_device::Device;
@@ -26,6 +27,7 @@ use std::fs::{File, Files};
 use std::io::{Read, Write};
 use std::marker::Brand;
 use std::net::TcpListener;
+use std::random::RandomSource;
 use std::sync::Wait;
 use std::sync::ledger::Blank;
 use std::thread;
@@ -204,6 +206,27 @@ fn print_serving<D: Device, L: Desks, W: Write, E, T: Wait>(
     print(output, line.as_str())
 }
 
+// The server, with its journal as the plan has it begin: one that is lost is made again first, and then gone on from.
+fn begin<E, T>(
+    rt: &T,
+    alloc: Global,
+    plan: &Plan,
+    path: &str,
+    teller: &Teller<E>,
+) -> Result<Started, ServeFault>
+where
+    E: Write,
+    T: Wait + Clock + Files<File = File> + RandomSource + Sockets,
+    ensures started { IfOk result (λ started. (started.server.core.id ≡ plan.now.id.index) × (started.server.core.count ≡ plan.now.servers) × (started.server.core.limit ≡ plan.now.habits.limit)) }
+{
+    let beginning = plan.habits.beginning;
+    if beginning == Beginning::Restore {
+        restore_journal(rt, alloc, plan, path, teller)?;
+        return start_at(rt, alloc, plan, path, Beginning::GoOn);
+    }
+    start_at(rt, alloc, plan, path, beginning)
+}
+
 // Serves the node from its first connection to a told end, and prints what its books come to.
 fn serve_node<L, I, W, E, T>(
     rt: &T,
@@ -272,11 +295,11 @@ where
     I: Read,
     W: Write,
     E: Write + Send + Drop,
-    T: Threads + Wait + Clock + Files<File = File> + Sockets + Send + Sync,
+    T: Threads + Wait + Clock + Files<File = File> + RandomSource + Sockets + Send + Sync,
     ensures lived { OnOk result (PrintsLife plan.now.id.index plan.now.servers (account W.contents output.old) (account W.contents output.new)) }
     ensures unserved { IfErr result (λ fault. IsBeforeServing fault → output.new ≡ output.old) }
 {
-    let Started { server, dropped } = start_at(rt, alloc, plan, path)?;
+    let Started { server, dropped } = begin(rt, alloc, plan, path, teller)?;
     if dropped > 0 {
         teller.tell_made(
             rt,

@@ -1,15 +1,17 @@
 //! Servers that live, from the words to the exit status.
-ghost use Rattle.std.specs.Prelude.{◌≡◌, ◌≢◌, ◌⊎◌, IfErr, IfOk, MatchResult};
-ghost use Rattle.bayou_serve.specs.declared.plan.PlanFault.TheVariants.{OutOfMemory};
+ghost use Rattle.std.specs.Prelude.{◌≡◌, ◌≢◌, ◌⊎◌, true, Some, Err, IfErr, IfOk, MatchResult};
+ghost use Rattle.bayou_serve.specs.Beginnings.{beginning_of};
+ghost use Rattle.bayou_serve.specs.declared.plan.PlanFault.TheVariants.{OutOfMemory, TwoBeginnings};
 
 use bayou_command::Serving;
 use bayou_net::Sockets;
-use bayou_serve::{Habits, Plan, PlanFault, ServeFault, Teller, serve_plan};
+use bayou_serve::{Beginning, Habits, Plan, PlanFault, ServeFault, Teller, serve_plan};
 use bayou_streams::Output;
 use std::alloc::{AllocError, Global};
 use std::fs;
 use std::fs::File;
 use std::io::{Read, Write};
+use std::random::RandomSource;
 use std::sync::Wait;
 use std::thread::Threads;
 use std::time::Clock;
@@ -30,17 +32,22 @@ const FAILED: u8 = 3;
 impl Service {
     /// What the words ask for. What can't be done of them is told once it is to be served; want of memory alone is told at once.
     pub fn of(alloc: Global, serving: &Serving<'_>) -> Result<Self, AllocError>
-        ensures { IfOk result (λ service. MatchResult service.plan (λ plan. plan.id.index ≡ serving.now.id) (λ fault. fault ≢ OutOfMemory)) }
+        ensures asked { IfOk result (λ service. MatchResult service.plan (λ plan. (plan.id.index ≡ serving.now.id) × (Some plan.habits.beginning ≡ beginning_of serving.now.is_new serving.now.is_restored)) (λ fault. fault ≢ OutOfMemory)) }
+        ensures two { serving.now.is_new ≡ true → serving.now.is_restored ≡ true → IfOk result (λ service. service.plan ≡ Err TwoBeginnings) }
     {
         let (folder, id) = (serving.folder, serving.id);
         let path = format!(in alloc; "{folder}/server-{id}.journal")?;
+        let Some(beginning) = Beginning::of(serving.is_new, serving.is_restored) else {
+            let plan = Err(PlanFault::TwoBeginnings);
+            return Ok(Service { path, plan });
+        };
         let habits = Habits {
             limit: serving.limit,
             every_seconds: serving.every_seconds,
             connections: serving.connections,
             idle_seconds: serving.idle_seconds,
             until_input_ends: serving.until_input_ends,
-            is_new: serving.is_new,
+            beginning,
         };
         match Plan::new(
             alloc,
@@ -86,7 +93,7 @@ where
     I: Read,
     W: Write,
     E: Write + Send + Drop,
-    T: Threads + Wait + Clock + fs::Files<File = File> + Sockets + Send + Sync,
+    T: Threads + Wait + Clock + fs::Files<File = File> + RandomSource + Sockets + Send + Sync,
     ensures status { (result ≡ 0) ⊎ (result ≡ REFUSED) ⊎ (result ≡ FAILED) }
     // Of words that can't be done nothing is served or printed.
     ensures refused { IfErr service.plan (λ _. (result ≡ REFUSED) × (output.new ≡ output.old)) }

@@ -86,6 +86,10 @@ pub returns-clause-serve_new : goal.returns-clause-serve_new
 unfolding clap_on_literals
 returns-clause-serve_new c = record { good = refl; entered = refl }
 
+pub returns-clause-serve_restore : goal.returns-clause-serve_restore
+unfolding clap_on_literals
+returns-clause-serve_restore c = record { good = refl; entered = refl }
+
 pub returns-clause-serve_anyone : goal.returns-clause-serve_anyone
 unfolding clap_on_literals
 returns-clause-serve_anyone c = record { good = refl; entered = refl }

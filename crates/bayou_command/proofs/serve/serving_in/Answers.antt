@@ -17,7 +17,8 @@ returns c =
       idle_seconds = c.number_in-4.result;
       until_input_ends = c.flag_in.result;
       is_new = c.flag_in-2.result;
-      serves_anyone = c.flag_in-3.result;
+      is_restored = c.flag_in-3.result;
+      serves_anyone = c.flag_in-4.result;
     }) (service_of (rows_of (found_of c.args.found.now))) = λ i. record {
       id = c.number_in.ensures.value i;
       servers = c.number_in-2.ensures.value i;
@@ -30,6 +31,7 @@ returns c =
       idle_seconds = c.number_in-4.ensures.value i;
       until_input_ends = c.flag_in.ensures i;
       is_new = c.flag_in-2.ensures i;
-      serves_anyone = c.flag_in-3.ensures i;
+      is_restored = c.flag_in-3.ensures i;
+      serves_anyone = c.flag_in-4.ensures i;
     } in
     same

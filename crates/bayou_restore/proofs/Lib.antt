@@ -1,0 +1,10 @@
+mod Due
+mod Gap
+mod Held
+mod Listing
+mod Made
+mod Making
+mod Next
+mod Parts
+mod Taking
+mod Whole

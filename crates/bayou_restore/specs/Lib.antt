@@ -1,0 +1,3 @@
+pub mod Gathering
+pub mod Inner
+pub mod Restoring

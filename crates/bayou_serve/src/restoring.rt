@@ -1,0 +1,179 @@
+//! How a journal that is lost is made again of what the peers have.
+ghost use Rattle.std.specs.Prelude.{◌≡◌, ◌<◌, ◌≤◌, ◌⊎◌, IfErr, IfOk, IfSome, None, slice_index};
+ghost use Rattle.bayou_lang.specs.Writes.{count_of};
+ghost use Rattle.bayou_serve.specs.Faults.{MayEndRestoring};
+
+use crate::fault::{ServeFault, Unrestored};
+use crate::hall::Hall;
+use crate::lines::news_line;
+use crate::peers::{ANSWER_MILLISECONDS, reach};
+use crate::plan::{Beginning, Peer, Plan};
+use crate::starting::look_for;
+use crate::teller::Teller;
+use crate::visit::News;
+use crate::waiting::{Most, Renewing, Since, Waiting};
+use bayou_base::{MAX_WRITES, ServerId, Vector};
+use bayou_device::{Device, FileDevice};
+use bayou_net::Sockets;
+use bayou_peer::{PullFault, pull_from_on};
+use bayou_restore::{Gathered, restore};
+use bayou_server::{Server, StartFault};
+use bayou_streams::{CountedChannel, Patient};
+use std::alloc::Global;
+use std::fs;
+use std::fs::{File, Files};
+use std::io::Write;
+use std::random::RandomSource;
+use std::sync::Wait;
+use std::time::Clock;
+
+/// The device of a journal that is being made again.
+type Part = FileDevice<File>;
+
+// All that the peer has, or why its answer ended early; nothing where no connection comes about.
+fn gather_from<T: Clock + Sockets>(
+    rt: &T,
+    alloc: Global,
+    plan: &Plan,
+    peer: Peer,
+    hall: &Hall,
+) -> Option<Result<Gathered, PullFault>>
+    ensures { IfSome result (λ answer. IfOk answer (λ gathered. gathered.count ≡ plan.now.servers)) }
+{
+    let stream = reach(rt, peer)?;
+    let since = Since::now(rt);
+    let patience = Waiting::new(rt, hall, &since, Most::Milliseconds(ANSWER_MILLISECONDS));
+    let reader = Renewing::new(Patient::new(&stream, patience), rt, &since);
+    let writer = Renewing::new(&stream, rt, &since);
+    let mut channel = CountedChannel::new(reader, writer);
+    let mut gathered = Gathered::new(alloc, plan.servers, MAX_WRITES);
+    match pull_from_on(alloc, &mut gathered, &Vector::zero(), &mut channel) {
+        Ok(_) => Some(Ok(gathered)),
+        Err(fault) => Some(Err(fault)),
+    }
+}
+
+// Of two the one that has more Writes of the server: the first, where both have as many.
+fn with_more_own(best: Option<Gathered>, other: Gathered, id: ServerId) -> Gathered
+    ensures first { best ≡ None → result ≡ other }
+    ensures one { IfSome best (λ best. (result ≡ best) ⊎ (result ≡ other)) }
+    ensures most { slice_index (count_of other.writes) id.index ≤ slice_index (count_of result.writes) id.index }
+    ensures least { IfSome best (λ best. slice_index (count_of best.writes) id.index ≤ slice_index (count_of result.writes) id.index) }
+{
+    match best {
+        Some(best) if other.vector().get(id) <= best.vector().get(id) => best,
+        _ => other,
+    }
+}
+
+// What that peer has which has most Writes of the server, of those that are reached. Peers that are away are told. An answer that ends early
+// ends it: that peer may have had more.
+fn gather<E: Write, T: Wait + Clock + Sockets>(
+    rt: &T,
+    alloc: Global,
+    plan: &Plan,
+    teller: &Teller<E>,
+) -> Result<Gathered, ServeFault>
+    ensures count { IfOk result (λ gathered. gathered.count ≡ plan.now.servers) }
+    ensures fault { IfErr result MayEndRestoring }
+{
+    let hall = Hall::new(plan.habits.connections, plan.habits.idle_seconds);
+    let mut best = None;
+    for peer in plan.peers.iter() {
+        match gather_from(rt, alloc, plan, *peer, &hall) {
+            None => teller.tell_made(rt, news_line(alloc, *peer, &News::Away)),
+            Some(Ok(gathered)) => best = Some(with_more_own(best, gathered, plan.id)),
+            Some(Err(fault)) => {
+                teller.tell_made(rt, news_line(alloc, *peer, &News::Failed(fault)));
+                let why = Unrestored::BadAnswer(peer.id.index);
+                return Err(ServeFault::NotRestored(why));
+            }
+        }
+    }
+    best.ok_or(ServeFault::NotRestored(Unrestored::NoPeer))
+}
+
+// A run that nobody else has, as far as chance goes.
+fn drawn_run<T: RandomSource>(rt: &T) -> Result<u32, ServeFault>
+    ensures run { IfOk result (λ run. 0 < run) }
+    ensures fault { IfErr result MayEndRestoring }
+{
+    let mut bytes = [0; 4];
+    if rt.fill_bytes(&mut bytes).is_err() {
+        return Err(ServeFault::NotRestored(Unrestored::Random));
+    }
+    Ok(u32::from_be_bytes(bytes).max(1))
+}
+
+// The server that the plan asks for, on a device that is emptied first: a run that was killed may have left something there.
+fn start_empty(alloc: Global, plan: &Plan, mut part: Part) -> Result<Server<Part>, ServeFault>
+    ensures started { IfOk result (λ server. (server.core.doubt ≡ None) × (server.core.count ≡ plan.now.servers)) }
+    ensures fault { IfErr result MayEndRestoring }
+{
+    if part.cut(0).is_err() {
+        return Err(ServeFault::NotRestored(Unrestored::Device));
+    }
+    match Server::start(alloc, plan.id, plan.servers, plan.habits.limit, part) {
+        Ok((server, _)) => Ok(server),
+        Err(refused) if refused.fault == StartFault::OutOfMemory => Err(ServeFault::Memory),
+        Err(_) => Err(ServeFault::NotRestored(Unrestored::Device)),
+    }
+}
+
+// Makes the journal again on the device, whose name is `part`, and gives it its own name once it is whole. It tells how many Writes of its
+// own the server has again. No other process makes it meanwhile, since the device is locked.
+fn make_again<T: Files<File = File> + RandomSource>(
+    rt: &T,
+    alloc: Global,
+    plan: &Plan,
+    path: &str,
+    part: &str,
+    device: Part,
+    gathered: &Gathered,
+) -> Result<u32, ServeFault>
+    requires { gathered.now.count ≡ plan.now.servers }
+    ensures { IfErr result MayEndRestoring }
+{
+    look_for(rt, path, Beginning::Restore)?;
+    let mut server = start_empty(alloc, plan, device)?;
+    restore(alloc, &mut server, gathered, drawn_run(rt)?)?;
+    look_for(rt, path, Beginning::Restore)?;
+    if fs::rename(rt, part, path).is_err() {
+        return Err(ServeFault::NotRestored(Unrestored::Device));
+    }
+    Ok(server.vector().get(plan.id))
+}
+
+/// Makes the journal of this name, which is lost, again of what the peers have, and tells how many Writes of its own the server has again. It is
+/// made under another name, and is there under its own one whole or not at all. What a file has no clause can say, nor what a peer answers;
+/// which Writes are the server's again is [`restore`]'s.
+pub(crate) fn restore_journal<E, T>(
+    rt: &T,
+    alloc: Global,
+    plan: &Plan,
+    path: &str,
+    teller: &Teller<E>,
+) -> Result<(), ServeFault>
+where
+    E: Write,
+    T: Wait + Clock + Files<File = File> + RandomSource + Sockets,
+    ensures { IfErr result MayEndRestoring }
+{
+    look_for(rt, path, Beginning::Restore)?;
+    let gathered = gather(rt, alloc, plan, teller)?;
+    let part = format!(in alloc; "{path}.part")?;
+    let Ok(device) = FileDevice::open(rt, part.as_str()) else {
+        return Err(ServeFault::NotRestored(Unrestored::NotOpened));
+    };
+    match make_again(rt, alloc, plan, path, part.as_str(), device, &gathered) {
+        Ok(own) => {
+            teller.tell_made(rt, format!(in alloc; "bayou: restored {own} own writes\n"));
+            Ok(())
+        }
+        Err(fault) => {
+            // Nothing of it is of any use; what can't be removed is emptied the next time.
+            let _ = fs::remove_file(rt, part.as_str());
+            Err(fault)
+        }
+    }
+}
