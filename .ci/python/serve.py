@@ -202,7 +202,7 @@ class Tries:
             one.close()
         begun = time.monotonic()
         self.that("a told end beside connections", server.end()[0], 0)
-        self.that("in a moment", time.monotonic() - begun <= 5)
+        self.that("within two seconds", time.monotonic() - begun <= 2)
 
     def strangers(self):
         """Bytes that are no requests end their connection alone."""

@@ -68,7 +68,7 @@ pub const READ_BYTES: usize = 8_192;
 
 /// How many bytes of an answer in memory are taken at once. Those of their Writes that come late are applied once, so that more bytes cost less
 /// time; their Writes lie beside the bytes until they are taken, so that fewer cost less memory.
-pub const PULL_BYTES: usize = 262_144;
+pub const PULL_BYTES: usize = 524_288;
 
 /// How many Writes a node takes at the most before its lock is free again: each is synced under the lock.
 pub const TAKES_AT_ONCE: u32 = 64;

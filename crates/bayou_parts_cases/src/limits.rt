@@ -30,7 +30,7 @@ static LIMITS: [(&str, u64, u64); 24] = [
     ("turns", MAX_TURNS as u64, 1_000_000),
     ("places", MAX_PLACES as u64, 4_294_967_295),
     ("bytes that are read at once", READ_BYTES as u64, 8_192),
-    ("bytes that are taken at once", PULL_BYTES as u64, 262_144),
+    ("bytes that are taken at once", PULL_BYTES as u64, 524_288),
     ("bytes that are written at once", PIECE_BYTES as u64, 65_536),
 ];
 
