@@ -1,8 +1,10 @@
 -- The Write that stands at the place of a name.
-use Rattle.std.proofs.Common.{◌≡◌, ◌≢◌, ℕ, ◌<◌, true, false, Bor, List, length, All, Contains, Option, Some, None, IfSome, IfNone, ap, sym, ◌∙◌, subst}
+use Rattle.std.proofs.Common.{◌≡◌, ◌≢◌, ℕ, ◌<◌, true, false, Bor, List, length, slice_index, All, Contains, Option, Some, None, IfSome, IfNone, ap, sym, ◌∙◌, subst}
 use Rattle.std.specs.List.{slice_get}
+use Rattle.std.specs.Option.{option_copied}
 use Rattle.std.specs.Slice.{IsItemAt}
 use Rattle.std.proofs.lemmas.Bool.{lt-ltb, ltb-true}
+use Rattle.std.proofs.lemmas.List.{get_or_default}
 use Rattle.std.proofs.lemmas.Option.{get_or_from_slice_get, slice_get-get_or, slice_get_within}
 use Rattle.bayou_base.specs.declared.wid.Wid.{Wid}
 use Rattle.bayou_lang.specs.declared.write.Write.{Write}
@@ -28,3 +30,8 @@ pub item_there : {X : Type 0} (items : List X) (place : ℕ) (item : Bor X) → 
 item_there items place item is =
     let within = ltb-true place (length items) (sym is.0) in
     (within, slice_get-get_or items place item.now within ∙ ap Some (sym is.1))
+
+-- a copy of the number of a place that there is
+pub copied_there : (numbers : List ℕ) (place : ℕ) (item : Option (Bor ℕ)) → IsItemAt numbers place item → place < length numbers → option_copied item ≡ Some (slice_index numbers place)
+copied_there numbers place None is within = let both : false ≡ true = is.0 ∙ lt-ltb place (length numbers) within in absurd (cc)
+copied_there numbers place (Some item) is within = ap Some (is.1 ∙ get_or_default numbers place item.now 0 within)

@@ -1,19 +1,21 @@
 -- The index of a list of Writes each of which fits those before it.
-use Rattle.std.proofs.Common.{◌≡◌, ◌≢◌, ℕ, zero, suc, max, slice_set, ◌+◌, ◌-◌, ◌<◌, ◌≤◌, ◌⊎◌, inl, inr, true, false, nat_lt, ◌==◌, List, [], ◌∷◌, ◌++◌, length, get_or, take, slice_index, All, Option, Some, ap, sym, ◌∙◌, refl, subst, arith, length-append}
+use Rattle.std.proofs.Common.{◌≡◌, ◌≢◌, ℕ, zero, suc, max, slice_set, ◌+◌, ◌-◌, ◌<◌, ◌≤◌, ◌⊎◌, inl, inr, true, false, nat_lt, ◌==◌, List, [], ◌∷◌, ◌++◌, length, get_or, take, slice_index, All, Option, Some, ap, sym, ◌∙◌, refl, subst, arith, length-append, map, set, vec_items}
 use Rattle.std.specs.List.{slice_get}
 use Rattle.std.proofs.lemmas.Bool.Decides.{nat_tests}
-use Rattle.std.proofs.lemmas.List.{get_or_append_left, get_or_push, take_all, take-append-le}
+use Rattle.std.proofs.lemmas.List.{get_or_append_left, get_or_push, get_or-map, get_or-set_other, get_or-set_same, map-set, take_all, take-append-le}
 use Rattle.std.proofs.lemmas.List.Elements.{All-push}
 use Rattle.std.proofs.lemmas.Option.{slice_get-get_or, get_or_from_slice_get}
+use Rattle.std.proofs.Math.ListN.{length-set}
+use Rattle.std.specs.Global.{Vec}
 use Rattle.bayou_base.specs.Order.{is_before}
 use Rattle.bayou_base.specs.Vector.{raised}
 use Rattle.bayou_base.specs.declared.stamp.Stamp.{Stamp}
 use Rattle.bayou_base.specs.declared.wid.Wid.{Wid}
 use Rattle.bayou_lang.specs.declared.write.Write.{Write}
 use Rattle.bayou_lang.specs.Laws.Equality.{server-ext, wid-ext}
-use Rattle.bayou_lang.specs.Laws.Fitting.{count_of-push, counted-other, counted-own, fits_new_wid, fitting_is_prefix_closed}
+use Rattle.bayou_lang.specs.Laws.Fitting.{count_of-push, counted-other, counted-own, fitting_is_prefix_closed}
 use Rattle.bayou_lang.specs.Writes.{count_of, counted, AreFitting, Fits}
-use Rattle.bayou_judge.specs.Inner.Index.{later_of, place_in, AreUpTo, IsIndexOf, IsPlaceOf, IsUpTo, Tables}
+use Rattle.bayou_judge.specs.Inner.Index.{later_of, place_in, places_of, AreUpTo, IsIndexOf, IsPlaceOf, IsUpTo, Tables}
 use Rattle.bayou_judge.proofs.Stamps.{later_of-new, later_of-old, not_before_itself}
 
 -- a name that the counts don't cover is of no Write of the list
@@ -64,17 +66,46 @@ last_up_to writes old last indexed is k d within =
     let here = subst (λ list. AreUpTo list (get_or old.lasts place d_stamp)) all up_to k d within in
     subst (λ l. IsUpTo l (get_or writes k d).stamp) (sym (is ∙ got)) here
 
+-- the server's places with one more
+pub own_places : (places : List (Vec ℕ)) (at origin : ℕ) (new own : Vec ℕ) (place : ℕ) → at ≡ origin → at < length places
+    → vec_items new ≡ vec_items (get_or places at own) ++ place ∷ [] → places_of (map vec_items (set places at new)) origin ≡ places_of (map vec_items places) origin ++ place ∷ []
+own_places places at origin new own place same within added =
+    ap (places_of (map vec_items (set places at new))) (sym same)
+    ∙ get_or-map vec_items (set places at new) at new [] (omega (arith, within, length-set places at new))
+    ∙ ap vec_items (get_or-set_same places at new new within) ∙ added
+    ∙ ap (λ items. items ++ place ∷ []) (sym (get_or-map vec_items places at own [] within) ∙ ap (places_of (map vec_items places)) same)
+
+-- those of the others
+pub other_places : (places : List (Vec ℕ)) (at server : ℕ) (new : Vec ℕ) → server ≢ at
+    → places_of (map vec_items (set places at new)) server ≡ places_of (map vec_items places) server
+other_places places at server new other =
+    ap (λ rows. places_of rows server) (map-set vec_items places at new) ∙ get_or-set_other (map vec_items places) at server (vec_items new) [] other
+
+-- a place stays where it is as one is added, whoever's it is
+place_kept : (rows new : List (List ℕ)) (origin server seq place : ℕ) → 0 < seq → seq ≤ length (places_of rows server) → places_of new origin ≡ places_of rows origin ++ place ∷ []
+    → ((server : ℕ) → server ≢ origin → places_of new server ≡ places_of rows server) → place_in new server seq ≡ place_in rows server seq
+place_kept rows new origin server seq place some within own others =
+    elim (server == origin) as (λ t. (server == origin) ≡ t → place_in new server seq ≡ place_in rows server seq) [
+      | true ↦ λ is.
+          let same : server ≡ origin = grind (arith, nat_tests) in
+          let here = ap (places_of new) same ∙ own ∙ ap (λ at. places_of rows at ++ place ∷ []) (sym same) in
+          ap (λ list. slice_index list (seq - 1)) here ∙ get_or_append_left (places_of rows server) (place ∷ []) 0 (seq - 1) (omega (arith, some, within))
+      | false ↦ λ isnt.
+          let other : server ≢ origin = λ same. grind (arith, nat_tests) in
+          ap (λ list. slice_index list (seq - 1)) (others server other)
+    ] refl
+
 -- the index of a list with one more fitting Write behind it
 pub IsIndexOf-push : (count : ℕ) (writes : List Write) (write : Write) (old new : Tables) (last : Option Stamp) → AreFitting count writes → Fits count writes write → IsIndexOf writes old
     → new.counts ≡ old.counts ++ raised (count_of writes) write.wid ∷ []
     → new.lasts ≡ old.lasts ++ later_of last write.stamp ∷ []
     → last ≡ slice_get old.lasts (length old.lasts - 1)
-    → place_in new.rows write.wid.origin.index write.wid.seq ≡ length writes
-    → ((server seq : ℕ) → 0 < seq → seq ≤ length old.rows → (server ≡ write.wid.origin.index → seq ≢ write.wid.seq) → place_in new.rows server seq ≡ place_in old.rows server seq)
-    → (write.wid.seq ≤ length new.rows) × (length old.rows ≤ length new.rows) → IsIndexOf (writes ++ write ∷ []) new
-IsIndexOf-push count writes write old new last fitting fits indexed counts lasts last_is here others lengths =
+    → places_of new.rows write.wid.origin.index ≡ places_of old.rows write.wid.origin.index ++ length writes ∷ []
+    → ((server : ℕ) → server ≢ write.wid.origin.index → places_of new.rows server ≡ places_of old.rows server) → IsIndexOf (writes ++ write ∷ []) new
+IsIndexOf-push count writes write old new last fitting fits indexed counts lasts last_is own others =
     let all = writes ++ write ∷ [] in
     let size : length all ≡ length writes + 1 = omega (arith, length-append writes (write ∷ [])) in
+    let next : write.wid.seq ≡ length (places_of old.rows write.wid.origin.index) + 1 = omega (arith, fits.0.next, indexed.reach write.wid.origin.index) in
     let up_to : All (λ other. IsUpTo last other.stamp) writes = last_up_to writes old last indexed last_is in
     record {
       as_many = omega (arith, ap length counts, length-append old.counts (raised (count_of writes) write.wid ∷ []), indexed.as_many, size);
@@ -108,26 +139,30 @@ IsIndexOf-push count writes write old new last fitting fits indexed counts lasts
       places = λ place held got.
           elim (slice_get-push writes write place held got) as (λ _. place_in new.rows held.wid.origin.index held.wid.seq ≡ place) [
             | inl before ↦
-                let within : place < length writes = before.0 in
                 let is : get_or writes place write ≡ held = get_or_from_slice_get writes place held write before.1 in
-                let beyond = subst (λ (w : Write). w.wid.seq ≤ slice_index (count_of writes) w.wid.origin.index) is ((fitting_is_prefix_closed count writes fitting).none_beyond place write within) in
-                let differ = subst (λ (w : Write). w.wid ≢ write.wid) is (fits_new_wid count writes write fitting fits place write within) in
-                others held.wid.origin.index held.wid.seq held.wid.in_range.0 (omega (arith, beyond, indexed.reach held.wid.origin.index))
-                (λ origin seq. differ (wid-ext held.wid write.wid (server-ext held.wid.origin write.wid.origin origin) seq))
+                let beyond = subst (λ (w : Write). w.wid.seq ≤ slice_index (count_of writes) w.wid.origin.index) is ((fitting_is_prefix_closed count writes fitting).none_beyond place write before.0) in
+                place_kept old.rows new.rows write.wid.origin.index held.wid.origin.index held.wid.seq (length writes) held.wid.in_range.0
+                (omega (arith, beyond, indexed.reach held.wid.origin.index)) own others
                 ∙ indexed.places place held before.1
-            | inr end ↦ subst (λ (w : Write). place_in new.rows w.wid.origin.index w.wid.seq ≡ place) end.1 (here ∙ sym end.0)
+            | inr end ↦
+                let at : length (places_of old.rows write.wid.origin.index) ≡ write.wid.seq - 1 = omega (arith, next) in
+                let here : place_in new.rows write.wid.origin.index write.wid.seq ≡ length writes =
+                ap (λ list. slice_index list (write.wid.seq - 1)) own ∙ get_or_push (places_of old.rows write.wid.origin.index) (length writes) 0 (write.wid.seq - 1) at in
+                subst (λ (w : Write). place_in new.rows w.wid.origin.index w.wid.seq ≡ place) end.1 (here ∙ sym end.0)
           ];
       reach = λ server.
-          elim (write.wid.origin.index == server) as (λ t. (write.wid.origin.index == server) ≡ t → slice_index (count_of all) server ≤ length new.rows) [
+          elim (write.wid.origin.index == server) as (λ t. (write.wid.origin.index == server) ≡ t → length (places_of new.rows server) ≡ slice_index (count_of all) server) [
             | true ↦ λ is.
                 let same : write.wid.origin.index ≡ server = grind (arith, nat_tests) in
-                let own : slice_index (count_of all) server ≡ slice_index (count_of writes) write.wid.origin.index + 1 =
+                let counted_own : slice_index (count_of all) server ≡ slice_index (count_of writes) write.wid.origin.index + 1 =
                 ap (λ list. slice_index list server) (count_of-push writes write) ∙ ap (slice_index (counted (count_of writes) write.wid)) (sym same) ∙ counted-own writes write in
-                omega (arith, own, fits.0.next, lengths.0)
+                let longer : length (places_of new.rows server) ≡ length (places_of old.rows write.wid.origin.index) + 1 =
+                ap (λ at. length (places_of new.rows at)) (sym same) ∙ ap length own ∙ length-append (places_of old.rows write.wid.origin.index) (length writes ∷ []) in
+                omega (arith, counted_own, longer, indexed.reach write.wid.origin.index)
             | false ↦ λ isnt.
                 let differ : write.wid.origin.index ≢ server = λ same. grind (arith, nat_tests) in
                 let kept : slice_index (count_of all) server ≡ slice_index (count_of writes) server =
                 ap (λ list. slice_index list server) (count_of-push writes write) ∙ counted-other (count_of writes) write.wid server differ in
-                omega (arith, kept, indexed.reach server, lengths.1)
+                ap length (others server (λ same. differ (sym same))) ∙ indexed.reach server ∙ sym kept
           ] refl;
     }

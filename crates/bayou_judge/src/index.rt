@@ -1,12 +1,13 @@
 //! What is known of a dump once it was gone through.
-ghost use Rattle.std.specs.Prelude.{◌≡◌, ◌≢◌, ℕ, ◌+◌, ◌<◌, ◌≤◌, List, [], ◌∷◌, ◌++◌, OnOk, length, take};
+ghost use Rattle.std.specs.Prelude.{◌≡◌, ◌≢◌, ℕ, ◌+◌, ◌<◌, ◌≤◌, List, [], ◌∷◌, ◌++◌, OnOk, length, map, take, vec_items};
 ghost use Rattle.bayou_lang.specs.declared.write.Write.{Write};
 ghost use Rattle.bayou_lang.specs.Writes.{count_of, AreFitting, Fits};
-ghost use Rattle.bayou_judge.specs.Inner.Index.{later_of, place_in, IsIndexOf, IsLastOf, IsPlaceOf};
+ghost use Rattle.bayou_judge.specs.Inner.Index.{later_of, places_of, IsIndexOf, IsLastOf, IsPlaceOf};
 
 use bayou_base::{SERVERS, Stamp, Vector, Wid};
 use bayou_lang::RestingWrite;
 use std::alloc::{AllocError, Global};
+use std::array;
 use std::marker::Model;
 
 /// The counts and the last stamp up to each Write of a list, and the place of each name.
@@ -14,20 +15,20 @@ use std::marker::Model;
 pub(crate) struct Index {
     counts: Vec<Vector>,
     lasts: Vec<Stamp>,
-    // For each sequence number the places of the Writes that have it, one for each server.
-    rows: Vec<[usize; SERVERS]>,
+    // For each server the places of its Writes, in the order of their sequence numbers.
+    places: [Vec<usize>; SERVERS],
 }
 
 impl Model for Index {
-    ghost use Rattle.std.specs.Prelude.{◌≡◌, All, length};
+    ghost use Rattle.std.specs.Prelude.{◌≡◌, length, map, vec_items};
     ghost use Rattle.bayou_base.specs.declared.limits.TheConstants.{SERVERS};
     ghost use Rattle.bayou_judge.specs.Inner.Index.{Tables};
 
     ghost Value = { Tables };
 
-    ghost view = { λ i. record { counts = i.counts.items; lasts = i.lasts.items; rows = i.rows.items } };
+    ghost view = { λ i. record { counts = i.counts.items; lasts = i.lasts.items; rows = map vec_items i.places } };
 
-    ghost invariant = { λ i. All (λ row. length row ≡ SERVERS) i.rows.items };
+    ghost invariant = { λ i. length i.places ≡ SERVERS };
 }
 
 /// The later of the stamps.
@@ -45,35 +46,30 @@ impl Index {
     pub(crate) fn new(alloc: Global) -> Self
         ensures { IsIndexOf [] result }
     {
+        let places = array::from_fn(
+            |_| -> Vec<usize>
+                ensures { result.items ≡ [] }
+            { Vec::new(alloc) },
+        );
         Index {
             counts: Vec::new(alloc),
             lasts: Vec::new(alloc),
-            rows: Vec::new(alloc),
+            places,
         }
     }
 
-    /// Sets the place of the Write.
-    fn set_place(&mut self, wid: Wid, place: usize) -> Result<(), AllocError>
-        requires seq { wid.seq ≤ length self.old.rows + 1 }
-        ensures here { OnOk result (place_in self.new.rows wid.origin.index wid.seq ≡ place) }
-        ensures others { OnOk result ((server seq : ℕ) → 0 < seq → seq ≤ length self.old.rows → (server ≡ wid.origin.index → seq ≢ wid.seq)
-            → place_in self.new.rows server seq ≡ place_in self.old.rows server seq) }
-        ensures rows { OnOk result ((wid.seq ≤ length self.new.rows) × (length self.old.rows ≤ length self.new.rows)) }
+    /// Adds the place of the server's next Write.
+    fn add_place(&mut self, wid: Wid, place: usize) -> Result<(), AllocError>
+        ensures own { OnOk result (places_of self.new.rows wid.origin.index ≡ places_of self.old.rows wid.origin.index ++ place ∷ []) }
+        ensures others { OnOk result ((server : ℕ) → server ≢ wid.origin.index → places_of self.new.rows server ≡ places_of self.old.rows server) }
         ensures kept { (self.new.counts ≡ self.old.counts) × (self.new.lasts ≡ self.old.lasts) }
     {
-        let row = wid.seq as usize - 1;
-        if row == self.rows.len() {
-            self.rows.push([0; SERVERS])?;
-        }
-        let mut places = self.rows[row];
-        places[usize::from(wid.origin.index)] = place;
-        self.rows[row] = places;
+        self.places[usize::from(wid.origin.index)].push(place)?;
         Ok(())
     }
 
     /// Adds one more Write behind those of the index.
     pub(crate) fn add(&mut self, write: &RestingWrite) -> Result<(), AllocError>
-        requires { write.now.wid.seq ≤ length self.old.rows + 1 }
         ensures { (count : ℕ) (writes : List Write) → IsIndexOf writes self.old → AreFitting count writes → Fits count writes write.now
             → OnOk result (IsIndexOf (writes ++ write.now ∷ []) self.new) }
     {
@@ -81,7 +77,7 @@ impl Index {
         let mut counts = self.vector();
         counts.raise(write.wid());
         let last = later_of(self.lasts.last().copied(), write.stamp());
-        self.set_place(write.wid(), place)?;
+        self.add_place(write.wid(), place)?;
         self.lasts.push(last)?;
         self.counts.push(counts)?;
         Ok(())
@@ -104,8 +100,8 @@ impl Index {
         if !self.vector().covers(wid) {
             return None;
         }
-        let row = self.rows.get(wid.seq as usize - 1)?;
-        Some(row[usize::from(wid.origin.index)])
+        let own = &self.places[usize::from(wid.origin.index)];
+        own.get(wid.seq as usize - 1).copied()
     }
 
     /// How many Writes of each server there are up to this place.

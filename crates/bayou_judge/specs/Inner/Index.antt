@@ -7,16 +7,20 @@ use Rattle.bayou_lang.specs.declared.write.Write.{Write}
 use Rattle.bayou_lang.specs.Writes.{count_of}
 use Rattle.bayou_judge.specs.History.{dump_of}
 
--- For each Write of a list the counts up to it and the last stamp up to it; and for each sequence number from 1 on the places of
--- the Writes that have it, one for each server.
+-- For each Write of a list the counts up to it and the last stamp up to it; and for each server the places of its Writes, in the order of their
+-- sequence numbers.
 pub record Tables : Type 0 where
   pub counts : List (List ℕ)
   pub lasts : List Stamp
   pub rows : List (List ℕ)
 
+-- the places of the server's Writes
+abbrev pub places_of : List (List ℕ) → ℕ → List ℕ
+places_of rows server = slice_index_or rows server []
+
 -- the place of the server's Write of this sequence number
 abbrev pub place_in : List (List ℕ) → ℕ → ℕ → ℕ
-place_in rows server seq = slice_index (slice_index_or rows (seq - 1) []) server
+place_in rows server seq = slice_index (places_of rows server) (seq - 1)
 
 -- none of the Writes has a later stamp
 abbrev pub AreUpTo : List Write → Stamp → Type 0
@@ -39,7 +43,7 @@ pub record IsIndexOf (writes : List Write) (tables : Tables) : Type 0 where
   pub as_many_lasts : length tables.lasts ≡ length writes
   pub lasts : (at : ℕ) (last : Stamp) → slice_get tables.lasts at ≡ Some last → AreUpTo (take (at + 1) writes) last
   pub places : (place : ℕ) (write : Write) → slice_get writes place ≡ Some write → place_in tables.rows write.wid.origin.index write.wid.seq ≡ place
-  pub reach : (server : ℕ) → slice_index (count_of writes) server ≤ length tables.rows
+  pub reach : (server : ℕ) → length (places_of tables.rows server) ≡ slice_index (count_of writes) server
 
 -- where the Write of this name stands, if at all
 abbrev pub IsPlaceOf : List Write → Wid → Option ℕ → Type 0

@@ -1,7 +1,9 @@
-use Rattle.std.proofs.Common.{◌≡◌, ◌≤◌, Some, [], ◌-◌, ap, sym, ◌∙◌, subst, true, slice_index, slice_index_or}
+use Rattle.std.proofs.Common.{◌≡◌, ◌<◌, ◌≤◌, ◌-◌, Some, [], length, map, ap, sym, ◌∙◌, subst, true, arith, slice_index, vec_items}
+use Rattle.std.proofs.lemmas.List.{get_or-map}
 use Rattle.bayou_base.specs.Vector.{Covers}
 use Rattle.bayou_lang.specs.Writes.{count_of}
-use Rattle.bayou_judge.specs.Inner.Index.{place_in, IsPlaceOf, Tables}
+use Rattle.bayou_judge.specs.Inner.Index.{place_in, places_of, IsPlaceOf, Tables}
+use Rattle.bayou_judge.proofs.DumpsFound.{copied_there}
 use Rattle.bayou_judge.proofs.Indexes.{none_of_wid, place_found}
 use Rattle.bayou_judge.proofs.index.Index.place_of.Goals as goal
 
@@ -17,7 +19,11 @@ pub returns : goal.returns
 returns c count writes indexed fitting =
     let counted : c.vector.result ≡ count_of writes = c.vector.ensures writes indexed in
     let within : c.args.wid.seq ≤ slice_index (count_of writes) c.args.wid.origin.index = subst (λ counts. Covers counts c.args.wid.origin.index c.args.wid.seq) counted (c.covers.ensures.0 c.if-not-covers.false) in
-    let row : c.in_ok-row.row.now ≡ slice_index_or c.deref.result.now (c.args.wid.seq - 1) [] = c.in_ok-row.ensures.lookup.3.1 [] in
-    let at : slice_index c.in_ok-row.row.now c.from.result ≡ place_in c.args.self.now.rows c.args.wid.origin.index c.args.wid.seq =
-    ap (λ list. slice_index list c.from.result) row ∙ ap (slice_index (slice_index_or c.deref.result.now (c.args.wid.seq - 1) [])) (c.from.ensures) ∙ ap (λ rows. slice_index (slice_index_or rows (c.args.wid.seq - 1) []) c.args.wid.origin.index) (c.deref.ensures.value ∙ ap (λ (tables : Tables). tables.rows) c.self.view_is) in
-    subst (λ place. IsPlaceOf writes c.args.wid (Some place)) (sym at) (place_found count writes c.args.self.now c.args.wid fitting indexed within)
+    let rows : map vec_items c.self.inside.places ≡ c.args.self.now.rows = ap (λ (tables : Tables). tables.rows) c.self.view_is in
+    let there : c.from.result < length c.self.inside.places = omega (arith, c.self.invariant, c.from.ensures, c.args.wid.origin.in_range) in
+    let own : c.deref.result.now ≡ places_of c.args.self.now.rows c.args.wid.origin.index =
+    c.deref.ensures.value ∙ sym (get_or-map vec_items c.self.inside.places c.from.result c.index-self-from.result [] there)
+    ∙ ap (λ list. places_of list c.from.result) rows ∙ ap (places_of c.args.self.now.rows) c.from.ensures in
+    let seq_within : c.args.wid.seq - 1 < length c.deref.result.now = omega (arith, within, c.args.wid.in_range.0, indexed.reach c.args.wid.origin.index, ap length own) in
+    let at = c.copied.ensures ∙ copied_there c.deref.result.now (c.args.wid.seq - 1) c.get.result c.get.ensures.lookup seq_within ∙ ap (λ list. Some (slice_index list (c.args.wid.seq - 1))) own in
+    subst (IsPlaceOf writes c.args.wid) (sym at) (place_found count writes c.args.self.now c.args.wid fitting indexed within)
