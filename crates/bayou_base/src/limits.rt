@@ -68,7 +68,7 @@ pub const READ_BYTES: usize = 8_192;
 
 /// How many bytes of an answer in memory are taken at once. Those of their Writes that come late are applied once, so that more bytes cost less
 /// time; their Writes lie beside the bytes until they are taken, so that fewer cost less memory.
-pub const PULL_BYTES: usize = 524_288;
+pub const PULL_BYTES: usize = 1_048_576;
 
 /// How many Writes a node takes at the most before its lock is free again: each is synced under the lock.
 pub const TAKES_AT_ONCE: u32 = 64;
@@ -102,3 +102,39 @@ pub const DEFAULT_IDLE_SECONDS: u32 = 60;
 
 /// After how many seconds a server that lives pulls again where the command line doesn't say.
 pub const DEFAULT_EVERY_SECONDS: u32 = 1;
+
+/// How many milliseconds one wait for bytes takes at a server that lives at the most, before it is looked whether to go on.
+pub const TICK_MILLISECONDS: u64 = 250;
+
+/// How many milliseconds a connection may ask nothing where each desk is taken.
+pub const CROWDED_MILLISECONDS: u64 = 2_000;
+
+/// For how many milliseconds what comes behind the last reply is dropped.
+pub const LINGER_MILLISECONDS: u64 = 2_000;
+
+/// For how many seconds nobody is served where a connection can't be taken.
+pub const PAUSE_SECONDS: u64 = 1;
+
+/// How many seconds pass between two looks of what keeps a server up.
+pub const LOOK_SECONDS: u32 = 2;
+
+/// How many seconds a peer has to take a connection.
+pub const PEER_REACH_SECONDS: u64 = 2;
+
+/// How many milliseconds a peer has between two pieces of its answer.
+pub const PEER_ANSWER_MILLISECONDS: u64 = 10_000;
+
+/// How many bytes of stack a thread has that serves one connection after another.
+pub const DESK_STACK_BYTES: usize = 1_048_576;
+
+/// How many seconds a server has to take the connection of a person or a program.
+pub const SERVER_REACH_SECONDS: u64 = 5;
+
+/// How many seconds a server has for each piece of its reply to them.
+pub const SERVER_REPLY_SECONDS: u64 = 30;
+
+/// How many milliseconds pass before all servers are asked once more.
+pub const ROUND_MILLISECONDS: u64 = 250;
+
+/// How many entries a state file has at the most before it is written anew, with what is kept of each session at last.
+pub const MAX_KEPT_ENTRIES: u64 = 65_536;

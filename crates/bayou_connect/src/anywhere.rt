@@ -5,17 +5,15 @@ use crate::round::{Ways, first_served, in_turn, is_undone};
 use crate::store::Store;
 use crate::told::Told;
 use bayou_base::SessionId;
+use bayou_base::limits::ROUND_MILLISECONDS;
 use bayou_net::Sockets;
 use std::fs::{File, Files};
 use std::sync::Wait;
 use std::thread;
 use std::time::{Clock, Duration};
 
-/// How long it rests before it goes round once more.
-const REST_MILLISECONDS: u64 = 250;
-
 /// How often it goes round in a second.
-pub(crate) const ROUNDS_PER_SECOND: u64 = 1_000 / REST_MILLISECONDS;
+pub(crate) const ROUNDS_PER_SECOND: u64 = 1_000 / ROUND_MILLISECONDS;
 
 // The servers of a store, of which a session asks the same.
 #[derive(Drop)]
@@ -66,7 +64,7 @@ pub(crate) fn anywhere<T: Files<File = File> + Sockets + Wait + Clock>(
     let order = in_turn(store.alloc(), first, store.len())?;
     for round in 0..=rounds {
         if round > 0 {
-            thread::sleep(rt, Duration::from_millis(REST_MILLISECONDS));
+            thread::sleep(rt, Duration::from_millis(ROUND_MILLISECONDS));
         }
         served = once_round(rt, store, who, attempt, &order)?;
         if !is_undone(&served.told) {

@@ -2,6 +2,7 @@
 ghost use Rattle.std.specs.Prelude.{◌≡◌};
 
 use crate::plan::Place;
+use bayou_base::limits::{SERVER_REACH_SECONDS, SERVER_REPLY_SECONDS};
 use bayou_client::Link;
 use bayou_net::Sockets;
 use std::io::ErrorKind;
@@ -10,12 +11,6 @@ use std::time::Duration;
 
 /// A link over a socket.
 pub(crate) type SocketLink = Link<TcpStream, TcpStream>;
-
-/// How long a server has to take a connection.
-const REACH_SECONDS: u64 = 5;
-
-/// How long a server has for each piece of a reply.
-const REPLY_SECONDS: u64 = 30;
 
 /// A link, and the connection that it goes over.
 #[derive(Drop)]
@@ -48,13 +43,13 @@ fn is_quiet(stream: &TcpStream) -> bool {
 fn is_timed(stream: &TcpStream) -> bool {
     // A socket that can't be told so sends small requests later.
     let _ = stream.set_nodelay(true);
-    let reply = Some(Duration::from_secs(REPLY_SECONDS));
+    let reply = Some(Duration::from_secs(SERVER_REPLY_SECONDS));
     stream.set_read_timeout(reply).is_ok() && stream.set_write_timeout(reply).is_ok()
 }
 
 // A link to the server, if a connection comes about.
 fn open_to<T: Sockets>(rt: &T, place: Place) -> Option<Open> {
-    let time = Duration::from_secs(REACH_SECONDS);
+    let time = Duration::from_secs(SERVER_REACH_SECONDS);
     let stream = TcpStream::connect_timeout(rt, &place.address, time).ok()?;
     if !is_timed(&stream) {
         return None;

@@ -4,6 +4,7 @@ ghost use Rattle.bayou_base.specs.declared.limits.TheConstants.{SESSIONS as NUMB
 ghost use Rattle.bayou_remember.specs.Memory.{EndsWith};
 
 use crate::fault::ConnectFault;
+use bayou_base::limits::MAX_KEPT_ENTRIES;
 use bayou_device::{CarefulDevice, FileDevice};
 use bayou_journal::{OpenFault, with_care};
 use bayou_remember::{KeepFault, Kept, Memory, RememberFault};
@@ -14,9 +15,6 @@ use std::fs::{File, Files};
 
 /// The device of a state file.
 pub(crate) type StateDevice = CarefulDevice<FileDevice<File>>;
-
-/// How many entries a state file has at the most before it is written anew, with what is kept of each session at last.
-const MOST_ENTRIES: u64 = 65_536;
 
 /// A state file, with what it keeps of each session, by its number.
 #[derive(Drop)]
@@ -125,7 +123,7 @@ pub(crate) fn remember<T: Files<File = File>>(
     requires { 0 < run }
 {
     let remembered = open_at(rt, alloc, path, run)?;
-    if remembered.memory.entries() <= MOST_ENTRIES {
+    if remembered.memory.entries() <= MAX_KEPT_ENTRIES {
         return Ok(remembered);
     }
     write_anew(rt, alloc, path, run, remembered.all.as_slice())
@@ -155,7 +153,7 @@ impl StateFile {
         rt: &T,
         alloc: Global,
     ) -> Result<Self, ConnectFault> {
-        if self.memory.entries() <= MOST_ENTRIES {
+        if self.memory.entries() <= MAX_KEPT_ENTRIES {
             return Ok(self);
         }
         let StateFile { memory, path, run } = self;

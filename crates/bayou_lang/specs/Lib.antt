@@ -1,6 +1,7 @@
 pub mod Changes
 pub mod Database
 pub mod Equality
+pub mod Inner
 pub mod Laws
 pub mod Meaning
 pub mod Program

@@ -10,6 +10,7 @@ pub mod change;
 pub mod eval;
 pub mod laws;
 pub mod program;
+mod rare;
 pub mod resting;
 pub mod write;
 

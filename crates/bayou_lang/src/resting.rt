@@ -1,10 +1,11 @@
 //! Programs and Writes at rest: each takes memory at the size of what it says. By their value they are the programs and
 //! the Writes themselves, so that no contract tells the one form from the other.
-ghost use Rattle.std.specs.Prelude.{◌≡◌, ◌≤◌, IfOk, length};
+ghost use Rattle.std.specs.Prelude.{◌≡◌, ◌≤◌, [], IfOk, length};
 ghost use Rattle.bayou_base.specs.declared.limits.TheConstants.{MAX_CONDITIONS, MAX_OPS, MAX_ALTERNATIVES};
 ghost use Rattle.bayou_lang.specs.Changes.{most_changes, most_ops};
 
 use crate::program::{Alt, Cond, Op, Program, conditions_of, ops_of};
+use crate::rare::RareList;
 use crate::write::Write;
 use arrayvec::ArrayVec;
 use bayou_base::{MAX_ALTERNATIVES, MAX_CONDITIONS, MAX_OPS, Stamp, Vector, Wid};
@@ -33,9 +34,9 @@ impl Model for RestingAlt {
 /// A program at rest.
 #[derive(Debug, Drop)]
 pub struct RestingProgram {
-    check: Vec<Cond>,
+    check: RareList<Cond>,
     update: Vec<Op>,
-    merge: Vec<RestingAlt>,
+    merge: RareList<RestingAlt>,
 }
 
 impl Model for RestingProgram {
@@ -45,12 +46,13 @@ impl Model for RestingProgram {
 
     ghost Value = { Program };
 
-    ghost view = { λ p. record { check = record { items = p.check.items }; update = record { items = p.update.items }; merge = record { items = p.merge.items } } };
+    ghost view = { λ p. record { check = record { items = p.check }; update = record { items = p.update.items }; merge = record { items = p.merge } } };
 
-    ghost invariant = { λ p. (length p.check.items ≤ MAX_CONDITIONS) × (length p.update.items ≤ MAX_OPS) × (length p.merge.items ≤ MAX_ALTERNATIVES) };
+    ghost invariant = { λ p. (length p.check ≤ MAX_CONDITIONS) × (length p.update.items ≤ MAX_OPS) × (length p.merge ≤ MAX_ALTERNATIVES) };
 }
 
-/// A Write at rest: some 120 bytes, and 104 for each op and 96 for each condition of its program.
+/// A Write at rest: 120 bytes, and 104 for each op and 96 for each condition of its program, and 32 more for the list of its conditions and for that
+/// of its alternatives, where it has some.
 #[derive(Debug, Drop)]
 pub struct RestingWrite {
     wid: Wid,
@@ -198,26 +200,45 @@ impl Program {
     pub fn rest(&self, alloc: Global) -> Result<RestingProgram, AllocError>
         ensures { IfOk result (λ program. program ≡ self.now) }
     {
-        Ok(RestingProgram {
-            check: resting_conditions(alloc, &self.check)?,
-            update: resting_ops(alloc, &self.update)?,
-            merge: resting_alternatives(alloc, &self.merge)?,
-        })
+        RestingProgram::new(
+            alloc,
+            resting_conditions(alloc, &self.check)?,
+            resting_ops(alloc, &self.update)?,
+            resting_alternatives(alloc, &self.merge)?,
+        )
     }
 }
 
 impl RestingProgram {
-    /// The program of this dependency check, update and merge procedure, whose lists it keeps. It takes no memory.
-    pub fn new(check: Vec<Cond>, update: Vec<Op>, merge: Vec<RestingAlt>) -> Self
+    /// The program of this dependency check, update and merge procedure, whose lists it keeps. It takes memory where it has a check or a merge
+    /// procedure, which most have not.
+    pub fn new(
+        alloc: Global,
+        check: Vec<Cond>,
+        update: Vec<Op>,
+        merge: Vec<RestingAlt>,
+    ) -> Result<Self, AllocError>
         requires conditions { length check.items ≤ MAX_CONDITIONS }
         requires ops { length update.items ≤ MAX_OPS }
         requires alternatives { length merge.items ≤ MAX_ALTERNATIVES }
-        ensures { (result.check.items ≡ check.items) × (result.update.items ≡ update.items) × (result.merge.items ≡ merge.items) }
+        ensures { IfOk result (λ program. (program.check.items ≡ check.items) × (program.update.items ≡ update.items) × (program.merge.items ≡ merge.items)) }
+    {
+        Ok(RestingProgram {
+            check: RareList::new(alloc, check)?,
+            update,
+            merge: RareList::new(alloc, merge)?,
+        })
+    }
+
+    /// The program of this update alone. It takes no memory.
+    pub fn of_update(update: Vec<Op>) -> Self
+        requires { length update.items ≤ MAX_OPS }
+        ensures { (result.check.items ≡ []) × (result.update.items ≡ update.items) × (result.merge.items ≡ []) }
     {
         RestingProgram {
-            check,
+            check: RareList::empty(),
             update,
-            merge,
+            merge: RareList::empty(),
         }
     }
 
@@ -250,18 +271,19 @@ impl RestingProgram {
         ensures value { result ≡ most_changes self.now }
         ensures within { result ≤ MAX_OPS }
     {
-        self.update.len().max(most_ops_of(&self.merge))
+        self.update.len().max(most_ops_of(self.merge()))
     }
 
     /// The same program again, at rest.
     pub fn copy(&self, alloc: Global) -> Result<Self, AllocError>
         ensures { IfOk result (λ program. program ≡ self.now) }
     {
-        Ok(RestingProgram {
-            check: resting_conditions(alloc, &self.check)?,
-            update: resting_ops(alloc, &self.update)?,
-            merge: copied_alternatives(alloc, &self.merge)?,
-        })
+        RestingProgram::new(
+            alloc,
+            resting_conditions(alloc, self.check())?,
+            resting_ops(alloc, self.update())?,
+            copied_alternatives(alloc, self.merge())?,
+        )
     }
 
     /// The same program as plain data, which takes no memory.
@@ -269,9 +291,9 @@ impl RestingProgram {
         ensures { result ≡ self.now }
     {
         Program {
-            check: conditions_of(&self.check),
-            update: ops_of(&self.update),
-            merge: unfolded_alternatives(&self.merge),
+            check: conditions_of(self.check()),
+            update: ops_of(self.update()),
+            merge: unfolded_alternatives(self.merge()),
         }
     }
 }
@@ -389,7 +411,9 @@ impl PartialEq for RestingProgram {
     ghost laws = { partial_equiv_from_equiv (decided same_program same_program-decides) };
 
     fn eq(&self, other: &Self) -> bool {
-        self.check == other.check && self.update == other.update && self.merge == other.merge
+        self.check() == other.check()
+            && self.update() == other.update()
+            && self.merge() == other.merge()
     }
 }
 

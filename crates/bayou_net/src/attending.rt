@@ -3,6 +3,7 @@ ghost use Rattle.std.specs.Prelude.{◌≡◌, ◌+◌, ◌≤◌, ℕ, MatchRes
 
 use crate::host::Host;
 use crate::listening::join_all;
+use bayou_base::limits::DESK_STACK_BYTES;
 use core::thread::{Anything, Stack};
 use std::alloc::Global;
 use std::net::{Shutdown, TcpListener, TcpStream};
@@ -11,9 +12,6 @@ use std::sync::Wait;
 use std::sync::atomic::{AtomicBool, Ordering};
 use std::thread;
 use std::thread::{JoinHandle, Scope, Threads};
-
-/// How many bytes of stack a thread has that serves at a desk.
-const STACK_BYTES: usize = 1_048_576;
 
 /// A host that connections come to as long as it lives.
 pub trait Attendant: Host {
@@ -74,7 +72,7 @@ fn begin_at<'s, E, H: Attendant + Sync, T: Wait + Send + Sync>(
     door: &'s Door<'s, H>,
     desk: H::Desk,
 ) -> Result<JoinHandle<H::Desk>, H::Desk> {
-    let stack = Stack::new().stack_size(STACK_BYTES);
+    let stack = Stack::new().stack_size(DESK_STACK_BYTES);
     let spawned = stack.spawn_scoped_with(scope, Anything, move || {
         if door.is_short.load(Ordering::SeqCst) {
             return desk;

@@ -3,7 +3,7 @@ use crate::fixtures::must_hold;
 use bayou_base::limits::*;
 
 /// The name of a limit, the limit, and its number.
-static LIMITS: [(&str, u64, u64); 24] = [
+static LIMITS: [(&str, u64, u64); 36] = [
     ("servers", SERVERS as u64, 16),
     ("servers that there were once", OLD_SERVERS as u64, 8),
     ("servers over a network", NET_SERVERS as u64, 4),
@@ -30,8 +30,20 @@ static LIMITS: [(&str, u64, u64); 24] = [
     ("turns", MAX_TURNS as u64, 1_000_000),
     ("places", MAX_PLACES as u64, 4_294_967_295),
     ("bytes that are read at once", READ_BYTES as u64, 8_192),
-    ("bytes that are taken at once", PULL_BYTES as u64, 524_288),
+    ("bytes that are taken at once", PULL_BYTES as u64, 1_048_576),
     ("bytes that are written at once", PIECE_BYTES as u64, 65_536),
+    ("milliseconds of a wait", TICK_MILLISECONDS, 250),
+    ("milliseconds in a crowd", CROWDED_MILLISECONDS, 2_000),
+    ("milliseconds behind the last reply", LINGER_MILLISECONDS, 2_000),
+    ("seconds of a pause", PAUSE_SECONDS, 1),
+    ("seconds between two looks", LOOK_SECONDS as u64, 2),
+    ("seconds to reach a peer", PEER_REACH_SECONDS, 2),
+    ("milliseconds of a peer's answer", PEER_ANSWER_MILLISECONDS, 10_000),
+    ("bytes of a desk's stack", DESK_STACK_BYTES as u64, 1_048_576),
+    ("seconds to reach a server", SERVER_REACH_SECONDS, 5),
+    ("seconds of a server's reply", SERVER_REPLY_SECONDS, 30),
+    ("milliseconds of a round", ROUND_MILLISECONDS, 250),
+    ("entries of a state file", MAX_KEPT_ENTRIES, 65_536),
 ];
 
 #[test]

@@ -1,10 +1,9 @@
 //! What all threads of a server that lives share.
 ghost use Rattle.std.specs.Prelude.{◌≡◌, ◌*◌, ℕ, min, nat_le, if◌then◌else◌};
+ghost use Rattle.bayou_base.specs.declared.limits.TheConstants.{CROWDED_MILLISECONDS};
 
+use bayou_base::limits::CROWDED_MILLISECONDS;
 use std::sync::atomic::{AtomicBool, AtomicU64, Ordering};
-
-/// How long a connection may say nothing where each desk is taken.
-pub const CROWDED_MILLISECONDS: u64 = 2_000;
 
 const MILLISECONDS: u64 = 1_000;
 

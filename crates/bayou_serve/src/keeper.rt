@@ -10,15 +10,13 @@ use crate::lines::{holds_line, reopened_line};
 use crate::peers::rest;
 use crate::teller::Teller;
 use bayou_base::Vector;
+use bayou_base::limits::LOOK_SECONDS;
 use bayou_device::Device;
 use bayou_node::{Desks, Node};
 use std::alloc::Global;
 use std::io::Write;
 use std::sync::Wait;
 use std::time::Clock;
-
-/// How long the keeper rests between two looks.
-const LOOK_SECONDS: u32 = 2;
 
 // How many Writes are counted.
 fn sum_of(vector: &Vector) -> u32

@@ -6,7 +6,8 @@ use crate::lines::news_line;
 use crate::plan::Peer;
 use crate::teller::Teller;
 use crate::visit::{Acquaintance, Visit, visit_of};
-use crate::waiting::{Most, Renewing, Since, TICK_MILLISECONDS, Waiting};
+use crate::waiting::{Most, Renewing, Since, Waiting};
+use bayou_base::limits::{PEER_ANSWER_MILLISECONDS, PEER_REACH_SECONDS, TICK_MILLISECONDS};
 use bayou_device::Device;
 use bayou_net::{Sockets, pull_tallied};
 use bayou_node::{Desks, Node};
@@ -18,12 +19,6 @@ use std::net::TcpStream;
 use std::sync::Wait;
 use std::thread;
 use std::time::{Clock, Duration};
-
-/// How long a peer has to take a connection.
-const REACH_SECONDS: u64 = 2;
-
-/// How long a peer has between two pieces of its answer, in milliseconds.
-pub(crate) const ANSWER_MILLISECONDS: u64 = 10_000;
 
 const TICKS_PER_SECOND: u64 = 1_000 / TICK_MILLISECONDS;
 
@@ -42,7 +37,7 @@ pub(crate) fn is_timed(stream: &TcpStream) -> bool {
     // A socket that can't be told so sends small pieces later.
     let _ = stream.set_nodelay(true);
     let tick = Duration::from_millis(TICK_MILLISECONDS);
-    let answer = Duration::from_millis(ANSWER_MILLISECONDS);
+    let answer = Duration::from_millis(PEER_ANSWER_MILLISECONDS);
     stream.set_read_timeout(Some(tick)).is_ok() && stream.set_write_timeout(Some(answer)).is_ok()
 }
 
@@ -51,7 +46,7 @@ pub(crate) fn reach<T: Sockets>(rt: &T, peer: Peer) -> Option<TcpStream> {
     let stream = TcpStream::connect_timeout(
         rt,
         &peer.address,
-        Duration::from_secs(REACH_SECONDS),
+        Duration::from_secs(PEER_REACH_SECONDS),
     ).ok()?;
     if is_timed(&stream) {
         Some(stream)
@@ -72,7 +67,12 @@ fn visit_over<D: Device, L: Desks, R: Read + Drop, W: Write + Drop, T: Wait + Cl
     ensures { Visited L.begun (R.remaining reader) (W.contents writer) result }
 {
     let since = Since::now(rt);
-    let patience = Waiting::new(rt, hall, &since, Most::Milliseconds(ANSWER_MILLISECONDS));
+    let patience = Waiting::new(
+        rt,
+        hall,
+        &since,
+        Most::Milliseconds(PEER_ANSWER_MILLISECONDS),
+    );
     let reader = Renewing::new(Patient::new(reader, patience), rt, &since);
     let writer = Renewing::new(writer, rt, &since);
     let mut channel = CountedChannel::new(reader, writer);
@@ -108,7 +108,12 @@ pub(crate) fn has_own_beyond<D: Device, L: Desks, T: Wait + Clock + Sockets>(
     };
     let (id, since) = (node.id(), Since::now(rt));
     let own = node.offer(rt).get(id);
-    let patience = Waiting::new(rt, hall, &since, Most::Milliseconds(ANSWER_MILLISECONDS));
+    let patience = Waiting::new(
+        rt,
+        hall,
+        &since,
+        Most::Milliseconds(PEER_ANSWER_MILLISECONDS),
+    );
     let reader = Renewing::new(Patient::new(&stream, patience), rt, &since);
     let writer = Renewing::new(&stream, rt, &since);
     let answer = has_lost(alloc, id, own, &mut CountedChannel::new(reader, writer));

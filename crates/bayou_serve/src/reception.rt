@@ -5,6 +5,7 @@ use crate::hall::Hall;
 use crate::peers::is_timed;
 use crate::teller::Teller;
 use crate::waiting::{Most, Renewing, Since, Waiting};
+use bayou_base::limits::{LINGER_MILLISECONDS, PAUSE_SECONDS};
 use bayou_device::Device;
 use bayou_net::{Attendant, Host, NoGate, drop_rest, serve};
 use bayou_node::{Desk, Desks, Node};
@@ -15,12 +16,6 @@ use std::net::{Shutdown, TcpStream};
 use std::sync::Wait;
 use std::thread;
 use std::time::{Clock, Duration};
-
-/// How long what comes behind the last reply is dropped, in milliseconds.
-const LINGER_MILLISECONDS: u64 = 2_000;
-
-/// How long nobody is served where a connection can't be taken.
-const PAUSE_SECONDS: u64 = 1;
 
 /// A node whose connections are served with patience.
 #[derive(Drop)]

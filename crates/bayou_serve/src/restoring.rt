@@ -6,12 +6,13 @@ ghost use Rattle.bayou_serve.specs.Faults.{MayEndRestoring};
 use crate::fault::{ServeFault, Unrestored};
 use crate::hall::Hall;
 use crate::lines::news_line;
-use crate::peers::{ANSWER_MILLISECONDS, reach};
+use crate::peers::reach;
 use crate::plan::{Beginning, Peer, Plan};
 use crate::starting::look_for;
 use crate::teller::Teller;
 use crate::visit::News;
 use crate::waiting::{Most, Renewing, Since, Waiting};
+use bayou_base::limits::PEER_ANSWER_MILLISECONDS;
 use bayou_base::{MAX_WRITES, ServerId, Vector};
 use bayou_device::{Device, FileDevice};
 use bayou_net::Sockets;
@@ -42,7 +43,12 @@ fn gather_from<T: Clock + Sockets>(
 {
     let stream = reach(rt, peer)?;
     let since = Since::now(rt);
-    let patience = Waiting::new(rt, hall, &since, Most::Milliseconds(ANSWER_MILLISECONDS));
+    let patience = Waiting::new(
+        rt,
+        hall,
+        &since,
+        Most::Milliseconds(PEER_ANSWER_MILLISECONDS),
+    );
     let reader = Renewing::new(Patient::new(&stream, patience), rt, &since);
     let writer = Renewing::new(&stream, rt, &since);
     let mut channel = CountedChannel::new(reader, writer);

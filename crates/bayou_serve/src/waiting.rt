@@ -8,9 +8,6 @@ use std::io::{Read, Write};
 use std::sync::atomic::{AtomicU64, Ordering};
 use std::time::Clock;
 
-/// How long one wait for bytes takes at the most, before it is looked whether to go on.
-pub const TICK_MILLISECONDS: u64 = 250;
-
 /// Whether so many milliseconds have passed since then.
 pub fn is_over(now: u64, since: u64, most: u64) -> bool
     ensures { result ≡ true ↔ since + most ≤ now }

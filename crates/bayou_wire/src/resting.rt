@@ -106,7 +106,8 @@ pub(crate) fn resting_program_of(
     let Some((merge, rest)) = resting_list_of(alloc, MAX_ALTERNATIVES, rest)? else {
         return Ok(None);
     };
-    Ok(Some((RestingProgram::new(check, update, merge), rest)))
+    let program = RestingProgram::new(alloc, check, update, merge)?;
+    Ok(Some((program, rest)))
 }
 
 #[tactic(auto, unfolding(crate::specs::Inner::Reading::write_at))]

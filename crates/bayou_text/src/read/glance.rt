@@ -126,8 +126,7 @@ impl<'a> Glance<'a> {
         if ops.len() > MAX_OPS || !self.pass(b"]}") {
             return None;
         }
-        let program = RestingProgram::new(Vec::new(alloc), ops, Vec::new(alloc));
-        Some((program, is_whole))
+        Some((RestingProgram::of_update(ops), is_whole))
     }
 
     /// The array of counts that comes next, and how many they are.

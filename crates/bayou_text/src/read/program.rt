@@ -160,7 +160,7 @@ fn lists_in(alloc: Global, json: &Value) -> Result<RestingProgram, LineFault>
     let check = conds_in(alloc, json, "check")?;
     let update = ops_in(alloc, json, "update")?;
     let merge = alts_in(alloc, json, "merge")?;
-    Ok(RestingProgram::new(check, update, merge))
+    Ok(RestingProgram::new(alloc, check, update, merge)?)
 }
 
 #[tactic(auto, unfolding(crate::specs::Programs::program_in))]
