@@ -5,7 +5,7 @@ use std::alloc::{AllocError, Global};
 use std::marker::Model;
 
 /// A list most of whose kind are empty. One that is takes the room of a pointer, where a `Vec` takes that of three.
-#[derive(Debug, Drop)]
+#[derive(Debug)]
 pub(crate) struct RareList<T> {
     items: Option<Box<Vec<T>>>,
 }
@@ -47,5 +47,13 @@ impl<T: Drop> RareList<T> {
             Some(items) => items.as_slice(),
             None => &[],
         }
+    }
+}
+
+// Of its own, so that who lets a program go need not look whether a list has items.
+impl<T: Drop> Drop for RareList<T> {
+    fn drop(self) {
+        let RareList { items } = self;
+        drop(items);
     }
 }
