@@ -17,3 +17,8 @@ pub returns-clause-keeps : goal.returns-clause-keeps
 returns-clause-keeps g c =
     subst (λ (held : Booked g.row.D.Denot). StillHolds held.server.core c.write.new.self.core) c.self.view_is
     (writing_keeps c.self.inside.server.core c.args.tag c.args.need.now c.args.program c.write.result c.write.new.self.core c.write.ensures.writes)
+
+pub returns-in_err-written-clause-keeps : goal.returns-in_err-written-clause-keeps
+returns-in_err-written-clause-keeps g c =
+    subst (λ (held : Booked g.row.D.Denot). StillHolds held.server.core c.write.new.self.core) c.self.view_is
+    (writing_keeps c.self.inside.server.core c.args.tag c.args.need.now c.args.program c.write.result c.write.new.self.core c.write.ensures.writes)
