@@ -4,7 +4,8 @@ ghost use Rattle.std.specs.Io.KnownBytes.{Appends, Consumes, IsAtEnd};
 ghost use Rattle.bayou_base.specs.declared.limits.TheConstants.{MAX_TURNS, READ_BYTES};
 ghost use Rattle.bayou_lang.specs.declared.write.Write.{Write as Written};
 ghost use Rattle.bayou_lang.specs.Writes.{count_of};
-ghost use Rattle.bayou_frames.specs.declared.fault.ChannelFault.TheVariants.{BadFrame};
+ghost use Rattle.bayou_frames.specs.Framing.{Comes};
+ghost use Rattle.bayou_frames.specs.declared.fault.ChannelFault.TheVariants.{BadFrame, OutOfMemory};
 ghost use Rattle.bayou_peer.specs.declared.fault.PullFault.TheVariants.{Stream};
 ghost use Rattle.bayou_peer.specs.Pulls.{EndsInMemory, EndsOf, HasNoPlace, PullEnds, Received};
 ghost use Rattle.bayou_peer.specs.Inner.Steps.{Goes, GoesOn, IsFrontOf, IsTakeFault};
@@ -111,6 +112,23 @@ fn take_came<P: Replica>(
     }
 }
 
+// Feeds the bytes, a small piece at a time, so that no copy of them all is held: what they give is what they would give at once.
+fn feed_pieces(alloc: Global, frames: &mut Frames, bytes: &[u8]) -> Result<Came, ChannelFault>
+    ensures comes { (held : List ℕ) → IsPartial held → frames.old ≡ Some held → IfOk result (λ came. Comes held bytes.now came.frames.items came.is_bad frames.new) }
+    ensures refused { IfErr result (λ fault. fault ≡ OutOfMemory) }
+{
+    let (first, mut rest) = bytes.split_at(bytes.len().min(READ_BYTES));
+    let mut all = feed_piece(alloc, frames, first)?;
+    while !all.is_bad && !rest.is_empty() {
+        let (piece, behind) = rest.split_at(rest.len().min(READ_BYTES));
+        let mut more = feed_piece(alloc, frames, piece)?;
+        all.frames.append(&mut more.frames)?;
+        all.is_bad = more.is_bad;
+        rest = behind;
+    }
+    Ok(all)
+}
+
 // Takes a piece of what comes, and tells whether the pull came to its End.
 fn take_piece<P: Replica>(
     alloc: Global,
@@ -126,7 +144,7 @@ fn take_piece<P: Replica>(
         → GoesOn (record { list = P.list; takes = P.takes }) start replica.new (read ++ piece.now) frames.new pulled.new result }
     ensures fault { IfErr result IsTakeFault }
 {
-    let Came { frames, is_bad } = feed_piece(alloc, frames, piece)?;
+    let Came { frames, is_bad } = feed_pieces(alloc, frames, piece)?;
     if take_came(alloc, replica, frames, pulled)? {
         return Ok(true);
     }

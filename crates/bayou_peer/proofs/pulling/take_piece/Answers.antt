@@ -9,19 +9,19 @@ returns-in_err-frames-clause-goes g c start read held partial waits before =
     let piece = c.args.piece.now in
     let refused = c.in_err-frames.ensures.refused in
     let p = err_from_is_err_and c.from_residual.result c.from_residual.ensures.1 in
-    rw (p.1, p.2, refused.0) (held ++ piece, c.args.pulled.now.taken, c.args.pulled.now.had, received_more _ start _ read held piece _ _ before)
+    rw (p.1, p.2, refused) (held ++ piece, c.args.pulled.now.taken, c.args.pulled.now.had, received_more _ start _ read held piece _ _ before)
 
 pub take_came-requires : goal.take_came-requires
 take_came-requires g c =
     let (held, partial, waits, few) = c.requires.few in
-    let comes : Comes held c.args.piece.now c.in_ok-frames.field-0.frames.items c.in_ok-frames.field-0.is_bad c.feed_piece.new.frames = c.in_ok-frames.ensures.comes held partial waits in
+    let comes : Comes held c.args.piece.now c.in_ok-frames.field-0.frames.items c.in_ok-frames.field-0.is_bad c.feed_pieces.new.frames = c.in_ok-frames.ensures.comes held partial waits in
     let third = few_frames held c.args.piece.now comes.rest c.in_ok-frames.field-0.frames.items c.args.pulled.now.taken c.args.pulled.now.had _ comes.whole few in
     record { few = omega (arith, third) }
 
 pub returns-in_err-take_came-clause-goes : goal.returns-in_err-take_came-clause-goes
 returns-in_err-take_came-clause-goes g c start read held partial waits before =
     let piece = c.args.piece.now in
-    let comes : Comes held piece c.in_ok-frames.field-0.frames.items c.in_ok-frames.field-0.is_bad c.feed_piece.new.frames = c.in_ok-frames.ensures.comes held partial waits in
+    let comes : Comes held piece c.in_ok-frames.field-0.frames.items c.in_ok-frames.field-0.is_bad c.feed_pieces.new.frames = c.in_ok-frames.ensures.comes held partial waits in
     let stands = received_rest _ start _ _ _ _ _ _ comes.whole (received_more _ start _ read held piece _ _ before) in
     let went = c.in_err-take_came.ensures.goes start (read ++ piece) comes.rest comes.each stands in
     let p = err_from_is_err_and c.from_residual-in_err-take_came.result c.from_residual-in_err-take_came.ensures.1 in
@@ -30,7 +30,7 @@ returns-in_err-take_came-clause-goes g c start read held partial waits before =
 pub returns-then-branch-clause-goes : goal.returns-then-branch-clause-goes
 returns-then-branch-clause-goes g c start read held partial waits before =
     let piece = c.args.piece.now in
-    let comes : Comes held piece c.in_ok-frames.field-0.frames.items c.in_ok-frames.field-0.is_bad c.feed_piece.new.frames = c.in_ok-frames.ensures.comes held partial waits in
+    let comes : Comes held piece c.in_ok-frames.field-0.frames.items c.in_ok-frames.field-0.is_bad c.feed_pieces.new.frames = c.in_ok-frames.ensures.comes held partial waits in
     let stands = received_rest _ start _ _ _ _ _ _ comes.whole (received_more _ start _ read held piece _ _ before) in
     let went = c.in_ok-take_came.ensures.goes start (read ++ piece) comes.rest comes.each stands in
     rw c.if-branch.true at went
@@ -38,7 +38,7 @@ returns-then-branch-clause-goes g c start read held partial waits before =
 pub returns-then-is_bad-clause-goes : goal.returns-then-is_bad-clause-goes
 returns-then-is_bad-clause-goes g c start read held partial waits before =
     let piece = c.args.piece.now in
-    let comes : Comes held piece c.in_ok-frames.field-0.frames.items c.in_ok-frames.field-0.is_bad c.feed_piece.new.frames = c.in_ok-frames.ensures.comes held partial waits in
+    let comes : Comes held piece c.in_ok-frames.field-0.frames.items c.in_ok-frames.field-0.is_bad c.feed_pieces.new.frames = c.in_ok-frames.ensures.comes held partial waits in
     let stands = received_rest _ start _ _ _ _ _ _ comes.whole (received_more _ start _ read held piece _ _ before) in
     let went = c.in_ok-take_came.ensures.goes start (read ++ piece) comes.rest comes.each stands in
     let received = rw c.if-branch.false at went in
@@ -47,7 +47,7 @@ returns-then-is_bad-clause-goes g c start read held partial waits before =
 pub returns-clause-goes : goal.returns-clause-goes
 returns-clause-goes g c start read held partial waits before =
     let piece = c.args.piece.now in
-    let comes : Comes held piece c.in_ok-frames.field-0.frames.items c.in_ok-frames.field-0.is_bad c.feed_piece.new.frames = c.in_ok-frames.ensures.comes held partial waits in
+    let comes : Comes held piece c.in_ok-frames.field-0.frames.items c.in_ok-frames.field-0.is_bad c.feed_pieces.new.frames = c.in_ok-frames.ensures.comes held partial waits in
     let stands = received_rest _ start _ _ _ _ _ _ comes.whole (received_more _ start _ read held piece _ _ before) in
     let went = c.in_ok-take_came.ensures.goes start (read ++ piece) comes.rest comes.each stands in
     let received = rw c.if-branch.false at went in
