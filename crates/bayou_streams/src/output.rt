@@ -9,6 +9,7 @@ ghost use Rattle.bayou_streams.specs.Lines.{counted, line_feeds, taken_of, turns
 ghost use Rattle.bayou_streams.specs.Turns.{StopsStream, count_of, failed_behind, turns_of};
 
 use crate::channel::{CountedChannel, StreamFault, Turn};
+use memchr::memchr_iter;
 use std::io::Write;
 
 /// A writer, and the turns that are left to it for the line that it is at.
@@ -19,6 +20,13 @@ pub struct Output<W> {
     spent: u64,
     /// How many line feeds the writer took.
     lines: u64,
+}
+
+/// How many lines end in the text. Many bytes are looked at in one step.
+fn line_feeds_in(text: &[u8]) -> usize
+    ensures { result ≡ line_feeds text.now }
+{
+    memchr_iter(b'\n', text).count()
 }
 
 impl<W: Write> Output<W> {
@@ -43,7 +51,7 @@ impl<W: Write> Output<W> {
         ensures left { self.new.channel.turns_left ≡ turns_behind (line_feeds taken.now) self.old.channel.turns_left }
         ensures others { (self.new.channel.writer ≡ self.old.channel.writer) × (self.new.spent ≡ self.old.spent) × (self.new.channel.write_failed ≡ self.old.channel.write_failed) }
     {
-        let ended = taken.iter().filter(|byte| **byte == b'\n').count();
+        let ended = line_feeds_in(taken);
         self.lines = self.lines.saturating_add(ended as u64);
         if ended > 0 {
             self.channel.begin();

@@ -13,10 +13,13 @@ use bayou_lang::RestingWrite;
 use serde_json::{Value, json};
 use std::alloc::{AllocError, Global};
 
+/// How many members an entry has at the most, for all of which room is taken at once.
+const MAX_MEMBERS: usize = 9;
+
 fn counts_json(alloc: Global, counts: &[u32]) -> Result<Value, AllocError>
     ensures { IfOk result (λ json. view json ≡ spelling.list_json spelling.count_json counts.now) }
 {
-    let mut list = Vec::new(alloc);
+    let mut list = Vec::with_capacity(alloc, counts.len())?;
     for count in counts {
         list.push(Value::from(u64::from(*count)))?;
     }
@@ -38,7 +41,7 @@ fn head_json(alloc: Global, entry: &Entry, word: &str) -> Result<Vec<Value>, All
     ensures spelling { IfOk result (λ head. map view head.items ≡ spelling.head_json entry.now word.now) }
     ensures kept { OnOk result (entry.now.place < 2 ^ 32) }
 {
-    let mut head = Vec::new(alloc);
+    let mut head = Vec::with_capacity(alloc, MAX_MEMBERS)?;
     head.push(Value::try_from_str(alloc, "entry")?)?;
     head.push(Value::from(u64::from(entry.session.index)))?;
     head.push(Value::from(u64::from(entry.place)))?;

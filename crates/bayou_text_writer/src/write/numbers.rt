@@ -11,7 +11,7 @@ use std::alloc::{AllocError, Global};
 pub(crate) fn numbers_json(alloc: Global, word: &str, numbers: &[u64]) -> Result<Value, AllocError>
     ensures { IfOk result (λ json. view json ≡ spelling.form word.now (map spelling.count_json numbers.now)) }
 {
-    let mut list = Vec::new(alloc);
+    let mut list = Vec::with_capacity(alloc, numbers.len().saturating_add(1))?;
     list.push(Value::try_from_str(alloc, word)?)?;
     for number in numbers {
         list.push(Value::from(*number))?;

@@ -82,7 +82,7 @@ fn ops_json(alloc: Global, ops: &[Op]) -> Result<Value, AllocError>
     ensures spelling { IfOk result (λ json. view json ≡ spelling.list_json spelling.op_json ops.now) }
     ensures kept { OnOk result (AllByRecursion ranges.IsOp ops.now) }
 {
-    let mut list = Vec::new(alloc);
+    let mut list = Vec::with_capacity(alloc, ops.len())?;
     for op in ops {
         list.push(op_json(alloc, op)?)?;
     }
@@ -93,7 +93,7 @@ fn conds_json(alloc: Global, conditions: &[Cond]) -> Result<Value, AllocError>
     ensures spelling { IfOk result (λ json. view json ≡ spelling.list_json spelling.cond_json conditions.now) }
     ensures kept { OnOk result (AllByRecursion ranges.IsCond conditions.now) }
 {
-    let mut list = Vec::new(alloc);
+    let mut list = Vec::with_capacity(alloc, conditions.len())?;
     for condition in conditions {
         list.push(cond_json(alloc, condition)?)?;
     }
@@ -113,7 +113,7 @@ fn alts_json(alloc: Global, alternatives: &[RestingAlt]) -> Result<Value, AllocE
     ensures spelling { IfOk result (λ json. view json ≡ spelling.list_json spelling.alt_json alternatives.now) }
     ensures kept { OnOk result (AllByRecursion ranges.IsAlt alternatives.now) }
 {
-    let mut list = Vec::new(alloc);
+    let mut list = Vec::with_capacity(alloc, alternatives.len())?;
     for alternative in alternatives {
         list.push(alt_json(alloc, alternative)?)?;
     }
