@@ -4,13 +4,13 @@ ghost use Rattle.std.specs.Io.KnownBytes.{Appends, Consumes, IsAtEnd};
 ghost use Rattle.bayou_base.specs.declared.limits.TheConstants.{MAX_TURNS, READ_BYTES};
 ghost use Rattle.bayou_lang.specs.declared.write.Write.{Write as Written};
 ghost use Rattle.bayou_lang.specs.Writes.{count_of};
-ghost use Rattle.bayou_frames.specs.Framing.{Comes};
 ghost use Rattle.bayou_frames.specs.declared.fault.ChannelFault.TheVariants.{BadFrame, OutOfMemory};
 ghost use Rattle.bayou_peer.specs.declared.fault.PullFault.TheVariants.{Stream};
 ghost use Rattle.bayou_peer.specs.Pulls.{EndsInMemory, EndsOf, HasNoPlace, PullEnds, Received};
-ghost use Rattle.bayou_peer.specs.Inner.Steps.{Goes, GoesOn, IsFrontOf, IsTakeFault};
+ghost use Rattle.bayou_peer.specs.Inner.Steps.{Gathers, Goes, GoesOn, IsFrontOf, IsNoItem, IsTakeFault};
 ghost use Rattle.bayou_peer.specs.Stopping.{StopsPull};
 ghost use Rattle.bayou_streams.specs.Written.{AppendsFront};
+ghost use Rattle.bayou_wire.specs.declared.frame.Frame.{Frame as Sent};
 ghost use Rattle.bayou_wire.specs.declared.frame.Frame.TheVariants.{End, Item, Offer};
 ghost use Rattle.bayou_wire.specs.Spelling.{IsFrame};
 ghost use Rattle.bayou_wire.specs.Stream.{IsPartial, spelling, spellings};
@@ -42,6 +42,13 @@ struct Front {
     next: Option<Frame>,
 }
 
+// What bytes gave: the front of their frames, and whether what is behind all of these has a fault.
+#[derive(Drop)]
+struct Gathered {
+    front: Front,
+    is_bad: bool,
+}
+
 // The front of the frames. Its Writes are theirs, and no copies.
 fn front_of(alloc: Global, frames: Vec<Frame>) -> Result<Front, AllocError>
     ensures { IfOk result (λ front. IsFrontOf frames.items front.items.items front.next) }
@@ -57,6 +64,24 @@ fn front_of(alloc: Global, frames: Vec<Frame>) -> Result<Front, AllocError>
         }
     }
     Ok(Front { items, next: None })
+}
+
+impl Front {
+    // The same of these frames, and more behind them.
+    fn with(self, alloc: Global, more: Vec<Frame>) -> Result<Front, AllocError>
+        requires { IsNoItem self.next }
+        ensures other { IfOk result (λ front. IsNoItem front.next) }
+        ensures front { (came : List Sent) → IsFrontOf came self.items.items self.next → IfOk result (λ front. IsFrontOf (came ++ more.items) front.items.items front.next) }
+    {
+        if self.next.is_some() {
+            return Ok(self);
+        }
+        let mut items = self.items;
+        let mut front = front_of(alloc, more)?;
+        items.append(&mut front.items)?;
+        let next = front.next;
+        Ok(Front { items, next })
+    }
 }
 
 // The End ends the pull where it tells the number of the Items.
@@ -84,22 +109,21 @@ fn take_other(frame: &Frame, pulled: &Pulled) -> Result<bool, PullFault>
     }
 }
 
-// Takes the frames that came, up to what ends the pull, and tells whether that was its End. The Items that came together are taken together.
+// Takes what came, up to what ends the pull, and tells whether that was its End. The Items that came together are taken together.
 fn take_came<P: Replica>(
     alloc: Global,
     replica: &mut P,
-    frames: Vec<Frame>,
+    front: Front,
     pulled: &mut Pulled,
 ) -> Result<bool, PullFault>
-    requires few { pulled.old.taken + pulled.old.had + length frames.items < 2 ^ 32 }
-    ensures goes { (start : P) (read behind : List ℕ) → AllByRecursion IsFrame frames.items
-        → Received (record { list = P.list; takes = P.takes }) start replica.old read (spellings frames.items ++ behind) pulled.old.taken pulled.old.had
+    requires few { pulled.old.taken + pulled.old.had + length front.items.items < 2 ^ 32 }
+    requires other { IsNoItem front.next }
+    ensures goes { (start : P) (read behind : List ℕ) (came : List Sent) → AllByRecursion IsFrame came → IsFrontOf came front.items.items front.next
+        → Received (record { list = P.list; takes = P.takes }) start replica.old read (spellings came ++ behind) pulled.old.taken pulled.old.had
         → Goes (record { list = P.list; takes = P.takes }) start replica.new read behind pulled.new result }
     ensures fault { IfErr result IsTakeFault }
 {
-    let Ok(Front { items, next }) = front_of(alloc, frames) else {
-        return Err(PullFault::Stream(ChannelFault::OutOfMemory));
-    };
+    let Front { items, next } = front;
     let told = replica.take_all(alloc, items);
     pulled.taken += told.taken;
     pulled.had += told.had;
@@ -112,21 +136,26 @@ fn take_came<P: Replica>(
     }
 }
 
-// Feeds the bytes, a small piece at a time, so that no copy of them all is held: what they give is what they would give at once.
-fn feed_pieces(alloc: Global, frames: &mut Frames, bytes: &[u8]) -> Result<Came, ChannelFault>
-    ensures comes { (held : List ℕ) → IsPartial held → frames.old ≡ Some held → IfOk result (λ came. Comes held bytes.now came.frames.items came.is_bad frames.new) }
+// Feeds the bytes, a small piece at a time, so that neither a copy of them all is held nor all of their frames beside the Writes.
+fn feed_pieces(alloc: Global, frames: &mut Frames, bytes: &[u8]) -> Result<Gathered, ChannelFault>
+    ensures comes { (held : List ℕ) → IsPartial held → frames.old ≡ Some held → IfOk result (λ gathered. Gathers held bytes.now gathered.front.items.items gathered.front.next gathered.is_bad frames.new) }
+    ensures other { IfOk result (λ gathered. IsNoItem gathered.front.next) }
     ensures refused { IfErr result (λ fault. fault ≡ OutOfMemory) }
 {
     let (first, mut rest) = bytes.split_at(bytes.len().min(READ_BYTES));
-    let mut all = feed_piece(alloc, frames, first)?;
-    while !all.is_bad && !rest.is_empty() {
+    let Came {
+        frames: came,
+        mut is_bad,
+    } = feed_piece(alloc, frames, first)?;
+    let mut front = front_of(alloc, came)?;
+    while !is_bad && !rest.is_empty() {
         let (piece, behind) = rest.split_at(rest.len().min(READ_BYTES));
-        let mut more = feed_piece(alloc, frames, piece)?;
-        all.frames.append(&mut more.frames)?;
-        all.is_bad = more.is_bad;
+        let more = feed_piece(alloc, frames, piece)?;
+        front = front.with(alloc, more.frames)?;
+        is_bad = more.is_bad;
         rest = behind;
     }
-    Ok(all)
+    Ok(Gathered { front, is_bad })
 }
 
 // Takes a piece of what comes, and tells whether the pull came to its End.
@@ -144,8 +173,8 @@ fn take_piece<P: Replica>(
         → GoesOn (record { list = P.list; takes = P.takes }) start replica.new (read ++ piece.now) frames.new pulled.new result }
     ensures fault { IfErr result IsTakeFault }
 {
-    let Came { frames, is_bad } = feed_pieces(alloc, frames, piece)?;
-    if take_came(alloc, replica, frames, pulled)? {
+    let Gathered { front, is_bad } = feed_pieces(alloc, frames, piece)?;
+    if take_came(alloc, replica, front, pulled)? {
         return Ok(true);
     }
     if is_bad {

@@ -2,6 +2,7 @@
 use Rattle.std.specs.Prelude.{◌≡◌, ◌≢◌, ℕ, Bool, true, false, List, ◌∷◌, ◌++◌, [], Option, None, Some, Result, Ok, Err}
 use Rattle.bayou_lang.specs.declared.write.Write.{Write}
 use Rattle.bayou_frames.specs.declared.fault.ChannelFault.TheVariants as faults
+use Rattle.bayou_frames.specs.Framing.{Comes}
 use Rattle.bayou_frames.specs.Spelled.{items_of}
 use Rattle.bayou_peer.specs.declared.fault.PullFault.{PullFault}
 use Rattle.bayou_peer.specs.declared.fault.PullFault.TheVariants.{Stream, Refused}
@@ -21,6 +22,17 @@ pub record IsFrontOf (frames : List Frame) (writes : List Write) (next : Option 
   pub rest : List Frame
   pub split : frames ≡ items_of writes ++ rest
   pub follows : FollowsItems next rest
+
+-- a frame that is no Item, if there is one
+abbrev pub IsNoItem : Option Frame → Type 0
+IsNoItem None = Unit {0}
+IsNoItem (Some frame) = (write : Write) → frame ≢ Item write
+
+-- What bytes behind those held back gave: some frames, of which these are the Writes of the Items in front and the frame behind them.
+pub record Gathers (held bytes : List ℕ) (writes : List Write) (next : Option Frame) (is_bad : Bool) (now : Option (List ℕ)) : Type 0 where
+  pub came : List Frame
+  pub comes : Comes held bytes came is_bad now
+  pub front : IsFrontOf came writes next
 
 -- what may end a pull at what came
 abbrev pub IsTakeFault : PullFault → Type 0

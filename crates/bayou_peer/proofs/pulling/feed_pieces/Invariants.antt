@@ -1,14 +1,15 @@
--- what was fed so far gave these frames
+-- what was fed so far gave this front
 use Rattle.std.proofs.Common.{◌≡◌, ◌++◌, ℕ, List, Some, length}
-use Rattle.bayou_frames.specs.Framing.{Comes}
+use Rattle.bayou_peer.specs.Inner.Steps.{Gathers, IsNoItem}
 use Rattle.bayou_wire.specs.Stream.{IsPartial}
 use Rattle.bayou_peer.proofs.pulling.feed_pieces.Given as goal
 
-abbrev pub invariant-loop-all : goal.invariant-loop-all
-invariant-loop-all l = record {
+abbrev pub invariant-loop-is_bad : goal.invariant-loop-is_bad
+invariant-loop-is_bad l = record {
   went : (fed : List ℕ) × (l.bytes ≡ fed ++ l.rest)
-      × ((held : List ℕ) → IsPartial held → l.fn.frames ≡ Some held → Comes held fed l.all.frames.items l.all.is_bad l.frames);
+      × ((held : List ℕ) → IsPartial held → l.fn.frames ≡ Some held → Gathers held fed l.front.items.items l.front.next l.is_bad l.frames);
+  other : IsNoItem l.front.next;
 }
 
-abbrev pub decreases-loop-all : goal.decreases-loop-all
-decreases-loop-all l = length l.rest
+abbrev pub decreases-loop-is_bad : goal.decreases-loop-is_bad
+decreases-loop-is_bad l = length l.rest

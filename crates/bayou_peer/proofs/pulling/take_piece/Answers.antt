@@ -1,55 +1,65 @@
-use Rattle.std.proofs.Common.{arith, ◌++◌, inl}
+use Rattle.std.proofs.Common.{arith, ◌++◌, ap, inl, length, length-append}
 use Rattle.std.proofs.lemmas.Result.{err_from_is_err_and}
-use Rattle.bayou_frames.specs.Framing.{Comes}
+use Rattle.std.proofs.lemmas.List.{length-map}
+use Rattle.bayou_frames.specs.Spelled.{items_of}
+use Rattle.bayou_wire.specs.declared.frame.Frame.TheVariants.{Item}
 use Rattle.bayou_peer.proofs.Received.{few_frames, received_more, received_rest}
 use Rattle.bayou_peer.proofs.pulling.take_piece.Goals as goal
 
-pub returns-in_err-frames-clause-goes : goal.returns-in_err-frames-clause-goes
-returns-in_err-frames-clause-goes g c start read held partial waits before =
+pub returns-in_err-front-clause-goes : goal.returns-in_err-front-clause-goes
+returns-in_err-front-clause-goes g c start read held partial waits before =
     let piece = c.args.piece.now in
-    let refused = c.in_err-frames.ensures.refused in
+    let refused = c.in_err-front.ensures.refused in
     let p = err_from_is_err_and c.from_residual.result c.from_residual.ensures.1 in
     rw (p.1, p.2, refused) (held ++ piece, c.args.pulled.now.taken, c.args.pulled.now.had, received_more _ start _ read held piece _ _ before)
 
 pub take_came-requires : goal.take_came-requires
 take_came-requires g c =
     let (held, partial, waits, few) = c.requires.few in
-    let comes : Comes held c.args.piece.now c.in_ok-frames.field-0.frames.items c.in_ok-frames.field-0.is_bad c.feed_pieces.new.frames = c.in_ok-frames.ensures.comes held partial waits in
-    let third = few_frames held c.args.piece.now comes.rest c.in_ok-frames.field-0.frames.items c.args.pulled.now.taken c.args.pulled.now.had _ comes.whole few in
-    record { few = omega (arith, third) }
+    let items = c.in_ok-front.field-0.front.items.items in
+    let gathers = c.in_ok-front.ensures.comes held partial waits in
+    let third = few_frames held c.args.piece.now gathers.comes.rest gathers.came c.args.pulled.now.taken c.args.pulled.now.had _ gathers.comes.whole few in
+    record {
+      few = omega (arith, third, ap length gathers.front.split, length-append (items_of items) gathers.front.rest, length-map items Item);
+      other = c.in_ok-front.ensures.other;
+    }
 
 pub returns-in_err-take_came-clause-goes : goal.returns-in_err-take_came-clause-goes
 returns-in_err-take_came-clause-goes g c start read held partial waits before =
     let piece = c.args.piece.now in
-    let comes : Comes held piece c.in_ok-frames.field-0.frames.items c.in_ok-frames.field-0.is_bad c.feed_pieces.new.frames = c.in_ok-frames.ensures.comes held partial waits in
+    let gathers = c.in_ok-front.ensures.comes held partial waits in
+    let comes = gathers.comes in
     let stands = received_rest _ start _ _ _ _ _ _ comes.whole (received_more _ start _ read held piece _ _ before) in
-    let went = c.in_err-take_came.ensures.goes start (read ++ piece) comes.rest comes.each stands in
+    let went = c.in_err-take_came.ensures.goes start (read ++ piece) comes.rest gathers.came comes.each gathers.front stands in
     let p = err_from_is_err_and c.from_residual-in_err-take_came.result c.from_residual-in_err-take_came.ensures.1 in
     rw (p.1, p.2) went
 
 pub returns-then-branch-clause-goes : goal.returns-then-branch-clause-goes
 returns-then-branch-clause-goes g c start read held partial waits before =
     let piece = c.args.piece.now in
-    let comes : Comes held piece c.in_ok-frames.field-0.frames.items c.in_ok-frames.field-0.is_bad c.feed_pieces.new.frames = c.in_ok-frames.ensures.comes held partial waits in
+    let gathers = c.in_ok-front.ensures.comes held partial waits in
+    let comes = gathers.comes in
     let stands = received_rest _ start _ _ _ _ _ _ comes.whole (received_more _ start _ read held piece _ _ before) in
-    let went = c.in_ok-take_came.ensures.goes start (read ++ piece) comes.rest comes.each stands in
+    let went = c.in_ok-take_came.ensures.goes start (read ++ piece) comes.rest gathers.came comes.each gathers.front stands in
     rw c.if-branch.true at went
 
 pub returns-then-is_bad-clause-goes : goal.returns-then-is_bad-clause-goes
 returns-then-is_bad-clause-goes g c start read held partial waits before =
     let piece = c.args.piece.now in
-    let comes : Comes held piece c.in_ok-frames.field-0.frames.items c.in_ok-frames.field-0.is_bad c.feed_pieces.new.frames = c.in_ok-frames.ensures.comes held partial waits in
+    let gathers = c.in_ok-front.ensures.comes held partial waits in
+    let comes = gathers.comes in
     let stands = received_rest _ start _ _ _ _ _ _ comes.whole (received_more _ start _ read held piece _ _ before) in
-    let went = c.in_ok-take_came.ensures.goes start (read ++ piece) comes.rest comes.each stands in
+    let went = c.in_ok-take_came.ensures.goes start (read ++ piece) comes.rest gathers.came comes.each gathers.front stands in
     let received = rw c.if-branch.false at went in
     (comes.rest, c.take_came.new.pulled.taken, c.take_came.new.pulled.had, inl (comes.bad c.if-is_bad.true), received)
 
 pub returns-clause-goes : goal.returns-clause-goes
 returns-clause-goes g c start read held partial waits before =
     let piece = c.args.piece.now in
-    let comes : Comes held piece c.in_ok-frames.field-0.frames.items c.in_ok-frames.field-0.is_bad c.feed_pieces.new.frames = c.in_ok-frames.ensures.comes held partial waits in
+    let gathers = c.in_ok-front.ensures.comes held partial waits in
+    let comes = gathers.comes in
     let stands = received_rest _ start _ _ _ _ _ _ comes.whole (received_more _ start _ read held piece _ _ before) in
-    let went = c.in_ok-take_came.ensures.goes start (read ++ piece) comes.rest comes.each stands in
+    let went = c.in_ok-take_came.ensures.goes start (read ++ piece) comes.rest gathers.came comes.each gathers.front stands in
     let received = rw c.if-branch.false at went in
     let (less, now) = comes.waits c.if-is_bad.false in
     record { held = comes.rest; partial = less; waits = now; received = received }
