@@ -51,7 +51,7 @@ impl Model for RestingProgram {
     ghost invariant = { λ p. (length p.check ≤ MAX_CONDITIONS) × (length p.update.items ≤ MAX_OPS) × (length p.merge ≤ MAX_ALTERNATIVES) };
 }
 
-/// A Write at rest: 120 bytes, and 104 for each op and 96 for each condition of its program, and 32 more for the list of its conditions and for that
+/// A Write at rest: 136 bytes, and 104 for each op and 96 for each condition of its program, and 24 more for the list of its conditions and for that
 /// of its alternatives, where it has some.
 #[derive(Debug, Drop)]
 pub struct RestingWrite {
