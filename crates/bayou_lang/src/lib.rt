@@ -3,7 +3,7 @@
 //! A [`Program`] is an update, a dependency check and a merge procedure (Terry et al. 1995). Callers see programs as
 //! plain data; what one does to a database, seen as a finite map, is `mean` in `specs/`. [`Program::eval`]
 //! finds it out over anything that answers the value of a key, and how many keys begin so, and gives the changes. Nothing
-//! here takes memory, and nothing knows of servers, sessions or bytes. What follows for lists of Writes is among the [`laws`].
+//! here but the forms at rest takes memory, and nothing knows of servers, sessions or bytes. What follows for lists of Writes is among the [`laws`].
 #![tactic(auto)]
 
 pub mod change;

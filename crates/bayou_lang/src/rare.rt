@@ -4,7 +4,8 @@ ghost use Rattle.std.specs.Prelude.{◌≡◌, [], IfOk};
 use std::alloc::{AllocError, Global};
 use std::marker::Model;
 
-/// A list most of whose kind are empty. One that is takes the room of a pointer, where a `Vec` takes that of three.
+/// A list of a kind of which most are empty. It takes the room of two pointers, where a `Vec` takes that of three; one that has items keeps
+/// them, and their `Vec`, elsewhere.
 #[derive(Debug)]
 pub(crate) struct RareList<T> {
     items: Option<Box<Vec<T>>>,
