@@ -2,6 +2,7 @@
 use crate::fixtures::{must_be_so, must_hold};
 use crate::notation::{parts, repeated};
 use arrayvec::ArrayString;
+use bayou_base::{MAX_CONDITIONS, MAX_OPS};
 use bayou_text::{Line, LineFault, read_line};
 use bayou_text_writer::write_line;
 use std::alloc::{AllocError, Global};
@@ -351,6 +352,79 @@ fn depths_and_lengths(rt: HostRuntime) {
     }
 }
 
+/// Writes of a check and an update, in the spelling that is read without a tree of JSON, and others that differ from it in little.
+const CHECKED: &str =
+    r#"["write",0,0,{"check":[["absent","a"]],"update":[["put","a",1]]}] => ["write",0,0,{"check":[["absent","a"]],"merge":[],"update":[["put","a",1]]}]
+["write",31,15,{"check":[["equals","a",1],["equals","b","x"],["atleast","c",-2]],"update":[["del","a"],["put","b","y"]]}] => ["write",31,15,{"check":[["equals","a",1],["equals","b","x"],["atleast","c",-2]],"merge":[],"update":[["del","a"],["put","b","y"]]}]
+["write",0,0,{"check":[["atmost","a/",3],["atmost","",4294967295]],"update":[]}] => ["write",0,0,{"check":[["atmost","a/",3],["atmost","",4294967295]],"merge":[],"update":[]}]
+["write",0,0,{"check":[["equals","a",-9223372036854775808]],"update":[["put","a",4294967296]]}] => ["write",0,0,{"check":[["equals","a",-9223372036854775808]],"merge":[],"update":[["put","a",4294967296]]}]
+["write",0,0,{"check":[["equals","a","\u0061"]],"update":[["put","a",["copy","b"]]]}] => ["write",0,0,{"check":[["equals","a","a"]],"merge":[],"update":[["put","a",["copy","b"]]]}]
+["write",0,0,{"check":[],"update":[["del","a"]]}] => ["write",0,0,{"check":[],"merge":[],"update":[["del","a"]]}]
+["write",0,0,{"check":[["absent","a"]],"update":[["del","a"]],"merge":[]}] => ["write",0,0,{"check":[["absent","a"]],"merge":[],"update":[["del","a"]]}]
+["write",0,0,{"check":[["absent","a"]],"update":[["del","a"]],"update":[["del","b"]]}] => ["write",0,0,{"check":[["absent","a"]],"merge":[],"update":[["del","b"]]}]
+["write",0,0,{"check":[["absent","a"]],"update":[["del","a"]],"check":[]}] => ["write",0,0,{"check":[],"merge":[],"update":[["del","a"]]}]
+["write",0,0,{"check":[["absent","a"]],"update":[["del","a"]]} ] => ["write",0,0,{"check":[["absent","a"]],"merge":[],"update":[["del","a"]]}]
+["write",0,0,{"check":[["absent","a"]],"update":[["del","a"]]},0] => !BadShape(Arity)
+["write",0,0,{"check":[["absent","a"]],"update":[["del","a"]]}]] => !NotJson
+["write",0,0,{"check":[["absent","a"],],"update":[["del","a"]]}] => !NotJson
+["write",0,0,{"check":[["absent","a"]["absent","b"]],"update":[["del","a"]]}] => !NotJson
+["write",0,0,{"check":[["equals","a",01]],"update":[]}] => !NotJson
+["write",0,0,{"check":[["equals","a",-]],"update":[]}] => !NotJson
+["write",0,0,{"check":[["equals","a",-0]],"update":[]}] => !BadShape(Worth)
+["write",0,0,{"check":[["equals","a",1.0]],"update":[]}] => !BadShape(Worth)
+["write",0,0,{"check":[["atleast","a","1"]],"update":[]}] => !BadShape(Number)
+["write",0,0,{"check":[["atmost","a",-1]],"update":[]}] => !BadShape(Number)
+["write",0,0,{"check":[["atmost","a",4294967296]],"update":[]}] => !BadShape(Number)
+["write",0,0,{"check":[["atmost","A",1]],"update":[]}] => !Key(BadByte(0))
+["write",0,0,{"check":[["absent",""]],"update":[]}] => !Key(Empty)
+["write",0,0,{"check":[["absent","a",1]],"update":[]}] => !BadShape(Arity)
+["write",0,0,{"check":[["absent","a"],["present","a"]],"update":[]}] => !BadShape(Word)
+["write",32,0,{"check":[["absent","a"]],"update":[["del","a"]]}] => !BadShape(Number)
+["write",0,16,{"check":[["absent","a"]],"update":[["del","a"]]}] => !BadShape(Number)"#;
+
+#[test]
+fn writes_of_a_check_and_an_update(rt: HostRuntime) {
+    all_agree(&rt, rt.alloc(), CHECKED);
+}
+
+/// A Write of so many conditions and so many ops, in that spelling.
+fn of_so_many(alloc: Global, conditions: usize, ops: usize) -> Result<String, AllocError> {
+    let mut line = String::from_str(alloc, "[\"write\",0,0,{\"check\":[")?;
+    for at in 0..conditions {
+        line.push_str(if at > 0 { "," } else { "" })?;
+        line.push_str("[\"absent\",\"a\"]")?;
+    }
+    line.push_str("],\"update\":[")?;
+    for at in 0..ops {
+        line.push_str(if at > 0 { "," } else { "" })?;
+        line.push_str("[\"del\",\"a\"]")?;
+    }
+    line.push_str("]}]")?;
+    Ok(line)
+}
+
+/// Whether a Write of so many is read, or has the fault that is named.
+fn is_read_as(alloc: Global, conditions: usize, ops: usize, fault: Option<&str>) -> bool {
+    let Ok(line) = of_so_many(alloc, conditions, ops) else {
+        return false;
+    };
+    match (read(alloc, line.as_bytes()), fault) {
+        (Ok(_), None) => true,
+        (Err(found), Some(name)) => is_named(found, name),
+        _ => false,
+    }
+}
+
+#[test]
+fn checks_and_updates_of_as_many_as_there_may_be(rt: HostRuntime) {
+    let alloc = rt.alloc();
+    assert!(rt; is_read_as(alloc, MAX_CONDITIONS, MAX_OPS, None));
+    let conditions = Some("Program(TooManyConds)");
+    assert!(rt; is_read_as(alloc, MAX_CONDITIONS + 1, MAX_OPS, conditions));
+    let ops = Some("Program(TooManyOps)");
+    assert!(rt; is_read_as(alloc, MAX_CONDITIONS, MAX_OPS + 1, ops));
+}
+
 /// Lines of every command and form, and faults of every kind.
 const FORMS: &str = r#"["servers",1]
 ["servers",1,4096]
@@ -360,6 +434,7 @@ const FORMS: &str = r#"["servers",1]
 ["write",0,0,{"check":[["equals","a",1],["atleast","b",-2]],"merge":[{"ops":[["put","a",["plus","b",3]]],"when":[["absent","c"]]},{"ops":[],"when":[]}],"update":[["del","c"],["put","b",["copy","a"]]]}]
 ["write",0,0,{"check":[["equals","a","x"],["absent","b"]],"merge":[{"ops":[["del","a"],["put","b","y"]],"when":[["equals","a",1]]}],"update":[["put","a","\u0000\""]]}]
 ["write",0,0,{"check":[["atmost","a/",4294967295]],"merge":[{"ops":[["del","a"]],"when":[["absent","a"],["atmost","",0]]}],"update":[["put","a",1]]}]
+["write",0,0,{"check":[["atmost","a",1]],"update":[["del","a"]]}] => ["write",0,0,{"check":[["atmost","a",1]],"merge":[],"update":[["del","a"]]}]
 ["read",3,15,"a"]
 ["again",3]
 ["drop",31]

@@ -1,4 +1,4 @@
-ghost use Rattle.std.specs.Prelude.{◌≡◌, ◌≤◌, Some, IfOk, string_bytes};
+ghost use Rattle.std.specs.Prelude.{◌≡◌, ◌≤◌, ◌++◌, [], Some, IfOk, OnOk, string_bytes};
 ghost use Rattle.serde_json.specs.Data.{string};
 ghost use Rattle.serde_json.specs.Written.{compact_text};
 ghost use Rattle.bayou_base.specs.declared.limits.TheConstants.{SERVERS};
@@ -18,6 +18,9 @@ use bayou_server::{ReopenFault, StartFault, TakeFault, WriteFault};
 use serde_json::Value as Json;
 use std::alloc::{AllocError, Global};
 use std::fmt;
+
+/// Room for most lines that are printed for an operation, in bytes. It is taken at once, and no limit.
+const LINE_ROOM: usize = 128;
 
 /// The first counts of a vector, as many as there are servers.
 #[derive(Drop)]
@@ -47,18 +50,34 @@ fn json_of(alloc: Global, text: &str) -> Result<String, AllocError>
     Json::String(String::from_str(alloc, text)?).to_string(alloc)
 }
 
+/// An empty line, with room for most of those that are printed for an operation, so that it seldom grows.
+fn empty_line(alloc: Global) -> Result<String, AllocError>
+    ensures { IfOk result (λ line. string_bytes line ≡ []) }
+{
+    String::with_capacity(alloc, LINE_ROOM)
+}
+
+/// Puts what a read found behind the text.
+fn put_found(alloc: Global, text: &mut String, value: &Option<Value>) -> Result<(), AllocError>
+    ensures { OnOk result (string_bytes text.new ≡ string_bytes text.old ++ value_text value.now) }
+{
+    match value {
+        None => write!(text, "none"),
+        Some(Value::Num(number)) => write!(text, "num {number}"),
+        Some(Value::Text(found)) => {
+            let json = json_of(alloc, found.as_str())?;
+            write!(text, "text {json}")
+        }
+    }
+}
+
 /// What a read found.
 pub(crate) fn found(alloc: Global, value: &Option<Value>) -> Result<String, AllocError>
     ensures { IfOk result (λ text. string_bytes text ≡ value_text value.now) }
 {
-    match value {
-        None => String::from_str(alloc, "none"),
-        Some(Value::Num(number)) => format!(in alloc; "num {number}"),
-        Some(Value::Text(text)) => {
-            let json = json_of(alloc, text.as_str())?;
-            format!(in alloc; "text {json}")
-        }
-    }
+    let mut text = String::new(alloc);
+    put_found(alloc, &mut text, value)?;
+    Ok(text)
 }
 
 /// The line of a Write in the log of a server.
@@ -72,17 +91,14 @@ pub(crate) fn listed_line(
     let server = server.index;
     let (origin, seq) = (listed.wid.origin.index, listed.wid.seq);
     let clock = listed.stamp.clock;
+    let mut line = empty_line(alloc)?;
+    write!(line, "log {server} {origin}:{seq} clock {clock} ")?;
     match listed.outcome {
-        Outcome::Updated => format!(in alloc;
-            "log {server} {origin}:{seq} clock {clock} updated\n"
-        ),
-        Outcome::Merged(index) => {
-            format!(in alloc; "log {server} {origin}:{seq} clock {clock} merged {index}\n")
-        }
-        Outcome::Nothing => format!(in alloc;
-            "log {server} {origin}:{seq} clock {clock} nothing\n"
-        ),
+        Outcome::Updated => writeln!(line, "updated")?,
+        Outcome::Merged(index) => writeln!(line, "merged {index}")?,
+        Outcome::Nothing => writeln!(line, "nothing")?,
     }
+    Ok(line)
 }
 
 /// Why an operation was refused.
@@ -159,7 +175,12 @@ fn wrote_line(
         vector: &accepted.deps,
         servers,
     };
-    format!(in alloc; "{session} wrote {origin}:{seq} clock {clock} deps {deps}\n")
+    let mut line = empty_line(alloc)?;
+    writeln!(
+        line,
+        "{session} wrote {origin}:{seq} clock {clock} deps {deps}"
+    )?;
+    Ok(line)
 }
 
 /// The line of a read that was served.
@@ -175,12 +196,15 @@ fn read_line(
 {
     let session = session.index;
     let key = key.as_str();
-    let found = found(alloc, &seen.value)?;
     let counts = Counts {
         vector: &seen.vector,
         servers,
     };
-    format!(in alloc; "{session} read {key} {found} at {counts}\n")
+    let mut line = empty_line(alloc)?;
+    write!(line, "{session} read {key} ")?;
+    put_found(alloc, &mut line, &seen.value)?;
+    writeln!(line, " at {counts}")?;
+    Ok(line)
 }
 
 /// The line of a server that was to be reopened or restarted.

@@ -33,11 +33,11 @@ use Rattle.bayou_text.proofs.AtOnce.{IsRead, array_read, text_read, count_read, 
 higher : (low high : ℕ) (d : Data) → low ≤ high → IsRead low d → IsRead high d
 higher low high d above is = record { again = is.again; no_deeper = omega (arith, above, is.no_deeper) }
 
-integer_read : (most : ℕ) (n : ℤ) → FitsSigned w64 n → IsRead most (number (of_integer n))
+pub integer_read : (most : ℕ) (n : ℤ) → FitsSigned w64 n → IsRead most (number (of_integer n))
 integer_read most (pos n) fits = record { again = rw (number_of-decimal n (omega (arith, fits))) refl; no_deeper = omega arith }
 integer_read most (negsuc n) fits = record { again = rw (number_of-negative n (omega (arith, fits))) refl; no_deeper = omega arith }
 
-value_read : (most : ℕ) (v : Value) → IsValue v → IsRead most (value_json v)
+pub value_read : (most : ℕ) (v : Value) → IsValue v → IsRead most (value_json v)
 value_read most (Num n) kept = integer_read most n kept
 value_read most (Text text) kept = text_read most text
 
@@ -53,7 +53,7 @@ op_read (Put key t) kept =
     array_read 1 (string (codes "put") ∷ string key ∷ term_json t ∷ []) (text_read 1 (codes "put"), (text_read 1 key, (term_read t kept.1, tt)))
 op_read (Del key) kept = array_read 1 (string (codes "del") ∷ string key ∷ []) (text_read 1 (codes "del"), (text_read 1 key, tt))
 
-ops_read : (ops : List Op) → AllByRecursion IsOp ops → AllByRecursion (IsRead 2) (map op_json ops)
+pub ops_read : (ops : List Op) → AllByRecursion IsOp ops → AllByRecursion (IsRead 2) (map op_json ops)
 ops_read [] kept = tt
 ops_read (o ∷ ops) kept = (op_read o kept.0, ops_read ops kept.1)
 
@@ -86,11 +86,11 @@ held_read is_whole place item n are kept =
 
 -- ---- what it says
 
-integer_is : (n : ℤ) → FitsSigned w64 n → IntegerIs (number (of_integer n)) n
+pub integer_is : (n : ℤ) → FitsSigned w64 n → IntegerIs (number (of_integer n)) n
 integer_is (pos n) fits = let small : n < 2 ^ 63 = omega (arith, fits) in (of_integer (pos n), refl, grind (arith, tests))
 integer_is (negsuc n) fits = (of_integer (negsuc n), refl, refl)
 
-value_is : (v : Value) → IsValue v → ValueIs (value_json v) v
+pub value_is : (v : Value) → IsValue v → ValueIs (value_json v) v
 value_is (Num n) kept = integer_is n kept
 value_is (Text text) kept = (refl, kept.0)
 
@@ -115,7 +115,7 @@ op_is (Put key t) kept = record {
 }
 op_is (Del key) kept = record { key_data = string key; form_is = refl; key_is = (refl, kept) }
 
-ops_are : (ops : List Op) → AllByRecursion IsOp ops → AllZip OpIs (map op_json ops) ops
+pub ops_are : (ops : List Op) → AllByRecursion IsOp ops → AllZip OpIs (map op_json ops) ops
 ops_are [] kept = tt
 ops_are (o ∷ ops) kept = (op_is o kept.0, ops_are ops kept.1)
 

@@ -4,3 +4,4 @@ pub mod LineLaws
 pub mod AtOnce
 pub mod HeldAtOnce
 pub mod OperationAtOnce
+pub mod CheckedAtOnce

@@ -11,9 +11,10 @@ use Rattle.bayou_base.specs.declared.entry.Entry.{Entry}
 use Rattle.bayou_base.specs.declared.entry.What.{What}
 use Rattle.bayou_base.specs.declared.entry.What.TheVariants as what
 use Rattle.bayou_lang.specs.Ranges.{IsKey}
+use Rattle.bayou_lang.specs.declared.program.Cond.{Cond}
 use Rattle.bayou_lang.specs.declared.program.Op.{Op}
 use Rattle.bayou_lang.specs.declared.write.Write.{Write}
-use Rattle.bayou_text.specs.Spelling.{count_json, form, list_json, op_json, vector_json}
+use Rattle.bayou_text.specs.Spelling.{cond_json, count_json, form, list_json, op_json, vector_json}
 use Rattle.serde_json.specs.View.{items_of}
 
 abbrev pub tokens_of : Data → List Token
@@ -70,3 +71,16 @@ update_held_json is_whole place item n = form (codes "held") (count_json place �
 -- ["write", session, server, program]
 abbrev pub update_line_json : Bool → ℕ → ℕ → List Op → Data
 update_line_json is_whole who place ops = form (codes "write") (count_json who ∷ count_json place ∷ update_json is_whole ops ∷ [])
+
+-- ---- a Write whose program is a check and an update
+
+-- {"check":[condition, ..],"update":[op, ..]}
+abbrev pub checked_json : List Cond → List Op → Data
+checked_json conditions ops =
+    object (member (codes "check") (list_json cond_json conditions)
+    (member (codes "update") (list_json op_json ops) no_members))
+
+-- ["write", session, server, program]
+abbrev pub checked_line_json : ℕ → ℕ → List Cond → List Op → Data
+checked_line_json who place conditions ops =
+    form (codes "write") (count_json who ∷ count_json place ∷ checked_json conditions ops ∷ [])

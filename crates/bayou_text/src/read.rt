@@ -33,6 +33,7 @@ mod part;
 mod program;
 mod retry;
 mod spelled;
+mod spelled_check;
 mod spelled_held;
 mod spelled_operation;
 mod spelled_program;

@@ -1,9 +1,13 @@
 //! What a line may tell, at a glance: a guess, which is to be looked into before it is believed.
+ghost use Rattle.std.specs.Prelude.{◌≤◌, IfSome, length};
+ghost use Rattle.bayou_base.specs.declared.limits.TheConstants.{MAX_OPS as MOST_OPS};
+
 use crate::command::Attempt;
 use bayou_base::{
-    Asks, Entry, Key, MAX_OPS, SERVERS, ServerId, SessionId, Stamp, Value, Vector, What, Wid,
+    Asks, Entry, Key, MAX_CONDITIONS, MAX_OPS, Prefix, SERVERS, ServerId, SessionId, Stamp, Value,
+    Vector, What, Wid,
 };
-use bayou_lang::{Op, RestingProgram, RestingWrite, Term};
+use bayou_lang::{Cond, Op, RestingProgram, RestingWrite, Term};
 use std::alloc::Global;
 use std::str;
 
@@ -94,19 +98,29 @@ impl<'a> Glance<'a> {
         Some(Value::Num(sign * i64::from(self.number())))
     }
 
-    /// The ops that come next, each of which sets a key to a value, up to the end of the list.
-    fn puts(&mut self, alloc: Global) -> Option<Vec<Op>> {
+    /// The op that comes next, up to the end of its array, if it sets a key to a value, or takes a key away.
+    fn op(&mut self) -> Option<Op> {
+        if self.pass(b"[\"put\",\"") {
+            let key = self.key()?;
+            self.skip();
+            return Some(Op::Put(key, Term::Lit(self.value()?)));
+        }
+        if self.pass(b"[\"del\",\"") {
+            return Some(Op::Del(self.key()?));
+        }
+        None
+    }
+
+    /// The ops that come next, up to the end of the list.
+    fn ops(&mut self, alloc: Global) -> Option<Vec<Op>> {
         let Ok(mut ops) = Vec::with_capacity(alloc, 1) else {
             return None;
         };
         for _ in 0..MAX_OPS {
-            if !self.pass(b"[\"put\",\"") {
+            let Some(op) = self.op() else {
                 break;
-            }
-            let key = self.key()?;
-            self.skip();
-            let value = self.value()?;
-            let Ok(()) = ops.push(Op::Put(key, Term::Lit(value))) else {
+            };
+            let Ok(()) = ops.push(op) else {
                 return None;
             };
             self.skip();
@@ -115,18 +129,85 @@ impl<'a> Glance<'a> {
         Some(ops)
     }
 
+    /// The condition that comes next, up to the end of its array.
+    fn condition(&mut self) -> Option<Cond> {
+        if self.pass(b"[\"absent\",\"") {
+            return Some(Cond::Absent(self.key()?));
+        }
+        if self.pass(b"[\"atmost\",\"") {
+            let prefix = Prefix::new(self.text()?).ok()?;
+            return Some(Cond::AtMost(prefix, self.next_number()));
+        }
+        let is_least = self.pass(b"[\"atleast\",\"");
+        if !is_least && !self.pass(b"[\"equals\",\"") {
+            return None;
+        }
+        let key = self.key()?;
+        self.skip();
+        match self.value()? {
+            Value::Num(number) if is_least => Some(Cond::AtLeast(key, number)),
+            value => Some(Cond::Equals(key, value)),
+        }
+    }
+
+    /// The conditions that come next, up to the end of the list.
+    fn conditions(&mut self, alloc: Global) -> Option<Vec<Cond>> {
+        let Ok(mut conditions) = Vec::with_capacity(alloc, 1) else {
+            return None;
+        };
+        for _ in 0..MAX_CONDITIONS {
+            let Some(condition) = self.condition() else {
+                break;
+            };
+            let Ok(()) = conditions.push(condition) else {
+                return None;
+            };
+            self.skip();
+            self.pass(b",");
+        }
+        Some(conditions)
+    }
+
+    /// The update that comes next, behind the beginning of its list, up to the end of the program.
+    fn update(&mut self, alloc: Global) -> Option<Vec<Op>>
+        ensures { IfSome result (λ ops. length ops.items ≤ MOST_OPS) }
+    {
+        let ops = self.ops(alloc)?;
+        if ops.len() > MAX_OPS || !self.pass(b"]}") {
+            return None;
+        }
+        Some(ops)
+    }
+
     /// The program that comes next, of an update alone, and whether its empty members stand there.
-    fn update(&mut self, alloc: Global) -> Option<(RestingProgram, bool)> {
+    fn update_alone(&mut self, alloc: Global) -> Option<(RestingProgram, bool)> {
         self.pass(b"{");
         let is_whole = self.pass(b"\"check\":[],\"merge\":[],");
         if !self.pass(b"\"update\":[") {
             return None;
         }
-        let ops = self.puts(alloc)?;
-        if ops.len() > MAX_OPS || !self.pass(b"]}") {
+        let update = self.update(alloc)?;
+        Some((RestingProgram::of_update(update), is_whole))
+    }
+
+    /// The program that comes next, behind the beginning of its check, of a check and an update.
+    fn checked(&mut self, alloc: Global) -> Option<RestingProgram> {
+        let check = self.conditions(alloc)?;
+        if check.len() > MAX_CONDITIONS || !self.pass(b"],\"update\":[") {
             return None;
         }
-        Some((RestingProgram::of_update(ops), is_whole))
+        let update = self.update(alloc)?;
+        RestingProgram::new(alloc, check, update, Vec::new(alloc)).ok()
+    }
+
+    /// The program that comes next, and which members of it stand there.
+    fn program(&mut self, alloc: Global) -> Option<(RestingProgram, Members)> {
+        if self.rest.starts_with(b"{\"check\":[[") {
+            self.pass(b"{\"check\":[");
+            return Some((self.checked(alloc)?, Members::CheckAndUpdate));
+        }
+        let (program, is_whole) = self.update_alone(alloc)?;
+        Some((program, Members::Update { is_whole }))
     }
 
     /// The array of counts that comes next, and how many they are.
@@ -209,7 +290,7 @@ pub(crate) fn guess_held(alloc: Global, bytes: &[u8]) -> Option<GuessedHeld> {
     glance.skip();
     let (vector, counts) = glance.vector()?;
     glance.pass(b"],");
-    let (program, is_whole) = glance.update(alloc)?;
+    let (program, is_whole) = glance.update_alone(alloc)?;
     Some(GuessedHeld {
         server,
         write: RestingWrite::new(wid, stamp, vector, program),
@@ -218,16 +299,25 @@ pub(crate) fn guess_held(alloc: Global, bytes: &[u8]) -> Option<GuessedHeld> {
     })
 }
 
+/// Which members of a program stand in a line.
+#[derive(Clone, Copy, Debug, PartialEq, Eq)]
+pub(crate) enum Members {
+    /// The update, behind the empty check and the empty merge procedure where it is whole.
+    Update { is_whole: bool },
+    /// The check, and the update behind it.
+    CheckAndUpdate,
+}
+
 /// What a session tries, as a line may tell it.
 #[derive(Drop)]
 pub(crate) struct GuessedOperation {
     pub(crate) session: SessionId,
     pub(crate) attempt: Attempt,
-    /// Whether the empty members of a program stand in the line.
-    pub(crate) is_whole: bool,
+    /// Those of the program, if it has one.
+    pub(crate) members: Members,
 }
 
-/// The operation that the line may tell: a read, or a Write whose program is an update alone.
+/// The operation that the line may tell: a read, or a Write whose program has no merge procedure.
 pub(crate) fn guess_operation(alloc: Global, bytes: &[u8]) -> Option<GuessedOperation> {
     let mut glance = Glance { rest: bytes };
     let is_write = glance.pass(b"[\"write\",");
@@ -237,17 +327,18 @@ pub(crate) fn guess_operation(alloc: Global, bytes: &[u8]) -> Option<GuessedOper
     let session = SessionId::new(u8::try_from(glance.number()).ok()?)?;
     let server = ServerId::new(u8::try_from(glance.next_number()).ok()?)?;
     glance.skip();
-    let (attempt, is_whole) = if is_write {
-        let (program, is_whole) = glance.update(alloc)?;
-        (Attempt::Write { server, program }, is_whole)
+    let (attempt, members) = if is_write {
+        let (program, members) = glance.program(alloc)?;
+        (Attempt::Write { server, program }, members)
     } else {
         glance.skip();
         let key = glance.key()?;
-        (Attempt::Read { server, key }, false)
+        let attempt = Attempt::Read { server, key };
+        (attempt, Members::Update { is_whole: false })
     };
     Some(GuessedOperation {
         session,
         attempt,
-        is_whole,
+        members,
     })
 }

@@ -1,4 +1,4 @@
-//! What a session tries, in a spelling that most lines of a script have: a read, or a Write whose program is an update alone.
+//! What a session tries, in a spelling that most lines of a script have: a read, or a Write whose program has no merge procedure.
 ghost use Rattle.std.specs.Prelude.{◌≡◌, ◌≤◌, ◌∷◌, IfOk, IfSome, IsTrue, IsUtf8, OnOk, length};
 ghost use Rattle.std.specs.List.{AllByRecursion};
 ghost use Rattle.json.specs.Lex.{tokens};
@@ -12,7 +12,8 @@ ghost use Rattle.bayou_text.specs.Table.{Spells};
 
 use crate::command::{Attempt, Command, Operation};
 use crate::line::Line;
-use crate::read::glance::guess_operation;
+use crate::read::glance::{Members, guess_operation};
+use crate::read::spelled_check::is_checked;
 use crate::read::spelled_program::{is_update, write_update};
 use bayou_base::{Key, ServerId, SessionId};
 use bayou_lang::RestingProgram;
@@ -20,7 +21,7 @@ use json::Writer;
 use std::alloc::{AllocError, Global};
 
 /// Writes what the line of an operation begins with.
-fn write_head(
+pub(crate) fn write_head(
     writer: &mut Writer,
     word: &str,
     session: SessionId,
@@ -112,7 +113,7 @@ fn is_read(alloc: Global, bytes: &[u8], session: SessionId, server: ServerId, ke
 }
 
 /// Whether the bytes are that spelling of the line of a Write. Where memory is short they aren't.
-fn is_write(
+fn is_updating(
     alloc: Global,
     bytes: &[u8],
     session: SessionId,
@@ -132,8 +133,28 @@ fn is_write(
     }
 }
 
-/// The operation that the line tells, where it is a read, or a Write whose program is an update alone, and is spelled so. Where memory is
-/// short there is none.
+/// Whether the bytes are the spelling of the line of a Write in which these members of its program stand. Where memory is short they aren't.
+fn is_write(
+    alloc: Global,
+    bytes: &[u8],
+    session: SessionId,
+    server: ServerId,
+    program: &RestingProgram,
+    members: Members,
+) -> bool
+    requires { length bytes.now ≤ MAX_LINE_BYTES }
+    ensures { IsTrue result → Spells bytes.now (write_line session.index server.index program.now) }
+{
+    match members {
+        Members::Update { is_whole } => {
+            is_updating(alloc, bytes, session, server, program, is_whole)
+        }
+        Members::CheckAndUpdate => is_checked(alloc, bytes, session, server, program),
+    }
+}
+
+/// The operation that the line tells, where it is a read, or a Write whose program has no merge procedure, and is spelled so. Where memory
+/// is short there is none.
 pub(crate) fn spelled_operation(alloc: Global, bytes: &[u8]) -> Option<Line>
     requires { length bytes.now ≤ MAX_LINE_BYTES }
     ensures { IfSome result (λ line. Spells bytes.now (said line)) }
@@ -145,7 +166,7 @@ pub(crate) fn spelled_operation(alloc: Global, bytes: &[u8]) -> Option<Line>
     let is_spelled = match &guess.attempt {
         Attempt::Read { server, key } => is_read(alloc, bytes, session, *server, key),
         Attempt::Write { server, program } => {
-            is_write(alloc, bytes, session, *server, program, guess.is_whole)
+            is_write(alloc, bytes, session, *server, program, guess.members)
         }
         Attempt::Again => false,
     };

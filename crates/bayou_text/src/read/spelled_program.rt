@@ -22,7 +22,7 @@ pub(crate) fn is_update(program: &RestingProgram) -> bool
 }
 
 /// Writes a word and a key.
-fn write_named(writer: &mut Writer, word: &str, key: &Key) -> Result<(), AllocError>
+pub(crate) fn write_named(writer: &mut Writer, word: &str, key: &Key) -> Result<(), AllocError>
     ensures spelling { Adds result writer.old writer.new (tokens_of (spelling.form word.now (string key.now ∷ []))) }
     ensures kept { OnOk result (ranges.IsKey key.now) }
 {
@@ -43,7 +43,7 @@ fn write_plus(writer: &mut Writer, key: &Key, number: i64) -> Result<(), AllocEr
     writer.end_array()
 }
 
-fn write_value(writer: &mut Writer, value: &Stored) -> Result<(), AllocError>
+pub(crate) fn write_value(writer: &mut Writer, value: &Stored) -> Result<(), AllocError>
     ensures spelling { Adds result writer.old writer.new (tokens_of (spelling.value_json value.now)) }
     ensures kept { OnOk result (ranges.IsValue value.now) }
 {
@@ -95,7 +95,7 @@ fn write_each(writer: &mut Writer, ops: &[Op]) -> Result<(), AllocError>
     Ok(())
 }
 
-fn write_ops(writer: &mut Writer, ops: &[Op]) -> Result<(), AllocError>
+pub(crate) fn write_ops(writer: &mut Writer, ops: &[Op]) -> Result<(), AllocError>
     ensures spelling { Adds result writer.old writer.new (tokens_of (spelling.list_json spelling.op_json ops.now)) }
     ensures kept { OnOk result (AllByRecursion ranges.IsOp ops.now) }
 {

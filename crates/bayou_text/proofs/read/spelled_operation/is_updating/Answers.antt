@@ -3,7 +3,7 @@ use Rattle.std.proofs.lemmas.Slice.Eq.{slice_eq-Decides}
 use Rattle.std.specs.Cmp.{unsigned_Decides}
 use Rattle.json.specs.Lex.{tokens}
 use Rattle.bayou_text.proofs.OperationAtOnce.{write_spelled}
-use Rattle.bayou_text.proofs.read.spelled_operation.is_write.Goals as goal
+use Rattle.bayou_text.proofs.read.spelled_operation.is_updating.Goals as goal
 
 pub returns-in-Ok : goal.returns-in-Ok
 returns-in-Ok c = λ same.
