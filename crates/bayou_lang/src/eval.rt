@@ -1,4 +1,4 @@
-ghost use Rattle.std.specs.Prelude.{◌≡◌, ◌+◌, None, Some, ◌<◌, ◌≤◌, ◌∷◌, IfSome, length, map, min, not};
+ghost use Rattle.std.specs.Prelude.{◌≡◌, ◌+◌, false, None, Some, ◌<◌, ◌≤◌, ◌∷◌, IfSome, length, map, min, not};
 ghost use Rattle.std.specs.List.{filter, flat_map};
 ghost use Rattle.std.specs.Option.{option_map};
 ghost use Rattle.arrayvec.specs.ArrayVec.{array_vec_len};
@@ -109,13 +109,27 @@ fn others(changes: &Changes, key: &Key) -> Changes
     others
 }
 
+/// Whether one of the changes is of the key. Where none is, each is of another.
+fn is_changed(changes: &Changes, key: &Key) -> bool
+    ensures { result ≡ false → filter (λ change. not (same_key change.key key.now)) changes.now.items ≡ changes.now.items }
+{
+    for change in changes.as_slice() {
+        if change.key == *key {
+            return true;
+        }
+    }
+    false
+}
+
 /// Puts the change first, in the place of an older one of its key.
 fn set_change(changes: &mut Changes, change: Change)
     requires { array_vec_len changes.old < MAX_OPS }
     ensures items { changes.new.items ≡ change ∷ filter (λ older. not (same_key older.key change.key)) changes.old.items }
     ensures one_more { array_vec_len changes.new ≤ array_vec_len changes.old + 1 }
 {
-    *changes = others(changes, &change.key);
+    if is_changed(changes, &change.key) {
+        *changes = others(changes, &change.key);
+    }
     changes.insert(0, change);
 }
 
@@ -137,20 +151,20 @@ fn op_change<L: Look>(op: &Op, look: &L, changes: &Changes) -> Option<Change>
     }
 }
 
-/// What ops change, in order, each seeing those before it, or `None` where one has no value.
-fn ops_changes<L: Look>(ops: &[Op], look: &L) -> Option<Changes>
+/// Lists what ops change, in order, each seeing those before it. It answers `None` where one has no value, and then lists nothing of use.
+fn ops_changes<L: Look>(ops: &[Op], look: &L, changes: &mut Changes) -> Option<()>
     requires { length ops.now ≤ MAX_OPS }
     ensures value { meaning.after_ops ops.now (L.database look.now)
-        ≡ option_map (λ changes. after_changes changes.items (L.database look.now)) result }
-    ensures only { IfSome result (λ changes. ChangeOnly (map op_key ops.now) changes.items) }
-    ensures few { IfSome result (λ changes. array_vec_len changes ≤ length ops.now) }
+        ≡ option_map (λ _. after_changes changes.new.items (L.database look.now)) result }
+    ensures only { IfSome result (λ _. ChangeOnly (map op_key ops.now) changes.new.items) }
+    ensures few { IfSome result (λ _. array_vec_len changes.new ≤ length ops.now) }
 {
-    let mut changes = Changes::new();
+    changes.clear();
     for op in ops {
-        let change = op_change(op, look, &changes)?;
-        set_change(&mut changes, change);
+        let change = op_change(op, look, changes)?;
+        set_change(changes, change);
     }
-    Some(changes)
+    Some(())
 }
 
 /// An alternative in either of its forms.
@@ -180,80 +194,92 @@ impl Alternative for RestingAlt {
     }
 }
 
-/// What an alternative changes where it fits, else `None`.
-fn alternative_changes<A: Alternative, L: Look>(alternative: &A, look: &L) -> Option<Changes>
+/// Lists what an alternative changes, where it fits, else answers `None`.
+fn alternative_changes<A: Alternative, L: Look>(
+    alternative: &A,
+    look: &L,
+    changes: &mut Changes,
+) -> Option<()>
     ensures value { meaning.after_alternative (A.alternative alternative.now) (L.database look.now)
-        ≡ option_map (λ changes. after_changes changes.items (L.database look.now)) result }
-    ensures only { IfSome result (λ changes. ChangeOnly (map op_key (A.alternative alternative.now).ops.items) changes.items) }
-    ensures few { IfSome result (λ changes. array_vec_len changes ≤ length (A.alternative alternative.now).ops.items) }
+        ≡ option_map (λ _. after_changes changes.new.items (L.database look.now)) result }
+    ensures only { IfSome result (λ _. ChangeOnly (map op_key (A.alternative alternative.now).ops.items) changes.new.items) }
+    ensures few { IfSome result (λ _. array_vec_len changes.new ≤ length (A.alternative alternative.now).ops.items) }
 {
     let (when, ops) = alternative.parts();
     if all_hold(when, look) {
-        ops_changes(ops, look)
+        ops_changes(ops, look, changes)
     } else {
         None
     }
 }
 
-/// The first alternative that fits, and what it changes.
-fn merge_changes<A: Alternative, L: Look>(alternatives: &[A], look: &L) -> (Outcome, Changes)
+/// The first alternative that fits. It lists what that changes, or nothing.
+fn merge_changes<A: Alternative, L: Look>(
+    alternatives: &[A],
+    look: &L,
+    changes: &mut Changes,
+) -> Outcome
     requires { length alternatives.now ≤ MAX_ALTERNATIVES }
     ensures value { meaning.merged 0 (map A.alternative alternatives.now) (L.database look.now)
-        ≡ (result.0, after_changes result.1.items (L.database look.now)) }
-    ensures only { ChangeOnly (flat_map (λ alt. map op_key alt.ops.items) (map A.alternative alternatives.now)) result.1.items }
-    ensures few { array_vec_len result.1 ≤ most_ops (map A.alternative alternatives.now) }
+        ≡ (result, after_changes changes.new.items (L.database look.now)) }
+    ensures only { ChangeOnly (flat_map (λ alt. map op_key alt.ops.items) (map A.alternative alternatives.now)) changes.new.items }
+    ensures few { array_vec_len changes.new ≤ most_ops (map A.alternative alternatives.now) }
 {
     let mut number = 0;
     for alternative in alternatives {
-        if let Some(changes) = alternative_changes(alternative, look) {
-            return (Outcome::Merged(number), changes);
+        if let Some(()) = alternative_changes(alternative, look, changes) {
+            return Outcome::Merged(number);
         }
         number += 1;
     }
-    (Outcome::Nothing, Changes::new())
+    changes.clear();
+    Outcome::Nothing
 }
 
-/// What an update changes, where its ops all have a value.
-fn update_changes<L: Look>(ops: &[Op], look: &L) -> (Outcome, Changes)
+/// Lists what an update changes, where its ops all have a value, else nothing.
+fn update_changes<L: Look>(ops: &[Op], look: &L, changes: &mut Changes) -> Outcome
     requires { length ops.now ≤ MAX_OPS }
     ensures value { meaning.updated ops.now (L.database look.now)
-        ≡ (result.0, after_changes result.1.items (L.database look.now)) }
-    ensures only { ChangeOnly (map op_key ops.now) result.1.items }
-    ensures few { array_vec_len result.1 ≤ length ops.now }
+        ≡ (result, after_changes changes.new.items (L.database look.now)) }
+    ensures only { ChangeOnly (map op_key ops.now) changes.new.items }
+    ensures few { array_vec_len changes.new ≤ length ops.now }
 {
-    match ops_changes(ops, look) {
-        Some(changes) => (Outcome::Updated, changes),
-        None => (Outcome::Nothing, Changes::new()),
+    match ops_changes(ops, look, changes) {
+        Some(()) => Outcome::Updated,
+        None => {
+            changes.clear();
+            Outcome::Nothing
+        }
     }
 }
 
 impl RestingProgram {
-    /// What the program does to a database: how it is applied, and what it changes.
-    pub fn eval<L: Look>(&self, look: &L) -> (Outcome, Changes)
+    /// What the program does to a database: how it is applied. It lists what it changes, and nothing that was listed before.
+    pub fn eval<L: Look>(&self, look: &L, changes: &mut Changes) -> Outcome
         ensures value { meaning.mean self.now (L.database look.now)
-            ≡ (result.0, after_changes result.1.items (L.database look.now)) }
-        ensures only { ChangeOnly (program_writes self.now) result.1.items }
-        ensures few { array_vec_len result.1 ≤ most_changes self.now }
+            ≡ (result, after_changes changes.new.items (L.database look.now)) }
+        ensures only { ChangeOnly (program_writes self.now) changes.new.items }
+        ensures few { array_vec_len changes.new ≤ most_changes self.now }
     {
         if all_hold(self.check(), look) {
-            update_changes(self.update(), look)
+            update_changes(self.update(), look, changes)
         } else {
-            merge_changes(self.merge(), look)
+            merge_changes(self.merge(), look, changes)
         }
     }
 }
 
 impl Program {
-    /// What the program does to a database: how it is applied, and what it changes.
-    pub fn eval<L: Look>(&self, look: &L) -> (Outcome, Changes)
+    /// What the program does to a database: how it is applied. It lists what it changes, and nothing that was listed before.
+    pub fn eval<L: Look>(&self, look: &L, changes: &mut Changes) -> Outcome
         ensures value { meaning.mean self.now (L.database look.now)
-            ≡ (result.0, after_changes result.1.items (L.database look.now)) }
-        ensures only { ChangeOnly (program_writes self.now) result.1.items }
+            ≡ (result, after_changes changes.new.items (L.database look.now)) }
+        ensures only { ChangeOnly (program_writes self.now) changes.new.items }
     {
         if all_hold(self.check.as_slice(), look) {
-            update_changes(self.update.as_slice(), look)
+            update_changes(self.update.as_slice(), look, changes)
         } else {
-            merge_changes(self.merge.as_slice(), look)
+            merge_changes(self.merge.as_slice(), look, changes)
         }
     }
 }

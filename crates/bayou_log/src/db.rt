@@ -230,7 +230,8 @@ impl Db {
         ensures room { room self.new ≡ room self.old }
         ensures undo { IsUndo program.now (database_of self.old) result.1 }
     {
-        let (outcome, changes) = program.eval(self);
+        let mut changes = Changes::new();
+        let outcome = program.eval(self, &mut changes);
         let before = replace_all(&mut self.slots, &mut self.present, changes);
         (outcome, Undo { before })
     }

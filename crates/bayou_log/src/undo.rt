@@ -106,10 +106,10 @@ impl UndoStack {
     }
 
     /// Adds what takes back the Write that was applied now, which takes no memory.
-    pub(crate) fn push(&mut self, undo: Undo)
-        requires room { changes_in self.old.undos + length undo ≤ self.old.room }
+    pub(crate) fn push(&mut self, undo: &Undo)
+        requires room { changes_in self.old.undos + length undo.now ≤ self.old.room }
         requires places { length self.old.undos < self.old.places }
-        ensures { self.new ≡ record self.old { undos = self.old.undos ++ undo ∷ [] } }
+        ensures { self.new ≡ record self.old { undos = self.old.undos ++ undo.now ∷ [] } }
     {
         self.sizes.push_reserved(undo.before.len() as u8);
         push_all(&mut self.changes, undo.before.as_slice());
@@ -164,6 +164,6 @@ pub(crate) fn apply_in_turn(
     for at in order {
         let (outcome, undo) = db.apply(writes[*at].program());
         outcomes.push_reserved(outcome);
-        undone.push(undo);
+        undone.push(&undo);
     }
 }

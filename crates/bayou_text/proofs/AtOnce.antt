@@ -127,7 +127,7 @@ head_read told word place = (
   ),
 )
 
-told_read : (told : Entry) (became : What) (n : ℕ) → told.place < 2 ^ 32 → IsWhat became → IsRead 2 (told_json told became n)
+pub told_read : (told : Entry) (became : What) (n : ℕ) → told.place < 2 ^ 32 → IsWhat became → IsRead 2 (told_json told became n)
 told_read told what.Refused n place kept = array_read 1 (head_json told (codes "refused")) (head_read told (codes "refused") place)
 told_read told (what.Read key vector) n place kept =
     array_read 1 (head_json told (codes "read") ++ string key ∷ vector_json n vector ∷ [])

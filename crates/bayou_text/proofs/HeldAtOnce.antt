@@ -65,7 +65,7 @@ update_read true ops kept =
     let all = array_read 2 (map op_json ops) (ops_read ops kept) in
     record { again = rw all.again refl; no_deeper = omega (arith, all.no_deeper) }
 
-held_read : (is_whole : Bool) (place : ServerId) (item : Write) (n : ℕ) → AreCounts item.deps → AllByRecursion IsOp item.program.update.items
+pub held_read : (is_whole : Bool) (place : ServerId) (item : Write) (n : ℕ) → AreCounts item.deps → AllByRecursion IsOp item.program.update.items
     → IsRead 6 (update_held_json is_whole place.index item n)
 held_read is_whole place item n are kept =
     let updating : IsRead 5 (updating_json is_whole item n) =

@@ -4,7 +4,8 @@
 //! audit, or a Write that is held, with how many counts of its vector are told. `Spells` in
 //! `specs/Table` is the table of the lines: which JSON data spells which command, member by member. [`read_line`]
 //! answers exactly what the bytes spell, or the first fault, which `specs/Lines` and the files below it compute.
-//! `specs/Spelling` has one spelling of each line, which `bayou_text_writer` writes.
+//! `specs/Spelling` has one spelling of each line, which `bayou_text_writer` writes; those of an entry and of a held Write, by which the reader
+//! knows most lines of an audit file, are made here ([`entry_spelling`], [`held_spelling`]).
 //! Commands are told apart by kind, so that a place above matches the kinds that it does: a [`Command`] opens a session, is an
 //! [`Operation`], a [`Trial`], an [`Exchange`] or a [`Question`], or ends a phase. What they say is one flat table, `Said`.
 //! A new command is an arm of its kind, of that kind's reader and of its writer, of the kind's word in `specs/Said`, of
@@ -29,3 +30,6 @@ pub use command::{
 };
 pub use line::{Line, LineFault, Shape};
 pub use read::read_line;
+pub use read::spelled::entry_spelling;
+pub use read::spelled_held::held_spelling;
+pub use read::spelled_program::is_update;

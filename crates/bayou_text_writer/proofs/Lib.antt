@@ -4,3 +4,4 @@ pub mod Written
 pub mod Again
 pub mod Lengths
 pub mod Pushed
+pub mod Plain

@@ -1,5 +1,5 @@
 -- The text of what is spelled.
-use Rattle.std.proofs.Common.{◌≡◌, ◌≤◌, false, nat_lt, length, Result, Ok, Err, IfOk, Some, String, Global, string_bytes, cond, ap, sym, ◌∙◌, arith, tests}
+use Rattle.std.proofs.Common.{◌≡◌, ◌≤◌, false, nat_lt, length, Result, Ok, Err, IfOk, OnOk, Some, String, Global, string_bytes, cond, ap, sym, ◌∙◌, arith, tests}
 use Rattle.serde_json.specs.Data.{Data, depth}
 use Rattle.serde_json.specs.Read.{read, max_depth}
 use Rattle.serde_json.specs.Written.{has_float, compact_text}
@@ -28,23 +28,29 @@ text_of_line (Ok text) d s same given = given (ap has_float same ∙ (line_plain
     ∙ ap compact_text same
 text_of_line (Err e) d s same given = tt
 
-pub line_short : (r : Result (String Global) AllocError) (l : Line) → IsLine l
+pub line_short : (r : Result (String Global) AllocError) (l : Line) → OnOk r (IsLine l)
     → IfOk r (λ text. string_bytes text ≡ compact_text (line_json (said l)))
     → IfOk r (λ text. length (string_bytes text) ≤ MAX_LINE_BYTES)
 line_short (Ok text) l kept spelled = rw spelled (line_size l kept)
 line_short (Err e) l kept spelled = tt
 
-pub line_read : (r : Result (String Global) AllocError) (d : Data) (l : Line) → IsLine l
-    → d ≡ line_json (said l)
-    → IfOk r (λ text. length (string_bytes text) ≤ MAX_LINE_BYTES)
+-- and is read as it
+pub text_read : (r : Result (String Global) AllocError) (d : Data) (s : Said) → d ≡ line_json s
     → IfOk r (λ text. depth d ≤ max_depth → read (string_bytes text) ≡ Some d)
+    → IfOk r (λ text. read (string_bytes text) ≡ Some (line_json s))
+text_read (Ok text) d s same given =
+    let shallow : depth (line_json s) ≤ max_depth = omega (arith, (line_plain s).no_deeper) in
+    given (rw same shallow) ∙ ap Some same
+text_read (Err e) d s same given = tt
+
+pub line_read : (r : Result (String Global) AllocError) (l : Line) → OnOk r (IsLine l)
+    → IfOk r (λ text. length (string_bytes text) ≤ MAX_LINE_BYTES)
+    → IfOk r (λ text. read (string_bytes text) ≡ Some (line_json (said l)))
     → IfOk r (λ text. IsReadable (said l) → line_of (string_bytes text) ≡ Ok (said l))
-line_read (Ok text) d l kept same short given = λ readable.
-    let shallow : depth (line_json (said l)) ≤ max_depth = omega (arith, (line_plain (said l)).no_deeper) in
-    let found : read (string_bytes text) ≡ Some (line_json (said l)) = given (rw same shallow) ∙ ap Some same in
+line_read (Ok text) l kept short given = λ readable.
     let in_time : nat_lt MAX_LINE_BYTES (length (string_bytes text)) ≡ false = grind (arith, tests, short) in
-    rw (in_time, found) (line_again l kept readable)
-line_read (Err e) d l kept same short given = tt
+    rw (in_time, given) (line_again l kept readable)
+line_read (Err e) l kept short given = tt
 
 -- what is read as the line spells it
 pub line_spelled : (r : Result (String Global) AllocError) (l : Line)

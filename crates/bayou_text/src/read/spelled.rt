@@ -1,7 +1,9 @@
 //! Entries that stand in the line in their one spelling, which most lines of an audit file are.
-ghost use Rattle.std.specs.Prelude.{◌≡◌, ◌<◌, ◌≤◌, ◌^◌, ◌∷◌, IfOk, IfSome, IsTrue, IsUtf8, OnOk, length, map};
+ghost use Rattle.std.specs.Prelude.{◌≡◌, ◌<◌, ◌≤◌, ◌^◌, ◌∷◌, Some, IfOk, IfSome, IsTrue, IsUtf8, OnOk, length, map};
 ghost use Rattle.json.specs.Lex.{tokens};
 ghost use Rattle.json.specs.Token.{begin_array};
+ghost use Rattle.serde_json.specs.Read.{read as json_of};
+ghost use Rattle.serde_json.specs.Written.{compact_text};
 ghost use Rattle.bayou_base.specs.Vector.{AreCounts};
 ghost use Rattle.bayou_base.specs.declared.limits.TheConstants.{MAX_LINE_BYTES};
 ghost use Rattle.bayou_text.specs.AtOnce.{Adds, IsEntry, all_tokens, tokens_of};
@@ -110,9 +112,16 @@ fn write_entry(writer: &mut Writer, entry: &Entry, counts: u8) -> Result<(), All
     }
 }
 
-/// The one spelling of the entry, with so many counts of its vector, in memory of this size at first.
-fn spelling_of(alloc: Global, size: usize, entry: &Entry, counts: u8) -> Result<Vec<u8>, AllocError>
+/// The one spelling of the entry, with so many counts of its vector, in memory of this size at first. It is made without a tree of JSON.
+pub fn entry_spelling(
+    alloc: Global,
+    size: usize,
+    entry: &Entry,
+    counts: u8,
+) -> Result<Vec<u8>, AllocError>
     ensures spelling { IfOk result (λ text. tokens text.items ≡ tokens_of (spelling.told_json entry.now entry.now.what counts)) }
+    ensures compact { IfOk result (λ text. text.items ≡ compact_text (spelling.told_json entry.now entry.now.what counts)) }
+    ensures again { IfOk result (λ text. json_of text.items ≡ Some (spelling.told_json entry.now entry.now.what counts)) }
     ensures utf8 { IfOk result (λ text. IsUtf8 text.items) }
     ensures kept { OnOk result (IsEntry entry.now) }
 {
@@ -158,7 +167,7 @@ fn is_spelling(alloc: Global, bytes: &[u8], entry: &Entry, counts: Option<u8>) -
     if !is_told(entry, counts) {
         return false;
     }
-    match spelling_of(alloc, bytes.len(), entry, counts.unwrap_or(0)) {
+    match entry_spelling(alloc, bytes.len(), entry, counts.unwrap_or(0)) {
         Ok(text) => text.as_slice() == bytes,
         Err(_) => false,
     }

@@ -1,7 +1,9 @@
 //! Writes that stand in the line in a spelling that most lines of an audit file have: their program is an update alone.
-ghost use Rattle.std.specs.Prelude.{◌≡◌, ◌≤◌, IfOk, IfSome, IsTrue, IsUtf8, OnOk, length};
+ghost use Rattle.std.specs.Prelude.{◌≡◌, ◌≤◌, Some, IfOk, IfSome, IsTrue, IsUtf8, OnOk, length};
 ghost use Rattle.std.specs.List.{AllByRecursion};
 ghost use Rattle.json.specs.Lex.{tokens};
+ghost use Rattle.serde_json.specs.Read.{read as json_of};
+ghost use Rattle.serde_json.specs.Written.{compact_text};
 ghost use Rattle.bayou_base.specs.Vector.{AreCounts};
 ghost use Rattle.bayou_base.specs.declared.limits.TheConstants.{MAX_LINE_BYTES, MAX_OPS};
 ghost use Rattle.bayou_lang.specs.Ranges.{IsOp};
@@ -60,8 +62,9 @@ fn write_held(
     writer.end_array()
 }
 
-/// The spelling of the line, in memory of this size at first.
-fn spelling_of(
+/// The spelling of the line, in memory of this size at first, of a Write whose program is an update alone: with its empty members where it is
+/// whole, which is its one spelling. It is made without a tree of JSON.
+pub fn held_spelling(
     alloc: Global,
     size: usize,
     server: ServerId,
@@ -70,6 +73,8 @@ fn spelling_of(
     is_whole: bool,
 ) -> Result<Vec<u8>, AllocError>
     ensures spelling { IfOk result (λ text. tokens text.items ≡ tokens_of (update_held_json is_whole server.index write.now counts)) }
+    ensures compact { IfOk result (λ text. text.items ≡ compact_text (update_held_json is_whole server.index write.now counts)) }
+    ensures again { IfOk result (λ text. json_of text.items ≡ Some (update_held_json is_whole server.index write.now counts)) }
     ensures utf8 { IfOk result (λ text. IsUtf8 text.items) }
     ensures kept { OnOk result (AreCounts write.now.deps) }
     ensures ops { OnOk result (AllByRecursion IsOp write.now.program.update.items × (length write.now.program.update.items ≤ MAX_OPS)) }
@@ -97,7 +102,7 @@ fn is_spelling(
     if !is_cut(write.deps(), counts) {
         return false;
     }
-    match spelling_of(alloc, bytes.len(), server, write, counts, is_whole) {
+    match held_spelling(alloc, bytes.len(), server, write, counts, is_whole) {
         Ok(text) => text.as_slice() == bytes,
         Err(_) => false,
     }

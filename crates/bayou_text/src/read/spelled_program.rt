@@ -15,7 +15,7 @@ use json::Writer;
 use std::alloc::AllocError;
 
 /// Whether the program is an update alone.
-pub(crate) fn is_update(program: &RestingProgram) -> bool
+pub fn is_update(program: &RestingProgram) -> bool
     ensures { IsTrue result → (program.now.check.items ≡ []) × (program.now.merge.items ≡ []) }
 {
     program.check().is_empty() && program.merge().is_empty()

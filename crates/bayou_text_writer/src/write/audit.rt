@@ -1,20 +1,15 @@
-//! Lines of audit files.
-ghost use Rattle.std.specs.Prelude.{◌≡◌, ◌<◌, ◌^◌, [], ◌∷◌, ◌++◌, IfOk, OnOk, codes, map};
+//! Writes that are held, as trees of JSON.
+ghost use Rattle.std.specs.Prelude.{◌≡◌, IfOk, OnOk};
 ghost use Rattle.serde_json.specs.View.{view};
 ghost use Rattle.bayou_base.specs.Vector.{AreCounts};
 ghost use Rattle.bayou_lang.specs.Ranges.{IsWrite};
 ghost use Rattle.bayou_text.specs.Spelling as spelling;
-ghost use Rattle.bayou_text_writer.specs.Inner.Kept.{IsWhat};
 
-use crate::write::asks::asks_json;
 use crate::write::program::program_json;
-use bayou_base::{Entry, SERVERS, ServerId, Stamp, Vector, What, Wid};
+use bayou_base::{SERVERS, ServerId, Vector};
 use bayou_lang::RestingWrite;
 use serde_json::{Value, json};
 use std::alloc::{AllocError, Global};
-
-/// How many members an entry has at the most, for all of which room is taken at once.
-const MAX_MEMBERS: usize = 9;
 
 fn counts_json(alloc: Global, counts: &[u32]) -> Result<Value, AllocError>
     ensures { IfOk result (λ json. view json ≡ spelling.list_json spelling.count_json counts.now) }
@@ -34,58 +29,6 @@ fn vector_json(alloc: Global, vector: &Vector, number: u8) -> Result<Value, Allo
     let counts = vector.counts();
     let told = usize::from(number).min(SERVERS);
     counts_json(alloc, &counts[..told])
-}
-
-/// What an entry begins with, and the word of what became of the operation.
-fn head_json(alloc: Global, entry: &Entry, word: &str) -> Result<Vec<Value>, AllocError>
-    ensures spelling { IfOk result (λ head. map view head.items ≡ spelling.head_json entry.now word.now) }
-    ensures kept { OnOk result (entry.now.place < 2 ^ 32) }
-{
-    let mut head = Vec::with_capacity(alloc, MAX_MEMBERS)?;
-    head.push(Value::try_from_str(alloc, "entry")?)?;
-    head.push(Value::from(u64::from(entry.session.index)))?;
-    head.push(Value::from(u64::from(entry.place)))?;
-    head.push(asks_json(alloc, entry.asks)?)?;
-    head.push(Value::from(u64::from(entry.server.index)))?;
-    head.push(Value::try_from_str(alloc, word)?)?;
-    Ok(head)
-}
-
-/// The same of a Write that was accepted, with its place and its clock.
-fn given_json(
-    alloc: Global,
-    entry: &Entry,
-    wid: Wid,
-    stamp: Stamp,
-) -> Result<Vec<Value>, AllocError>
-    ensures spelling { IfOk result (λ head. map view head.items
-        ≡ spelling.head_json entry.now (codes "write") ++ spelling.count_json wid.seq ∷ spelling.count_json stamp.clock ∷ []) }
-    ensures kept { OnOk result (entry.now.place < 2 ^ 32) }
-{
-    let mut head = head_json(alloc, entry, "write")?;
-    head.push(Value::from(u64::from(wid.seq)))?;
-    head.push(Value::from(u64::from(stamp.clock)))?;
-    Ok(head)
-}
-
-pub(crate) fn entry_json(alloc: Global, entry: &Entry, counts: u8) -> Result<Value, AllocError>
-    ensures spelling { IfOk result (λ json. view json ≡ spelling.told_json entry.now entry.now.what counts) }
-    ensures kept { OnOk result ((entry.now.place < 2 ^ 32) × IsWhat entry.now.what) }
-{
-    match &entry.what {
-        What::Refused => Ok(Value::Array(head_json(alloc, entry, "refused")?)),
-        What::Read(key, vector) => {
-            let mut list = head_json(alloc, entry, "read")?;
-            list.push(Value::try_from_str(alloc, key.as_str())?)?;
-            list.push(vector_json(alloc, vector, counts)?)?;
-            Ok(Value::Array(list))
-        }
-        What::Write(wid, stamp, deps) => {
-            let mut list = given_json(alloc, entry, *wid, *stamp)?;
-            list.push(vector_json(alloc, deps, counts)?)?;
-            Ok(Value::Array(list))
-        }
-    }
 }
 
 /// A Write as it is held.

@@ -16,11 +16,11 @@ returns-in-Some-clause-only g c =
     let list = c.args.alternatives.now in
     let index = c.loop-alternative.alternative-index in
     let within : index < length (map form list) = omega (arith, length-map list form, c.loop-alternative-test.true) in
-    ChangeOnly-alternative (map form list) index (form c.alternative-item.result) c.in-Some.changes.items within
+    ChangeOnly-alternative (map form list) index (form c.alternative-item.result) c.alternative_changes.new.changes.items within
     (form_at form list index c.alternative-item.result c.loop-alternative-test.true c.alternative-item.is) c.in-Some.ensures.only
 
 pub returns-clause-only : goal.returns-clause-only
-returns-clause-only g c = rw c.new.ensures (ChangeOnly-none _)
+returns-clause-only g c = rw c.clear.ensures (ChangeOnly-none _)
 
 pub returns-in-Some-clause-few : goal.returns-in-Some-clause-few
 returns-in-Some-clause-few g c =

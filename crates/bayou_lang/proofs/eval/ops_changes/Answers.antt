@@ -16,7 +16,7 @@ after_ops-drop ops index op database within is =
     ∙ ap (λ (first : Op). option_and_then (after_ops (drop (index + 1) ops)) (after_op first database)) (sym is)
 
 pub loop-op-init : goal.loop-op-init
-loop-op-init g c = rw c.new-changes.ensures record { value = refl; room = omega arith; only = ChangeOnly-none _ }
+loop-op-init g c = rw c.clear.ensures record { value = refl; room = omega arith; only = ChangeOnly-none _ }
 
 pub returns-in_err-change-clause-value : goal.returns-in_err-change-clause-value
 returns-in_err-change-clause-value g c =

@@ -13,5 +13,5 @@ pub returns-else-all_hold-clause-only : goal.returns-else-all_hold-clause-only
 returns-else-all_hold-clause-only g c =
     let list = c.as_slice-else-all_hold in
     ChangeOnly-merge c.args.self.now _
-    (subst (λ alternatives. ChangeOnly (flat_map (λ alt. map op_key alt.ops.items) alternatives) c.merge_changes.result.1.items)
+    (subst (λ alternatives. ChangeOnly (flat_map (λ alt. map op_key alt.ops.items) alternatives) c.merge_changes.new.changes.items)
     (map-id list.result.now ∙ list.ensures.value) c.merge_changes.ensures.only)

@@ -7,10 +7,10 @@ use Rattle.bayou_lang.proofs.resting.RestingProgram.eval.Goals as goal
 
 pub returns-then-all_hold-clause-only : goal.returns-then-all_hold-clause-only
 returns-then-all_hold-clause-only g c =
-    ChangeOnly-update c.args.self.now _ (subst (λ ops. ChangeOnly (map op_key ops) c.update_changes.result.1.items) c.update.ensures.value c.update_changes.ensures.only)
+    ChangeOnly-update c.args.self.now _ (subst (λ ops. ChangeOnly (map op_key ops) c.update_changes.new.changes.items) c.update.ensures.value c.update_changes.ensures.only)
 
 pub returns-else-all_hold-clause-only : goal.returns-else-all_hold-clause-only
 returns-else-all_hold-clause-only g c =
     ChangeOnly-merge c.args.self.now _
-    (subst (λ alternatives. ChangeOnly (flat_map (λ alt. map op_key alt.ops.items) alternatives) c.merge_changes.result.1.items)
+    (subst (λ alternatives. ChangeOnly (flat_map (λ alt. map op_key alt.ops.items) alternatives) c.merge_changes.new.changes.items)
     (map-id c.merge.result.now ∙ c.merge.ensures.value) c.merge_changes.ensures.only)

@@ -41,7 +41,7 @@ returns c =
     let sizes = c.self.inside.sizes.items in
     let changes = c.self.inside.changes.items in
     let before = c.undo.inside.before.items in
-    let pushed : undos_of c.push_reserved.new.self.items c.push_all.new.list.items ≡ c.args.self.now.undos ++ c.args.undo ∷ [] =
+    let pushed : undos_of c.push_reserved.new.self.items c.push_all.new.list.items ≡ c.args.self.now.undos ++ c.args.undo.now ∷ [] =
     ap (λ sizes. undos_of sizes c.push_all.new.list.items) c.push_reserved.ensures.items
     ∙ ap (λ (list : Listed). undos_of (sizes ++ c.len.result ∷ []) list.items) c.push_all.ensures
     ∙ ap (λ list. undos_of (sizes ++ c.len.result ∷ []) (changes ++ list)) c.as_slice.ensures.value
