@@ -1,6 +1,8 @@
 //! Servers that live, from the words to the exit status.
 ghost use Rattle.std.specs.Prelude.{◌≡◌, ◌≢◌, ◌⊎◌, true, Some, Err, IfErr, IfOk, MatchResult};
 ghost use Rattle.bayou_serve.specs.Beginnings.{beginning_of};
+ghost use Rattle.bayou_serve.specs.Lived.{PrintsLife};
+ghost use Rattle.bayou_streams.specs.Account.{account};
 ghost use Rattle.bayou_serve.specs.declared.plan.PlanFault.TheVariants.{OutOfMemory, TwoBeginnings};
 
 use bayou_command::Serving;
@@ -98,6 +100,8 @@ where
     // Of words that can't be done nothing is served or printed.
     ensures refused { IfErr service.plan (λ _. (result ≡ REFUSED) × (output.new ≡ output.old)) }
     ensures taken { IfOk service.plan (λ _. (result ≡ 0) ⊎ (result ≡ FAILED)) }
+    // It ends well only where the server lived, and told so to its end.
+    ensures lived { result ≡ 0 → IfOk service.plan (λ plan. PrintsLife plan.id.index plan.servers (account W.contents output.old) (account W.contents output.new)) }
 {
     let teller = Teller::new(errors);
     let Service { path, plan } = service;

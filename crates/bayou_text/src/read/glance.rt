@@ -126,6 +126,8 @@ impl<'a> Glance<'a> {
             self.skip();
             self.pass(b",");
         }
+        // (most are kept as long as the log)
+        ops.shrink_to_fit();
         Some(ops)
     }
 
@@ -165,6 +167,7 @@ impl<'a> Glance<'a> {
             self.skip();
             self.pass(b",");
         }
+        conditions.shrink_to_fit();
         Some(conditions)
     }
 
