@@ -1,12 +1,11 @@
 -- What the index of a log tells of its Writes.
-use Rattle.std.proofs.Common.{◌≡◌, ◌≢◌, ℕ, ◌+◌, ◌-◌, ◌<◌, ◌≤◌, ◌⊎◌, inl, inr, true, false, cond, max, nat_le, nat_lt, ◌==◌, List, [], ◌∷◌, ◌++◌, length, get_or, slice_index, All, Contains, ap, sym, ◌∙◌, refl, subst, arith, length-append}
+use Rattle.std.proofs.Common.{◌≡◌, ◌≢◌, ℕ, ◌+◌, ◌-◌, ◌<◌, ◌≤◌, true, false, nat_lt, ◌==◌, List, [], ◌∷◌, ◌++◌, length, get_or, slice_index, All, ap, sym, ◌∙◌, refl, subst, arith, length-append}
 use Rattle.std.proofs.lemmas.Bool.Decides.{nat_tests}
 use Rattle.std.proofs.lemmas.List.{get_or_append_left, get_or_push, get_or_default}
-use Rattle.std.proofs.lemmas.List.Elements.{All-cons, All-head, All-tail}
 use Rattle.bayou_base.specs.declared.wid.Wid.{Wid}
 use Rattle.bayou_lang.specs.declared.write.Write.{Write}
-use Rattle.bayou_lang.specs.Laws.Fitting.{count_of-push, counted-other, counted-own, fitting_clocks_rise, fitting_is_prefix_closed}
-use Rattle.bayou_lang.specs.Writes.{count_of, counted, covered_by, greatest_clock, AreFitting, Fits}
+use Rattle.bayou_lang.specs.Laws.Fitting.{count_of-push, counted-other, counted-own, fitting_is_prefix_closed}
+use Rattle.bayou_lang.specs.Writes.{count_of, counted, AreFitting, Fits}
 use Rattle.bayou_log.specs.Inner.Index.{place_in, places_of, AreIndexed}
 
 -- the place of a Write that the counts count

@@ -1,4 +1,4 @@
-ghost use Rattle.std.specs.Prelude.{◌≡◌, ◌+◌, List, ℕ, IsTrue, OnOk, IfOk, All, Contains, map, min};
+ghost use Rattle.std.specs.Prelude.{◌≡◌, ◌+◌, [], List, ℕ, IsTrue, OnOk, IfOk, All, Contains, map, min};
 ghost use Rattle.arrayvec.specs.ArrayVec.{array_vec_len};
 ghost use Rattle.std.specs.List.{flat_map, list_any};
 ghost use Rattle.bayou_lang.specs.Changes.{after_changes, op_key, ChangeOnly};
@@ -39,10 +39,13 @@ impl Model for Db {
     ghost invariant = { λ d. Shows d.present (database_of d.slots.entries) };
 }
 
-/// What takes a program back that was applied to a database (Terry et al. 1995): what each key that it changed had before.
+/// What takes a program back that was applied to a database (Terry et al. 1995): what each key that it changed had before. One serves for
+/// many programs, one after another.
 #[derive(Drop)]
 pub struct Undo {
     pub(crate) before: Changes,
+    // Where a program that is applied lists what it changes.
+    changes: Changes,
 }
 
 impl Model for Undo {
@@ -52,6 +55,18 @@ impl Model for Undo {
     ghost Value = { List Change };
 
     ghost view = { λ u. u.before.items };
+}
+
+impl Undo {
+    /// What takes nothing back yet.
+    pub fn new() -> Self
+        ensures { result ≡ [] }
+    {
+        Undo {
+            before: Changes::new(),
+            changes: Changes::new(),
+        }
+    }
 }
 
 fn key_of(op: &Op) -> &Key
@@ -149,21 +164,26 @@ fn replace(slots: &mut Slots, present: &mut PresentKeys, change: Change) -> Chan
     Change { key, value: before }
 }
 
-/// Makes the changes, the first of them last, and gives those that put back what the keys had.
-fn replace_all(slots: &mut Slots, present: &mut PresentKeys, mut changes: Changes) -> Changes
-    requires { All (λ change. IsTrue (has_room (room slots.old.entries) change.key)) changes.items }
-    ensures database { database_of slots.new.entries ≡ after_changes changes.items (database_of slots.old.entries) }
+/// Makes the changes, the first of them last, and lists those that put back what the keys had.
+fn replace_all(
+    slots: &mut Slots,
+    present: &mut PresentKeys,
+    changes: &mut Changes,
+    before: &mut Changes,
+)
+    requires { All (λ change. IsTrue (has_room (room slots.old.entries) change.key)) changes.old.items }
+    ensures database { database_of slots.new.entries ≡ after_changes changes.old.items (database_of slots.old.entries) }
     ensures room { room slots.new.entries ≡ room slots.old.entries }
     ensures present { Shows present.old (database_of slots.old.entries) → Shows present.new (database_of slots.new.entries) }
-    ensures undone { after_changes result.items (database_of slots.new.entries) ≡ database_of slots.old.entries }
-    ensures among { (keys : List (List ℕ)) → All (λ change. Contains keys change.key) changes.items → All (λ change. Contains keys change.key) result.items }
-    ensures as_many { array_vec_len result ≡ array_vec_len changes }
+    ensures undone { after_changes before.new.items (database_of slots.new.entries) ≡ database_of slots.old.entries }
+    ensures among { (keys : List (List ℕ)) → All (λ change. Contains keys change.key) changes.old.items → All (λ change. Contains keys change.key) before.new.items }
+    ensures as_many { array_vec_len before.new ≡ array_vec_len changes.old }
 {
-    let mut before = Changes::new();
+    let _ = changes.len();
+    before.clear();
     while let Some(change) = changes.pop() {
         before.push(replace(slots, present, change));
     }
-    before
 }
 
 /// Makes the changes, the first of them last.
@@ -222,18 +242,23 @@ impl Db {
         self.present.number_with(&self.slots, prefix, most)
     }
 
-    /// Applies the program, from which no want of memory keeps it. It gives, beside the outcome, what [`Db::undo`] needs to take that back.
-    pub fn apply(&mut self, program: &RestingProgram) -> (Outcome, Undo)
+    /// Applies the program, from which no want of memory keeps it, and gives the outcome. The undo is then what [`Db::undo`] needs to take that
+    /// back, whatever it was before.
+    pub fn apply(&mut self, program: &RestingProgram, undo: &mut Undo) -> Outcome
         requires { HasRoomFor (room self.old) program.now }
-        ensures outcome { result.0 ≡ (mean program.now (database_of self.old)).0 }
+        ensures outcome { result ≡ (mean program.now (database_of self.old)).0 }
         ensures database { database_of self.new ≡ (mean program.now (database_of self.old)).1 }
         ensures room { room self.new ≡ room self.old }
-        ensures undo { IsUndo program.now (database_of self.old) result.1 }
+        ensures undo { IsUndo program.now (database_of self.old) undo.new }
     {
-        let mut changes = Changes::new();
-        let outcome = program.eval(self, &mut changes);
-        let before = replace_all(&mut self.slots, &mut self.present, changes);
-        (outcome, Undo { before })
+        let outcome = program.eval(self, &mut undo.changes);
+        replace_all(
+            &mut self.slots,
+            &mut self.present,
+            &mut undo.changes,
+            &mut undo.before,
+        );
+        outcome
     }
 
     /// Makes the change, from which no want of memory keeps it.

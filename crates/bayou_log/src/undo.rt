@@ -161,8 +161,9 @@ pub(crate) fn apply_in_turn(
     ensures outcomes { outcomes.new.items ≡ outcomes.old.items ++ outcomes_after (picked writes.now order.now) (database_of db.old) }
     ensures capacity { vec_capacity outcomes.new ≡ vec_capacity outcomes.old }
 {
+    let mut undo = Undo::new();
     for at in order {
-        let (outcome, undo) = db.apply(writes[*at].program());
+        let outcome = db.apply(writes[*at].program(), &mut undo);
         outcomes.push_reserved(outcome);
         undone.push(&undo);
     }

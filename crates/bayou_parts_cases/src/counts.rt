@@ -4,7 +4,7 @@ use crate::logs::{add, empty_log};
 use arrayvec::ArrayString;
 use bayou_base::{Key, Prefix, Value};
 use bayou_lang::{Cond, Look, Op, Program, Term, Write};
-use bayou_log::{Db, WriteLog};
+use bayou_log::{Db, Undo, WriteLog};
 use std::alloc::{AllocError, Global};
 use std::process::Abort;
 
@@ -70,7 +70,7 @@ fn does(
 ) -> Result<(), AllocError> {
     let program = program_of(rt, checks, op).rest(alloc)?;
     db.prepare(&program)?;
-    let _ = db.apply(&program);
+    db.apply(&program, &mut Undo::new());
     Ok(())
 }
 

@@ -5,7 +5,7 @@ use arrayvec::ArrayVec;
 use bayou_base::{Key, MAX_WRITES, SERVERS, Value, Vector};
 use bayou_lang::{Outcome, RestingProgram, RestingWrite, Write};
 use bayou_log::plain::replayed;
-use bayou_log::{Db, Misfit, WriteLog};
+use bayou_log::{Db, Misfit, Undo, WriteLog};
 use bayou_wire::decode_write;
 use std::alloc::{AllocError, Global};
 use std::process::Abort;
@@ -335,8 +335,7 @@ fn applied(db: &mut Db, program: &RestingProgram) -> Option<Outcome> {
     if db.prepare(program).is_err() {
         return None;
     }
-    let (outcome, _) = db.apply(program);
-    Some(outcome)
+    Some(db.apply(program, &mut Undo::new()))
 }
 
 /// Whether the program, which is applied twice, puts and takes away.

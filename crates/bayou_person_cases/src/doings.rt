@@ -2,7 +2,7 @@
 use crate::lines::must_hold;
 use bayou_base::Key;
 use bayou_lang::Look;
-use bayou_log::Db;
+use bayou_log::{Db, Undo};
 use bayou_person::wish_in;
 use std::alloc::Global;
 use std::process::Abort;
@@ -106,7 +106,7 @@ fn does(rt: &impl Abort, alloc: Global, db: &mut Db, line: &str) -> String {
     let program = wish.program().expect(rt, "no Write");
     let program = program.rest(alloc).expect(rt, "no memory");
     db.prepare(&program).expect(rt, "no memory");
-    let (outcome, _) = db.apply(&program);
+    let outcome = db.apply(&program, &mut Undo::new());
     format!(in alloc; "{outcome:?}").expect(rt, "no memory")
 }
 

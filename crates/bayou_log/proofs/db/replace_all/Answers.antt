@@ -55,11 +55,14 @@ returns-clause-database c =
 
 pub loop-change-init : goal.loop-change-init
 loop-change-init c = record {
-  undone = ap (λ list. after_changes list (database_of c.args.slots.now.entries)) c.new-before.ensures;
-  among = λ keys all. (all, subst (All (λ (change : Change). Contains keys change.key)) (sym {A = List Change} c.new-before.ensures) (All-nil (λ change. Contains keys change.key)));
-  number = omega (arith, ap {A = List Change} length c.new-before.ensures);
+  undone = ap (λ list. after_changes list (database_of c.args.slots.now.entries)) c.clear.ensures;
+  among = λ keys all. (all, subst (All (λ (change : Change). Contains keys change.key)) (sym {A = List Change} c.clear.ensures) (All-nil (λ change. Contains keys change.key)));
+  number = omega (arith, ap {A = List Change} length c.clear.ensures);
   target = refl;
   shows = λ shows. shows;
   same_room = refl;
   reached = c.requires;
 }
+
+pub push-requires : goal.push-requires
+push-requires c = omega (arith, c.loop-change.invariant.number, c.len.ensures, c.in-Some.ensures.len)

@@ -72,7 +72,7 @@ loop-at-preserved c =
     let write = c.index-writes-at.result in
     let first = database_of c.args.db.now in
     let done = picked writes (take i order) in
-    let undo = c.apply-outcome.result.1 in
+    let undo = c.apply-outcome.new.undo in
     let within = c.requires.inside i 0 c.loop-at-test.true in
     let more = picked_more writes order i write c.loop-at-test.true within c.index-writes-at.is in
     let undos_now : c.push.new.self.undos ≡ c.loop-at.undone.undos ++ undo ∷ [] = ap (λ (stack : Stack). stack.undos) c.push.ensures in
@@ -115,8 +115,8 @@ loop-at-preserved c =
         ap (λ (stack : Stack). stack.places) c.push.ensures,
       );
       became = c.push_reserved.ensures.items
-          ∙ ap (λ items. items ++ c.apply-outcome.result.0 ∷ []) c.loop-at.invariant.became
-          ∙ append_assoc c.args.outcomes.now.items (outcomes_after done first) (c.apply-outcome.result.0 ∷ [])
+          ∙ ap (λ items. items ++ c.apply-outcome.result ∷ []) c.loop-at.invariant.became
+          ∙ append_assoc c.args.outcomes.now.items (outcomes_after done first) (c.apply-outcome.result ∷ [])
           ∙ ap (λ outcome. c.args.outcomes.now.items ++ (outcomes_after done first ++ outcome ∷ []))
           (c.apply-outcome.ensures.outcome ∙ ap (λ program. (mean program (database_of c.loop-at.db)).0) c.program.ensures ∙ ap (λ before. (mean write.program before).0) c.loop-at.invariant.now)
           ∙ ap (λ items. c.args.outcomes.now.items ++ items) (sym (outcomes_after-append done (write ∷ []) first))
@@ -126,7 +126,7 @@ loop-at-preserved c =
         arith,
         c.loop-at.invariant.left,
         ap {A = List Outcome} length c.push_reserved.ensures.items,
-        length-append c.loop-at.outcomes.items (c.apply-outcome.result.0 ∷ []),
+        length-append c.loop-at.outcomes.items (c.apply-outcome.result ∷ []),
         length-drop i order,
         length-drop (i + 1) order,
         c.loop-at-test.true,

@@ -1,4 +1,4 @@
-use Rattle.std.proofs.Common.{◌∙◌, [], ◌∷◌, ◌++◌, ap, arith, sym, vec_items}
+use Rattle.std.proofs.Common.{◌∙◌, [], ◌∷◌, ◌++◌, ap, arith}
 use Rattle.bayou_log.specs.Inner.Index.{Rows, places_of}
 use Rattle.bayou_log.proofs.Rooms.{other_places, own_places}
 use Rattle.bayou_log.proofs.index.Index.add.Goals as goal
