@@ -179,6 +179,7 @@ fn replace_all(
     ensures among { (keys : List (List ℕ)) → All (λ change. Contains keys change.key) changes.old.items → All (λ change. Contains keys change.key) before.new.items }
     ensures as_many { array_vec_len before.new ≡ array_vec_len changes.old }
 {
+    // (that they are within their limit is known from here)
     let _ = changes.len();
     before.clear();
     while let Some(change) = changes.pop() {

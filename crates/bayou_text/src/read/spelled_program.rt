@@ -16,7 +16,8 @@ use std::alloc::AllocError;
 
 /// Whether the program is an update alone.
 pub fn is_update(program: &RestingProgram) -> bool
-    ensures { IsTrue result → (program.now.check.items ≡ []) × (program.now.merge.items ≡ []) }
+    ensures alone { IsTrue result → (program.now.check.items ≡ []) × (program.now.merge.items ≡ []) }
+    ensures each { program.now.check.items ≡ [] → program.now.merge.items ≡ [] → IsTrue result }
 {
     program.check().is_empty() && program.merge().is_empty()
 }

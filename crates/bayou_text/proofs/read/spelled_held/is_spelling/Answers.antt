@@ -13,7 +13,7 @@ returns-in-Ok c = λ same.
     let item = c.args.write.now in
     let text = c.in-Ok.text.items in
     let spelled = c.in-Ok.ensures in
-    let alone = subst (λ (program : Program). (program.check.items ≡ []) × (program.merge.items ≡ [])) c.program.ensures (c.if-not-is_update.ensures refl) in
+    let alone = subst (λ (program : Program). (program.check.items ≡ []) × (program.merge.items ≡ [])) c.program.ensures (c.if-not-is_update.ensures.alone refl) in
     let cut = subst (λ deps. IsCutTo c.args.counts deps) c.deps.ensures (c.if-not-is_cut.ensures refl) in
     let is : text ≡ bytes = sym c.as_slice.ensures.value ∙ (slice_eq-Decides unsigned_Decides c.as_slice.result.now bytes c.eq.result c.eq.ensures).0 same in
     held_spelled c.args.is_whole c.args.server item c.args.counts bytes c.requires (subst (λ l. IsUtf8 l) is spelled.utf8) spelled.kept cut spelled.ops.0 spelled.ops.1

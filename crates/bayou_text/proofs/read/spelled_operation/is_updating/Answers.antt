@@ -10,7 +10,7 @@ returns-in-Ok c = λ same.
     let bytes = c.args.bytes.now in
     let text = c.in-Ok.text.items in
     let spelled = c.in-Ok.ensures in
-    let alone = c.if-not-is_update.ensures refl in
+    let alone = c.if-not-is_update.ensures.alone refl in
     let is : text ≡ bytes = sym c.as_slice.ensures.value ∙ (slice_eq-Decides unsigned_Decides c.as_slice.result.now bytes c.eq.result c.eq.ensures).0 same in
     write_spelled c.args.is_whole c.args.session c.args.server c.args.program.now bytes c.requires (subst (λ l. IsUtf8 l) is spelled.utf8) spelled.kept.0 spelled.kept.1
     alone.0 alone.1 (ap tokens (sym is) ∙ spelled.spelling)
