@@ -5,7 +5,7 @@ use Rattle.bayou_base.specs.declared.limits.TheConstants.{MAX_PLACES}
 use Rattle.bayou_base.specs.declared.server.ServerId.{ServerId}
 use Rattle.bayou_base.specs.declared.session.SessionId.{SessionId}
 use Rattle.bayou_base.specs.declared.tag.Tag.{Tag}
-use Rattle.bayou_device.specs.Memory.{Memory, LeadsTo, empty_device, shortened, with_fuse}
+use Rattle.bayou_device.specs.Memory.{Memory, LeadsTo, empty_device, kept_bytes, shortened, with_fuse}
 use Rattle.bayou_device.specs.MemoryDevice.{memory_device}
 use Rattle.bayou_lang.specs.declared.program.Program.{Program}
 use Rattle.bayou_lang.specs.declared.write.Write.{Write}
@@ -20,7 +20,8 @@ use Rattle.bayou_server.specs.declared.fault.WriteFault.{WriteFault}
 use Rattle.bayou_server.specs.declared.fault.WriteFault.TheVariants.{Behind as BehindNeed}
 use Rattle.bayou_server.specs.Reads.{Reads}
 use Rattle.bayou_server.specs.Reopens.{Reopens}
-use Rattle.bayou_server.specs.Server.{Holds, ServerState, holds_of, with_device}
+use Rattle.bayou_journal.specs.Opening.{KeepsChains}
+use Rattle.bayou_server.specs.Server.{Holds, IsSoundServer, ServerState, holds_of, with_device}
 use Rattle.bayou_server.specs.Starts.{FailsToStart, Starts, StartsOn}
 use Rattle.bayou_server.specs.Stored.{OpensInCalls, ReopensJournal, StoresWrite}
 use Rattle.bayou_server.specs.Writes.{Writes}
@@ -91,6 +92,8 @@ pub record AnswersWrite (who : SessionId) (number : ℕ) (program : Program) (be
   pub asked : IsTagOf seat.told number tag
   pub writes : Writes old.core tag (write_need seat.told) program result new.core
   pub stores : StoresWrite memory_device old result new
+  pub sound : IsSoundServer old.core × IsSoundServer new.core
+  pub safe : KeepsChains (kept_bytes old.device) (kept_bytes new.device)
   pub calls : LeadsTo 2 old.device new.device
   pub answered : answer ≡ reply_of seat.drops who (write_answer who result)
   pub is : after ≡ Running new
@@ -132,6 +135,7 @@ pub record IsStarted (count limit place : ℕ) (device : Memory) (server : Servi
 -- its start was refused, and this is left of the device
 pub record IsRefusedStart (count limit place : ℕ) (device left : Memory) (refusal : StartFault) : Type 0 where
   pub fails : FailsToStart memory_device place count limit device left refusal
+  pub safe : KeepsChains (kept_bytes device) (kept_bytes left)
   pub calls : OpensInCalls memory_device place device left
 
 -- the server was started first, on an empty device, on which no fuse waits
@@ -182,9 +186,11 @@ IsShortened count before after = after ≡ on_device before (shortened count (de
 abbrev pub IsReopened : ServerId → ScriptServer → Recovery → ScriptServer → Type 0
 IsReopened id before (Reopened name adopted) after = (name ≡ id) × ((old new : Serving) × (before ≡ Running old) × (after ≡ Running new)
     × Reopens old.core (Ok (record { adopted = adopted })) new.core × ReopensJournal memory_device old (Ok (record { adopted = adopted })) new
-    × OpensInCalls memory_device old.core.id old.device new.device)
+    × OpensInCalls memory_device old.core.id old.device new.device
+    × IsSoundServer old.core × IsSoundServer new.core × KeepsChains (kept_bytes old.device) (kept_bytes new.device))
 IsReopened id before (NotReopened refusal) after = (old new : Serving) × (before ≡ Running old) × (after ≡ Running new)
     × Reopens old.core (Err refusal) new.core × ReopensJournal memory_device old (Err refusal) new × OpensInCalls memory_device old.core.id old.device new.device
+    × IsSoundServer old.core × IsSoundServer new.core × KeepsChains (kept_bytes old.device) (kept_bytes new.device)
 IsReopened id before NotRunning after = (left : StoppedServer Memory) × (before ≡ Stopped left) × (after ≡ before)
 IsReopened id before (Restarted name holds dropped) after = ⊥
 IsReopened id before (NotRestarted refusal) after = ⊥

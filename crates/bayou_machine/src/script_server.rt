@@ -1,8 +1,10 @@
 //! A server of a script, and what it makes of each command.
 ghost use Rattle.std.specs.Prelude.{◌≡◌, ◌<◌, IfOk, IfErr, IfSome, IsSome, ℕ};
 ghost use Rattle.bayou_base.specs.declared.limits.TheConstants.{MAX_PLACES};
-ghost use Rattle.bayou_device.specs.Memory.{LeadsTo};
+ghost use Rattle.bayou_device.specs.Memory.{LeadsTo, kept_bytes};
 ghost use Rattle.bayou_device.specs.MemoryDevice.{memory_device};
+ghost use Rattle.bayou_journal.specs.Opening.{KeepsChains};
+ghost use Rattle.bayou_server.specs.Server.{IsSoundServer};
 ghost use Rattle.bayou_server.specs.Stored.{StoresWrite};
 ghost use Rattle.bayou_server.specs.Writes.{Writes};
 ghost use Rattle.bayou_session.specs.Needs.{IsTagOf};
@@ -36,6 +38,8 @@ fn written(
 ) -> Result<Written, WriteFault>
     ensures writes { Writes server.old.core tag need.now program.now result server.new.core }
     ensures stores { StoresWrite memory_device server.old result server.new }
+    ensures sound { IsSoundServer server.old.core × IsSoundServer server.new.core }
+    ensures safe { KeepsChains (kept_bytes server.old.device) (kept_bytes server.new.device) }
     ensures calls { LeadsTo 2 server.old.device server.new.device }
 {
     match program.copy(alloc) {

@@ -19,11 +19,15 @@ pub mod Standing
 pub mod Beside
 pub mod Tied
 pub mod TiedWrites
+pub mod Rows
 pub mod TiedAgains
 pub mod TiedFlights
 pub mod TiedItems
 pub mod Never
+pub mod InOrder
+pub mod Final
 pub mod TiedServers
+pub mod RowsServers
 pub mod Oldest
 pub mod Shares
 pub mod Restarting

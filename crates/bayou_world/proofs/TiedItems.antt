@@ -216,7 +216,7 @@ take_tied servers world_sessions offers items told machine good tied place item 
 -- ---- what goes in flight
 
 -- each Write of a list that is held, with its past
-with_pasts : (held : List Made) (list : List Write) → ((write : Write) → Contains list write → Contains (writes held) write) → (pasts : List Made) × (writes pasts ≡ list) × ((made : Made) → Contains pasts made → Contains held made)
+pub with_pasts : (held : List Made) (list : List Write) → ((write : Write) → Contains list write → Contains (writes held) write) → (pasts : List Made) × (writes pasts ≡ list) × ((made : Made) → Contains pasts made → Contains held made)
 with_pasts held [] each = ([], refl, λ made has. absurd (Contains-none made has))
 with_pasts held (write ∷ list) each =
     let first = Contains-map_from write_of held write (each write (Contains-here write list)) in
@@ -231,7 +231,7 @@ with_pasts held (write ∷ list) each =
     of_first one others made here there (suc k, within, is) = there made (k, omega (arith, within), is)
 
 -- what a server with these counts lacks, as a set
-lacks : (held : List Write) (counts : List ℕ) (write : Write) → Contains (lacking_of counts held) write ↔ (Contains held write × (slice_index counts write.wid.origin.index < write.wid.seq))
+pub lacks : (held : List Write) (counts : List ℕ) (write : Write) → Contains (lacking_of counts held) write ↔ (Contains held write × (slice_index counts write.wid.origin.index < write.wid.seq))
 lacks held counts write =
     let is_missed = λ (w : Write). nat_lt (slice_index counts w.wid.origin.index) w.wid.seq in
     let same = in_stamp_order-same_writes held write in (

@@ -37,7 +37,7 @@ put_back (first ∷ servers) zero world_server within = refl
 put_back (first ∷ servers) (suc place) world_server within = ap (λ (list : List WorldServer). first ∷ list) (put_back servers place world_server (omega arith))
 
 -- the Write in doubt has its past
-some_made : (doubt : Option Made) (write : Write) → option_map write_of doubt ≡ Some write → (made : Made) × (doubt ≡ Some made) × (made.write ≡ write)
+pub some_made : (doubt : Option Made) (write : Write) → option_map write_of doubt ≡ Some write → (made : Made) × (doubt ≡ Some made) × (made.write ≡ write)
 some_made None write is = let both : None ≡ Some write = is in absurd (cc)
 some_made (Some made) write is = let both : Some made.write ≡ Some write = is in (made, refl, cc)
 
@@ -53,11 +53,11 @@ up_there count limit place core new server after at is held tags none =
     (ap (λ (c : Core). c.limit) is ∙ ap (λ (c : Core). c.limit) at.is) held tags (ap (λ (c : Core). c.doubt) is ∙ sym (ap (option_map write_of) none))
     (ap (λ (c : Core). c.doubt_tag) is ∙ sym (ap (option_and_then (tag_at place)) none))
 
-forgotten_there : (count limit place : ℕ) (core new : Core) (server : ServerSets) → IsServerOf count limit place core server → new ≡ record core { held = new.held; tags = new.tags; doubt = None; doubt_tag = None }
+pub forgotten_there : (count limit place : ℕ) (core new : Core) (server : ServerSets) → IsServerOf count limit place core server → new ≡ record core { held = new.held; tags = new.tags; doubt = None; doubt_tag = None }
     → new.held ≡ writes server.held → new.tags ≡ map (tag_at place) server.held → IsServerOf count limit place new (up_again server)
 forgotten_there count limit place core new server at is held tags = up_there count limit place core new server (up_again server) at is held tags refl
 
-adopted_there : (count limit place : ℕ) (core new : Core) (server : ServerSets) (made : Made) → IsServerOf count limit place core server
+pub adopted_there : (count limit place : ℕ) (core new : Core) (server : ServerSets) (made : Made) → IsServerOf count limit place core server
     → new ≡ record core { held = new.held; tags = new.tags; doubt = None; doubt_tag = None } → new.held ≡ writes server.held ++ made.write ∷ []
     → new.tags ≡ map (tag_at place) server.held ++ tag_at place made ∷ [] → IsServerOf count limit place new (with_write (up_again server) made)
 adopted_there count limit place core new server made at is held tags =
@@ -126,7 +126,7 @@ up_again_there machine place old new (Some wid) here honest (doubt, doubted, nam
     }
 
 -- why it isn't
-refused_there : (machine : Machine) (place : ℕ) (old new : Core) (fault : ReopenFault) → IsServerOf machine.count machine.limit place old (machine.servers place) → IsHonestAnswer (Err fault)
+pub refused_there : (machine : Machine) (place : ℕ) (old new : Core) (fault : ReopenFault) → IsServerOf machine.count machine.limit place old (machine.servers place) → IsHonestAnswer (Err fault)
     → opened.Reopens old (Err fault) new → RefusesReopening (machine.servers place) fault × (new ≡ old)
 refused_there machine place old new reopening.NotDown at honest (up, same) = (no_doubt (machine.servers place).doubt (sym (ap (λ (c : Core). c.doubt) at.is) ∙ up), same)
 refused_there machine place old new (reopening.Journal Device) at honest (down, same) = (some_doubt (machine.servers place).doubt (subst IsSome (ap (λ (c : Core). c.doubt) at.is) down), same)
@@ -168,15 +168,15 @@ in_doubt_there place None = refl
 in_doubt_there place (Some made) = refl
 
 -- what an honest start holds, with which tags
-record HoldsStill (place : ℕ) (server : ServerSets) (core : Core) : Type 0 where
-  held : core.held ≡ writes server.held
-  tags : core.tags ≡ map (tag_at place) server.held
+pub record HoldsStill (place : ℕ) (server : ServerSets) (core : Core) : Type 0 where
+  pub held : core.held ≡ writes server.held
+  pub tags : core.tags ≡ map (tag_at place) server.held
 
-record HoldsMore (place : ℕ) (server : ServerSets) (core : Core) : Type 0 where
-  made : Made
-  doubt : server.doubt ≡ Some made
-  held : core.held ≡ writes server.held ++ made.write ∷ []
-  tags : core.tags ≡ map (tag_at place) server.held ++ tag_at place made ∷ []
+pub record HoldsMore (place : ℕ) (server : ServerSets) (core : Core) : Type 0 where
+  pub made : Made
+  pub doubt : server.doubt ≡ Some made
+  pub held : core.held ≡ writes server.held ++ made.write ∷ []
+  pub tags : core.tags ≡ map (tag_at place) server.held ++ tag_at place made ∷ []
 
 one_of_two : (held : List Record) (doubt : Option Made) (kept : Made → Record) (list : List Record) → AreHonest held (option_map kept doubt) list
     → (list ≡ held) ⊎ ((made : Made) × (doubt ≡ Some made) × (list ≡ held ++ kept made ∷ []))
@@ -184,7 +184,7 @@ one_of_two held None kept list is = inl is
 one_of_two held (Some made) kept list (inl is) = inl is
 one_of_two held (Some made) kept list (inr is) = inr (made, refl, is)
 
-holds_honestly : (count limit place : ℕ) (old new : Core) (server : ServerSets) → IsServerOf count limit place old server → IsSoundServer new
+pub holds_honestly : (count limit place : ℕ) (old new : Core) (server : ServerSets) → IsServerOf count limit place old server → IsSoundServer new
     → AreHonest (records_of old) (record_in_doubt old) (records_of new) → HoldsStill place server new ⊎ HoldsMore place server new
 holds_honestly count limit place old new server at sound honest =
     let held = writes server.held in

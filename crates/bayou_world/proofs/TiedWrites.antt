@@ -82,7 +82,7 @@ under_tag count limit place core server tag write at under =
     (found.0, found.1, its_tag place found.0 tag found.3, found.2)
 
 -- no Write is held under the tag of the session's next place
-none_under : (machine : Machine) → AreTagged machine → (who place : ℕ) (session : SessionSets) (tag : Tag) → machine.sessions who ≡ Some session → IsTagOf who (session.begun + 1) tag
+pub none_under : (machine : Machine) → AreTagged machine → (who place : ℕ) (session : SessionSets) (tag : Tag) → machine.sessions who ≡ Some session → IsTagOf who (session.begun + 1) tag
     → (core : Core) (write : Write) → IsServerOf machine.count machine.limit place core (machine.servers place) → accepts.HoldsUnder core tag write → ⊥
 none_under machine tagged who place session tag there is core write at under =
     let found = under_tag machine.count machine.limit place core (machine.servers place) tag write at under in

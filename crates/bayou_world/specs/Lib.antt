@@ -8,4 +8,6 @@ pub mod Invariant
 pub mod Tags
 pub mod Agreement
 pub mod Never
+pub mod Rows
+pub mod Final
 pub mod Inner

@@ -2,12 +2,14 @@
 use Rattle.std.specs.Prelude.{◌≡◌, ◌⊎◌, Bool, Result}
 use Rattle.bayou_base.specs.declared.session.SessionId.{SessionId}
 use Rattle.bayou_base.specs.declared.tag.Tag.{Tag}
-use Rattle.bayou_device.specs.Memory.{Memory, LeadsTo}
+use Rattle.bayou_device.specs.Memory.{Memory, LeadsTo, kept_bytes}
 use Rattle.bayou_device.specs.MemoryDevice.{memory_device}
 use Rattle.bayou_lang.specs.declared.program.Program.{Program}
 use Rattle.bayou_server.specs.declared.answer.Stopped.{Stopped as StoppedServer}
 use Rattle.bayou_server.specs.declared.answer.Written.{Written}
 use Rattle.bayou_server.specs.declared.fault.WriteFault.{WriteFault}
+use Rattle.bayou_journal.specs.Opening.{KeepsChains}
+use Rattle.bayou_server.specs.Server.{IsSoundServer}
 use Rattle.bayou_server.specs.Stored.{StoresWrite}
 use Rattle.bayou_server.specs.Writes.{Writes}
 use Rattle.bayou_session.specs.Needs.{write_need}
@@ -34,6 +36,8 @@ pub record IsReplied (who : SessionId) (tag : Tag) (drops : Bool) (program : Pro
   pub was : before ≡ Running old
   pub writes : Writes old.core tag (write_need seat.told) program result new.core
   pub stores : StoresWrite memory_device old result new
+  pub sound : IsSoundServer old.core × IsSoundServer new.core
+  pub safe : KeepsChains (kept_bytes old.device) (kept_bytes new.device)
   pub calls : LeadsTo 2 old.device new.device
   pub answered : answer ≡ reply_of drops who (write_answer who result)
   pub is : after ≡ Running new
