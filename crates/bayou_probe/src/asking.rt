@@ -1,0 +1,68 @@
+//! What a line asks, and who answers it.
+use crate::formats::{frame, length, line, person, record, state, stream, write};
+use crate::servers::{Place, chain, journal, pull, serve};
+use bayou_base::ServerId;
+use bayou_wire::Form;
+use std::alloc::{AllocError, Global};
+
+/// What is told where the words say nothing that there is.
+const UNKNOWN: &str = "unknown";
+
+/// The number in front, and what stands behind it.
+fn number_in(text: &str) -> Option<(u32, &str)> {
+    let (number, rest) = text.split_once(' ').unwrap_or((text, ""));
+    Some((number.parse::<u32>().ok()?, rest))
+}
+
+/// The server and its limit, and what stands behind them.
+fn place_in(text: &str) -> Option<(Place, &str)> {
+    let (number, rest) = number_in(text)?;
+    let id = ServerId::new(u8::try_from(number).ok()?)?;
+    let (limit, rest) = number_in(rest)?;
+    Some((Place { id, limit }, rest))
+}
+
+/// The bytes that the text says in hexadecimal, in which blanks say nothing.
+fn bytes_in(alloc: Global, text: &str) -> Option<Vec<u8>> {
+    let digits = text.replace(alloc, " ", "").ok()?;
+    hex::decode(alloc, digits.as_str()).ok()
+}
+
+fn of_bytes(alloc: Global, word: &str, rest: &str) -> Option<Result<String, AllocError>> {
+    let bytes = bytes_in(alloc, rest)?;
+    match word {
+        "frame" => Some(frame(alloc, &bytes)),
+        "frames" => Some(stream(alloc, &bytes)),
+        "length" => Some(length(alloc, &bytes)),
+        "write" => Some(write(alloc, &bytes)),
+        "wide" => Some(record(alloc, Form::Wide, &bytes)),
+        "tagged" => Some(record(alloc, Form::Tagged, &bytes)),
+        "plain" => Some(record(alloc, Form::Plain, &bytes)),
+        "state" => Some(state(alloc, &bytes)),
+        _ => None,
+    }
+}
+
+fn of_server(alloc: Global, word: &str, rest: &str) -> Option<Result<String, AllocError>> {
+    let (place, rest) = place_in(rest)?;
+    let bytes = bytes_in(alloc, rest)?;
+    match word {
+        "chain" => Some(chain(alloc, place.id, bytes)),
+        "journal" => Some(journal(alloc, place, bytes)),
+        "serve" => Some(serve(alloc, place, &bytes)),
+        "pull" => Some(pull(alloc, place, &bytes)),
+        _ => None,
+    }
+}
+
+/// The answer to a line, whatever it says.
+pub(crate) fn answer(alloc: Global, asked: &str) -> Result<String, AllocError> {
+    let (word, rest) = asked.split_once(' ').unwrap_or((asked, ""));
+    let told = match word {
+        "line" => Some(line(alloc, rest)),
+        "person" => Some(person(alloc, rest)),
+        "chain" | "journal" | "serve" | "pull" => of_server(alloc, word, rest),
+        _ => of_bytes(alloc, word, rest),
+    };
+    told.unwrap_or_else(|| UNKNOWN.to_string(alloc))
+}
