@@ -3,210 +3,39 @@ use crate::fixtures::{history, must_be_so};
 use crate::scripts::{
     ALL, Act, NOTHING, Said, add, are_said, events_of, has_names, must_all_be_said,
 };
-use Said::{
-    Accepted, Delivered, Doubted, Down, Flown, Fused, Holds, Kept, NotDown, NotReopened,
-    NotRestarted, Seen, Skipped, Up,
-};
+use Said::{Accepted, Delivered, Flown, Holds, Kept, Seen};
 use bayou_judge::{Verdict, judge, lend_dumps};
 use bayou_server::{JournalFault, ReopenFault, StartFault, TakeFault, WriteFault};
 use bayou_world::{Event, Reply, RunHistory};
 use std::alloc::Global;
 use std::process::Abort;
 
-/// Events at one server and of one session that asks for nothing, what each is answered, and what the server holds in the end.
-struct Row {
-    acts: &'static [(Act, Said)],
-    dump: &'static [(u8, u32)],
-}
-
-static ROWS: [Row; 8] = [
-    // The call that fails is the sync: the Write is whole, and a reopening adopts it.
-    Row {
-        acts: &[
-            (Act::Fuse(0, 2, 0), Fused),
-            (Act::Write(0, 0, 7), Doubted),
-            (Act::Deliver(0), Delivered),
-            (Act::Read(0, 0), Seen(None, [0, 0])),
-            (Act::Deliver(0), Delivered),
-            (Act::Reopen(0), Up(Some((0, 1)))),
-            (Act::Read(0, 0), Seen(Some(7), [1, 0])),
-        ],
-        dump: &[(0, 1)],
-    },
-    // A restart adopts it too.
-    Row {
-        acts: &[
-            (Act::Fuse(0, 2, 0), Fused),
-            (Act::Write(0, 0, 7), Doubted),
-            (Act::Deliver(0), Delivered),
-            (Act::Read(0, 0), Seen(None, [0, 0])),
-            (Act::Deliver(0), Delivered),
-            (Act::Restart(0), Holds(1)),
-            (Act::Read(0, 0), Seen(Some(7), [1, 0])),
-        ],
-        dump: &[(0, 1)],
-    },
-    // A part of the entry is forgotten, and the next Write has its number.
-    Row {
-        acts: &[
-            (Act::Reopen(0), NotDown),
-            (Act::Fuse(0, 1, 50), Fused),
-            (Act::Write(0, 0, 1), Doubted),
-            (Act::Lose(0), Said::Dropped),
-            (Act::Write(0, 0, 2), Down),
-            (Act::Deliver(0), Delivered),
-            (Act::Offer(0), Kept(0)),
-            (Act::Reopen(0), Up(None)),
-            (Act::Write(0, 0, 3), Accepted((0, 1), [0, 0])),
-        ],
-        dump: &[(0, 1)],
-    },
-    // A restart forgets it too.
-    Row {
-        acts: &[
-            (Act::Write(0, 0, 1), Accepted((0, 1), [0, 0])),
-            (Act::Deliver(0), Delivered),
-            (Act::Fuse(0, 1, 50), Fused),
-            (Act::Write(0, 0, 2), Doubted),
-            (Act::Deliver(0), Delivered),
-            (Act::Restart(0), Holds(1)),
-            (Act::Write(0, 0, 3), Accepted((0, 2), [1, 0])),
-        ],
-        dump: &[(0, 1), (0, 2)],
-    },
-    // A reopening fails as it reads, as it cuts, and as it syncs: what was in doubt stays so.
-    Row {
-        acts: &[
-            (Act::Fuse(0, 1, 50), Fused),
-            (Act::Write(0, 0, 1), Doubted),
-            (Act::Deliver(0), Delivered),
-            (Act::Fuse(0, 1, 0), Fused),
-            (Act::Reopen(0), NotReopened),
-            (Act::Fuse(0, 2, 0), Fused),
-            (Act::Reopen(0), NotReopened),
-            (Act::Fuse(0, 2, 0), Fused),
-            (Act::Reopen(0), NotReopened),
-            (Act::Write(0, 0, 1), Down),
-            (Act::Reopen(0), Up(None)),
-            (Act::Reopen(0), NotDown),
-        ],
-        dump: &[],
-    },
-    // A stopped server answers nothing, until a restart succeeds.
-    Row {
-        acts: &[
-            (Act::Write(0, 0, 1), Accepted((0, 1), [0, 0])),
-            (Act::Deliver(0), Delivered),
-            (Act::Offer(0), Kept(0)),
-            (Act::Fuse(0, 1, 0), Fused),
-            (Act::Restart(0), NotRestarted),
-            (Act::Read(0, 0), Skipped),
-            (Act::Write(0, 0, 2), Skipped),
-            (Act::Offer(0), Skipped),
-            (Act::Collect(0, 0), Skipped),
-            (Act::Reopen(0), Skipped),
-            (Act::Fuse(0, 2, 0), Fused),
-            (Act::Restart(0), NotRestarted),
-            (Act::Restart(0), Holds(1)),
-            (Act::Read(0, 0), Seen(Some(1), [1, 0])),
-        ],
-        dump: &[(0, 1)],
-    },
-    // What was in doubt stays so while a server is stopped.
-    Row {
-        acts: &[
-            (Act::Fuse(0, 2, 0), Fused),
-            (Act::Write(0, 0, 1), Doubted),
-            (Act::Deliver(0), Delivered),
-            (Act::Fuse(0, 1, 0), Fused),
-            (Act::Restart(0), NotRestarted),
-            (Act::Restart(0), Holds(1)),
-            (Act::Read(0, 0), Seen(Some(1), [1, 0])),
-        ],
-        dump: &[(0, 1)],
-    },
-    // What names nothing that is there.
-    Row {
-        acts: &[
-            (Act::Fuse(0, 0, 0), Skipped),
-            (Act::Fuse(1, 1, 0), Skipped),
-            (Act::Reopen(1), Skipped),
-            (Act::Restart(1), Skipped),
-            (Act::Restart(0), Holds(0)),
-            (Act::Write(0, 0, 1), Accepted((0, 1), [0, 0])),
-        ],
-        dump: &[(0, 1)],
-    },
+/// Events at one server and of one session that asks for nothing, and what each is answered: what may want memory doesn't where there is enough.
+static ENOUGH: [(Act, Said); 6] = [
+    (Act::Offer(0), Kept(0)),
+    (Act::Write(0, 0, 7), Accepted((0, 1), [0, 0])),
+    (Act::Deliver(0), Delivered),
+    (Act::Collect(0, 0), Flown(0, 1)),
+    (Act::Restart(0), Holds(1)),
+    (Act::Read(0, 0), Seen(Some(7), [1, 0])),
 ];
-
-/// The call that fails is the append of an entry of 136 bytes.
-static FRONTS: [Row; 2] = [
-    // All of the entry was added: a reopening adopts it.
-    Row {
-        acts: &[
-            (Act::Fuse(0, 1, 136), Fused),
-            (Act::Write(0, 0, 7), Doubted),
-            (Act::Reopen(0), Up(Some((0, 1)))),
-        ],
-        dump: &[(0, 1)],
-    },
-    // One byte of it is missing: it is forgotten.
-    Row {
-        acts: &[
-            (Act::Fuse(0, 1, 135), Fused),
-            (Act::Write(0, 0, 7), Doubted),
-            (Act::Reopen(0), Up(None)),
-        ],
-        dump: &[],
-    },
-];
-
-/// What may want memory doesn't where there is enough.
-static ENOUGH: Row = Row {
-    acts: &[
-        (Act::Offer(0), Kept(0)),
-        (Act::Write(0, 0, 7), Accepted((0, 1), [0, 0])),
-        (Act::Deliver(0), Delivered),
-        (Act::Collect(0, 0), Flown(0, 1)),
-        (Act::Restart(0), Holds(1)),
-        (Act::Read(0, 0), Seen(Some(7), [1, 0])),
-    ],
-    dump: &[(0, 1)],
-};
-
-/// Whether the server holds what the row of this number says, if each reply is as it says.
-fn is_answered(rt: &impl Abort, alloc: Global, row: &Row, number: usize) -> bool {
-    let events = events_of(rt, alloc, row.acts);
-    let history = history(rt, alloc, (1, 100), &[NOTHING], events.as_slice());
-    must_all_be_said(rt, history.replies.as_slice(), row.acts, number);
-    is_of(&history, row)
-}
-
-/// Whether these are the answers, and the dump, of the row.
-fn is_of(history: &RunHistory, row: &Row) -> bool {
-    let Some(dump) = history.dumps.first() else {
-        return false;
-    };
-    are_said(history.replies.as_slice(), row.acts) && has_names(dump.as_slice(), row.dump)
-}
-
-#[test]
-fn servers_fail_and_are_recovered(rt: HostRuntime) {
-    for (number, row) in ROWS.iter().enumerate() {
-        must_be_so(&rt, is_answered(&rt, rt.alloc(), row, number), number);
-    }
-}
-
-#[test]
-fn what_a_fuse_keeps_of_an_entry_decides_whether_it_is_adopted(rt: HostRuntime) {
-    for (number, row) in FRONTS.iter().enumerate() {
-        must_be_so(&rt, is_answered(&rt, rt.alloc(), row, number), number);
-    }
-}
 
 #[test]
 fn with_memory_enough_a_collect_sends_and_a_restart_starts(rt: HostRuntime) {
-    must_be_so(&rt, is_answered(&rt, rt.alloc(), &ENOUGH, 0), 0);
+    let events = events_of(&rt, rt.alloc(), &ENOUGH);
+    let history = history(&rt, rt.alloc(), (1, 100), &[NOTHING], events.as_slice());
+    must_all_be_said(&rt, history.replies.as_slice(), &ENOUGH, 0);
+    must_be_so(&rt, is_enough(&history), 0);
+}
+
+/// Whether these are the answers, and what the server holds.
+fn is_enough(history: &RunHistory) -> bool {
+    match history.dumps.first() {
+        Some(dump) => {
+            are_said(history.replies.as_slice(), &ENOUGH) && has_names(dump.as_slice(), &[(0, 1)])
+        }
+        None => false,
+    }
 }
 
 /// How many rounds of ten events the run has in which each device call fails in turn.

@@ -3,7 +3,8 @@ ghost use Rattle.std.specs.Prelude.{◌≡◌, All, IfOk};
 ghost use Rattle.bayou_session.specs.declared.session.TheConstants.{FIRST_RUN as FIRST_RUN_NUMBER};
 ghost use Rattle.bayou_session.specs.Needs.{Told};
 
-use bayou_base::{Asks, Key, ServerId, SessionId, Tag, Value};
+use bayou_base::{Asks, Key, ServerId, SessionId, Value};
+use bayou_fakes::values::resting;
 use bayou_lang::{Op, Program, RestingProgram, Term};
 use bayou_session::{FIRST_RUN, Session};
 use bayou_world::world::World;
@@ -17,13 +18,6 @@ pub fn server_id(rt: &impl Abort, index: u8) -> ServerId {
 
 pub fn session_id(rt: &impl Abort, index: u8) -> SessionId {
     SessionId::new(index).expect(rt, "no session")
-}
-
-/// The tag of the first session's place behind so many, in the first run: a fresh one for a server that holds so many Writes, where those before
-/// it were given theirs so.
-pub fn tag_behind(rt: &impl Abort, count: usize) -> Tag {
-    let count = u32::try_from(count).ok().expect(rt, "too many Writes");
-    Tag::new(session_id(rt, 0), 1, count.saturating_add(1)).expect(rt, "no tag")
 }
 
 pub fn room(rt: &impl Abort) -> Key {
@@ -49,23 +43,11 @@ pub fn room_for<T>(rt: &impl Abort, alloc: Global, count: usize) -> Vec<T> {
     }
 }
 
-/// The value in a box of its own, also where one allocation is refused: a function that owns a box is proved in a third of the time that one
-/// takes which owns what is in it.
-pub fn boxed<T: Drop>(rt: &impl Abort, alloc: Global, value: T) -> Box<T> {
-    match Box::new(alloc, value) {
-        Ok(value) => value,
-        Err(refused) => Box::new(alloc, refused.value).expect(rt, "no memory"),
-    }
-}
-
 /// A program that puts the number at the key, also where one allocation is refused.
 pub fn put_at(rt: &impl Abort, alloc: Global, key: Key, number: i64) -> RestingProgram {
     let op = Op::Put(key, Term::Lit(Value::Num(number)));
     let program = Program::new(&[], &[op], &[]).expect(rt, "no program");
-    match program.rest(alloc) {
-        Ok(program) => program,
-        Err(_) => program.rest(alloc).expect(rt, "no memory"),
-    }
+    resting(alloc, &program).expect(rt, "no memory")
 }
 
 /// A program that puts the number at `room`.

@@ -1,10 +1,10 @@
 //! Histories at random, of up to forty entries over three servers and four sessions: the judge and its twin agree on each, and
 //! each kind of answer is among theirs.
-ghost use Rattle.std.specs.Prelude.{◌<◌};
-
-use crate::evidence::{COUNT, asked, asks_of, entry, put, server_id};
+use crate::evidence::{COUNT, asked, asks_of, entry, put};
+use crate::fixtures::server_id;
 use crate::twin;
 use bayou_base::{Entry, Key, ServerId, Stamp, Vector, What, Wid};
+use bayou_fakes::dice::Dice;
 use bayou_judge::{BadEvidence, Guarantee, Surveyed, Verdict, verdict_of};
 use bayou_lang::RestingWrite;
 use std::alloc::Global;
@@ -14,29 +14,6 @@ use std::process::Abort;
 const HISTORIES: u32 = 1_000;
 
 static ASKS: [&str; 8] = ["", "r", "m", "f", "w", "rm", "fw", "rmfw"];
-
-/// Numbers at random, from a seed: a linear congruential generator (Knuth).
-#[derive(Drop)]
-struct Dice {
-    state: u64,
-}
-
-impl Dice {
-    /// A number below this one, which isn't 0.
-    fn below(&mut self, bound: u32) -> u32
-        ensures { 0 < bound → result < bound }
-    {
-        self.state = self
-            .state
-            .wrapping_mul(6_364_136_223_846_793_005)
-            .wrapping_add(1_442_695_040_888_963_407);
-        (self.state >> 40) as u32 % bound.max(1)
-    }
-
-    fn chance(&mut self, one_in: u32) -> bool {
-        self.below(one_in) == 0
-    }
-}
 
 fn vector_of(writes: &[RestingWrite]) -> Vector {
     let mut vector = Vector::zero();

@@ -1,11 +1,11 @@
 //! Lists of events at random, at four servers and by eight sessions that ask for this and that: the judge finds what was served
 //! clean, in half of the lists also where device calls fail and servers are recovered. Where the same sessions ask for nothing, it
 //! finds breaches of each guarantee.
-ghost use Rattle.std.specs.Prelude.{◌<◌};
 
 use crate::failures::is_fault;
 use crate::fixtures::{history, must_be_so, put, room, server_id, session_id};
 use bayou_base::{Asks, Entry, ServerId, SessionId};
+use bayou_fakes::dice::Dice;
 use bayou_judge::{Guarantee, Verdict, judge, lend_dumps};
 use bayou_server::{JournalFault, ReopenFault, StartFault, TakeFault, Took, WriteFault, Written};
 use bayou_world::{Event, Reply, RunHistory};
@@ -37,52 +37,29 @@ const ALL: Asks = Asks {
 /// Items that were collected for a server: which server, the number of the first, and how many.
 type Batch = (u8, u32, u32);
 
-/// Numbers at random, from a seed: a linear congruential generator (Knuth).
-#[derive(Clone, Copy)]
-struct Dice {
-    state: u64,
+fn any_server(rt: &impl Abort, dice: &mut Dice) -> ServerId {
+    server_id(rt, dice.below(4) as u8)
 }
 
-impl Dice {
-    /// A number below this one, which isn't 0.
-    fn below(&mut self, bound: u32) -> u32
-        ensures { 0 < bound → result < bound }
-    {
-        self.state = self
-            .state
-            .wrapping_mul(6_364_136_223_846_793_005)
-            .wrapping_add(1_442_695_040_888_963_407);
-        (self.state >> 40) as u32 % bound.max(1)
-    }
+fn any_session(rt: &impl Abort, dice: &mut Dice) -> SessionId {
+    session_id(rt, dice.below(8) as u8)
+}
 
-    fn chance(&mut self, one_in: u32) -> bool {
-        self.below(one_in) == 0
+fn any_asks(dice: &mut Dice) -> Asks {
+    Asks {
+        ryw: dice.chance(2),
+        mr: dice.chance(2),
+        wfr: dice.chance(2),
+        mw: dice.chance(2),
     }
+}
 
-    fn server(&mut self, rt: &impl Abort) -> ServerId {
-        server_id(rt, self.below(4) as u8)
+fn asks_of_all(dice: &mut Dice) -> [Asks; 8] {
+    let mut all = [Asks::default(); 8];
+    for asks in &mut all {
+        *asks = any_asks(dice);
     }
-
-    fn session(&mut self, rt: &impl Abort) -> SessionId {
-        session_id(rt, self.below(8) as u8)
-    }
-
-    fn asks(&mut self) -> Asks {
-        Asks {
-            ryw: self.chance(2),
-            mr: self.chance(2),
-            wfr: self.chance(2),
-            mw: self.chance(2),
-        }
-    }
-
-    fn asks_of_all(&mut self) -> [Asks; 8] {
-        let mut all = [Asks::default(); 8];
-        for asks in &mut all {
-            *asks = self.asks();
-        }
-        all
-    }
+    all
 }
 
 /// A list of events as it grows.
@@ -114,7 +91,7 @@ impl List {
 
     /// A session tries something, and mostly hears of it at once.
     fn operate(&mut self, rt: &impl Abort, dice: &mut Dice) {
-        let (session, server) = (dice.session(rt), dice.server(rt));
+        let (session, server) = (any_session(rt, dice), any_server(rt, dice));
         let event = match dice.below(9) {
             0..=3 => Event::Read {
                 session,
@@ -147,8 +124,8 @@ impl List {
 
     /// A server offers, and one collects for that offer or the one before.
     fn collect(&mut self, rt: &impl Abort, dice: &mut Dice) {
-        let to = dice.server(rt);
-        let server = dice.server(rt);
+        let to = any_server(rt, dice);
+        let server = any_server(rt, dice);
         let last = self.offers.len().min(EVENTS) as u32;
         let offer = last.saturating_sub(dice.below(2));
         self.offers.push(to.index).expect(rt, "no memory");
@@ -174,7 +151,7 @@ impl List {
 
     /// An event of a session alone, or one that names what isn't there.
     fn stray(&mut self, rt: &impl Abort, dice: &mut Dice) {
-        let (session, server) = (dice.session(rt), dice.server(rt));
+        let (session, server) = (any_session(rt, dice), any_server(rt, dice));
         let event = match dice.below(15) {
             0 => Event::Offer(server_id(rt, 4)),
             12 => Event::Fuse {
@@ -206,7 +183,7 @@ impl List {
 
     /// A device call is to fail, or a server is recovered.
     fn fail(&mut self, rt: &impl Abort, dice: &mut Dice) {
-        let server = dice.server(rt);
+        let server = any_server(rt, dice);
         let event = match dice.below(6) {
             0 | 1 => Event::Fuse {
                 server,
@@ -472,7 +449,7 @@ impl Tally {
 
     /// The run with what is asked for, and the one where nothing is, which is judged as if everything were.
     fn add(&mut self, rt: &impl Abort, alloc: Global, dice: &mut Dice, limit: u32, fails: bool) {
-        let asks = dice.asks_of_all();
+        let asks = asks_of_all(dice);
         let mut list = List::new(alloc, fails);
         list.fill(rt, dice, limit, &asks);
         self.add_asked(rt, alloc, limit, &asks, list.events.as_slice());
