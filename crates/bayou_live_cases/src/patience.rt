@@ -64,3 +64,12 @@ fn a_byte_is_waited_for_as_long_as_there_is_patience(rt: HostRuntime) {
         must_go_so(&rt, is_so, (waits as usize, patience as usize));
     }
 }
+
+/// A reader that gives nothing is called 1,000,000 times, though there is patience for more.
+#[test]
+fn nothing_is_waited_for_without_an_end(rt: HostRuntime) {
+    let mut reader = patient(u32::MAX, false, u32::MAX);
+    let is_out = reader.read(&mut [0; 4]).is_err();
+    let is_so = is_out && calls_and_asked(&reader) == (1_000_000, 1_000_000);
+    must_go_so(&rt, is_so, (0, 0));
+}
