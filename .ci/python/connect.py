@@ -12,6 +12,7 @@ import tempfile
 import threading
 import time
 
+import alone
 from checks import Checks
 from living import SECONDS, Server
 
@@ -138,7 +139,8 @@ class Tries:
         self.row("a claim of what is taken", at, ["claim a b jo"],
                  ["0 wrote 0:9 clock 9 deps 8", '0 read a text "lee" at 9', '0 read b text "kim" at 9'])
         self.row("a list", at, ["list", "servers", "session", "at 0"],
-                 ['a text "lee"', 'b text "kim"', "m num 5", 'room text "kim"', "list 0 keys 4", "server 0 at 9", "session 0 read 0 wrote 0"])
+                 ['a text "lee"', 'b text "kim"', "m num 5", 'room text "kim"', "list 0 keys 4", "server 0 at 9",
+                  "session 0 asks none", "session 0 read 0 wrote 0"])
         self.row("a script's lines", at, ['["session",3,["ryw"]]', '["write",3,0,{"update":[["put","x","a b"]]}]', '["read",3,0,"x"]', '["reopen",0]',
                                           '["again",3]', "again"],
                  ["3 wrote 0:10 clock 10 deps 9", '3 read x text "a b" at 10', "reopen refused notdown", "3 again none", "0 again none"], 1)
@@ -173,10 +175,10 @@ class Tries:
                  ["0 wrote 0:3 clock 3 deps 2,0", "0 refused behind at 0,1"], 1, words=["--session", "ryw"])
         first.kill()
         self.row("one that is away is passed by", both, ["get b", "servers", "list"],
-                 ["0 read b num 2 at 0,1", "server 0 away", "server 1 at 0,1", "list lost"], 1)
+                 ["0 read b num 2 at 0,1", "server 0 away", "server 1 at 0,1", "b num 2", "list 1 keys 1"], 1)
         second.kill()
-        self.row("all away", both, ["get b", "put b 1", "servers", '["read",0,0,"b"]', '["reopen",1]'],
-                 ["0 refused away", "0 refused away", "server 0 away", "server 1 away", "0 refused away", "reopen refused away"], 1)
+        self.row("all away", both, ["get b", "put b 1", "servers", '["read",0,0,"b"]', '["reopen",1]', "list"],
+                 ["0 refused away", "0 refused away", "server 0 away", "server 1 away", "0 refused away", "reopen refused away", "list lost"], 1)
         begun = time.monotonic()
         self.row("a wait that is over", both, ["get b"], ["0 refused away"], 1, words=["--wait", "1"])
         self.that("it waited", time.monotonic() - begun >= 1)
@@ -198,6 +200,23 @@ class Tries:
         self.row("a Write that is lost", [(0, way.address)], ["add a 1"], ["0 lost"], 1, words=["--state", state])
         self.row("it may be asked again no more behind a read", at, ["get a", "again"],
                  ["0 read a num 2 at 2", "0 again none"], words=["--state", state])
+        way = DropReply(server.port, 1)
+        self.row("a read whose reply is lost goes to the next server", [(0, way.address), (1, other.address())], ["get a"], ["0 read a none at 0,0"])
+        way, last = DropReply(server.port, 1), DropReply(other.port, 1)
+        self.row("a read whose replies are all lost", [(0, way.address), (1, last.address)], ["get a"], ["0 lost"], 1)
+        way, last = DropReply(server.port, 1), DropReply(other.port, 1)
+        self.row("a read whose replies are lost once", [(0, way.address), (1, last.address)], ["get a"], ["0 read a num 2 at 2,0"], words=["--wait", "5"])
+        with bayou.Session([DropReply(server.port, 1).address, other.address()]) as session:
+            self.that("in python too", session.read_anywhere("a"), None)
+        with bayou.Session([DropReply(server.port, 1).address, other.address()]) as session:
+            try:
+                told = session.write_anywhere({"update": [["put", "lost", 1]]})
+            except bayou.Lost:
+                told = "lost"
+            self.that("and a Write goes nowhere else", told, "lost")
+        # Its first reply tells what the server holds, the second what it sends of that.
+        way = DropReply(server.port, 2)
+        self.row("a list whose reply is lost goes to the next server", [(0, way.address), (1, other.address())], ["list"], ["list 1 keys 0"])
         self.stop_all()
 
     def kept(self):
@@ -205,9 +224,10 @@ class Tries:
         server = self.start(folder)
         at = [(0, server.address())]
         self.row("what is kept", at, ["put a 1", "get a", "session"],
-                 ["0 wrote 0:1 clock 1 deps 0", "0 read a num 1 at 1", "session 0 read 1 wrote 1"], words=["--state", state, "--session", "all"])
+                 ["0 wrote 0:1 clock 1 deps 0", "0 read a num 1 at 1", "session 0 asks all", "session 0 read 1 wrote 1"], words=["--state", state, "--session", "all"])
         self.row("it goes on", at, ["session", "put a 2", "session"],
-                 ["session 0 read 1 wrote 1", "0 wrote 0:2 clock 2 deps 1", "session 0 read 1 wrote 2"], words=["--state", state])
+                 ["session 0 asks all", "session 0 read 1 wrote 1", "0 wrote 0:2 clock 2 deps 1", "session 0 asks all", "session 0 read 1 wrote 2"],
+                 words=["--state", state])
         with open(state, "rb") as file:
             whole = file.read()
         # Two entries for each Write, of which the first has its program too, and one for the read.
@@ -221,8 +241,8 @@ class Tries:
             with open(state, "wb") as file:
                 file.write(whole[:length])
             count = sum(end <= length for end in ends)
-            expected = "session 0 read %s" % ("0 wrote 0" if count == 0 else seen[count - 1])
-            self.that("torn at byte %d" % length, self.call([(0, "127.0.0.1:1")], ["session"], ["--state", state]), (0, [expected], []))
+            expected = ["session 0 asks none", "session 0 read 0 wrote 0"] if count == 0 else ["session 0 asks all", "session 0 read " + seen[count - 1]]
+            self.that("torn at byte %d" % length, self.call([(0, "127.0.0.1:1")], ["session"], ["--state", state]), (0, expected, []))
         for name, content, fault in [
             ("something else", b"hello, hello", "it is no state of sessions; nothing was changed"),
             ("a server's journal", open(os.path.join(folder, "server-0.journal"), "rb").read(), "it is no state of sessions; nothing was changed"),
@@ -239,7 +259,7 @@ class Tries:
                                   stdout=subprocess.PIPE)
         holder.stdin.write(b"session\n")
         holder.stdin.flush()
-        self.that("one holds it", holder.stdout.readline(), b"session 0 read 1 wrote 2\n")
+        self.that("one holds it", [holder.stdout.readline(), holder.stdout.readline()], [b"session 0 asks all\n", b"session 0 read 1 wrote 2\n"])
         self.row("a state in use", at, ["session"], [], 3, ["bayou: %s: it can't be opened, or another process has it" % state], ["--state", state])
         holder.stdin.close()
         self.that("the holder ends", holder.wait(SECONDS), 0)
@@ -259,7 +279,7 @@ class Tries:
             with open(state, "wb") as file:
                 file.write(chained(whole[:HEADER_BYTES], [first] + [last] * (count - 1)))
             told = self.call(at, ["get a"] * lines + ["session"], words, 4 * SECONDS)
-            self.that("a state that %s" % name, told, (0, ["0 read a num 1 at 1"] * lines + ["session 0 read 1 wrote 1"], []))
+            self.that("a state that %s" % name, told, (0, ["0 read a num 1 at 1"] * lines + ["session 0 asks all", "session 0 read 1 wrote 1"], []))
             self.that("entries of a state that %s" % name, (os.path.getsize(state) - HEADER_BYTES) / ENTRY_BYTES, left)
             self.that("nothing is left of it", os.path.exists(state + ".part"), False)
             with open(state, "rb") as file:
@@ -306,12 +326,108 @@ class Tries:
                     wrote = max(wrote, int(line.split(" wrote 0:")[1].split()[0]))
             process.wait(SECONDS)
             status, printed, told = self.call([(0, server.address())], ["session"], ["--state", state])
-            kept = int(printed[0].rsplit(" ", 1)[1]) if printed else -1
+            kept = int(printed[-1].rsplit(" ", 1)[1]) if printed else -1
             self.that("turn %d of seed %d: what was printed is remembered" % (turn, seed), (status, kept >= wrote), (0, True))
         status, printed, told = self.call([(0, server.address())], ["again", "get n"], ["--state", state])
         held = bayou.Link(server.address()).dump()
         self.that("each Write acts once", printed[-1].startswith("0 read n num %d at %d" % (len(held), len(held))))
         self.stop_all()
+
+    def apart(self):
+        """Two servers that never meet, of which the first holds a Write of somebody else."""
+        first, second = [self.start(self.folder(), index, 2) for index in range(2)]
+        self.row("the first has a Write", [(0, first.address())], ["put a 1"], ["0 wrote 0:1 clock 1 deps 0"])
+        return [(0, first.address()), (1, second.address())]
+
+    def asks(self):
+        """What a session asks for: as it is opened, as it was kept, and as the words say."""
+        at, state = self.apart()[:1], os.path.join(self.room, "asks")
+        for asks in alone.SETS:
+            text = "all" if len(asks) == 4 else alone.said(asks)
+            self.row("a session that asks for " + text, at, ["session"], ["session 0 asks " + text, "session 0 read 0 wrote 0"], words=["--session", alone.said(asks)])
+            self.row("a word twice, in another order, of " + text, at, ["session"], ["session 0 asks " + text, "session 0 read 0 wrote 0"],
+                     words=["--session", ",".join(reversed(asks + asks)) or "none"])
+        for words in ["all,none", "ryw,", ",mr", "", "RYW", "ryw mr", "nothing"]:
+            self.row("no guarantees: " + words, at, ["session"], [], 2,
+                     ["bayou: --session takes any of ryw, mr, wfr and mw, with commas between them, or all, or none"], ["--session", words])
+        for kept in alone.SETS:
+            if os.path.exists(state):
+                os.remove(state)
+            text = "all" if len(kept) == 4 else alone.said(kept)
+            self.row("it is kept with " + text, at, ["get a"], ["0 read a num 1 at 1"], words=["--state", state, "--session", alone.said(kept)])
+            with open(state, "rb") as file:
+                content = file.read()
+            self.row("it is said by nobody", at, ["session"], ["session 0 asks " + text, "session 0 read 1 wrote 0"], words=["--state", state])
+            for asks in alone.SETS:
+                words, book = ["--state", state, "--session", alone.said(asks)], state + ".book"
+                if asks == kept:
+                    self.row("it is said again: " + text, at, ["session"], ["session 0 asks " + text, "session 0 read 1 wrote 0"], words=words)
+                    continue
+                other = "all" if len(asks) == 4 else alone.said(asks)
+                self.row("%s is said where %s is kept" % (other, text), at, ["put a 2"], [], 2,
+                         ["bayou: %s: the session there asks for %s, and --session for %s; nothing was asked" % (state, text, other)], words + ["--book", book])
+                self.that("no book is made", os.path.exists(book), False)
+            with open(state, "rb") as file:
+                self.that("nothing is changed of what asks for " + text, file.read(), content)
+        self.row("and nothing was asked", at, ["get a"], ["0 read a num 1 at 1"])
+        self.stop_all()
+
+    def lists(self):
+        """A list shows nothing older than what the session needs: of a server that is behind it is told so, or the next one is listed."""
+        both = self.apart()
+        for asks, lines in [("mr", ["get a"]), ("ryw", ["put b 2"]), ("all", ["put b 2", "get a"])]:
+            state = os.path.join(self.room, "lists-" + asks)
+            told = self.call(both[:1], lines, ["--servers", "2", "--state", state, "--session", asks])
+            self.that("at the first, asking for " + asks, told[0], 0)
+            held = bayou.Link(both[0][1]).dump()
+            rows = ["a num 1"] + ["b num 2"] * (len(held) > 1)
+            self.row("a list at one that is behind, asking for " + asks, both[1:], ["list"], ["0 refused behind at 0,0"], 1, words=["--state", state])
+            self.row("as a read is told, asking for " + asks, both[1:], ["get a"], ["0 refused behind at 0,0"], 1, words=["--state", state])
+            self.row("the next one is listed, asking for " + asks, [both[1], both[0]], ["list", "at 1", "list"],
+                     rows + ["list 0 keys %d" % len(rows)] + rows + ["list 0 keys %d" % len(rows)], words=["--state", state])
+        self.row("a session that needs nothing is shown what is there", both[1:], ["list"], ["list 1 keys 0"])
+        for asks in ["wfr", "mw", "none"]:
+            status, printed, told = self.call(both, ["get a", "put c 3", "at 1", "list"], ["--session", asks])
+            self.that("a session that asks for %s is shown what is there" % asks, (status, printed[-1:], told), (0, ["list 1 keys 0"], []))
+        self.stop_all()
+
+    def guarantees_alone(self):
+        """Each set of guarantees at two servers that never meet: by a line for one server, by short lines over two calls, and by the client in python."""
+        both = self.apart()
+        put = '{"update":[["put","k",1]]}'
+        for asks in alone.SETS:
+            name, words = alone.said(asks), ["--session", alone.said(asks)]
+            for opening, who in [([], 0), (['["session",1,%s]' % json.dumps(asks)], 1)]:
+                reads = ['["read",%d,0,"a"]' % who, '["read",%d,1,"a"]' % who, '["write",%d,1,%s]' % (who, put)]
+                writes = ['["write",%d,0,%s]' % (who, put), '["read",%d,1,"a"]' % who, '["write",%d,1,%s]' % (who, put)]
+                for first, lines, expected in [("read", reads, alone.after_read(asks)), ("wrote", writes, alone.after_write(asks))]:
+                    _, printed, told = self.call(both, opening + lines, words if who == 0 else [])
+                    self.that("session %d, %s, having %s" % (who, name, first), ([alone.kind(line) for line in printed], told), ([first] + expected, []))
+            for first, line, expected in [("read", "get a", alone.after_read(asks)), ("wrote", "put k 2", alone.after_write(asks))]:
+                state = os.path.join(self.room, "alone-%s-%s" % (name, first))
+                told = self.call(both[:1], [line], words + ["--servers", "2", "--state", state])
+                self.that("%s, having %s, is kept" % (name, first), ([alone.kind(line) for line in told[1]], told[2]), ([first], []))
+                told = self.call(both[1:], ["get a", "put k 3"], ["--state", state])
+                self.that("%s, having %s, over two calls" % (name, first), ([alone.kind(line) for line in told[1]], told[2]), (expected, []))
+            self.alone_in_python([address for _, address in both], asks)
+        self.stop_all()
+
+    def alone_in_python(self, addresses, asks):
+        """The same by the client in python."""
+        program = {"update": [["put", "k", 4]]}
+
+        def told(ask, served):
+            try:
+                ask()
+            except bayou.Behind:
+                return "refused"
+            return served
+
+        for first, expected in [("read", alone.after_read(asks)), ("wrote", alone.after_write(asks))]:
+            with bayou.Session(addresses, asks=asks) as session:
+                session.read("a", 0) if first == "read" else session.write(program, 0)
+                kinds = [told(lambda: session.read("a", 1), "read"), told(lambda: session.write(program, 1), "wrote")]
+            self.that("in python, %s, having %s" % (alone.said(asks), first), kinds, expected)
 
     def moves(self, asks, breaks):
         """A session that moves between two servers over ten calls, and what its book says."""
@@ -394,7 +510,7 @@ class Tries:
         self.that("server %d is apart again" % to, again.serving() is not None)
 
 
-GROUPS = ["words", "lines", "turns", "lost", "kept", "grown", "killed", "guarantees", "calendar"]
+GROUPS = ["words", "lines", "turns", "lost", "asks", "lists", "guarantees_alone", "kept", "grown", "killed", "guarantees", "calendar"]
 
 
 def main():

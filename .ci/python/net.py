@@ -9,6 +9,7 @@ import traceback
 
 import frames
 import net_again
+import net_alone
 import net_calls
 import net_device
 import net_faults
@@ -169,7 +170,7 @@ def counts_runs(checks, program, room):
 
 def groups_of(folder, number):
     """Each group of checks by its name."""
-    groups = [meets, helps, goes_on, counts_runs]
+    groups = [meets, helps, goes_on, counts_runs, net_alone.guarantees_alone]
     groups += [net_faults.folders, net_faults.journals, net_faults.torn, net_faults.old, net_faults.held, net_faults.at_once, net_faults.places, net_faults.files]
     groups += [net_verdicts.of_journals, net_verdicts.of_replies, net_verdicts.surveys, net_waits.phases, net_waits.short, net_waits.down]
     groups += [net_again.lost_replies, net_again.failed_journals, net_again.many_agains, net_again.no_connection]

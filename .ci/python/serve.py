@@ -15,6 +15,7 @@ import time
 import frames
 from checks import Checks
 from living import SECONDS, Server
+from meeting import Fake, count_of, dump_of, ended, free_port, items, soon, struct_of
 
 sys.path.insert(0, os.path.join("..", "clients", "python"))
 import bayou  # noqa: E402
@@ -24,12 +25,6 @@ PUT = {"update": [["put", "a", 1]]}
 
 def numbered(number):
     return {"update": [["put", "k%03d" % (number % 500), number]]}
-
-
-def free_port():
-    with socket.socket() as found:
-        found.bind(("127.0.0.1", 0))
-        return found.getsockname()[1]
 
 
 class Tries:
@@ -261,7 +256,7 @@ class Tries:
                 session.write({"update": [["put", "from/%d" % index, index]]}, server=index)
             for index in range(3):
                 self.that("all Writes reach server %d" % index, [soon(lambda: session.read("from/%d" % other, index)) for other in range(3)], [0, 1, 2])
-        self.that("a peer is told as reached", servers[0].told.find("bayou: peer 1 reached pulled [0-9]+ had 0") is not None)
+        self.that("a peer is told as reached", servers[0].told.find("bayou: peer 1 reached pulled [0-9]+ had [0-9]+") is not None)
         servers[1].kill()
         self.that("a peer is told as away", servers[0].told.find(r"bayou: peer 1 at 127\.0\.0\.1:[0-9]+ away", count=1) is not None)
         with bayou.Session(addresses[:1]) as session:
@@ -521,43 +516,6 @@ class Tries:
         self.that("reads and Writes were served", {entry[5] for each in entries for entry in each}, {"read", "write"})
 
 
-def items(writes):
-    return b"".join(frames.frame(frames.ITEM, frames.write_bytes(write)) for write in writes)
-
-
-def ended(number):
-    return frames.frame(frames.END, number.to_bytes(4, "big"))
-
-
-class Fake:
-    """A peer that answers the first of what it is asked so, and closes each later connection at once."""
-
-    def __init__(self, answer, asks=1):
-        self.answer, self.asks = answer, asks
-        self.listener = socket.create_server(("127.0.0.1", 0))
-        self.port = self.listener.getsockname()[1]
-        threading.Thread(target=self.serve, daemon=True).start()
-
-    def serve(self):
-        while True:
-            try:
-                stream, _ = self.listener.accept()
-            except OSError:
-                return
-            with stream:
-                if self.asks > 0:
-                    self.asks -= 1
-                    stream.settimeout(SECONDS)
-                    stream.recv(4096)
-                    stream.sendall(self.answer)
-
-    def __enter__(self):
-        return self
-
-    def __exit__(self, *fault):
-        self.listener.close()
-
-
 def session_request(session):
     """The request of the session's last Write, which was told as accepted: a Write that only adds one."""
     program = {"update": [["put", "n", 0]]} if session.place == 1 else {"check": [["absent", "n"]], "merge": [{"ops": [["put", "n", ["plus", "n", 1]]]}]}
@@ -581,37 +539,6 @@ def drip(stream, seconds):
         if time.monotonic() > end:
             return False
     return False
-
-
-def soon(ask, seconds=SECONDS):
-    """What is asked, once it is there and isn't nothing."""
-    end = time.monotonic() + seconds
-    while True:
-        try:
-            found = ask()
-            if found is not None and found is not False:
-                return found
-        except bayou.BayouError:
-            pass
-        if time.monotonic() > end:
-            return None
-        time.sleep(0.1)
-
-
-def struct_of(write):
-    return bayou.struct.unpack_from(">BI", write)
-
-
-def dump_of(server):
-    link = bayou.Link(server.address())
-    try:
-        return link.dump()
-    finally:
-        link.close()
-
-
-def count_of(server, origin):
-    return sum(struct_of(write)[0] == origin for write in dump_of(server))
 
 
 def soon_alike(servers):

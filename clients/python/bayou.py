@@ -329,16 +329,16 @@ class Session:
     """A session at the servers of these addresses, server 0 first: `None` stands for one that can't be reached from here.
 
     `asks` says what it asks for, any of "ryw" (Read Your Writes), "mr" (Monotonic Reads), "wfr" (Writes Follow Reads) and "mw" (Monotonic
-    Writes). `number` and `run` name its Writes, so that one that is asked again acts once: no two sessions of a store may have the same pair. The
-    run is drawn at random where none is given.
+    Writes). `number` and `run` name its Writes, so that one that is asked again acts once: no two sessions of a store may have the same pair,
+    in this program or another. Each is drawn at random where it isn't given.
     """
 
-    def __init__(self, addresses, asks=(), number=0, run=None, timeout=10.0):
+    def __init__(self, addresses, asks=(), number=None, run=None, timeout=10.0):
         if not set(asks) <= set(ASKS):
             raise BadRequest("%r isn't of %s" % (asks, ", ".join(ASKS)))
         self.links = [None if address is None else Link(address, timeout) for address in addresses]
         self.asks = frozenset(asks)
-        self.number = _integer(number, 0, SESSIONS - 1)
+        self.number = _integer(number, 0, SESSIONS - 1) if number is not None else random.SystemRandom().randint(0, SESSIONS - 1)
         self.run = _integer(run, 1, MAX_NUMBER) if run is not None else random.SystemRandom().randint(1, MAX_NUMBER)
         self.place = 0
         self.has_read, self.has_written = _ZERO, _ZERO
@@ -415,22 +415,25 @@ class Session:
         return accepted
 
     def read_anywhere(self, key):
-        """What the key has at the first server that is reached and holds what the session needs."""
-        return self._anywhere(lambda server: self.read(key, server))
+        """What the key has at the first server that is reached and holds what the session needs. A read changes nothing, so that it goes on to the
+        next one also where no reply came."""
+        return self._anywhere(lambda server: self.read(key, server), is_read=True)
 
     def write_anywhere(self, program):
         """Has the program accepted at the first server that takes it. It goes on to the next one only where nothing can have been done."""
-        return self._anywhere(lambda server: self.write(program, server))
+        return self._anywhere(lambda server: self.write(program, server), is_read=False)
 
-    def _anywhere(self, ask):
+    def _anywhere(self, ask, is_read):
         fault = Away("no server has an address")
         for server, link in enumerate(self.links):
             if link is None:
                 continue
             try:
                 return ask(server)
-            except (JournalFailed, Lost):
-                raise
+            except (JournalFailed, Lost) as doubt:
+                if not is_read:
+                    raise
+                fault = doubt
             except (Away, Refused) as refused:
                 fault = refused
         raise fault

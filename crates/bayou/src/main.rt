@@ -16,7 +16,7 @@ use bayou_shell::{
 use bayou_streams::{CountedChannel, Output};
 use progress::{Counted, Screen, tell_progress};
 use std::alloc::Global;
-use std::fs::File;
+use std::fs::{File, OpenOptions};
 use std::io::{IsTerminal, Stderr, Stdin, Stdout, Write};
 use std::net::{Net, TcpListener, TcpStream};
 use std::process::ExitCode;
@@ -24,7 +24,13 @@ use std::random::RandomSource;
 use std::sync::{Mutex, Wait};
 use std::thread::Threads;
 use std::time::{Clock, Duration};
-use std::{env, fs, io, thread};
+use std::{array, env, fs, io, thread};
+
+/// How many standard streams there are: input, output and errors.
+const STREAMS: usize = 3;
+
+/// Which gives nothing and takes all.
+const NULL_DEVICE: &str = "/dev/null";
 
 /// What is still to be done once the words were read.
 #[derive(Drop)]
@@ -97,6 +103,15 @@ impl<T> Networks for Host<'_, T> {
         self.taken = Some(Taken::Connect(Call::of(alloc, connecting)?));
         Ok(Ended::Clean)
     }
+}
+
+// Has descriptors 0, 1 and 2 in use from here on: what is opened takes the least that is free, and a file of a store that got one of them would
+// have lines written into it. Where nothing is there the null device is. Those that it doesn't need are held too: which they are can't be seen.
+fn hold_streams<T: fs::Files<File = File>>(rt: &T) -> [Option<File>; STREAMS] {
+    let mut null = OpenOptions::new();
+    null.read(true);
+    null.write(true);
+    array::from_fn(|_| null.open(rt, NULL_DEVICE).ok())
 }
 
 fn words_of(rt: &HostRuntime) -> io::Result<Vec<String>> {
@@ -222,6 +237,7 @@ fn run_told<
 }
 
 fn main(rt: HostRuntime) -> ExitCode {
+    let _streams = hold_streams(&rt);
     let words = match words_of(&rt) {
         Ok(words) => words,
         Err(error) => return ExitCode::from(refuse_words(&mut Output::new(rt.stderr()), &error)),

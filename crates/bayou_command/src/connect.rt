@@ -26,7 +26,7 @@ const COUNT: &str =
     "How many servers the store has (1 to 16; without it one more than the highest that is named)";
 
 const SESSION: &str =
-    "What the session asks for: any of ryw,mr,wfr,mw, or all, or none (without it none)";
+    "What the session asks for: any of ryw,mr,wfr,mw, or all, or none (without it what --state keeps, or none)";
 
 const STATE: &str = "The file that keeps the session from one call to the next";
 
@@ -60,9 +60,9 @@ Lines. K is a key, of 1 to 32 bytes of a-z 0-9 . _ - /; V an integer, or a text 
   get K                 reads K
   again                 asks the last Write once more, where its reply was lost or it was refused
   at I                  server I is the first to be asked from here on
-  list                  each key that has a value at the first server, and that value
+  list                  each key that has a value at the first server that holds what the session needs, and that value
   servers               each server, and what it holds, or that it is away
-  session               what the session read and wrote
+  session               what the session asks for, and what it read and wrote
   dump                  puts what each server holds into the book (--book), once, at the end
 
 A line that begins with [ is a line of a script (bayou run --help), and is done at just the server that it names:
@@ -72,8 +72,9 @@ A line that begins with [ is a line of a script (bayou run --help), and is done 
   ["reopen",S]          server S, which a fault of its device took down, opens its journal again
 
 A short line goes to the first server. Where that is away or refuses, and nothing was done, it goes to the next in the order of the
-words; with --wait the round begins anew until a server serves it, or the time is over. A Write whose reply was lost goes to no other
-server, since it may have been done: `I lost` says so, and `again` asks it again, which makes no second one of it.
+words; with --wait the round begins anew until a server serves it, or the time is over. A read whose reply was lost goes on, too. A Write
+whose reply was lost goes to no other server, since it may have been done: `I lost` says so, and `again` asks it again, which makes no
+second one of it.
 
 Answers are those of bayou net. `I wrote ..` says that the Write is held, not that it did what it was meant to: another Write may still come
 before it. So later ask again who has the key. New are
@@ -82,6 +83,7 @@ before it. So later ask again who has the key. New are
 
 --state keeps the session in FILE, before an answer is printed, so that the next call goes on as the same session, at any server: it sees what
 this one saw, and a Write that was under way is asked again by `again`. Each person has a file of his own, and one call at a time uses it.
+What the session asks for is kept, too: a later --session that says anything else is refused.
 --book writes what was served to FILE, as an audit file; with the dumps of all servers bayou audit tells whether the session had what it
 asked for.
 

@@ -1,5 +1,12 @@
+pub mod Going
+pub mod Least
+pub mod Naming
+pub mod Opening
+pub mod Picking
+pub mod Rounding
 pub mod Serving
 pub mod Shares
 pub mod Telling
 pub mod Turns
+pub mod Written
 pub mod Zipped

@@ -1,7 +1,7 @@
 -- What a session was told is kept last.
-use Rattle.std.proofs.Common.{arith, ◌≡◌, ℕ, ◌<◌, List, Option, Some, length, get_or, set, refl, sym, ap, subst, ◌∙◌}
+use Rattle.std.proofs.Common.{◌≡◌, ℕ, ◌<◌, List, Option, Some, length, get_or, set, refl, sym, ap, subst, ◌∙◌}
 use Rattle.std.specs.List.{slice_get}
-use Rattle.std.proofs.lemmas.List.{get_or-set_same, length-set}
+use Rattle.std.proofs.lemmas.List.{set-set}
 use Rattle.std.proofs.lemmas.Option.{slice_get-get_or}
 use Rattle.std.specs.Prelude.{IfSome}
 use Rattle.bayou_base.specs.declared.server.ServerId.{ServerId}
@@ -26,12 +26,9 @@ is_told places at attempt before place who gone state told server was kept there
   had = there before who was within (subst (λ n. get_or before n (Some was) ≡ Some was) here had);
   kept = kept;
   done = done;
-  is = rw here (behind (set before who gone) (omega (arith, length-set before who gone, within)));
+  is = set-set before place gone (Some kept) ∙ ap (λ (n : ℕ). set before n (Some kept)) here;
   last = last;
 }
-  where
-    behind : (xs : List (Option Keeping)) → who < length xs → slice_get (set xs who (Some kept)) who ≡ Some (Some kept)
-    behind xs fits = there (set xs who (Some kept)) who kept (omega (arith, length-set xs who (Some kept), fits)) (get_or-set_same xs who (Some kept) (Some kept) fits)
 
 -- the place of a server that was found there
 pub place_at : (places : List Access) (at : ℕ) (access : Access) → at < length places → access ≡ get_or places at access → IfSome (slice_get places at) (λ one. one.place.id ≡ access.place.id)

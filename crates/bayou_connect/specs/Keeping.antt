@@ -1,5 +1,5 @@
 -- What is kept of an operation before it is sent, and before anybody is told of it: this project's own.
-use Rattle.std.specs.Prelude.{◌≡◌, ◌⊎◌, ℕ, List, Option, None, Some, IfSome, option_map, slice_get}
+use Rattle.std.specs.Prelude.{◌≡◌, ◌⊎◌, ℕ, List, Option, None, Some, IfSome, option_map, slice_get, slice_set}
 use Rattle.bayou_base.specs.declared.server.ServerId.{ServerId}
 use Rattle.bayou_connect.specs.declared.asking.Attempt.{Attempt}
 use Rattle.bayou_connect.specs.declared.asking.Attempt.TheVariants as attempts
@@ -31,7 +31,7 @@ pub record IsUnsent (old new : List (Option Keeping)) (told : Told) : Type 0 whe
   pub same : new ≡ old
   pub none : (told ≡ Away) ⊎ (told ≡ Lost)
 
--- The session did this at the server of that place, and is kept last as it was told.
+-- The session did this at the server of that place, and is kept last as it was told; each other session stays as it was.
 pub record IsTold (places : List Access) (at : ℕ) (attempt : Attempt) (old new : List (Option Keeping)) (state : Option StateFile) (who : ℕ) (told : Told) : Type 0 where
   pub server : ServerId
   pub place : IfSome (slice_get places at) (λ access. access.place.id ≡ server)
@@ -39,7 +39,7 @@ pub record IsTold (places : List Access) (at : ℕ) (attempt : Attempt) (old new
   pub had : slice_get old who ≡ Some (Some was)
   pub kept : Keeping
   pub done : HasDone attempt server was kept told
-  pub is : slice_get new who ≡ Some (Some kept)
+  pub is : new ≡ slice_set old who (Some kept)
   pub last : IsKeptLast state kept
 
 abbrev pub HasAsked : (places : List Access) (at : ℕ) → Attempt → (old new : List (Option Keeping)) → Option StateFile → (who : ℕ) → Told → Type 0

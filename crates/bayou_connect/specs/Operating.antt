@@ -1,5 +1,5 @@
 -- What becomes of a session at one server, by what it is told: this project's own (sessions by Terry et al. 1994).
-use Rattle.std.specs.Prelude.{◌≡◌, ◌⊎◌, Option, None, Some}
+use Rattle.std.specs.Prelude.{◌≡◌, ◌⊎◌, Bool, true, false, Option, None, Some}
 use Rattle.bayou_base.specs.declared.server.ServerId.{ServerId}
 use Rattle.bayou_client.specs.declared.client.Asked.{Asked}
 use Rattle.bayou_connect.specs.declared.asking.Attempt.{Attempt}
@@ -8,6 +8,12 @@ use Rattle.bayou_connect.specs.declared.told.Told.{Told}
 use Rattle.bayou_connect.specs.declared.told.Told.TheVariants as told
 use Rattle.bayou_remember.specs.Spelling.{Keeping}
 use Rattle.bayou_session.specs.Needs.{after_read, after_write, asks_again, asks_first, one_place_more}
+
+-- it is a read, which changes nothing
+abbrev pub is_read : Attempt → Bool
+is_read (attempts.Read key) = true
+is_read (attempts.Write program) = false
+is_read attempts.Again = false
 
 -- As it is sent: one place more is begun, and a Write may be asked again from then on. There is nothing to ask again where nothing was asked.
 abbrev pub sent_again : Keeping → Option Asked → Keeping

@@ -1,25 +1,25 @@
 -- One server after another is asked the same, until one serves it or may have done it: this project's own.
-use Rattle.std.specs.Prelude.{◌≡◌, ◌⊎◌, ℕ, ◌-◌, Bool, true, false, List, [], ◌∷◌, ◌++◌}
+use Rattle.std.specs.Prelude.{◌≡◌, ◌⊎◌, ℕ, zero, suc, ◌-◌, Bool, true, false, List, [], ◌∷◌, ◌++◌}
 use Rattle.std.specs.List.{range_with_len}
 use Rattle.bayou_connect.specs.declared.told.Told.{Told}
 use Rattle.bayou_connect.specs.declared.told.Told.TheVariants as told
 use Rattle.bayou_server.specs.declared.fault.WriteFault.TheVariants as faults
 
--- Nothing was done there, so that another server may be asked: it wasn't reached, or it refused, but for a journal that failed, behind which
--- a Write may be in doubt.
-abbrev pub may_ask_another : Told → Bool
-may_ask_another told.Away = true
-may_ask_another (told.Seen seen) = false
-may_ask_another (told.Accepted accepted) = false
-may_ask_another (told.Refused faults.Journal) = false
-may_ask_another (told.Refused faults.TagUsed) = true
-may_ask_another (told.Refused faults.Down) = true
-may_ask_another (told.Refused (faults.Behind vector)) = true
-may_ask_another (told.Refused faults.LogFull) = true
-may_ask_another (told.Refused faults.OutOfMemory) = true
-may_ask_another told.Lost = false
+-- Another server may be asked: this one wasn't reached, or it refused, or it was asked for a read, which changes nothing. A Write is in doubt that
+-- was refused for a journal that failed, or whose reply was lost.
+abbrev pub may_ask_another : (is_read : Bool) → Told → Bool
+may_ask_another is_read told.Away = true
+may_ask_another is_read (told.Seen seen) = false
+may_ask_another is_read (told.Accepted accepted) = false
+may_ask_another is_read (told.Refused faults.Journal) = is_read
+may_ask_another is_read (told.Refused faults.TagUsed) = true
+may_ask_another is_read (told.Refused faults.Down) = true
+may_ask_another is_read (told.Refused (faults.Behind vector)) = true
+may_ask_another is_read (told.Refused faults.LogFull) = true
+may_ask_another is_read (told.Refused faults.OutOfMemory) = true
+may_ask_another is_read told.Lost = is_read
 
--- the last refusal, where there was one
+-- the last refusal or lost reply, where there was one
 abbrev pub after_refusal : (before told : Told) → Told
 after_refusal before told.Away = before
 after_refusal before (told.Seen seen) = told.Seen seen
@@ -31,11 +31,24 @@ after_refusal before told.Lost = told.Lost
 abbrev pub turns : (first count : ℕ) → List ℕ
 turns first count = range_with_len first (count - first) ++ range_with_len 0 first
 
--- The servers are asked in this order, each of them once at the most: up to the first behind which no other may be asked, and what that told is
--- told. Where there is none, the last refusal is told, or what stood before.
-abbrev pub AsksInTurn : {S : Type 0} → (S → ℕ → S → Told → Type 0) → List ℕ → (before : Told) → (old new : S) → Told → Type 0
-AsksInTurn asks [] before old new result = (new ≡ old) × (result ≡ before)
-AsksInTurn {S} asks (at ∷ order) before old new result =
+-- The servers are asked in this order, each of them once at the most: up to the first after which no other may be asked, and what that told is
+-- told. Where there is none, the last refusal or lost reply is told, or what stood before.
+abbrev pub AsksInTurn : {S : Type 0} → (S → ℕ → S → Told → Type 0) → (is_read : Bool) → List ℕ → (before : Told) → (old new : S) → Told → Type 0
+AsksInTurn asks is_read [] before old new result = (new ≡ old) × (result ≡ before)
+AsksInTurn {S} asks is_read (at ∷ order) before old new result =
     (middle : S) × (answer : Told) × asks old at middle answer
-    × (((may_ask_another answer ≡ false) × (new ≡ middle) × (result ≡ answer))
-    ⊎ ((may_ask_another answer ≡ true) × AsksInTurn asks order (after_refusal before answer) middle new result))
+    × (((may_ask_another is_read answer ≡ false) × (new ≡ middle) × (result ≡ answer))
+    ⊎ ((may_ask_another is_read answer ≡ true) × AsksInTurn asks is_read order (after_refusal before answer) middle new result))
+
+-- so many rounds more at the most, each only where another server may be asked after the one before
+abbrev pub GoesRound : {S : Type 0} → (S → ℕ → S → Told → Type 0) → (is_read : Bool) → List ℕ → (more : ℕ) → (now : S) → (answer : Told) → (new : S) → Told → Type 0
+GoesRound asks is_read order zero now answer new result = (new ≡ now) × (result ≡ answer)
+GoesRound {S} asks is_read order (suc more) now answer new result =
+    ((may_ask_another is_read answer ≡ false) × (new ≡ now) × (result ≡ answer))
+    ⊎ ((may_ask_another is_read answer ≡ true)
+    × ((next : S) × (later : Told) × AsksInTurn asks is_read order told.Away now next later × GoesRound asks is_read order more next later new result))
+
+-- a round at these servers, and so many more at the most
+abbrev pub AsksInRounds : {S : Type 0} → (S → ℕ → S → Told → Type 0) → (is_read : Bool) → List ℕ → (more : ℕ) → (old new : S) → Told → Type 0
+AsksInRounds {S} asks is_read order more old new result =
+    (now : S) × (answer : Told) × AsksInTurn asks is_read order told.Away old now answer × GoesRound asks is_read order more now answer new result

@@ -1,51 +1,42 @@
-//! A short line's operation, at the first server that serves it.
+//! A short line, at the first server that serves it.
+ghost use Rattle.std.specs.Prelude.{◌≡◌, IfOk, MatchResult, Some};
+ghost use Rattle.bayou_base.specs.Vector.{Dominates};
+ghost use Rattle.bayou_connect.specs.Anywhere.{AsksAnywhere, AsksAt};
+ghost use Rattle.bayou_connect.specs.Listing.{IsPassedBy, ListsEnough};
+
 use crate::asking::Attempt;
 use crate::fault::ConnectFault;
-use crate::round::{Ways, first_served, in_turn, is_undone};
+use crate::round::{Ways, in_rounds, in_turn};
 use crate::store::Store;
 use crate::told::Told;
-use bayou_base::SessionId;
-use bayou_base::limits::ROUND_MILLISECONDS;
+use bayou_base::{Seen, SessionId, Vector};
+use bayou_lang::RestingWrite;
 use bayou_net::Sockets;
+use bayou_server::WriteFault;
 use std::fs::{File, Files};
 use std::sync::Wait;
-use std::thread;
-use std::time::{Clock, Duration};
+use std::time::Clock;
 
-/// How often it goes round in a second.
-pub(crate) const ROUNDS_PER_SECOND: u64 = 1_000 / ROUND_MILLISECONDS;
-
-// The servers of a store, of which a session asks the same.
+// What a session asks.
 #[derive(Drop)]
-struct SameAtAll<'a, T> {
+struct Asking<'a, T> {
     rt: &'a T,
-    store: &'a mut Store,
     who: SessionId,
     attempt: &'a Attempt,
-    /// Which was asked last.
-    last: usize,
 }
 
-impl<T: Files<File = File> + Sockets + Wait> Ways for SameAtAll<'_, T> {
+impl<'a, T: Files<File = File> + Sockets + Wait> Ways<Asking<'a, T>> for Store {
     type Fault = ConnectFault;
 
-    ghost asks = { λ old at new told. Unit {0} };
+    ghost asks = { λ what old at new told. AsksAt what.who what.attempt.now old at new told };
 
-    fn ask(&mut self, at: usize) -> Result<Told, ConnectFault> {
-        self.last = at;
-        let attempt = self.attempt.copy(self.store.alloc())?;
-        self.store.ask(self.rt, self.who, at, attempt)
+    fn ask(&mut self, what: &Asking<'a, T>, at: usize) -> Result<Told, ConnectFault> {
+        let attempt = what.attempt.copy(self.alloc())?;
+        self.ask_at(what.rt, what.who, at, attempt)
     }
 }
 
-/// What an operation was told, and by which server, by its place in the list.
-#[derive(Drop)]
-pub(crate) struct Served {
-    pub(crate) at: usize,
-    pub(crate) told: Told,
-}
-
-/// Has the session ask each server in turn, from this one on, and round again so often while each was away or refused.
+/// Has the session ask each server in turn, from this one on, and round again so often while another may be asked.
 pub(crate) fn anywhere<T: Files<File = File> + Sockets + Wait + Clock>(
     rt: &T,
     store: &mut Store,
@@ -53,42 +44,97 @@ pub(crate) fn anywhere<T: Files<File = File> + Sockets + Wait + Clock>(
     attempt: &Attempt,
     first: usize,
     rounds: u64,
-) -> Result<Served, ConnectFault> {
-    let mut served = Served {
-        at: first,
-        told: Told::Away,
-    };
+) -> Result<Told, ConnectFault>
+    ensures { IfOk result (AsksAnywhere who attempt.now first rounds store.old store.new) }
+{
     if first >= store.len() {
-        return Ok(served);
+        return Ok(Told::Away);
     }
     let order = in_turn(store.alloc(), first, store.len())?;
-    for round in 0..=rounds {
-        if round > 0 {
-            thread::sleep(rt, Duration::from_millis(ROUND_MILLISECONDS));
-        }
-        served = once_round(rt, store, who, attempt, &order)?;
-        if !is_undone(&served.told) {
-            break;
-        }
-    }
-    Ok(served)
+    let asking = Asking { rt, who, attempt };
+    in_rounds(rt, store, &asking, &order, attempt.is_read(), rounds)
 }
 
-// Has the session ask each server in this order once.
-fn once_round<T: Files<File = File> + Sockets + Wait>(
+// What is listed: the servers, what one of them has to hold, and what the one that was asked last sent.
+#[derive(Drop)]
+struct Listing<'a, T> {
+    rt: &'a T,
+    store: &'a mut Store,
+    at: usize,
+    writes: Vec<RestingWrite>,
+}
+
+// What a server holds, where that is enough; else how it is passed by.
+fn enough(held: Option<Vector>, need: &Vector) -> Result<Vector, Told>
+    ensures { MatchResult result (λ vector. (held ≡ Some vector) × Dominates vector need.now) (IsPassedBy held need.now) }
+{
+    let Some(vector) = held else {
+        return Err(Told::Away);
+    };
+    if vector.dominates(need) {
+        Ok(vector)
+    } else {
+        Err(Told::Refused(WriteFault::Behind(vector)))
+    }
+}
+
+impl<T: Sockets + Wait> Ways<Vector> for Listing<'_, T> {
+    type Fault = ConnectFault;
+
+    ghost asks = { λ need old at new told. ListsEnough need told };
+
+    fn ask(&mut self, need: &Vector, at: usize) -> Result<Told, ConnectFault> {
+        self.at = at;
+        let held = self.store.held_at(self.rt, at)?;
+        let vector = match enough(held, need) {
+            Ok(vector) => vector,
+            Err(told) => return Ok(told),
+        };
+        let Some(writes) = self.store.dump(self.rt, at)? else {
+            return Ok(Told::Lost);
+        };
+        self.writes = writes;
+        Ok(Told::Seen(Seen {
+            value: None,
+            vector,
+        }))
+    }
+}
+
+/// What a server sent of what it holds, by its place in the list, where it was seen to hold what is needed; or why none was.
+#[derive(Drop)]
+pub(crate) struct Listed {
+    pub(crate) at: usize,
+    pub(crate) told: Told,
+    pub(crate) writes: Vec<RestingWrite>,
+}
+
+/// Has each server send what it holds, in turn, from this one on, up to the first that holds what is needed; and round again so often.
+pub(crate) fn listed_anywhere<T: Sockets + Wait + Clock>(
     rt: &T,
     store: &mut Store,
-    who: SessionId,
-    attempt: &Attempt,
-    order: &[usize],
-) -> Result<Served, ConnectFault> {
-    let mut all = SameAtAll {
+    need: &Vector,
+    first: usize,
+    rounds: u64,
+) -> Result<Listed, ConnectFault>
+    ensures { IfOk result (λ listed. ListsEnough need.now listed.told) }
+{
+    let (alloc, count) = (store.alloc(), store.len());
+    if first >= count {
+        return Ok(Listed {
+            at: first,
+            told: Told::Away,
+            writes: Vec::new(alloc),
+        });
+    }
+    let order = in_turn(alloc, first, count)?;
+    let mut listing = Listing {
         rt,
         store,
-        who,
-        attempt,
-        last: 0,
+        at: first,
+        writes: Vec::new(alloc),
     };
-    let told = first_served(&mut all, order)?;
-    Ok(Served { at: all.last, told })
+    let told = in_rounds(rt, &mut listing, need, &order, true, rounds)?;
+    let Listing { at, writes, .. } = listing;
+    Ok(Listed { at, told, writes })
 }

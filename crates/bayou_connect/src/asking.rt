@@ -4,7 +4,7 @@ ghost use Rattle.bayou_audit.specs.Blanks.{AreBlanksOf, named};
 ghost use Rattle.bayou_base.specs.declared.limits.TheConstants.{MAX_PLACES};
 ghost use Rattle.bayou_base.specs.declared.server.ServerId.{ServerId as ServerNumber};
 ghost use Rattle.bayou_connect.specs.Keeping.{IsKeptLast, IsReady};
-ghost use Rattle.bayou_connect.specs.Operating.{HasDone, IsNoService};
+ghost use Rattle.bayou_connect.specs.Operating.{HasDone, IsNoService, is_read as reads};
 
 use crate::fault::ConnectFault;
 use crate::reach::SocketLink;
@@ -44,6 +44,13 @@ impl Attempt {
             Attempt::Write(program) => Ok(Attempt::Write(program.copy(alloc)?)),
             Attempt::Again => Ok(Attempt::Again),
         }
+    }
+
+    /// Whether it is a read, which changes nothing.
+    pub(crate) fn is_read(&self) -> bool
+        ensures { result ≡ reads self.now }
+    {
+        matches!(self, Attempt::Read(_))
     }
 }
 

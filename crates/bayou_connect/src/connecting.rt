@@ -1,18 +1,21 @@
 //! The lines of an input, done as they come.
-ghost use Rattle.std.specs.Prelude.{◌<◌, ◌≤◌, IfOk};
+ghost use Rattle.std.specs.Prelude.{◌≡◌, ◌*◌, ◌<◌, ◌≤◌, false, IfOk, MatchOption, length, option_map, replicate, true, vec_len};
+ghost use Rattle.bayou_base.specs.declared.limits.TheConstants.{SERVERS as SERVERS_NUMBER, SESSIONS as NUMBER};
+ghost use Rattle.bayou_connect.specs.Plans.{AsksBoth, Differ};
+ghost use Rattle.bayou_connect.specs.Sessions.{IsOpened, kept_of};
 
-use crate::anywhere::ROUNDS_PER_SECOND;
 use crate::audit_file::AuditFile;
 use crate::desk::{Desk, OWN};
 use crate::fault::ConnectFault;
 use crate::lines::{Lines, Next};
-use crate::plan::Plan;
+use crate::plan::{Plan, asks_of_both, asks_text};
 use crate::remembering::{Remembered, StateFile, remember};
+use crate::round::ROUNDS_PER_SECOND;
 use crate::store::Store;
-use bayou_base::{Asks, SESSIONS};
+use bayou_base::{Asks, SESSIONS, SessionId};
 use bayou_net::Sockets;
 use bayou_person::{WishFault, wish_in};
-use bayou_remember::nothing_kept;
+use bayou_remember::{Kept, nothing_kept};
 use bayou_script::ScriptFault;
 use bayou_streams::Output;
 use bayou_text::{Line, LineFault, read_line};
@@ -201,42 +204,111 @@ fn drawn_run<T: RandomSource>(rt: &T) -> Result<u32, ConnectFault>
     Ok(u32::from_be_bytes(bytes).max(1))
 }
 
-// The store that the plan asks for, with what is kept of its sessions.
-fn store_of<T: Files<File = File>>(
-    rt: &T,
-    alloc: Global,
-    plan: &Plan,
-    names: Names<'_>,
-    run: u32,
-) -> Result<Store, ConnectFault>
-    requires { 0 < run }
-{
-    let (state, sessions) = match names.state {
-        None => (None, nothing_kept(alloc)?),
-        Some(path) => {
-            let Remembered { memory, all } = remember(rt, alloc, path, run)?;
-            let path = path.to_string(alloc)?;
-            (Some(StateFile::new(memory, path, run)), all)
-        }
-    };
-    let book = match names.book {
-        None => None,
-        Some(path) => Some(AuditFile::open(rt, alloc, path, plan.servers)?),
-    };
-    Ok(Store::new(alloc, &plan.places, sessions, state, book)?)
+// What is kept of each session, by its number, and the file that keeps it, if one does.
+#[derive(Drop)]
+struct Found {
+    state: Option<StateFile>,
+    sessions: Vec<Option<Kept>>,
+    ghost one_each: { vec_len sessions ≡ NUMBER },
 }
 
-// What the session of short lines asks for: what the plan says, else what it asked for when it was kept, else nothing.
-fn own_asks(plan: &Plan, store: &Store) -> Asks {
-    match (plan.asks, store.session(OWN)) {
-        (Some(asks), _) => asks,
-        (None, Some(kept)) => kept.session().asks(),
-        (None, None) => Asks::default(),
+// What the file of this name keeps of sessions; nothing, where there is no name.
+fn found_in<T: Files<File = File>>(
+    rt: &T,
+    alloc: Global,
+    name: Option<&str>,
+    run: u32,
+) -> Result<Found, ConnectFault>
+    requires { 0 < run }
+{
+    let Some(path) = name else {
+        return Ok(Found {
+            state: None,
+            sessions: nothing_kept(alloc)?,
+        });
+    };
+    let Remembered { memory, all } = remember(rt, alloc, path, run)?;
+    let path = path.to_string(alloc)?;
+    Ok(Found {
+        state: Some(StateFile::new(memory, path, run)),
+        sessions: all,
+    })
+}
+
+// The book, where it has a name.
+fn book_in<T: Files<File = File>>(
+    rt: &T,
+    alloc: Global,
+    name: Option<&str>,
+    servers: u8,
+) -> Result<Option<AuditFile>, ConnectFault>
+    requires { (0 < servers) × (servers ≤ SERVERS_NUMBER) }
+{
+    match name {
+        None => Ok(None),
+        Some(path) => Ok(Some(AuditFile::open(rt, alloc, path, servers)?)),
+    }
+}
+
+// What the session asked for when it was kept, if it was.
+fn asks_kept(sessions: &[Option<Kept>], who: SessionId) -> Option<Asks>
+    requires { length sessions.now ≡ NUMBER }
+    ensures { result ≡ option_map (λ kept. kept.session.asks) (kept_of sessions.now who) }
+{
+    match &sessions[usize::from(who.index)] {
+        None => None,
+        Some(kept) => Some(kept.session().asks()),
+    }
+}
+
+// What the session asks for that the words speak of: what they say and what it asked for when it was kept, or nothing. `None` where these are two.
+fn own_asks(plan: &Plan, sessions: &[Option<Kept>], who: SessionId) -> Option<Asks>
+    requires { length sessions.now ≡ NUMBER }
+    ensures { let kept = option_map (λ kept. kept.session.asks) (kept_of sessions.now who) in MatchOption result (Differ plan.now.asks kept) (AsksBoth plan.now.asks kept) }
+{
+    asks_of_both(plan.asks, asks_kept(sessions, who))
+}
+
+// Tells, as far as it can be told, that the words ask for something else than the session did when it was kept.
+fn tell_other_asks<E: Write>(
+    alloc: Global,
+    errors: &mut E,
+    path: &str,
+    kept: Asks,
+    said: Asks,
+) -> Result<(), ConnectFault> {
+    let (kept, said) = (asks_text(kept), asks_text(said));
+    let line = format!(in alloc;
+        "bayou: {path}: the session there asks for {kept}, and --session for {said}; nothing was asked\n"
+    )?;
+    let _ = errors.write_all(line.as_bytes());
+    Ok(())
+}
+
+// A desk for the plan, at which the session is open and asks for this.
+fn desk_of(alloc: Global, plan: &Plan, store: Store, run: u32, who: SessionId, asks: Asks) -> Desk
+    requires { 0 < run }
+    ensures session { IsOpened who run asks store.sessions.items result.store.sessions.items }
+    ensures plan { (result.servers ≡ plan.now.servers) × (result.rounds ≡ plan.now.wait_seconds * ROUNDS_PER_SECOND) }
+    ensures new { (result.run ≡ run) × (result.first ≡ 0) × (result.is_served ≡ true) × (result.opened ≡ replicate NUMBER false) }
+{
+    let mut store = store;
+    store.open(who, run, asks);
+    Desk {
+        alloc,
+        store,
+        servers: plan.servers,
+        run,
+        first: 0,
+        rounds: u64::from(plan.wait_seconds) * ROUNDS_PER_SECOND,
+        opened: [false; SESSIONS],
+        is_served: true,
     }
 }
 
 /// Does the lines of an input as they come, at the servers of the plan, until it ends, or until a line can't be done that no person types. What
-/// sessions read and wrote is kept in a file, and what they were served goes into another, where these have names.
+/// sessions read and wrote is kept in a file, and what they were served goes into another, where these have names. Where the plan asks for something else
+/// than the session of short lines did when it was kept, that is told, and nothing is asked.
 pub fn connect_plan<I, W, E, T>(
     rt: &T,
     alloc: Global,
@@ -253,18 +325,19 @@ where
     T: Files<File = File> + Sockets + Wait + Clock + RandomSource,
 {
     let run = drawn_run(rt)?;
-    let mut store = store_of(rt, alloc, plan, names, run)?;
-    let asks = own_asks(plan, &store);
-    store.open(OWN, run, asks);
-    let mut desk = Desk {
-        alloc,
-        store,
-        servers: plan.servers,
-        run,
-        first: 0,
-        rounds: u64::from(plan.wait_seconds) * ROUNDS_PER_SECOND,
-        opened: [false; SESSIONS],
-        is_served: true,
+    let Found { state, sessions } = found_in(rt, alloc, names.state, run)?;
+    let Some(asks) = own_asks(plan, &sessions, OWN) else {
+        if let (Some(path), Some(said), Some(kept)) = (
+            names.state,
+            plan.asks,
+            asks_kept(&sessions, OWN),
+        ) {
+            tell_other_asks(alloc, errors, path, kept, said)?;
+        }
+        return Ok(Ended::Refused);
     };
+    let book = book_in(rt, alloc, names.book, plan.servers)?;
+    let store = Store::new(alloc, &plan.places, sessions, state, book)?;
+    let mut desk = desk_of(alloc, plan, store, run, OWN, asks);
     do_lines(rt, &mut desk, input, output, errors)
 }

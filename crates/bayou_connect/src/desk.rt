@@ -1,6 +1,13 @@
 //! A person's desk: what a line asks for is done, and what becomes of it is printed.
-ghost use Rattle.std.specs.Prelude.{◌<◌, ◌≤◌};
+ghost use Rattle.std.specs.Prelude.{◌≡◌, ◌<◌, ◌≤◌, ◌↔◌, ◌&&◌, false, IfOk, IsTrue, MatchBool, None, OnOk, Some, slice_get, slice_set, true};
+ghost use Rattle.std.specs.Bool.{OnFalse, OnTrue};
 ghost use Rattle.bayou_base.specs.declared.limits.TheConstants.{SERVERS as NUMBER};
+ghost use Rattle.bayou_connect.specs.Anywhere.{AsksAnywhere, AsksAt, AsksServer};
+ghost use Rattle.bayou_connect.specs.Printing.{is_service, told_text};
+ghost use Rattle.bayou_connect.specs.Sessions.{IsOpened};
+ghost use Rattle.bayou_connect.specs.declared.asking.Attempt.TheVariants as attempts;
+ghost use Rattle.bayou_connect.specs.declared.told.Told.{Told as Answered};
+ghost use Rattle.bayou_streams.specs.Account.{TakesBytes, account};
 
 use crate::anywhere::anywhere;
 use crate::asking::Attempt;
@@ -46,20 +53,26 @@ pub(crate) struct Desk {
 }
 
 /// Puts a line to the output at once.
-pub(crate) fn print<W: Write>(output: &mut Output<W>, line: &str) -> Result<(), ConnectFault> {
+pub(crate) fn print<W: Write>(output: &mut Output<W>, line: &str) -> Result<(), ConnectFault>
+    ensures { OnOk result (TakesBytes (account W.contents output.old) (account W.contents output.new) line.now) }
+{
     write_text(output, line.as_bytes())?;
     Ok(())
 }
 
 impl Desk {
     // Prints what an operation was told, of which the key is one if it is a read.
-    fn finish<W: Write>(
+    pub(crate) fn finish<W: Write>(
         &mut self,
         output: &mut Output<W>,
         who: SessionId,
         key: &Option<Key>,
         told: Told,
-    ) -> Result<(), ConnectFault> {
+    ) -> Result<(), ConnectFault>
+        ensures printed { OnOk result (TakesBytes (account W.contents output.old) (account W.contents output.new) (told_text self.old.servers who key.now told)) }
+        ensures served { self.new.is_served ≡ (self.old.is_served && is_service told) }
+        ensures same { self.new.store ≡ self.old.store }
+    {
         if !matches!(told, Told::Seen(_) | Told::Accepted(_)) {
             self.is_served = false;
         }
@@ -76,14 +89,19 @@ impl Desk {
         server: ServerId,
         key: Option<Key>,
         attempt: Attempt,
-    ) -> Result<bool, ConnectFault> {
+    ) -> Result<bool, ConnectFault>
+        ensures { IfOk result (λ done. MatchBool done
+            ((told : Answered) × AsksServer who server attempt self.old.store self.new.store told
+            × TakesBytes (account W.contents output.old) (account W.contents output.new) (told_text self.old.servers who key told))
+            ((self.new ≡ self.old) × (output.new ≡ output.old))) }
+    {
         let Some(at) = self.store.place_of(server) else {
             return Ok(false);
         };
         if self.store.session(who).is_none() {
             return Ok(false);
         }
-        let told = self.store.ask(rt, who, at, attempt)?;
+        let told = self.store.ask_at(rt, who, at, attempt)?;
         self.finish(output, who, &key, told)?;
         Ok(true)
     }
@@ -133,7 +151,12 @@ impl Desk {
     }
 
     // Opens the session, unless a line did so before.
-    fn open(&mut self, who: SessionId, asks: Asks) -> bool {
+    fn open(&mut self, who: SessionId, asks: Asks) -> bool
+        ensures first { IsTrue result ↔ (slice_get self.old.opened who.index ≡ Some false) }
+        ensures opened { OnTrue result (IsOpened who self.old.run asks self.old.store.sessions.items self.new.store.sessions.items) }
+        ensures noted { OnTrue result (self.new.opened ≡ slice_set self.old.opened who.index true) }
+        ensures same { OnFalse result (self.new ≡ self.old) }
+    {
         let at = usize::from(who.index);
         if self.opened[at] {
             return false;
@@ -167,32 +190,40 @@ impl Desk {
         }
     }
 
-    /// A short line's read, at any server.
+    /// A session's read, at any server.
     pub(crate) fn get<W: Write, T: Files<File = File> + Sockets + Wait + Clock>(
         &mut self,
         rt: &T,
         output: &mut Output<W>,
+        who: SessionId,
         key: Key,
-    ) -> Result<(), ConnectFault> {
+    ) -> Result<(), ConnectFault>
+        ensures { OnOk result ((told : Answered) × AsksAnywhere who (attempts.Read key) self.old.first self.old.rounds self.old.store self.new.store told
+            × TakesBytes (account W.contents output.old) (account W.contents output.new) (told_text self.old.servers who (Some key) told)) }
+    {
         let attempt = Attempt::Read(key.copy());
-        let served = anywhere(rt, &mut self.store, OWN, &attempt, self.first, self.rounds)?;
-        self.finish(output, OWN, &Some(key), served.told)
+        let told = anywhere(rt, &mut self.store, who, &attempt, self.first, self.rounds)?;
+        self.finish(output, who, &Some(key), told)
     }
 
-    /// A short line's Write, at any server: which one accepted it, by its place in the list, if one did.
+    /// A session's Write, at any server: which one accepted it, by its place in the list, if one did.
     pub(crate) fn write<W: Write, T: Files<File = File> + Sockets + Wait + Clock>(
         &mut self,
         rt: &T,
         output: &mut Output<W>,
+        who: SessionId,
         program: RestingProgram,
-    ) -> Result<Option<usize>, ConnectFault> {
+    ) -> Result<Option<usize>, ConnectFault>
+        ensures { OnOk result ((told : Answered) × AsksAnywhere who (attempts.Write program) self.old.first self.old.rounds self.old.store self.new.store told
+            × TakesBytes (account W.contents output.old) (account W.contents output.new) (told_text self.old.servers who None told)) }
+    {
         let attempt = Attempt::Write(program);
-        let served = anywhere(rt, &mut self.store, OWN, &attempt, self.first, self.rounds)?;
-        let at = match served.told {
-            Told::Accepted(_) => Some(served.at),
+        let told = anywhere(rt, &mut self.store, who, &attempt, self.first, self.rounds)?;
+        let at = match &told {
+            Told::Accepted(accepted) => self.store.place_of(accepted.wid.origin),
             _ => None,
         };
-        self.finish(output, OWN, &None, served.told)?;
+        self.finish(output, who, &None, told)?;
         Ok(at)
     }
 
@@ -201,16 +232,20 @@ impl Desk {
         &mut self,
         rt: &T,
         output: &mut Output<W>,
+        who: SessionId,
         at: usize,
         key: &Key,
         value: &Value,
-    ) -> Result<bool, ConnectFault> {
-        let told = self.store.ask(rt, OWN, at, Attempt::Read(key.copy()))?;
+    ) -> Result<bool, ConnectFault>
+        ensures { OnOk result ((told : Answered) × AsksAt who (attempts.Read key.now) self.old.store at self.new.store told
+            × TakesBytes (account W.contents output.old) (account W.contents output.new) (told_text self.old.servers who (Some key.now) told)) }
+    {
+        let told = self.store.ask_at(rt, who, at, Attempt::Read(key.copy()))?;
         let is_other = match &told {
             Told::Seen(seen) => seen.value.as_ref() != Some(value),
             Told::Away | Told::Accepted(_) | Told::Refused(_) | Told::Lost => false,
         };
-        self.finish(output, OWN, &Some(key.copy()), told)?;
+        self.finish(output, who, &Some(key.copy()), told)?;
         Ok(is_other)
     }
 
@@ -219,17 +254,18 @@ impl Desk {
         &mut self,
         rt: &T,
         output: &mut Output<W>,
+        who: SessionId,
         at: usize,
         key: &Key,
         others: &[Key],
         value: &Value,
     ) -> Result<(), ConnectFault> {
-        let mut is_other = self.tell_key(rt, output, at, key, value)?;
+        let mut is_other = self.tell_key(rt, output, who, at, key, value)?;
         for key in others {
             if !is_other {
                 break;
             }
-            is_other = self.tell_key(rt, output, at, key, value)?;
+            is_other = self.tell_key(rt, output, who, at, key, value)?;
         }
         Ok(())
     }

@@ -1,10 +1,17 @@
 //! What is asked of servers beside a session's operations.
+ghost use Rattle.std.specs.Prelude.{◌≡◌};
+ghost use Rattle.bayou_connect.specs.Sessions.{kept_of, need_of as needed};
+
+use crate::anywhere::{Listed, listed_anywhere};
 use crate::desk::{Desk, OWN, print};
 use crate::fault::ConnectFault;
 use crate::listing::rows_of;
+use crate::saying::asks_line;
+use crate::told::Told;
 use bayou_answers::{Answer, Recovery};
-use bayou_base::{ServerId, Wid};
+use bayou_base::{ServerId, SessionId, Vector, Wid};
 use bayou_client::LinkFault;
+use bayou_lang::RestingWrite;
 use bayou_net::{Sockets, reopen_fault_of};
 use bayou_print::{
     LIST_LOST, REOPEN_AWAY, dumped_line, last_line, listed_keys_line, row_line, seat_line,
@@ -13,6 +20,7 @@ use bayou_print::{
 use bayou_streams::Output;
 use std::io::Write;
 use std::sync::Wait;
+use std::time::Clock;
 
 // What a reopening came to, unless no reply came that tells it.
 fn recovery_of(server: ServerId, told: Result<Option<Wid>, LinkFault>) -> Option<Recovery> {
@@ -76,7 +84,7 @@ impl Desk {
         Ok(())
     }
 
-    /// Prints what the session of short lines has read and written.
+    /// Prints what the session of short lines asks for, and what it has read and written.
     pub(crate) fn tell_session<W: Write>(
         &mut self,
         output: &mut Output<W>,
@@ -84,31 +92,65 @@ impl Desk {
         let Some(kept) = self.store.session(OWN) else {
             return Ok(());
         };
-        let past = kept.session().past();
+        let session = *kept.session();
+        let asks = asks_line(self.alloc, OWN, session.asks())?;
+        print(output, asks.as_str())?;
+        let past = session.past();
         let line = seat_line(self.alloc, OWN, self.servers, &past.reads, &past.writes)?;
         print(output, line.as_str())
     }
 
-    /// Prints the database of the server that is asked first: each key that has a value, in order, and how many there are.
-    pub(crate) fn list<W: Write, T: Sockets>(
-        &mut self,
-        rt: &T,
+    // What a server has to hold that may serve the session a read.
+    fn need_of(&self, who: SessionId) -> Vector
+        ensures { result ≡ needed (kept_of self.now.store.sessions.items who) }
+    {
+        match self.store.session(who) {
+            Some(kept) => kept.session().need_read(),
+            None => Vector::zero(),
+        }
+    }
+
+    // Prints what the server of this place in the list sent: each key that has a value, in order, and how many there are.
+    fn print_rows<W: Write>(
+        &self,
         output: &mut Output<W>,
+        at: usize,
+        writes: &[RestingWrite],
     ) -> Result<(), ConnectFault> {
-        let Some(writes) = self.store.dump(rt, self.first)? else {
-            self.is_served = false;
-            return print(output, LIST_LOST);
-        };
-        let rows = rows_of(self.alloc, &writes)?;
+        let rows = rows_of(self.alloc, writes)?;
         for row in &rows {
             let line = row_line(self.alloc, &row.key, &row.value)?;
             print(output, line.as_str())?;
         }
-        match self.store.server_at(self.first) {
-            None => Ok(()),
-            Some(server) => {
-                let line = listed_keys_line(self.alloc, server, rows.len())?;
-                print(output, line.as_str())
+        let Some(server) = self.store.server_at(at) else {
+            return Ok(());
+        };
+        let line = listed_keys_line(self.alloc, server, rows.len())?;
+        print(output, line.as_str())
+    }
+
+    /// Prints the database of the first server that holds what a read of the session needs: each key that has a value, in order, and how many
+    /// there are.
+    pub(crate) fn list<W: Write, T: Sockets + Wait + Clock>(
+        &mut self,
+        rt: &T,
+        output: &mut Output<W>,
+        who: SessionId,
+    ) -> Result<(), ConnectFault> {
+        let need = self.need_of(who);
+        let Listed { at, told, writes } = listed_anywhere(
+            rt,
+            &mut self.store,
+            &need,
+            self.first,
+            self.rounds,
+        )?;
+        match told {
+            Told::Seen(_) => self.print_rows(output, at, &writes),
+            Told::Refused(_) => self.finish(output, who, &None, told),
+            Told::Away | Told::Accepted(_) | Told::Lost => {
+                self.is_served = false;
+                print(output, LIST_LOST)
             }
         }
     }

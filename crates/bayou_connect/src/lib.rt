@@ -2,7 +2,7 @@
 //!
 //! Callers see [`connect_plan`], which does the lines of an input as they come, until it ends: a script's own lines of sessions, reads, Writes and
 //! reopenings, each at just the server that it names, and short lines (`bayou_person`), each at one server after another until one of them
-//! serves it, or may have done it ([`first_served`]). What a session read and wrote is kept on a device (`bayou_remember`), where the
+//! serves it, or may have done it ([`in_rounds`]). What a session read and wrote is kept on a device (`bayou_remember`), where the
 //! [`Plan`] names one, before anything of it is printed; a Write is kept before it is sent.
 //!
 //! Callers owe that one process has a state file at a time. It isn't promised that a server answers, that a file holds what was written to
@@ -30,5 +30,5 @@ mod wishes;
 pub use connecting::{Ended, Input, Names, Wrong, connect_plan};
 pub use fault::ConnectFault;
 pub use plan::{Place, Plan, PlanFault};
-pub use round::{Ways, first_served};
+pub use round::{Ways, first_served, in_rounds};
 pub use told::Told;

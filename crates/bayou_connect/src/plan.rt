@@ -1,8 +1,12 @@
 //! Whom a person is at, as the words of the command line say it.
-ghost use Rattle.std.specs.Prelude.{◌≡◌, ◌≢◌, ◌<◌, ◌≤◌, All, AllPairs, IfOk, IfSome, false, length, true};
-ghost use Rattle.std.specs.List.{AllZip};
+ghost use Rattle.std.specs.Prelude.{◌≡◌, ◌≢◌, ◌<◌, ◌≤◌, All, AllPairs, Any, IfErr, IfOk, IfSome, IsSomeAnd, MatchOption, false, length, map, true};
+ghost use Rattle.std.specs.List.{AllZip, list_all};
+ghost use Rattle.std.specs.Option.{option_copied};
 ghost use Rattle.bayou_base.specs.declared.limits.TheConstants.{SERVERS as NUMBER};
-ghost use Rattle.bayou_connect.specs.Plans.{SaysPlace};
+ghost use Rattle.bayou_base.specs.declared.server.ServerId.{ServerId as ServerNumber};
+ghost use Rattle.bayou_connect.specs.declared.plan.Place.{Place as Where};
+ghost use Rattle.bayou_connect.specs.Plans.{AskedBy, AsksBoth, Differ, IsLeast, IsWrong, SaysPlace, asks_said, is_among, is_guarantee, parts_of};
+ghost use Rattle.bayou_person.specs.Wishes.{ReadsServer};
 
 use bayou_base::{Asks, ServerId};
 use std::alloc::{AllocError, Global};
@@ -66,40 +70,120 @@ const ALL: Asks = Asks {
     mw: true,
 };
 
-// What the words between commas ask for, if they are such words.
-fn asks_in(text: &str) -> Option<Asks> {
+const NONE: Asks = Asks {
+    ryw: false,
+    mr: false,
+    wfr: false,
+    mw: false,
+};
+
+// Whether the word is one of the four guarantees.
+fn is_one_of_four(word: &str) -> bool
+    ensures { result ≡ is_guarantee word.now }
+{
+    word == "ryw" || word == "mr" || word == "wfr" || word == "mw"
+}
+
+// Whether each part of the text between its commas is one of the four.
+fn are_guarantees(text: &str) -> bool
+    ensures { result ≡ list_all is_guarantee (parts_of text.now) }
+{
+    text.split(',').all(|part| is_one_of_four(part))
+}
+
+// Whether the word is one of the parts of the text between its commas.
+fn has_part(text: &str, word: &str) -> bool
+    ensures { result ≡ is_among (parts_of text.now) word.now }
+{
+    text.split(',').any(|part| part == word)
+}
+
+// What the text asks for, if it says that.
+fn asks_in(text: &str) -> Option<Asks>
+    ensures { result ≡ asks_said text.now }
+{
     if text == "all" {
         return Some(ALL);
     }
-    let mut asks = Asks::default();
     if text == "none" {
-        return Some(asks);
+        return Some(NONE);
     }
-    for word in text.split(',') {
-        match word {
-            "ryw" => asks.ryw = true,
-            "mr" => asks.mr = true,
-            "wfr" => asks.wfr = true,
-            "mw" => asks.mw = true,
-            _ => return None,
-        }
+    if !are_guarantees(text) {
+        return None;
     }
-    Some(asks)
+    Some(Asks {
+        ryw: has_part(text, "ryw"),
+        mr: has_part(text, "mr"),
+        wfr: has_part(text, "wfr"),
+        mw: has_part(text, "mw"),
+    })
+}
+
+/// The text that asks for just this.
+pub(crate) fn asks_text(asks: Asks) -> &'static str
+    ensures { asks_said result.now ≡ Some asks }
+{
+    match (asks.ryw, asks.mr, asks.wfr, asks.mw) {
+        (false, false, false, false) => "none",
+        (false, false, false, true) => "mw",
+        (false, false, true, false) => "wfr",
+        (false, false, true, true) => "wfr,mw",
+        (false, true, false, false) => "mr",
+        (false, true, false, true) => "mr,mw",
+        (false, true, true, false) => "mr,wfr",
+        (false, true, true, true) => "mr,wfr,mw",
+        (true, false, false, false) => "ryw",
+        (true, false, false, true) => "ryw,mw",
+        (true, false, true, false) => "ryw,wfr",
+        (true, false, true, true) => "ryw,wfr,mw",
+        (true, true, false, false) => "ryw,mr",
+        (true, true, false, true) => "ryw,mr,mw",
+        (true, true, true, false) => "ryw,mr,wfr",
+        (true, true, true, true) => "all",
+    }
+}
+
+/// What a session asks for that the words may say and that may have been kept: `None` where these are two.
+pub(crate) fn asks_of_both(said: Option<Asks>, kept: Option<Asks>) -> Option<Asks>
+    ensures { MatchOption result (Differ said kept) (AsksBoth said kept) }
+{
+    match (said, kept) {
+        (None, None) => Some(NONE),
+        (Some(asks), None) | (None, Some(asks)) => Some(asks),
+        (Some(said), Some(kept)) => { if said == kept { Some(kept) } else { None } }
+    }
+}
+
+// The server whose number this is, if there may be one.
+fn id_of(number: &str) -> Option<ServerId>
+    ensures { MatchOption result ((id : ServerNumber) → ¬ (ReadsServer number.now id)) (ReadsServer number.now) }
+{
+    let Ok(index) = number.parse::<u8>() else {
+        return None;
+    };
+    ServerId::new(index)
 }
 
 // The server that a word says, if it says one.
 fn place_of(word: &str) -> Option<Place>
-    ensures { IfSome result (SaysPlace word.now) }
+    ensures { MatchOption result ((place : Where) → ¬ (SaysPlace word.now place)) (SaysPlace word.now) }
 {
-    let (number, address) = word.split_once('=')?;
-    let id = ServerId::new(number.parse::<u8>().ok()?)?;
-    let address = address.parse::<SocketAddr>().ok()?;
+    let Some((number, address)) = word.split_once('=') else {
+        return None;
+    };
+    let Some(id) = id_of(number) else {
+        return None;
+    };
+    let Ok(address) = address.parse::<SocketAddr>() else {
+        return None;
+    };
     Some(Place { id, address })
 }
 
 // Whether one of the places is that server's.
 fn has_place(places: &[Place], id: ServerId) -> bool
-    ensures { result ≡ false → All (λ place. place.id ≢ id) places.now }
+    ensures none { result ≡ false → All (λ place. place.id ≢ id) places.now }
+    ensures some { result ≡ true → Any (λ place. place.id.index ≡ id.index) places.now }
 {
     places.iter().any(|place| place.id == id)
 }
@@ -109,6 +193,7 @@ fn places_of(alloc: Global, words: &[&str]) -> Result<Vec<Place>, PlanFault>
     ensures number { IfOk result (λ places. length places.items ≡ length words.now) }
     ensures said { IfOk result (λ places. AllZip (λ word place. SaysPlace word.now place) words.now places.items) }
     ensures once { IfOk result (λ places. AllPairs (λ one other. one.id ≢ other.id) places.items) }
+    ensures refused { IfErr result (IsWrong (map (λ word. word.now) words.now) None None) }
 {
     let mut places: Vec<Place> = Vec::new(alloc);
     for word in words {
@@ -127,7 +212,8 @@ fn places_of(alloc: Global, words: &[&str]) -> Result<Vec<Place>, PlanFault>
 
 // How many servers there are at the least, where these are some of them.
 fn least_count(places: &[Place]) -> u8
-    ensures { result ≤ NUMBER }
+    ensures within { result ≤ NUMBER }
+    ensures least { IsLeast result places.now }
 {
     let mut least: u8 = 0;
     for place in places {
@@ -138,9 +224,36 @@ fn least_count(places: &[Place]) -> u8
 
 // Whether each of them is below the number.
 fn are_below(places: &[Place], servers: u8) -> bool
-    ensures { result ≡ true → All (λ place. place.id.index < servers) places.now }
+    ensures all { result ≡ true → All (λ place. place.id.index < servers) places.now }
+    ensures some { result ≡ false → Any (λ place. servers ≤ place.id.index) places.now }
 {
     places.iter().all(|place| place.id.index < servers)
+}
+
+// How many servers there are: so many as are said, else as their numbers need.
+fn count_of(count: Option<u8>, places: &[Place]) -> u8
+    requires { IfSome count (λ count. count ≤ NUMBER) }
+    ensures within { result ≤ NUMBER }
+    ensures count { MatchOption count (IsLeast result places.now) (λ number. result ≡ number) }
+{
+    match count {
+        Some(count) => count,
+        None => least_count(places),
+    }
+}
+
+// What a text asks for, where there is one.
+fn asks_if_said(text: Option<&str>) -> Result<Option<Asks>, PlanFault>
+    ensures asks { IfOk result (AskedBy (option_copied text.entry)) }
+    ensures refused { IfErr result (λ fault. (fault ≡ PlanFault.NoAsks) × IsSomeAnd (option_copied text.entry) (λ text. asks_said text ≡ None)) }
+{
+    let Some(text) = text else {
+        return Ok(None);
+    };
+    match asks_in(text) {
+        None => Err(PlanFault::NoAsks),
+        asks => Ok(asks),
+    }
 }
 
 impl Plan {
@@ -156,22 +269,19 @@ impl Plan {
         requires { IfSome count (λ count. count ≤ NUMBER) }
         ensures said { IfOk result (λ plan. AllZip (λ word place. SaysPlace word.now place) servers.now plan.places.items) }
         ensures same { IfOk result (λ plan. (plan.wait_seconds ≡ wait_seconds) × (length plan.places.items ≡ length servers.now)) }
+        ensures servers { IfOk result (λ plan. MatchOption count (IsLeast plan.servers plan.places.items) (λ number. plan.servers ≡ number)) }
+        ensures asks { IfOk result (λ plan. AskedBy (option_copied asks.entry) plan.asks) }
+        ensures refused { IfErr result (IsWrong (map (λ word. word.now) servers.now) count (option_copied asks.entry)) }
     {
         let places = places_of(alloc, servers)?;
         if places.is_empty() {
             return Err(PlanFault::NoServer);
         }
-        let servers = count.unwrap_or(least_count(&places)).max(1);
+        let servers = count_of(count, &places);
         if !are_below(&places, servers) {
             return Err(PlanFault::TooFewServers);
         }
-        let asks = match asks {
-            None => None,
-            Some(text) => match asks_in(text) {
-                None => return Err(PlanFault::NoAsks),
-                asks => asks,
-            },
-        };
+        let asks = asks_if_said(asks)?;
         Ok(Plan {
             places,
             servers,

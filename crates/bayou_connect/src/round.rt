@@ -1,39 +1,46 @@
 //! One server after another is asked, until one of them serves it, or may have done it.
 ghost use Rattle.std.specs.Prelude.{◌≡◌, ◌<◌, ℕ, IfOk};
-ghost use Rattle.bayou_connect.specs.Round.{AsksInTurn, after_refusal, may_ask_another, turns};
+ghost use Rattle.bayou_connect.specs.Round.{AsksInRounds, AsksInTurn, after_refusal, may_ask_another, turns};
 ghost use Rattle.bayou_connect.specs.declared.told.Told.{Told as Answer};
 ghost use Rattle.bayou_connect.specs.declared.told.Told.TheVariants.{Away};
 
 use crate::told::Told;
+use bayou_base::limits::ROUND_MILLISECONDS;
 use bayou_server::WriteFault;
 use std::alloc::{AllocError, Global};
+use std::sync::Wait;
+use std::thread;
+use std::time::{Clock, Duration};
 
-/// Servers that may be asked the same.
-pub trait Ways {
+/// How often it goes round in a second.
+pub(crate) const ROUNDS_PER_SECOND: u64 = 1_000 / ROUND_MILLISECONDS;
+
+/// Servers that may be asked the same, which is a `Q`.
+pub trait Ways<Q> {
     type Fault: Drop;
 
     /// Whether asking the server of this number, from 0 on, may leave this and be told so.
-    ghost asks: { Self → ℕ → Self → Answer → Type 0 };
+    ghost asks: { Q → Self → ℕ → Self → Answer → Type 0 };
 
     /// Asks the server of this number.
-    fn ask(&mut self, at: usize) -> Result<Told, Self::Fault>
-        ensures { IfOk result (λ told. asks self.old at self.new told) };
+    fn ask(&mut self, what: &Q, at: usize) -> Result<Told, Self::Fault>
+        ensures { IfOk result (λ told. asks what.now self.old at self.new told) };
 }
 
-/// Whether nothing was done, so that another server may be asked: no connection came about, or it was refused. Behind a refusal for its journal
-/// a Write may be in doubt.
-pub(crate) fn is_undone(told: &Told) -> bool
-    ensures { result ≡ may_ask_another told.now }
+/// Whether another server may be asked: this one wasn't reached, or it refused, or it was asked for a read, which changes nothing. A Write is in
+/// doubt that was refused for a journal that failed, or whose reply was lost.
+pub(crate) fn may_go_on(is_read: bool, told: &Told) -> bool
+    ensures { result ≡ may_ask_another is_read told.now }
 {
     match told {
         Told::Away => true,
-        Told::Refused(WriteFault::Journal) => false,
+        Told::Refused(WriteFault::Journal) | Told::Lost => is_read,
         Told::Refused(_) => true,
-        Told::Seen(_) | Told::Accepted(_) | Told::Lost => false,
+        Told::Seen(_) | Told::Accepted(_) => false,
     }
 }
 
-// What is told where no server behind these serves it: the last refusal, or that all were away.
+// What is told where no server after these serves it: the last refusal or lost reply, or that all were away.
 fn newer(last: Told, told: Told) -> Told
     ensures { result ≡ after_refusal last told }
 {
@@ -43,20 +50,47 @@ fn newer(last: Told, told: Told) -> Told
     }
 }
 
-/// Asks each of these servers once at the most, in this order, up to the first behind which no other may be asked: what that told. Where there
-/// is none, the last refusal is told, or that all were away.
-pub fn first_served<W: Ways>(ways: &mut W, order: &[usize]) -> Result<Told, W::Fault>
-    ensures { IfOk result (λ told. AsksInTurn W.asks order.now Away ways.old ways.new told) }
+/// Asks each of these servers once at the most, in this order, up to the first after which no other may be asked: what that told. Where there
+/// is none, the last refusal or lost reply is told, or that all were away.
+pub fn first_served<Q, W: Ways<Q>>(
+    ways: &mut W,
+    what: &Q,
+    order: &[usize],
+    is_read: bool,
+) -> Result<Told, W::Fault>
+    ensures { IfOk result (λ told. AsksInTurn (W.asks what.now) is_read order.now Away ways.old ways.new told) }
 {
     let mut last = Told::Away;
     for at in order {
-        let told = ways.ask(*at)?;
-        if !is_undone(&told) {
+        let told = ways.ask(what, *at)?;
+        if !may_go_on(is_read, &told) {
             return Ok(told);
         }
         last = newer(last, told);
     }
     Ok(last)
+}
+
+/// Asks these servers so, and again, each time after a rest, so many times at the most while another may be asked: what the last round told.
+pub fn in_rounds<Q, W: Ways<Q>, T: Wait + Clock>(
+    rt: &T,
+    ways: &mut W,
+    what: &Q,
+    order: &[usize],
+    is_read: bool,
+    more: u64,
+) -> Result<Told, W::Fault>
+    ensures { IfOk result (λ told. AsksInRounds (W.asks what.now) is_read order.now more ways.old ways.new told) }
+{
+    let mut told = first_served(ways, what, order, is_read)?;
+    for _ in 0..more {
+        if !may_go_on(is_read, &told) {
+            return Ok(told);
+        }
+        thread::sleep(rt, Duration::from_millis(ROUND_MILLISECONDS));
+        told = first_served(ways, what, order, is_read)?;
+    }
+    Ok(told)
 }
 
 /// So many servers, from this one on, and then those before it.

@@ -1,15 +1,21 @@
-//! What is printed of an operation.
-ghost use Rattle.std.specs.Prelude.{◌≤◌};
+//! What is printed of an operation, and of what a session asks for.
+ghost use Rattle.std.specs.Prelude.{◌≡◌, ◌≤◌, ℕ, IfOk, MatchOption, Some, string_bytes};
 ghost use Rattle.bayou_base.specs.declared.limits.TheConstants.{SERVERS as NUMBER};
+ghost use Rattle.bayou_connect.specs.Printing.{IsAsksLine, told_text};
+ghost use Rattle.bayou_connect.specs.declared.told.Told.TheVariants.{Away};
+ghost use Rattle.bayou_print.specs.Printed.{last_text};
 
+use crate::plan::asks_text;
 use crate::told::Told;
 use bayou_answers::Answer;
-use bayou_base::{Key, SessionId};
+use bayou_base::{Asks, Key, SessionId};
 use bayou_print::{away_line, last_line};
 use std::alloc::{AllocError, Global};
 
 // What an operation is answered, unless no server was reached.
-fn answer_of(session: SessionId, key: &Option<Key>, told: Told) -> Option<Answer> {
+fn answer_of(session: SessionId, key: &Option<Key>, told: Told) -> Option<Answer>
+    ensures { MatchOption result (told ≡ Away) (λ answer. (servers : ℕ) → told_text servers session key.now told ≡ last_text servers answer) }
+{
     match (told, key) {
         (Told::Away, _) => None,
         (Told::Seen(seen), Some(key)) => Some(Answer::Read {
@@ -32,9 +38,18 @@ pub(crate) fn told_line(
     told: Told,
 ) -> Result<String, AllocError>
     requires { servers ≤ NUMBER }
+    ensures { IfOk result (λ line. string_bytes line ≡ told_text servers session key.now told) }
 {
     match answer_of(session, key, told) {
         None => away_line(alloc, session),
         Some(answer) => last_line(alloc, servers, &answer),
     }
+}
+
+/// The line of what a session asks for.
+pub(crate) fn asks_line(alloc: Global, session: SessionId, asks: Asks) -> Result<String, AllocError>
+    ensures { IfOk result (λ line. IsAsksLine session asks (string_bytes line)) }
+{
+    let (session, words) = (session.index, asks_text(asks));
+    format!(in alloc; "session {session} asks {words}\n")
 }

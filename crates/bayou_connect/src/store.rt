@@ -1,7 +1,9 @@
 //! The servers of a store and the sessions of a person there: each operation, with what is kept of it.
-ghost use Rattle.std.specs.Prelude.{◌≡◌, ◌<◌, ◌↔◌, false, IfOk, IsTrue, MatchOption, OnOk, vec_len};
+ghost use Rattle.std.specs.Prelude.{◌≡◌, ◌≢◌, ◌<◌, ◌↔◌, All, false, IfOk, IsSomeAnd, IsTrue, MatchOption, OnOk, is_some, map, option_map, slice_get, vec_len};
+ghost use Rattle.std.specs.Option.{option_copied};
 ghost use Rattle.bayou_base.specs.declared.limits.TheConstants.{MAX_PLACES, SESSIONS as NUMBER};
 ghost use Rattle.bayou_connect.specs.Keeping.{HasAsked, IsReady, begun_of};
+ghost use Rattle.bayou_connect.specs.Sessions.{IsOpened, kept_of, opened};
 
 use crate::asking::{Attempt, Done, keep, operate};
 use crate::audit_file::AuditFile;
@@ -109,6 +111,31 @@ fn enter(
     }
 }
 
+// A way to the server of each place.
+fn accesses_to(alloc: Global, places: &[Place]) -> Result<Vec<Access>, AllocError>
+    ensures { IfOk result (λ accesses. map (λ access. access.place) accesses.items ≡ places.now) }
+{
+    let mut accesses = Vec::with_capacity(alloc, places.len())?;
+    for place in places {
+        accesses.push(Access::new(*place))?;
+    }
+    Ok(accesses)
+}
+
+// What a session becomes as it is opened: it begins anew, or goes on from where it was kept.
+fn opened_from(kept: Option<Kept>, who: SessionId, run: u32, asks: Asks) -> Kept
+    requires { 0 < run }
+    ensures { result ≡ opened who run asks kept }
+{
+    match kept {
+        None => Kept::new(Session::new(who, run, asks), None),
+        Some(kept) => {
+            let (session, asked) = kept.into_parts();
+            Kept::new(Session::resume(who, asks, session.past()), asked)
+        }
+    }
+}
+
 impl Store {
     /// The servers at these places, with what is kept of each session, by its number.
     pub(crate) fn new(
@@ -119,14 +146,12 @@ impl Store {
         book: Option<AuditFile>,
     ) -> Result<Self, AllocError>
         requires { vec_len sessions ≡ NUMBER }
+        ensures places { IfOk result (λ store. map (λ access. access.place) store.accesses.items ≡ places.now) }
+        ensures kept { IfOk result (λ store. (store.sessions ≡ sessions) × (store.state ≡ state) × (store.book ≡ book)) }
     {
-        let mut accesses = Vec::with_capacity(alloc, places.len())?;
-        for place in places {
-            accesses.push(Access::new(*place))?;
-        }
         Ok(Store {
             alloc,
-            accesses,
+            accesses: accesses_to(alloc, places)?,
             sessions,
             state,
             book,
@@ -146,30 +171,31 @@ impl Store {
     }
 
     /// The place of this server in the list.
-    pub(crate) fn place_of(&self, server: ServerId) -> Option<usize> {
+    pub(crate) fn place_of(&self, server: ServerId) -> Option<usize>
+        ensures { MatchOption result (All (λ access. access.place.id ≢ server) self.now.accesses.items)
+            (λ at. IsSomeAnd (slice_get self.now.accesses.items at) (λ access. access.place.id ≡ server)) }
+    {
         self.accesses
             .iter()
             .position(|access| access.place.id == server)
     }
 
     /// What is kept of a session that is open.
-    pub(crate) fn session(&self, who: SessionId) -> Option<&Kept> {
+    pub(crate) fn session(&self, who: SessionId) -> Option<&Kept>
+        ensures { option_copied result ≡ kept_of self.now.sessions.items who }
+    {
         self.sessions[usize::from(who.index)].as_ref()
     }
 
-    /// Opens the session, which asks for this: anew, or from where it was kept.
+    /// Opens the session, which asks for this from then on: anew, or from where it was kept.
     pub(crate) fn open(&mut self, who: SessionId, run: u32, asks: Asks)
         requires { 0 < run }
+        ensures opened { IsOpened who run asks self.old.sessions.items self.new.sessions.items }
+        ensures others { (self.new.accesses ≡ self.old.accesses) × (self.new.state ≡ self.old.state) × (self.new.book ≡ self.old.book) }
     {
         let at = usize::from(who.index);
-        let kept = match self.sessions[at].take() {
-            None => Kept::new(Session::new(who, run, asks), None),
-            Some(kept) => {
-                let (session, asked) = kept.into_parts();
-                Kept::new(Session::resume(who, asks, session.past()), asked)
-            }
-        };
-        self.sessions[at] = Some(kept);
+        let kept = self.sessions[at].take();
+        self.sessions[at] = Some(opened_from(kept, who, run, asks));
     }
 
     // Writes the state file anew, where it has grown long.
@@ -184,7 +210,7 @@ impl Store {
 
     /// Has the session do this at a server, by its place in the list. A Write is kept before it is sent, and what was told before anybody
     /// is told of it.
-    pub(crate) fn ask<T: Files<File = File> + Sockets + Wait>(
+    pub(crate) fn ask_at<T: Files<File = File> + Sockets + Wait>(
         &mut self,
         rt: &T,
         who: SessionId,
@@ -217,7 +243,9 @@ impl Store {
     }
 
     /// Which server is at this place in the list.
-    pub(crate) fn server_at(&self, at: usize) -> Option<ServerId> {
+    pub(crate) fn server_at(&self, at: usize) -> Option<ServerId>
+        ensures { result ≡ option_map (λ access. access.place.id) (slice_get self.now.accesses.items at) }
+    {
         match self.accesses.get(at) {
             Some(access) => Some(access.place.id),
             None => None,
@@ -229,7 +257,9 @@ impl Store {
         &mut self,
         rt: &T,
         at: usize,
-    ) -> Result<Option<Vector>, ConnectFault> {
+    ) -> Result<Option<Vector>, ConnectFault>
+        ensures { (self.new.sessions ≡ self.old.sessions) × (self.new.state ≡ self.old.state) × (self.new.book ≡ self.old.book) }
+    {
         let alloc = self.alloc;
         let Some(access) = self.accesses.get_mut(at) else {
             return Ok(None);
@@ -263,7 +293,9 @@ impl Store {
         &mut self,
         rt: &T,
         at: usize,
-    ) -> Option<Result<Option<Wid>, LinkFault>> {
+    ) -> Option<Result<Option<Wid>, LinkFault>>
+        ensures { (self.new.sessions ≡ self.old.sessions) × (self.new.state ≡ self.old.state) × (self.new.book ≡ self.old.book) }
+    {
         let alloc = self.alloc;
         let access = self.accesses.get_mut(at)?;
         let link = access.link(rt)?;
@@ -275,7 +307,9 @@ impl Store {
         &mut self,
         rt: &T,
         at: usize,
-    ) -> Result<Option<Vec<RestingWrite>>, ConnectFault> {
+    ) -> Result<Option<Vec<RestingWrite>>, ConnectFault>
+        ensures { (self.new.sessions ≡ self.old.sessions) × (self.new.state ≡ self.old.state) × (self.new.book ≡ self.old.book) }
+    {
         let alloc = self.alloc;
         let Some(access) = self.accesses.get_mut(at) else {
             return Ok(None);
@@ -291,7 +325,9 @@ impl Store {
     }
 
     /// Whether there is a book.
-    pub(crate) fn has_book(&self) -> bool {
+    pub(crate) fn has_book(&self) -> bool
+        ensures { result ≡ is_some self.now.book }
+    {
         self.book.is_some()
     }
 

@@ -1,5 +1,5 @@
 //! What short lines ask for.
-use crate::desk::Desk;
+use crate::desk::{Desk, OWN};
 use crate::fault::ConnectFault;
 use bayou_net::Sockets;
 use bayou_person::Wish;
@@ -21,12 +21,12 @@ impl Desk {
             return Ok(());
         };
         let program = program.rest(self.alloc)?;
-        let Some(at) = self.write(rt, output, program)? else {
+        let Some(at) = self.write(rt, output, OWN, program)? else {
             return Ok(());
         };
         match wish {
             Wish::Claim { key, others, value } => {
-                self.tell_claim(rt, output, at, key, others.as_slice(), value)
+                self.tell_claim(rt, output, OWN, at, key, others.as_slice(), value)
             }
             _ => Ok(()),
         }
@@ -40,12 +40,12 @@ impl Desk {
         wish: Wish,
     ) -> Result<bool, ConnectFault> {
         match wish {
-            Wish::Get { key } => self.get(rt, output, key)?,
+            Wish::Get { key } => self.get(rt, output, OWN, key)?,
             Wish::At(server) => match self.store.place_of(server) {
                 Some(at) => self.first = at,
                 None => return Ok(false),
             },
-            Wish::List => self.list(rt, output)?,
+            Wish::List => self.list(rt, output, OWN)?,
             Wish::Servers => self.tell_servers(rt, output)?,
             Wish::Session => self.tell_session(output)?,
             Wish::Dump => return self.dump(rt, output),

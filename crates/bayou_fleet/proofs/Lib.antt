@@ -1,4 +1,5 @@
 mod Arranging
 mod Asking
 mod Leading
+pub mod Putting
 pub mod Answering

@@ -1,3 +1,5 @@
+pub mod Closings
+pub mod Opening
 pub mod Seats
 pub mod Phases
 pub mod Refusals

@@ -2,8 +2,12 @@
 ghost use Rattle.std.specs.Prelude.{◌≡◌, ◌<◌, ◌≤◌, IfOk, List, vec_len};
 ghost use Rattle.bayou_base.specs.declared.limits.TheConstants.{SERVERS};
 ghost use Rattle.bayou_base.specs.declared.entry.Entry.{Entry as Filed};
+ghost use Rattle.bayou_answers.specs.declared.answer.Answer.TheVariants.{Booked, Recovered};
+ghost use Rattle.bayou_answers.specs.declared.answer.Recovery.{Recovery as Recovering};
+ghost use Rattle.bayou_fleet.specs.Closings.{AnswersClosing, AnswersQuestion, IsLogged, IsReopening};
 ghost use Rattle.bayou_fleet.specs.Refusals.{NotReopenedAs};
 ghost use Rattle.bayou_lang.specs.declared.write.Write.{Write as Held};
+ghost use Rattle.bayou_script.specs.declared.audit.AuditFile.{AuditFile as Filing};
 ghost use Rattle.bayou_answers.specs.Verdicts.{IsSurveyOn, IsVerdictOn};
 
 use crate::fault::FleetFault;
@@ -60,14 +64,19 @@ impl Inquiry {
         rt: &T,
         alloc: Global,
         network: &Network<F, K>,
-    ) -> Result<Self, FleetFault> {
+    ) -> Result<Self, FleetFault>
+        ensures { IfOk result (λ inquiry. inquiry.count ≡ network.now.count) }
+    {
         let count = network.count;
         let links = links_to(rt, alloc, network.addresses.as_slice())?;
         Ok(Inquiry { count, links })
     }
 
     // Has the server open its journal again.
-    fn reopen(&mut self, alloc: Global, server: ServerId) -> Result<Answer, FleetFault> {
+    fn reopen(&mut self, alloc: Global, server: ServerId) -> Result<Answer, FleetFault>
+        ensures answered { IfOk result (λ answer. (recovery : Recovering) × (answer ≡ Recovered recovery) × IsReopening server recovery) }
+        ensures same { self.new.count ≡ self.old.count }
+    {
         let at = usize::from(server.index);
         if at >= self.links.len() {
             return Err(FleetFault::Network);
@@ -103,7 +112,10 @@ impl Inquiry {
         rt: &T,
         alloc: Global,
         network: &Network<F, K>,
-    ) -> Result<Answer, FleetFault> {
+    ) -> Result<Answer, FleetFault>
+        ensures answered { IfOk result (λ answer. (file : Filing) × (answer ≡ Booked file) × (file.count ≡ self.old.count)) }
+        ensures same { self.new.count ≡ self.old.count }
+    {
         let entries = network.book.entries(rt, alloc)?;
         let dumps = self.sent(alloc)?;
         Ok(Answer::Booked(AuditFile {
@@ -120,7 +132,10 @@ impl Inquiry {
         alloc: Global,
         network: &Network<F, K>,
         question: Question,
-    ) -> Result<Answer, FleetFault> {
+    ) -> Result<Answer, FleetFault>
+        ensures answered { IfOk result (AnswersQuestion (F.seats network.now.fleet) self.old.count question) }
+        ensures same { self.new.count ≡ self.old.count }
+    {
         match question {
             Question::Log(server) => Ok(logged(rt, alloc, &network.fleet, server)?),
             Question::Totals => Ok(Answer::Counted(network.book.totals(rt))),
@@ -137,7 +152,10 @@ impl Inquiry {
         alloc: Global,
         network: &Network<F, K>,
         closing: Closing,
-    ) -> Result<Answer, FleetFault> {
+    ) -> Result<Answer, FleetFault>
+        ensures answered { IfOk result (AnswersClosing (F.seats network.now.fleet) self.old.count closing) }
+        ensures same { self.new.count ≡ self.old.count }
+    {
         match closing {
             Closing::Reopen(server) => self.reopen(alloc, server),
             Closing::Question(question) => self.ask(rt, alloc, network, question),
@@ -152,7 +170,9 @@ fn logged<F: Fleet, T: Wait>(
     alloc: Global,
     fleet: &F,
     server: ServerId,
-) -> Result<Answer, AllocError> {
+) -> Result<Answer, AllocError>
+    ensures { IfOk result (IsLogged (F.seats fleet.now) server) }
+{
     let at = usize::from(server.index);
     let listing = fleet.listing(rt, alloc, at)?;
     let vector = fleet.vector(rt, at);

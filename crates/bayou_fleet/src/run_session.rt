@@ -1,5 +1,6 @@
 //! Sessions that reach the servers of a run over links.
 ghost use Rattle.std.specs.Prelude.{◌≡◌, ◌+◌, ◌<◌, ◌≤◌, None, IfOk, IfSome, length, vec_capacity, vec_len};
+ghost use Rattle.bayou_fleet.specs.Opening.{IsOpened};
 ghost use Rattle.bayou_fleet.specs.Operating.{AnswersAgain, AnswersAttempt, AnswersRead, AnswersWrite, IsAnswerTo, IsUnserved, KeepsOthers};
 ghost use Rattle.bayou_base.specs.declared.limits.TheConstants.{MAX_PLACES};
 ghost use Rattle.std.specs.List.{AllZip};
@@ -81,7 +82,7 @@ impl<K: Ledgers> OpenSession<K> {
         addresses: &[SocketAddr],
     ) -> Result<Self, FleetFault>
         requires { 0 < run }
-        ensures { IfOk result (λ opened. opened.client.session ≡ new_session share.session run asks) }
+        ensures { IfOk result (λ opened. (opened.client.session ≡ new_session share.session run asks) × (opened.who ≡ share.session)) }
     {
         let who = share.session();
         let client = Client::new(Session::new(who, run, asks), share);
@@ -225,6 +226,7 @@ impl<K: Ledgers> RunSession<K> {
         addresses: &[SocketAddr],
     ) -> Result<Self, FleetFault>
         requires { 0 < run }
+        ensures { IfOk result (IsOpened run asks self) }
     {
         match self {
             RunSession::Unopened(share) => Ok(RunSession::Open(OpenSession::open(

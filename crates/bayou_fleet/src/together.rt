@@ -1,6 +1,7 @@
 //! What is done side by side in a phase: sessions, each in its order, and pulls in theirs.
-ghost use Rattle.std.specs.Prelude.{◌≡◌, IfOk, vec_len};
+ghost use Rattle.std.specs.Prelude.{◌≡◌, ◌++◌, IfOk, OnOk, vec_len};
 ghost use Rattle.std.specs.Thread.{IsSend};
+ghost use Rattle.bayou_fleet.specs.Opening.{OpensEach, OpensOne};
 
 use crate::fault::FleetFault;
 use crate::fleet::Fleet;
@@ -166,7 +167,9 @@ fn end_one<K: Ledgers + Send + Sync, T: Threads>(
     }
 }
 
-fn put_all(own: Vec<Answer>, answers: &mut Vec<Answer>) -> Result<(), FleetFault> {
+fn put_all(own: Vec<Answer>, answers: &mut Vec<Answer>) -> Result<(), FleetFault>
+    ensures { OnOk result (answers.new.items ≡ answers.old.items ++ own.items) }
+{
     for answer in own {
         answers.push(answer)?;
     }
@@ -207,14 +210,15 @@ fn open_one<F: Fleet, K: Ledgers, T: Sockets>(
     sessions: Vec<RunSession<K>>,
     opening: Opening,
 ) -> Result<Vec<RunSession<K>>, FleetFault>
-    ensures { IfOk result (λ all. vec_len all ≡ vec_len sessions) }
+    ensures opened { IfOk result (λ all. OpensOne network.now.run opening sessions.items all.items) }
+    ensures number { IfOk result (λ all. vec_len all ≡ vec_len sessions) }
 {
     let at = usize::from(opening.session.index);
     let mut sessions = sessions;
     if at >= sessions.len() {
         return Ok(sessions);
     }
-    let session = sessions.swap_remove(at);
+    let session = sessions.remove(at);
     let opened = session.open(
         rt,
         alloc,
@@ -222,9 +226,25 @@ fn open_one<F: Fleet, K: Ledgers, T: Sockets>(
         opening.asks,
         network.addresses.as_slice(),
     )?;
-    sessions.push(opened)?;
-    let last = sessions.len() - 1;
-    sessions.swap(at, last);
+    sessions.insert(at, opened)?;
+    Ok(sessions)
+}
+
+// Opens the sessions that a phase opens, in order.
+fn open_all<F: Fleet, K: Ledgers, T: Sockets>(
+    rt: &T,
+    alloc: Global,
+    network: &Network<F, K>,
+    sessions: Vec<RunSession<K>>,
+    openings: &[Opening],
+) -> Result<Vec<RunSession<K>>, FleetFault>
+    ensures opened { IfOk result (λ all. OpensEach network.now.run openings.now sessions.items all.items) }
+    ensures number { IfOk result (λ all. vec_len all ≡ vec_len sessions) }
+{
+    let mut sessions = sessions;
+    for opening in openings {
+        sessions = open_one(rt, alloc, network, sessions, *opening)?;
+    }
     Ok(sessions)
 }
 
@@ -297,10 +317,7 @@ where
     T: Threads + Wait + Sockets + Send + Sync,
     ensures { IfOk result (λ together. vec_len together.sessions ≡ vec_len sessions) }
 {
-    let mut sessions = sessions;
-    for opening in &openings {
-        sessions = open_one(rt, alloc, network, sessions, *opening)?;
-    }
+    let sessions = open_all(rt, alloc, network, sessions, &openings)?;
     thread::scope(
         thread::scope_env(),
         rt,

@@ -1,3 +1,6 @@
 mod Ended
 mod Gathering
 mod Living
+mod Losing
+mod Worded
+mod Zipped

@@ -2,7 +2,10 @@ pub mod Beginnings
 pub mod Faults
 pub mod Fullness
 pub mod Lived
+pub mod Losing
 pub mod News
 pub mod Receiving
+pub mod Remade
 pub mod Told
 pub mod Visits
+pub mod Words

@@ -17,6 +17,7 @@ mod lines;
 mod peers;
 pub mod plan;
 mod reception;
+mod remaking;
 mod restoring;
 pub mod serving;
 mod starting;

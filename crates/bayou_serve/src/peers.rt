@@ -1,4 +1,5 @@
 //! The other servers of the store, from which a server that lives takes what it lacks.
+ghost use Rattle.bayou_serve.specs.Losing.{AsksForOwn};
 ghost use Rattle.bayou_serve.specs.Visits.{Visited};
 
 use crate::hall::Hall;
@@ -9,6 +10,7 @@ use crate::visit::{Acquaintance, Visit, visit_of};
 use crate::waiting::{Most, Renewing, Since, Waiting};
 use bayou_base::limits::{PEER_ANSWER_MILLISECONDS, PEER_REACH_SECONDS, TICK_MILLISECONDS};
 use bayou_device::Device;
+use bayou_frames::ChannelFault;
 use bayou_net::{Sockets, pull_tallied};
 use bayou_node::{Desks, Node};
 use bayou_peer::has_lost;
@@ -94,6 +96,32 @@ fn visit<D: Device, L: Desks, T: Wait + Clock + Sockets>(
     }
 }
 
+// Whether the other end of these streams, whose waits end by `WouldBlock`, has a Write of this server which the node lacks.
+fn asked_over<D: Device, L: Desks, R: Read + Drop, W: Write + Drop, T: Wait + Clock>(
+    rt: &T,
+    alloc: Global,
+    node: &Node<D, L>,
+    hall: &Hall,
+    reader: R,
+    writer: W,
+) -> Result<bool, ChannelFault>
+    ensures { AsksForOwn L.begun (R.remaining reader) (W.contents writer) result }
+{
+    let since = Since::now(rt);
+    let patience = Waiting::new(
+        rt,
+        hall,
+        &since,
+        Most::Milliseconds(PEER_ANSWER_MILLISECONDS),
+    );
+    let reader = Renewing::new(Patient::new(reader, patience), rt, &since);
+    let writer = Renewing::new(writer, rt, &since);
+    let mut channel = CountedChannel::new(reader, writer);
+    let id = node.id();
+    let own = node.offer(rt).get(id);
+    has_lost(alloc, id, own, &mut channel)
+}
+
 /// Whether the peer has a Write of this server which the server lacks. One that can't be asked has none, as far as is known. What an answer
 /// says is [`has_lost`]'s; that a peer is reached no clause can say.
 pub(crate) fn has_own_beyond<D: Device, L: Desks, T: Wait + Clock + Sockets>(
@@ -103,21 +131,13 @@ pub(crate) fn has_own_beyond<D: Device, L: Desks, T: Wait + Clock + Sockets>(
     peer: Peer,
     hall: &Hall,
 ) -> bool {
-    let Some(stream) = reach(rt, peer) else {
-        return false;
-    };
-    let (id, since) = (node.id(), Since::now(rt));
-    let own = node.offer(rt).get(id);
-    let patience = Waiting::new(
-        rt,
-        hall,
-        &since,
-        Most::Milliseconds(PEER_ANSWER_MILLISECONDS),
-    );
-    let reader = Renewing::new(Patient::new(&stream, patience), rt, &since);
-    let writer = Renewing::new(&stream, rt, &since);
-    let answer = has_lost(alloc, id, own, &mut CountedChannel::new(reader, writer));
-    matches!(answer, Ok(true))
+    match reach(rt, peer) {
+        Some(stream) => matches!(
+            asked_over(rt, alloc, node, hall, &stream, &stream),
+            Ok(true)
+        ),
+        None => false,
+    }
 }
 
 /// Pulls from the peer every so many seconds, until the server ends, and tells what is news: that is [`Acquaintance`]'s. That it pulls, and how

@@ -1,7 +1,10 @@
 //! What a server that lives is to do, as the words of its command line say it.
-ghost use Rattle.std.specs.Prelude.{◌≡◌, ◌≢◌, ◌<◌, ◌≤◌, All, AllPairs, Err, IfOk, false, length};
+ghost use Rattle.std.specs.Prelude.{◌≡◌, ◌≢◌, ◌<◌, ◌≤◌, ◌↔◌, All, AllPairs, Any, Err, IfErr, IfNone, IfOk, IfSome, IsTrue, false, length, map, true};
+ghost use Rattle.std.specs.List.{AllZip};
 ghost use Rattle.bayou_base.specs.declared.limits.TheConstants.{MAX_WRITES, SERVERS};
 ghost use Rattle.bayou_serve.specs.Beginnings.{beginning_of};
+ghost use Rattle.bayou_serve.specs.Words.{IsLoopback, Refuses, RefusesListen, RefusesPeers, SaysListen, SaysPeer};
+ghost use Rattle.bayou_serve.specs.declared.plan.Peer.{Peer as Another};
 ghost use Rattle.bayou_serve.specs.declared.plan.PlanFault.TheVariants.{NoServer};
 
 use bayou_base::ServerId;
@@ -102,7 +105,10 @@ impl From<AllocError> for PlanFault {
 }
 
 // The peer that a word says, if it says one.
-fn peer_of(word: &str) -> Option<Peer> {
+fn peer_of(word: &str) -> Option<Peer>
+    ensures said { IfSome result (SaysPeer word.now) }
+    ensures none { IfNone result ((peer : Another) → ¬ SaysPeer word.now peer) }
+{
     let (number, address) = word.split_once('=')?;
     let id = ServerId::new(number.parse::<u8>().ok()?)?;
     let address = address.parse::<SocketAddr>().ok()?;
@@ -111,9 +117,15 @@ fn peer_of(word: &str) -> Option<Peer> {
 
 // Whether one of the peers is that server.
 fn has_peer(peers: &[Peer], id: ServerId) -> bool
-    ensures { result ≡ false → All (λ peer. peer.id ≢ id) peers.now }
+    ensures none { result ≡ false → All (λ peer. peer.id ≢ id) peers.now }
+    ensures some { result ≡ true → Any (λ peer. peer.id.index ≡ id.index) peers.now }
 {
-    peers.iter().any(|peer| peer.id == id)
+    for peer in peers {
+        if peer.id == id {
+            return true;
+        }
+    }
+    false
 }
 
 // The peers that the words say: other servers, none of them twice.
@@ -126,6 +138,8 @@ fn peers_of(
     ensures others { IfOk result (λ peers. All (λ peer. (peer.id.index < servers) × (peer.id ≢ id)) peers.items) }
     ensures once { IfOk result (λ peers. AllPairs (λ one other. one.id ≢ other.id) peers.items) }
     ensures number { IfOk result (λ peers. length peers.items ≡ length words.now) }
+    ensures said { IfOk result (λ peers. AllZip (λ word peer. SaysPeer word.now peer) words.now peers.items) }
+    ensures refused { IfErr result (RefusesPeers id.index servers (map (λ word. word.now) words.now)) }
 {
     let mut peers: Vec<Peer> = Vec::new(alloc);
     for word in words {
@@ -145,15 +159,25 @@ fn peers_of(
     Ok(peers)
 }
 
+// Whether nobody but its own machine reaches the address.
+fn is_loopback(address: SocketAddr) -> bool
+    ensures { IsTrue result ↔ IsLoopback address }
+{
+    address.ip().is_loopback()
+}
+
 // Where the server is to listen. Only who says so listens where strangers may come.
-fn listens_at(word: &str, serves_anyone: bool) -> Result<SocketAddr, PlanFault> {
+fn listens_at(word: &str, serves_anyone: bool) -> Result<SocketAddr, PlanFault>
+    ensures said { IfOk result (SaysListen word.now serves_anyone) }
+    ensures refused { IfErr result (RefusesListen word.now serves_anyone) }
+{
     let Ok(address) = word.parse::<SocketAddr>() else {
         return Err(PlanFault::NoAddress);
     };
-    if !serves_anyone && !address.ip().is_loopback() {
-        return Err(PlanFault::OpenToAnyone);
+    if serves_anyone || is_loopback(address) {
+        return Ok(address);
     }
-    Ok(address)
+    Err(PlanFault::OpenToAnyone)
 }
 
 impl Plan {
@@ -170,7 +194,10 @@ impl Plan {
     ) -> Result<Plan, PlanFault>
         requires { servers ≤ SERVERS }
         ensures same { IfOk result (λ plan. (plan.id.index ≡ id) × (plan.servers ≡ servers) × (plan.habits ≡ habits) × (length plan.peers.items ≡ length peers.now)) }
+        ensures listens { IfOk result (λ plan. SaysListen listen.now serves_anyone plan.listen) }
+        ensures said { IfOk result (λ plan. AllZip (λ word peer. SaysPeer word.now peer) peers.now plan.peers.items) }
         ensures none { servers ≤ id → result ≡ Err NoServer }
+        ensures refused { IfErr result (Refuses id servers listen.now serves_anyone (map (λ word. word.now) peers.now)) }
     {
         if id >= servers {
             return Err(PlanFault::NoServer);

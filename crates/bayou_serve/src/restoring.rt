@@ -1,24 +1,27 @@
 //! How a journal that is lost is made again of what the peers have.
-ghost use Rattle.std.specs.Prelude.{◌≡◌, ◌<◌, ◌≤◌, ◌⊎◌, IfErr, IfOk, IfSome, None, slice_index};
+ghost use Rattle.std.specs.Prelude.{◌≡◌, ◌≤◌, ◌⊎◌, IfErr, IfOk, IfSome, List, None, slice_index};
 ghost use Rattle.bayou_lang.specs.Writes.{count_of};
+ghost use Rattle.bayou_lang.specs.declared.write.Write.{Write as Made};
 ghost use Rattle.bayou_serve.specs.Faults.{MayEndRestoring};
+ghost use Rattle.bayou_serve.specs.Remade.{IsRemade};
+ghost use Rattle.bayou_server.specs.Server.{Core};
 
 use crate::fault::{ServeFault, Unrestored};
 use crate::hall::Hall;
 use crate::lines::news_line;
 use crate::peers::reach;
 use crate::plan::{Beginning, Peer, Plan};
+use crate::remaking::{Restored, make_again};
 use crate::starting::look_for;
 use crate::teller::Teller;
 use crate::visit::News;
 use crate::waiting::{Most, Renewing, Since, Waiting};
 use bayou_base::limits::PEER_ANSWER_MILLISECONDS;
 use bayou_base::{MAX_WRITES, ServerId, Vector};
-use bayou_device::{Device, FileDevice};
+use bayou_device::FileDevice;
 use bayou_net::Sockets;
 use bayou_peer::{PullFault, pull_from_on};
-use bayou_restore::{Gathered, restore};
-use bayou_server::{Server, StartFault};
+use bayou_restore::Gathered;
 use bayou_streams::{CountedChannel, Patient};
 use std::alloc::Global;
 use std::fs;
@@ -27,9 +30,6 @@ use std::io::Write;
 use std::random::RandomSource;
 use std::sync::Wait;
 use std::time::Clock;
-
-/// The device of a journal that is being made again.
-type Part = FileDevice<File>;
 
 // All that the peer has, or why its answer ended early; nothing where no connection comes about.
 fn gather_from<T: Clock + Sockets>(
@@ -99,71 +99,21 @@ fn gather<E: Write, T: Wait + Clock + Sockets>(
     best.ok_or(ServeFault::NotRestored(Unrestored::NoPeer))
 }
 
-// A run that nobody else has, as far as chance goes.
-fn drawn_run<T: RandomSource>(rt: &T) -> Result<u32, ServeFault>
-    ensures run { IfOk result (λ run. 0 < run) }
-    ensures fault { IfErr result MayEndRestoring }
-{
-    let mut bytes = [0; 4];
-    if rt.fill_bytes(&mut bytes).is_err() {
-        return Err(ServeFault::NotRestored(Unrestored::Random));
-    }
-    Ok(u32::from_be_bytes(bytes).max(1))
-}
-
-// The server that the plan asks for, on a device that is emptied first: a run that was killed may have left something there.
-fn start_empty(alloc: Global, plan: &Plan, mut part: Part) -> Result<Server<Part>, ServeFault>
-    ensures started { IfOk result (λ server. (server.core.doubt ≡ None) × (server.core.count ≡ plan.now.servers)) }
-    ensures fault { IfErr result MayEndRestoring }
-{
-    if part.cut(0).is_err() {
-        return Err(ServeFault::NotRestored(Unrestored::Device));
-    }
-    match Server::start(alloc, plan.id, plan.servers, plan.habits.limit, part) {
-        Ok((server, _)) => Ok(server),
-        Err(refused) if refused.fault == StartFault::OutOfMemory => Err(ServeFault::Memory),
-        Err(_) => Err(ServeFault::NotRestored(Unrestored::Device)),
-    }
-}
-
-// Makes the journal again on the device, whose name is `part`, and gives it its own name once it is whole. It tells how many Writes of its
-// own the server has again. No other process makes it meanwhile, since the device is locked.
-fn make_again<T: Files<File = File> + RandomSource>(
-    rt: &T,
-    alloc: Global,
-    plan: &Plan,
-    path: &str,
-    part: &str,
-    device: Part,
-    gathered: &Gathered,
-) -> Result<u32, ServeFault>
-    requires { gathered.now.count ≡ plan.now.servers }
-    ensures { IfErr result MayEndRestoring }
-{
-    look_for(rt, path, Beginning::Restore)?;
-    let mut server = start_empty(alloc, plan, device)?;
-    restore(alloc, &mut server, gathered, drawn_run(rt)?)?;
-    look_for(rt, path, Beginning::Restore)?;
-    if fs::rename(rt, part, path).is_err() {
-        return Err(ServeFault::NotRestored(Unrestored::Device));
-    }
-    Ok(server.vector().get(plan.id))
-}
-
 /// Makes the journal of this name, which is lost, again of what the peers have, and tells how many Writes of its own the server has again. It is
 /// made under another name, and is there under its own one whole or not at all. What a file has no clause can say, nor what a peer answers;
-/// which Writes are the server's again is [`restore`]'s.
+/// which Writes are the server's again is [`restore`](bayou_restore::restore)'s.
 pub(crate) fn restore_journal<E, T>(
     rt: &T,
     alloc: Global,
     plan: &Plan,
     path: &str,
     teller: &Teller<E>,
-) -> Result<(), ServeFault>
+) -> Result<Restored, ServeFault>
 where
     E: Write,
     T: Wait + Clock + Files<File = File> + RandomSource + Sockets,
-    ensures { IfErr result MayEndRestoring }
+    ensures made { IfOk result (λ restored. (writes : List Made) × (core : Core) × IsRemade plan.now writes core × (restored.own ≡ slice_index (count_of core.held) plan.now.id.index)) }
+    ensures fault { IfErr result MayEndRestoring }
 {
     look_for(rt, path, Beginning::Restore)?;
     let gathered = gather(rt, alloc, plan, teller)?;
@@ -172,9 +122,10 @@ where
         return Err(ServeFault::NotRestored(Unrestored::NotOpened));
     };
     match make_again(rt, alloc, plan, path, part.as_str(), device, &gathered) {
-        Ok(own) => {
+        Ok(restored) => {
+            let own = restored.own();
             teller.tell_made(rt, format!(in alloc; "bayou: restored {own} own writes\n"));
-            Ok(())
+            Ok(restored)
         }
         Err(fault) => {
             // Nothing of it is of any use; what can't be removed is emptied the next time.

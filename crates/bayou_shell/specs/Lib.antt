@@ -1,5 +1,7 @@
 pub mod Audit
 pub mod Inner
 pub mod Net
+pub mod Plans
 pub mod Program
 pub mod Run
+pub mod Told

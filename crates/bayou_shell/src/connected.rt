@@ -1,7 +1,12 @@
 //! A person at a store, from the words to the exit status.
-ghost use Rattle.std.specs.Prelude.{◌≡◌, ◌≢◌, ◌⊎◌, IfErr, IfOk};
+ghost use Rattle.std.specs.Prelude.{◌≡◌, ◌≢◌, ◌⊎◌, ℕ, IfErr, IfOk, List, Option, option_map, string_bytes};
+ghost use Rattle.bayou_command.specs.Connect.{connection_seen};
+ghost use Rattle.bayou_command.specs.Options.{input_seen};
 ghost use Rattle.bayou_connect.specs.declared.plan.PlanFault.TheVariants.{OutOfMemory};
+ghost use Rattle.bayou_shell.specs.Plans.{IsPlanOfPlaces, input_name};
+ghost use Rattle.bayou_shell.specs.Told.{lines_status, told_text};
 
+use crate::telling::told_line;
 use bayou_command::{Connecting, Source};
 use bayou_connect::{ConnectFault, Ended, Input, Names, Plan, PlanFault, connect_plan};
 use bayou_net::Sockets;
@@ -33,54 +38,76 @@ const REFUSED: u8 = 2;
 const FAILED: u8 = 3;
 
 // The name, kept.
-fn kept_name(alloc: Global, name: Option<&str>) -> Result<Option<String>, AllocError> {
+fn kept_name(alloc: Global, name: Option<&str>) -> Result<Option<String>, AllocError>
+    ensures { IfOk result (λ kept. option_map (λ name. string_bytes name) kept ≡ option_map (λ name. name.now) name.entry) }
+{
     match name {
         None => Ok(None),
         Some(name) => Ok(Some(name.to_string(alloc)?)),
     }
 }
 
+// The name of the file that is read, if it has one.
+fn name_of<'a>(input: Source<'a>) -> Option<&'a str>
+    ensures { option_map (λ name. name.now) result ≡ input_name (input_seen input.entry) }
+{
+    match input {
+        Source::Standard => None,
+        Source::File(name) => Some(name),
+    }
+}
+
+// The plan, or why there is none; but want of memory is told at once.
+fn kept_plan(plan: Result<Plan, PlanFault>) -> Result<Result<Plan, PlanFault>, AllocError>
+    ensures same { IfOk result (λ kept. kept ≡ plan) }
+    ensures known { IfOk result (λ kept. IfErr kept (λ fault. fault ≢ OutOfMemory)) }
+{
+    match plan {
+        Err(PlanFault::OutOfMemory) => Err(AllocError),
+        plan => Ok(plan),
+    }
+}
+
 impl Call {
     /// What the words ask for. What can't be done of them is told once it is to be done; want of memory alone is told at once.
     pub fn of(alloc: Global, connecting: &Connecting<'_>) -> Result<Self, AllocError>
-        ensures { IfOk result (λ call. IfErr call.plan (λ fault. fault ≢ OutOfMemory)) }
+        ensures asked { IfOk result (λ call. IfOk call.plan (IsPlanOfPlaces (connection_seen connecting.now))) }
+        ensures known { IfOk result (λ call. IfErr call.plan (λ fault. fault ≢ OutOfMemory)) }
+        ensures state { IfOk result (λ call. option_map (λ name. string_bytes name) call.state ≡ (connection_seen connecting.now).state) }
+        ensures book { IfOk result (λ call. option_map (λ name. string_bytes name) call.book ≡ (connection_seen connecting.now).book) }
+        ensures input { IfOk result (λ call. option_map (λ name. string_bytes name) call.input ≡ input_name (connection_seen connecting.now).input) }
     {
-        let input = match connecting.input {
-            Source::Standard => None,
-            Source::File(name) => Some(name),
-        };
-        let (state, book) = (connecting.state, connecting.book);
-        let (state, book) = (kept_name(alloc, state)?, kept_name(alloc, book)?);
-        let input = kept_name(alloc, input)?;
-        match Plan::new(
+        let state = kept_name(alloc, connecting.state)?;
+        let book = kept_name(alloc, connecting.book)?;
+        let input = kept_name(alloc, name_of(connecting.input))?;
+        let plan = Plan::new(
             alloc,
             connecting.servers.as_slice(),
             connecting.count,
             connecting.asks,
             connecting.wait_seconds,
-        ) {
-            Err(PlanFault::OutOfMemory) => Err(AllocError),
-            plan => Ok(Call {
-                plan,
-                state,
-                book,
-                input,
-            }),
-        }
+        );
+        let plan = kept_plan(plan)?;
+        Ok(Call {
+            plan,
+            state,
+            book,
+            input,
+        })
     }
 }
 
 // The line that tells a fault, with the file that is at fault.
-fn fault_line(alloc: Global, names: Names<'_>, fault: ConnectFault) -> Result<String, AllocError> {
+fn fault_line(alloc: Global, names: Names<'_>, fault: ConnectFault) -> Result<String, AllocError>
+    ensures { IfOk result (λ line. (file : Option (List ℕ)) × (cause : List ℕ) × (string_bytes line ≡ told_text file cause)) }
+{
+    let cause = fault.to_string(alloc)?;
     let file = match (fault.is_of_state(), fault.is_of_book()) {
         (true, _) => names.state,
         (false, true) => names.book,
         (false, false) => None,
     };
-    match file {
-        Some(path) => format!(in alloc; "bayou: {path}: {fault}\n"),
-        None => format!(in alloc; "bayou: {fault}\n"),
-    }
+    told_line(alloc, file, cause.as_str())
 }
 
 // Tells the line that was made, or that memory ran out, as far as it can be told.
@@ -93,7 +120,7 @@ fn tell_line<E: Write>(errors: &mut E, made: Result<String, AllocError>) {
 
 // The exit status of lines that ended so.
 fn status_of(ended: Ended) -> u8
-    ensures { (result ≡ 0) ⊎ (result ≡ UNSERVED) ⊎ (result ≡ REFUSED) }
+    ensures { result ≡ lines_status ended }
 {
     match ended {
         Ended::Served => 0,

@@ -25,6 +25,7 @@ pub mod program;
 mod reading;
 pub mod run;
 pub mod served;
+mod telling;
 
 pub use audit::run_audit;
 pub use connected::{Call, run_connected};

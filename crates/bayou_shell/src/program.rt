@@ -6,6 +6,7 @@ ghost use Rattle.bayou_print.specs.declared.fault.RunFault.{RunFault};
 ghost use Rattle.bayou_print.specs.declared.fault.RunFault.TheVariants.{Memory};
 ghost use Rattle.bayou_print.specs.Fault.{exit_status, status_of};
 ghost use Rattle.bayou_shell.specs.Program.{TellsOf, Works, WorksOn, WritesText, input_of_asked, refused_status, text_status};
+ghost use Rattle.bayou_socket_run.specs.Books.{PrintsRun};
 ghost use Rattle.bayou_socket_run.specs.Damage.{TellsDamage};
 ghost use Rattle.bayou_socket_run.specs.Faults.{IsNetFault, KeepsUnstarted};
 ghost use Rattle.bayou_streams.specs.Account.{Pays, TakesBytes, account};
@@ -230,6 +231,7 @@ where
     ensures ended { (ended : Result Ended RunFault) × (result ≡ exit_status ended) × TellsEnd ended (account E.contents errors.old) (account E.contents errors.new) errors.new.channel.write_failed
         × IfErr ended IsNetFault
         × KeepsUnstarted ended (account W.contents output.old) (account W.contents output.new)
+        × PrintsRun script.servers.count ended (account W.contents output.old) (account W.contents output.new)
         × MatchResult ended (λ _. account D.contents damage.new ≡ account D.contents damage.old) (λ fault. TellsDamage fault folder.now script.servers.count (account D.contents damage.old) (account D.contents damage.new))
         × IfErr ended (EndsWriting output.new.channel.write_failed output.new.channel.turns_left) }
     ensures paid_errors { Pays (account E.contents errors.old) (account E.contents errors.new) 1 }

@@ -1,10 +1,15 @@
 //! Servers that live, from the words to the exit status.
-ghost use Rattle.std.specs.Prelude.{◌≡◌, ◌≢◌, ◌⊎◌, true, Some, Err, IfErr, IfOk, MatchResult};
-ghost use Rattle.bayou_serve.specs.Beginnings.{beginning_of};
+ghost use Rattle.std.specs.Prelude.{◌≡◌, ◌≢◌, ◌⊎◌, ℕ, true, Err, IfErr, IfOk, List, MatchResult, None, Some, string_bytes};
+ghost use Rattle.bayou_command.specs.Serve.{service_seen};
+ghost use Rattle.bayou_serve.specs.Faults.{IsOfJournal};
 ghost use Rattle.bayou_serve.specs.Lived.{PrintsLife};
+ghost use Rattle.bayou_shell.specs.Plans.{IsPlanOf, RefusesService};
+ghost use Rattle.bayou_shell.specs.Told.{told_text};
+ghost use Rattle.bayou_socket_run.specs.Damage.{journal_name};
 ghost use Rattle.bayou_streams.specs.Account.{account};
 ghost use Rattle.bayou_serve.specs.declared.plan.PlanFault.TheVariants.{OutOfMemory, TwoBeginnings};
 
+use crate::telling::told_line;
 use bayou_command::Serving;
 use bayou_net::Sockets;
 use bayou_serve::{Beginning, Habits, Plan, PlanFault, ServeFault, Teller, serve_plan};
@@ -31,10 +36,22 @@ const REFUSED: u8 = 2;
 /// The exit status of every other fault.
 const FAILED: u8 = 3;
 
+// The plan, or why there is none; but want of memory is told at once.
+fn kept_plan(plan: Result<Plan, PlanFault>) -> Result<Result<Plan, PlanFault>, AllocError>
+    ensures same { IfOk result (λ kept. kept ≡ plan) }
+    ensures known { IfOk result (λ kept. IfErr kept (λ fault. fault ≢ OutOfMemory)) }
+{
+    match plan {
+        Err(PlanFault::OutOfMemory) => Err(AllocError),
+        plan => Ok(plan),
+    }
+}
+
 impl Service {
     /// What the words ask for. What can't be done of them is told once it is to be served; want of memory alone is told at once.
     pub fn of(alloc: Global, serving: &Serving<'_>) -> Result<Self, AllocError>
-        ensures asked { IfOk result (λ service. MatchResult service.plan (λ plan. (plan.id.index ≡ serving.now.id) × (Some plan.habits.beginning ≡ beginning_of serving.now.is_new serving.now.is_restored)) (λ fault. fault ≢ OutOfMemory)) }
+        ensures path { IfOk result (λ service. string_bytes service.path ≡ journal_name serving.now.folder.now serving.now.id) }
+        ensures asked { IfOk result (λ service. MatchResult service.plan (IsPlanOf (service_seen serving.now)) (RefusesService (service_seen serving.now))) }
         ensures two { serving.now.is_new ≡ true → serving.now.is_restored ≡ true → IfOk result (λ service. service.plan ≡ Err TwoBeginnings) }
     {
         let (folder, id) = (serving.folder, serving.id);
@@ -51,7 +68,7 @@ impl Service {
             until_input_ends: serving.until_input_ends,
             beginning,
         };
-        match Plan::new(
+        let plan = Plan::new(
             alloc,
             serving.id,
             serving.servers,
@@ -59,19 +76,22 @@ impl Service {
             serving.serves_anyone,
             serving.peers.as_slice(),
             habits,
-        ) {
-            Err(PlanFault::OutOfMemory) => Err(AllocError),
-            plan => Ok(Service { path, plan }),
-        }
+        );
+        let plan = kept_plan(plan)?;
+        Ok(Service { path, plan })
     }
 }
 
 // The line that tells a fault, with the journal's file where that is at fault.
-fn fault_line(alloc: Global, path: &str, fault: ServeFault) -> Result<String, AllocError> {
+fn fault_line(alloc: Global, path: &str, fault: ServeFault) -> Result<String, AllocError>
+    ensures journal { IsOfJournal fault → IfOk result (λ line. (cause : List ℕ) × (string_bytes line ≡ told_text (Some path.now) cause)) }
+    ensures others { ¬ IsOfJournal fault → IfOk result (λ line. (cause : List ℕ) × (string_bytes line ≡ told_text None cause)) }
+{
+    let cause = fault.to_string(alloc)?;
     if fault.is_of_journal() {
-        return format!(in alloc; "bayou: {path}: {fault}\n");
+        return told_line(alloc, Some(path), cause.as_str());
     }
-    format!(in alloc; "bayou: {fault}\n")
+    told_line(alloc, None, cause.as_str())
 }
 
 // Tells the line that was made, or that memory ran out.

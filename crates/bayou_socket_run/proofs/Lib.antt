@@ -1,4 +1,5 @@
 mod Damaged
 pub mod Later
 pub mod Seated
+pub mod Settled
 pub mod Told

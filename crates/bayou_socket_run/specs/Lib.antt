@@ -1,3 +1,4 @@
+pub mod Books
 pub mod Damage
 pub mod Faults
 pub mod Inner

@@ -1,6 +1,11 @@
 //! The end of a run over a network: what its books come to, and the verdict.
-ghost use Rattle.std.specs.Prelude.{◌≡◌, ◌≤◌, IfErr, IfOk, OnOk, vec_len};
-ghost use Rattle.bayou_print.specs.Waiting.{stage};
+ghost use Rattle.std.specs.Prelude.{◌≡◌, ◌≤◌, [], IfErr, IfOk, OnOk};
+ghost use Rattle.bayou_fleet.specs.Seats.{SettlesAll};
+ghost use Rattle.bayou_judge.specs.History.{lists_of};
+ghost use Rattle.bayou_print.specs.Fault.{ended_status, verdict_status};
+ghost use Rattle.bayou_print.specs.Waiting.{Gathers, stage};
+ghost use Rattle.bayou_socket_run.specs.Books.{books_text, line_of, lines_of};
+ghost use Rattle.bayou_socket_run.specs.Inner.Settling.{AreDumps, IsJudged};
 ghost use Rattle.bayou_socket_run.specs.Inner.Telling.{Tells};
 ghost use Rattle.bayou_print.specs.Turns.{EndsWriting};
 
@@ -34,7 +39,7 @@ fn dumps_of<F: Fleet, T: Wait>(
     fleet: &F,
     servers: Servers,
 ) -> Result<Vec<Vec<RestingWrite>>, AllocError>
-    ensures { IfOk result (λ dumps. vec_len dumps ≡ servers.count) }
+    ensures { IfOk result (λ dumps. AreDumps (F.seats fleet.now) servers.count (lists_of dumps.items)) }
 {
     let mut dumps = Vec::new(alloc);
     for at in 0..servers.count {
@@ -49,7 +54,10 @@ pub(crate) fn settle<F: Fleet, K: Ledgers, T: Wait>(
     alloc: Global,
     network: Network<F, K>,
     servers: Servers,
-) -> Result<Books, FleetFault> {
+) -> Result<Books, FleetFault>
+    ensures settled { IfOk result (λ books. SettlesAll (F.seats network.fleet) [] books.nodes.items) }
+    ensures judged { IfOk result (λ books. IsJudged (F.seats network.fleet) servers.count books.verdict) }
+{
     let (fleet, book) = network.parts();
     let dumps = dumps_of(rt, alloc, &fleet, servers)?;
     let mut nodes = Vec::new(alloc);
@@ -72,6 +80,7 @@ fn write_one<W: Write>(
     output: &mut Output<W>,
     waiting: &mut Waiting,
 ) -> Result<(), RunFault>
+    ensures prints { OnOk result (Gathers (stage W.contents output.old waiting.old) (stage W.contents output.new waiting.new) (line_of nodes.now server.index) []) }
     ensures told { Tells result (stage W.contents output.old waiting.old) (stage W.contents output.new waiting.new) }
     ensures ended { IfErr result (EndsWriting output.new.channel.write_failed output.new.channel.turns_left) }
     ensures ready { OnOk result (output.old.channel.turns_left ≤ output.new.channel.turns_left) }
@@ -91,6 +100,7 @@ fn write_nodes<W: Write>(
     output: &mut Output<W>,
     waiting: &mut Waiting,
 ) -> Result<(), RunFault>
+    ensures prints { OnOk result (Gathers (stage W.contents output.old waiting.old) (stage W.contents output.new waiting.new) (lines_of servers.count nodes.now) []) }
     ensures told { Tells result (stage W.contents output.old waiting.old) (stage W.contents output.new waiting.new) }
     ensures ended { IfErr result (EndsWriting output.new.channel.write_failed output.new.channel.turns_left) }
     ensures ready { OnOk result (output.old.channel.turns_left ≤ output.new.channel.turns_left) }
@@ -109,6 +119,8 @@ pub(crate) fn write_books<W: Write>(
     output: &mut Output<W>,
     waiting: &mut Waiting,
 ) -> Result<Ended, RunFault>
+    ensures prints { IfOk result (λ ended. (ended_status ended ≡ verdict_status books.verdict)
+        × Gathers (stage W.contents output.old waiting.old) (stage W.contents output.new waiting.new) (books_text servers.count books.totals books.nodes.items books.verdict) []) }
     ensures told { Tells result (stage W.contents output.old waiting.old) (stage W.contents output.new waiting.new) }
     ensures ended { IfErr result (EndsWriting output.new.channel.write_failed output.new.channel.turns_left) }
     ensures ready { OnOk result (output.old.channel.turns_left ≤ output.new.channel.turns_left) }

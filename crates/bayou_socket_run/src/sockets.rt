@@ -1,10 +1,14 @@
 //! Scripts over sockets: servers with journals in files, each at a port of the loopback address.
 ghost use Rattle.std.specs.Thread.{IsSend};
-ghost use Rattle.std.specs.Prelude.{◌≡◌, ◌≤◌, IfErr, IfOk, IfSome, List, Ok, OnOk, ℕ, MatchResult};
+ghost use Rattle.std.specs.Prelude.{◌≡◌, ◌≤◌, IfErr, IfOk, IfSome, List, Ok, OnOk, ℕ, MatchResult, is_some, min, vec_len};
 ghost use Rattle.bayou_audit.specs.Blanks.{AreBlanksOf, named};
 ghost use Rattle.bayou_base.specs.declared.limits.TheConstants.{SESSIONS as SESSIONS_NUMBER};
 ghost use Rattle.bayou_node.specs.Books.{IsBlankOf, begun_of};
 ghost use Rattle.bayou_socket_run.specs.Inner.Faults.{IsPhaseFault};
+ghost use Rattle.bayou_socket_run.specs.Books.{PrintsRun};
+ghost use Rattle.bayou_script.specs.NetworkSaid.{network_said};
+ghost use Rattle.bayou_socket_run.specs.Inner.Runs.{connections_of, opens_one};
+ghost use Rattle.bayou_socket_run.specs.Inner.Settling.{EndsAt, EndsRunAt};
 ghost use Rattle.bayou_print.specs.Waiting.{stage};
 ghost use Rattle.bayou_socket_run.specs.Inner.Telling.{Tells};
 ghost use Rattle.bayou_socket_run.specs.Damage.{TellsDamage};
@@ -154,6 +158,7 @@ fn conclude<F: Fleet, K: Ledgers, T: Wait, W: Write>(
     servers: Servers,
     output: &mut Output<W>,
 ) -> Result<Ended, RunFault>
+    ensures prints { IfOk result (λ ended. (text : List ℕ) × EndsAt (F.seats network.fleet) servers.count ended text × TakesBytes (account W.contents output.old) (account W.contents output.new) text) }
     ensures took { (text : List ℕ) × TakesBytes (account W.contents output.old) (account W.contents output.new) text }
     ensures fault { IfErr result IsPhaseFault }
     ensures ended { IfErr result (EndsWriting output.new.channel.write_failed output.new.channel.turns_left) }
@@ -178,6 +183,7 @@ where
     K: Ledgers + Send + Sync,
     T: Threads + Wait + Sockets + Send + Sync,
     W: Write,
+    ensures prints { IfOk result (λ ended. EndsRunAt (F.seats network.fleet) agenda.servers.count ended (account W.contents output.old) (account W.contents output.new)) }
     ensures took { (text : List ℕ) × TakesBytes (account W.contents output.old) (account W.contents output.new) text }
     ensures fault { IfErr result IsPhaseFault }
     ensures ended { IfErr result (EndsWriting output.new.channel.write_failed output.new.channel.turns_left) }
@@ -203,6 +209,7 @@ where
     K: Ledgers + Send + Sync,
     T: Threads + Wait + Sockets + Send + Sync,
     W: Write,
+    ensures prints { IfOk result (λ ended. EndsRunAt (F.seats fleet) setting.agenda.servers.count ended (account W.contents output.old) (account W.contents output.new)) }
     ensures took { (text : List ℕ) × TakesBytes (account W.contents output.old) (account W.contents output.new) text }
     ensures fault { IfErr result IsPhaseFault }
     ensures ended { IfErr result (EndsWriting output.new.channel.write_failed output.new.channel.turns_left) }
@@ -233,6 +240,7 @@ fn seat_of<L: Desks>(
     ready: Option<Ready>,
 ) -> Result<Option<Seat<JournalFile, L>>, FleetFault>
     requires { IfSome ready (λ ready. IsBlankOf ready.blank L.name L.parts connections × (begun_of ready.server.value.core ≡ L.begun)) }
+    ensures { IfOk result (λ seat. is_some seat ≡ is_some ready) }
 {
     match ready {
         Some(ready) => Ok(Some(seat(alloc, connections, ready)?)),
@@ -265,6 +273,7 @@ where
     requires second { IfSome second (λ ready. IsBlankOf ready.blank B.name B.parts setting.agenda.connections × (begun_of ready.server.value.core ≡ B.begun)) }
     requires third { IfSome third (λ ready. IsBlankOf ready.blank C.name C.parts setting.agenda.connections × (begun_of ready.server.value.core ≡ C.begun)) }
     requires fourth { IfSome fourth (λ ready. IsBlankOf ready.blank E.name E.parts setting.agenda.connections × (begun_of ready.server.value.core ≡ E.begun)) }
+    ensures prints { PrintsRun setting.agenda.servers.count result (account W.contents output.old) (account W.contents output.new) }
     ensures took { (text : List ℕ) × TakesBytes (account W.contents output.old) (account W.contents output.new) text }
     ensures fault { IfErr result IsPhaseFault }
     ensures ended { IfErr result (EndsWriting output.new.channel.write_failed output.new.channel.turns_left) }
@@ -315,6 +324,7 @@ where
     K: Ledgers + Send + Sync,
     T: Threads + Wait + Sockets + Send + Sync,
     W: Write,
+    ensures prints { PrintsRun setting.agenda.servers.count result (account W.contents output.old) (account W.contents output.new) }
     ensures took { (text : List ℕ) × TakesBytes (account W.contents output.old) (account W.contents output.new) text }
     ensures fault { IfErr result IsPhaseFault }
     ensures ended { IfErr result (EndsWriting output.new.channel.write_failed output.new.channel.turns_left) }
@@ -331,8 +341,13 @@ where
     )
 }
 
+/// The greatest count of connections.
+const MOST: u32 = u32::MAX;
+
 /// Whether the command may open a connection of its own to a server.
-fn connects(command: &NetworkCommand) -> bool {
+fn connects(command: &NetworkCommand) -> bool
+    ensures { result ≡ opens_one (network_said command.now) }
+{
     match command {
         NetworkCommand::Session { .. } | NetworkCommand::Pull { .. } => true,
         NetworkCommand::Operation(operation) => matches!(&operation.attempt, Attempt::Again),
@@ -342,7 +357,9 @@ fn connects(command: &NetworkCommand) -> bool {
 
 /// How many connections each server is reached by at the most: one by each session, one by each pull, one by each Write that is asked again,
 /// and one for the rest.
-fn connections_for(commands: &VecDeque<NetworkCommand>) -> u32 {
+fn connections_for(commands: &VecDeque<NetworkCommand>) -> u32
+    ensures { result ≡ min (connections_of commands.now.items) MOST }
+{
     let mut connections: u32 = 1;
     for at in 0..commands.len() {
         if connects(&commands[at]) {
@@ -356,7 +373,9 @@ fn connections_for(commands: &VecDeque<NetworkCommand>) -> u32 {
 fn sessions_of<K: Ledgers>(
     alloc: Global,
     shares: Vec<Share<K>>,
-) -> Result<Vec<RunSession<K>>, AllocError> {
+) -> Result<Vec<RunSession<K>>, AllocError>
+    ensures { IfOk result (λ sessions. vec_len sessions ≡ vec_len shares) }
+{
     let mut sessions = Vec::with_capacity(alloc, shares.len())?;
     for share in shares {
         sessions.push(RunSession::Unopened(share))?;
@@ -382,6 +401,7 @@ where
     T: Threads + Wait + Sockets + Send + Sync,
     W: Write,
     requires blanks { AreBlanksOf blanks (named S.name S.parts) (named R.name R.parts) (named U.name U.parts) (named V.name V.parts) SESSIONS_NUMBER }
+    ensures prints { PrintsRun script.servers.count result (account W.contents output.old) (account W.contents output.new) }
     ensures took { (text : List ℕ) × TakesBytes (account W.contents output.old) (account W.contents output.new) text }
     ensures fault { IfErr result IsPhaseFault }
     ensures ended { IfErr result (EndsWriting output.new.channel.write_failed output.new.channel.turns_left) }
@@ -431,6 +451,7 @@ where
     T: Threads + Wait + Files<File = File> + Sockets + Send + Sync,
     W: Write,
     E: Write,
+    ensures prints { PrintsRun script.servers.count result (account W.contents output.old) (account W.contents output.new) }
     ensures took { (text : List ℕ) × TakesBytes (account W.contents output.old) (account W.contents output.new) text }
     ensures fault { IfErr result IsNetFault }
     ensures unstarted { KeepsUnstarted result (account W.contents output.old) (account W.contents output.new) }

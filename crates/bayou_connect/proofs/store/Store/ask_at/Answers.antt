@@ -3,7 +3,7 @@ use Rattle.std.specs.Global.{Vec}
 use Rattle.bayou_connect.specs.declared.reach.Access.{Access}
 use Rattle.bayou_remember.specs.Spelling.{Keeping}
 use Rattle.bayou_connect.proofs.Telling.{is_told, place_at, told_of}
-use Rattle.bayou_connect.proofs.store.Store.ask.Goals as goal
+use Rattle.bayou_connect.proofs.store.Store.ask_at.Goals as goal
 
 pub returns : goal.returns
 returns g c =

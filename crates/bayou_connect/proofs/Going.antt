@@ -1,0 +1,21 @@
+-- What a session was told of a line that goes from server to server.
+use Rattle.std.proofs.Common.{◌≡◌, ℕ, Bool, List, IfOk, OnOk, Result, Ok, Err, inr, subst, vec_len}
+use Rattle.bayou_base.specs.declared.session.SessionId.{SessionId}
+use Rattle.bayou_connect.specs.Anywhere.{AsksAnywhere, AsksAt}
+use Rattle.bayou_connect.specs.Operating.{is_read}
+use Rattle.bayou_connect.specs.Round.{AsksInRounds, turns}
+use Rattle.bayou_connect.specs.declared.asking.Attempt.{Attempt}
+use Rattle.bayou_connect.specs.declared.store.Store.{Store}
+use Rattle.bayou_connect.specs.declared.told.Told.{Told}
+
+pub asked_anywhere : {E : Type 0} (who : SessionId) (attempt : Attempt) (first rounds : ℕ) (reads : Bool) (order : List ℕ) (old new : Store) (result : Result Told E) → reads ≡ is_read attempt
+    → order ≡ turns first (vec_len old.accesses) → IfOk result (AsksInRounds (AsksAt who attempt) reads order rounds old new) → IfOk result (AsksAnywhere who attempt first rounds old new)
+asked_anywhere {E} who attempt first rounds reads order old new (Ok told) same is asked =
+    inr (subst (λ (o : List ℕ). AsksInRounds (AsksAt who attempt) (is_read attempt) o rounds old new told) is
+    (subst (λ (r : Bool). AsksInRounds (AsksAt who attempt) r order rounds old new told) same asked))
+asked_anywhere {E} who attempt first rounds reads order old new (Err fault) same is asked = tt
+
+-- what follows where it went well
+pub then_ok : {A E : Type 0} (result : Result A E) (P Q : Type 0) → OnOk result P → (P → Q) → OnOk result Q
+then_ok (Ok value) P Q holds means = means holds
+then_ok (Err fault) P Q holds means = tt

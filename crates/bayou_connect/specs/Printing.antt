@@ -1,0 +1,32 @@
+-- What is printed of an operation, and of what a session asks for: this project's own lines.
+use Rattle.std.specs.Prelude.{◌≡◌, ℕ, Bool, true, false, List, ◌++◌, Option, None, Some, codes, decimal}
+use Rattle.bayou_answers.specs.declared.answer.Answer.TheVariants as answers
+use Rattle.bayou_base.specs.declared.asks.Asks.{Asks}
+use Rattle.bayou_base.specs.declared.session.SessionId.{SessionId}
+use Rattle.bayou_connect.specs.Plans.{asks_said}
+use Rattle.bayou_connect.specs.declared.told.Told.{Told}
+use Rattle.bayou_connect.specs.declared.told.Told.TheVariants as told
+use Rattle.bayou_print.specs.Connected.{away_text}
+use Rattle.bayou_print.specs.Printed.{last_text}
+
+-- the line of what an operation was told, of which the key is one if it is a read
+abbrev pub told_text : (servers : ℕ) → SessionId → (key : Option (List ℕ)) → Told → List ℕ
+told_text servers who key told.Away = away_text who.index
+told_text servers who (Some key) (told.Seen seen) = last_text servers (answers.Read who key seen)
+told_text servers who None (told.Seen seen) = last_text servers (answers.Lost who)
+told_text servers who key (told.Accepted accepted) = last_text servers (answers.Wrote who accepted)
+told_text servers who key (told.Refused fault) = last_text servers (answers.Refused who fault)
+told_text servers who key told.Lost = last_text servers (answers.Lost who)
+
+-- it was served
+abbrev pub is_service : Told → Bool
+is_service told.Away = false
+is_service (told.Seen seen) = true
+is_service (told.Accepted accepted) = true
+is_service (told.Refused fault) = false
+is_service told.Lost = false
+
+-- the line of what a session asks for, in words that ask for just that
+abbrev pub IsAsksLine : SessionId → Asks → List ℕ → Type 0
+IsAsksLine who asks line =
+    (words : List ℕ) × (asks_said words ≡ Some asks) × (line ≡ codes "session " ++ (decimal who.index ++ (codes " asks " ++ (words ++ codes "\n"))))

@@ -1,0 +1,87 @@
+-- What plans say of the words that they are made of.
+use Rattle.std.proofs.Common.{◌≡◌, ◌≢◌, ◌∙◌, ℕ, List, [], ◌∷◌, Some, Result, Ok, Err, IfErr, IfOk, MatchResult, ap, length, map, refl, subst, sym}
+use Rattle.std.specs.List.{AllZip}
+use denote.Ref.{Bor}
+use Rattle.bayou_command.specs.Connect.{Connection}
+use Rattle.bayou_command.specs.Serve.{Service}
+use Rattle.bayou_connect.specs.Plans.{SaysPlace}
+use Rattle.bayou_connect.specs.declared.plan.Plan.{Plan as Places}
+use Rattle.bayou_connect.specs.declared.plan.PlanFault.{PlanFault as Wrong}
+use Rattle.bayou_serve.specs.Beginnings.{beginning_of}
+use Rattle.bayou_serve.specs.Words.{Refuses, SaysListen, SaysPeer}
+use Rattle.bayou_serve.specs.declared.plan.Habits.{Habits}
+use Rattle.bayou_serve.specs.declared.plan.Plan.{Plan}
+use Rattle.bayou_serve.specs.declared.plan.PlanFault.{PlanFault}
+use Rattle.bayou_serve.specs.declared.plan.PlanFault.TheVariants.{NoServer, NoAddress, OpenToAnyone, NoPeer, SamePeer, TwoBeginnings, OutOfMemory}
+use Rattle.bayou_shell.specs.Plans.{IsPlanOf, IsPlanOfPlaces, RefusesService}
+
+-- what is said of each word is said of each text
+pub zip_seen : {B : Type 0} (R : List ℕ → B → Type 0) (words : List (Bor (List ℕ))) (ys : List B) → AllZip (λ word y. R word.now y) words ys → AllZip R (map (λ word. word.now) words) ys
+zip_seen R [] [] all = tt
+zip_seen R [] (y ∷ ys) all = absurd all
+zip_seen R (word ∷ words) [] all = absurd all
+zip_seen R (word ∷ words) (y ∷ ys) all = (all.0, zip_seen R words ys all.1)
+
+-- how long, how many and how it begins
+pub record AreHabitsOf (service : Service) (habits : Habits) : Type 0 where
+  pub limit : habits.limit ≡ service.limit
+  pub every : habits.every_seconds ≡ service.every_seconds
+  pub connections : habits.connections ≡ service.connections
+  pub idle : habits.idle_seconds ≡ service.idle_seconds
+  pub until : habits.until_input_ends ≡ service.until_input_ends
+  pub beginning : Some habits.beginning ≡ beginning_of service.is_new service.is_restored
+
+-- what refuses the words refuses what they ask for
+refused : (service : Service) (fault : PlanFault) → Refuses service.id service.servers service.listen service.serves_anyone service.peers fault → fault ≢ OutOfMemory → RefusesService service fault
+refused service NoServer is known = is
+refused service NoAddress is known = is
+refused service OpenToAnyone is known = is
+refused service NoPeer is known = is
+refused service SamePeer is known = is
+refused service TwoBeginnings is known = absurd is
+refused service OutOfMemory is known = absurd (known refl)
+
+pub plan_of : (service : Service) (words : List (Bor (List ℕ))) (habits : Habits) (result kept : Result Plan PlanFault) → service.peers ≡ map (λ word. word.now) words → AreHabitsOf service habits
+    → IfOk result (λ plan. (plan.id.index ≡ service.id) × (plan.servers ≡ service.servers) × (plan.habits ≡ habits) × (length plan.peers.items ≡ length words))
+    → IfOk result (λ plan. SaysListen service.listen service.serves_anyone plan.listen)
+    → IfOk result (λ plan. AllZip (λ word peer. SaysPeer word.now peer) words plan.peers.items)
+    → IfErr result (Refuses service.id service.servers service.listen service.serves_anyone (map (λ word. word.now) words))
+    → kept ≡ result → IfErr kept (λ fault. fault ≢ OutOfMemory)
+    → MatchResult kept (IsPlanOf service) (RefusesService service)
+plan_of service words habits result kept named of same listens said why is known =
+    subst (λ (r : Result Plan PlanFault). MatchResult r (IsPlanOf service) (RefusesService service)) (sym is)
+    (of_result result same listens said why (subst (λ (r : Result Plan PlanFault). IfErr r (λ fault. fault ≢ OutOfMemory)) is known))
+  where
+    of_result : (result : Result Plan PlanFault)
+        → IfOk result (λ plan. (plan.id.index ≡ service.id) × (plan.servers ≡ service.servers) × (plan.habits ≡ habits) × (length plan.peers.items ≡ length words))
+        → IfOk result (λ plan. SaysListen service.listen service.serves_anyone plan.listen)
+        → IfOk result (λ plan. AllZip (λ word peer. SaysPeer word.now peer) words plan.peers.items)
+        → IfErr result (Refuses service.id service.servers service.listen service.serves_anyone (map (λ word. word.now) words))
+        → IfErr result (λ fault. fault ≢ OutOfMemory) → MatchResult result (IsPlanOf service) (RefusesService service)
+    of_result (Ok plan) same listens said why known = record {
+      id = same.0;
+      servers = same.1;
+      listens = listens;
+      peers = subst (λ (peers : List (List ℕ)). AllZip SaysPeer peers plan.peers.items) (sym named) (zip_seen SaysPeer words plan.peers.items said);
+      limit = ap (λ (h : Habits). h.limit) same.2 ∙ of.limit;
+      every = ap (λ (h : Habits). h.every_seconds) same.2 ∙ of.every;
+      connections = ap (λ (h : Habits). h.connections) same.2 ∙ of.connections;
+      idle = ap (λ (h : Habits). h.idle_seconds) same.2 ∙ of.idle;
+      until = ap (λ (h : Habits). h.until_input_ends) same.2 ∙ of.until;
+      beginning = ap (λ (h : Habits). Some h.beginning) same.2 ∙ of.beginning;
+    }
+    of_result (Err fault) same listens said why known =
+        refused service fault (subst (λ (peers : List (List ℕ)). Refuses service.id service.servers service.listen service.serves_anyone peers fault) (sym named) why) known
+
+-- the plan of a session at servers
+pub places_of : (connection : Connection) (words : List (Bor (List ℕ))) (result kept : Result Places Wrong) → connection.servers ≡ map (λ word. word.now) words
+    → IfOk result (λ plan. AllZip (λ word place. SaysPlace word.now place) words plan.places.items)
+    → IfOk result (λ plan. (plan.wait_seconds ≡ connection.wait_seconds) × (length plan.places.items ≡ length words))
+    → kept ≡ result → IfOk kept (IsPlanOfPlaces connection)
+places_of connection words result kept named said same is = subst (λ (r : Result Places Wrong). IfOk r (IsPlanOfPlaces connection)) (sym is) (of_result result said same)
+  where
+    of_result : (result : Result Places Wrong) → IfOk result (λ plan. AllZip (λ word place. SaysPlace word.now place) words plan.places.items)
+        → IfOk result (λ plan. (plan.wait_seconds ≡ connection.wait_seconds) × (length plan.places.items ≡ length words)) → IfOk result (IsPlanOfPlaces connection)
+    of_result (Err wrong) said same = tt
+    of_result (Ok plan) said same =
+        record { places = subst (λ (servers : List (List ℕ)). AllZip SaysPlace servers plan.places.items) (sym named) (zip_seen SaysPlace words plan.places.items said); wait = same.0 }

@@ -1,0 +1,46 @@
+-- The plans that are made of the words that ask for a server, or for a session at servers: this project's own.
+use Rattle.std.specs.Prelude.{◌≡◌, ℕ, List, Option, None, Some}
+use Rattle.std.specs.List.{AllZip}
+use Rattle.bayou_command.specs.Connect.{Connection}
+use Rattle.bayou_command.specs.Options.{Input, file, standard}
+use Rattle.bayou_command.specs.Serve.{Service}
+use Rattle.bayou_connect.specs.Plans.{SaysPlace}
+use Rattle.bayou_connect.specs.declared.plan.Plan.{Plan as Places}
+use Rattle.bayou_serve.specs.Beginnings.{beginning_of}
+use Rattle.bayou_serve.specs.Words.{Refuses, SaysListen, SaysPeer}
+use Rattle.bayou_serve.specs.declared.plan.Plan.{Plan}
+use Rattle.bayou_serve.specs.declared.plan.PlanFault.{PlanFault}
+use Rattle.bayou_serve.specs.declared.plan.PlanFault.TheVariants.{NoServer, NoAddress, OpenToAnyone, NoPeer, SamePeer, TwoBeginnings, OutOfMemory}
+
+-- the plan is the server that the words ask for, and all that they say of it
+pub record IsPlanOf (service : Service) (plan : Plan) : Type 0 where
+  pub id : plan.id.index ≡ service.id
+  pub servers : plan.servers ≡ service.servers
+  pub listens : SaysListen service.listen service.serves_anyone plan.listen
+  pub peers : AllZip SaysPeer service.peers plan.peers.items
+  pub limit : plan.habits.limit ≡ service.limit
+  pub every : plan.habits.every_seconds ≡ service.every_seconds
+  pub connections : plan.habits.connections ≡ service.connections
+  pub idle : plan.habits.idle_seconds ≡ service.idle_seconds
+  pub until : plan.habits.until_input_ends ≡ service.until_input_ends
+  pub beginning : Some plan.habits.beginning ≡ beginning_of service.is_new service.is_restored
+
+-- why the words make no plan: they ask for two ways to begin, or else one of them says what can't be done
+abbrev pub RefusesService : Service → PlanFault → Type 0
+RefusesService service NoServer = Refuses service.id service.servers service.listen service.serves_anyone service.peers NoServer
+RefusesService service NoAddress = Refuses service.id service.servers service.listen service.serves_anyone service.peers NoAddress
+RefusesService service OpenToAnyone = Refuses service.id service.servers service.listen service.serves_anyone service.peers OpenToAnyone
+RefusesService service NoPeer = Refuses service.id service.servers service.listen service.serves_anyone service.peers NoPeer
+RefusesService service SamePeer = Refuses service.id service.servers service.listen service.serves_anyone service.peers SamePeer
+RefusesService service TwoBeginnings = beginning_of service.is_new service.is_restored ≡ None
+RefusesService service OutOfMemory = ⊥
+
+-- the plan asks the servers that the words name, in their order, and waits as long as they say
+pub record IsPlanOfPlaces (connection : Connection) (plan : Places) : Type 0 where
+  pub places : AllZip SaysPlace connection.servers plan.places.items
+  pub wait : plan.wait_seconds ≡ connection.wait_seconds
+
+-- the name of the file that is read, if it has one
+abbrev pub input_name : Input → Option (List ℕ)
+input_name standard = None
+input_name (file name) = Some name

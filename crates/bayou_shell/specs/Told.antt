@@ -1,0 +1,15 @@
+-- What is told of a server that lives, or of a session at servers, and how it ends: this project's own.
+use Rattle.std.specs.Prelude.{ℕ, List, ◌++◌, Option, None, Some, codes}
+use Rattle.bayou_connect.specs.declared.connecting.Ended.{Ended}
+use Rattle.bayou_connect.specs.declared.connecting.Ended.TheVariants.{Served, Unserved, Refused}
+
+-- the line that tells a fault, with the file that is at fault, where one is
+abbrev pub told_text : (file : Option (List ℕ)) → (cause : List ℕ) → List ℕ
+told_text None cause = codes "bayou: " ++ (cause ++ codes "\n")
+told_text (Some file) cause = codes "bayou: " ++ (file ++ (codes ": " ++ (cause ++ codes "\n")))
+
+-- the exit status of lines that ended so: 1 where some operation wasn't served, 2 where a line can't be done
+abbrev pub lines_status : Ended → ℕ
+lines_status Served = 0
+lines_status Unserved = 1
+lines_status Refused = 2
