@@ -7,12 +7,20 @@ import sys
 import tempfile
 
 import frames
+import kept_beginning
+import kept_bits
+import kept_losing
+import kept_restoring
 from checks import Checks
 from living import SECONDS, Server
 from meeting import free_port, soon
 
 sys.path.insert(0, os.path.join("..", "clients", "python"))
 import bayou  # noqa: E402
+
+
+# The groups that are tried where none is named.
+GROUPS = ["closed", "flipped", "beginnings", "differing", "losses"]
 
 
 def closing(subset):
@@ -49,6 +57,29 @@ class Tries:
         """A call of the program with a subset of its standard streams closed: its status, and what it printed and told where it could."""
         done = subprocess.run([self.program] + words, input=given, stdout=subprocess.PIPE, stderr=subprocess.PIPE, timeout=SECONDS, preexec_fn=closing(subset))
         return done.returncode, done.stdout.decode(), done.stderr.decode()
+
+    def of(self, module):
+        tries = module.Tries(self.program, self.room)
+        tries.checks = self.checks
+        for group in module.GROUPS:
+            getattr(tries, group)()
+
+    def beginnings(self):
+        self.of(kept_beginning)
+
+    def differing(self):
+        self.of(kept_restoring)
+
+    def losses(self):
+        self.of(kept_losing)
+
+    # Turned bits.
+
+    def flipped(self):
+        kept_bits.flipped(self, False)
+
+    def all_flipped(self):
+        kept_bits.flipped(self, True)
 
     # Closed streams.
 
@@ -119,7 +150,7 @@ def main():
     signal.signal(signal.SIGPIPE, signal.SIG_IGN)
     with tempfile.TemporaryDirectory() as room:
         tries = Tries(program, room)
-        for group in groups or ["closed"]:
+        for group in groups or GROUPS:
             getattr(tries, group)()
     print("%d passed, %d failed" % (tries.checks.passed, tries.checks.failed))
     return 1 if tries.checks.failed else 0

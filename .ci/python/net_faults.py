@@ -100,9 +100,15 @@ def torn(checks, program, room):
     changed[HEADER + size + 5] ^= 1
     with open(journal(folder, 0), "wb") as it:
         it.write(changed)
-    checks.that("a byte that was changed", run(program, folder, LOG), (0, logs(1, [1]), ""))
+    checks.that("a byte that was changed", run(program, folder, LOG), told_damaged(folder, 0, HEADER + size, 2 * size))
+    checks.that("nothing is cut behind it", content(journal(folder, 0)), bytes(changed))
+    with open(journal(folder, 0), "wb") as it:
+        it.write(good[:-1] + bytes([good[-1] ^ 1]))
+    told = "bayou: %s: the last entry is damaged: its %d bytes from byte %d on were dropped\n" % (journal(folder, 0), size, HEADER + 2 * size)
+    checks.that("a byte of the last entry that was changed", run(program, folder, LOG), (0, logs(1, [2]), told))
+    checks.that("it is dropped, and no more", content(journal(folder, 0)), good[:HEADER + 2 * size])
     again = script(["servers", 1], ["session", 0, []], ["write", 0, 0, put("b", 7)], ["phase"], ["log", 0])
-    told = "0 wrote 0:2 clock 2 deps 1\nlog 0 0:1 clock 1 updated\nlog 0 0:2 clock 2 updated\nlog 0 at 2\n"
+    told = "0 wrote 0:3 clock 3 deps 2\n" + "".join("log 0 0:%d clock %d updated\n" % (seq, seq) for seq in (1, 2, 3)) + "log 0 at 3\n"
     told += "totals reads 0 writes 1 refusals 0 slips 0\nsettled 0 accepted 1 adopted 0\nclean\n"
     checks.that("a Write behind it", run(program, folder, again), (0, told, ""))
     small = script(["servers", 1, 1], ["log", 0])

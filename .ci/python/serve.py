@@ -309,6 +309,7 @@ class Tries:
         os.remove(path)
         server = start(2, True)
         self.that("a new journal in the place of a lost one is refused", server.ended()[0], 3)
+        self.that("it isn't made", os.path.exists(path), False)
         open(path, "wb").write(old)
 
     def restores(self):
@@ -335,7 +336,7 @@ class Tries:
         servers[0] = start(0, False, ["--restore"])
         self.that("restored", servers[0].serving() is not None)
         self.that("told as restored", servers[0].told.find("bayou: restored 16 own writes") is not None)
-        self.that("its journal alone is there", sorted(os.listdir(folder)), ["server-%d.journal" % index for index in range(3)])
+        self.that("its journal alone is there", written_in(folder), ["server-%d.journal" % index for index in range(3)])
         self.that("its own Writes are the same", sorted(write for write in dump_of(servers[0]) if struct_of(write)[0] == 0) == own)
         self.that("all hold the same again", soon_alike(servers) == before)
         self.that("what a session saw it sees there", soon(lambda: session.read("k7/0", 0)), 7)
@@ -358,12 +359,12 @@ class Tries:
         self.refused("no journal to go on from", folder, 3, "bayou: %s: there is no journal; --new makes one, and --restore makes a lost one again" % path)
         server = start(0, True)
         self.that("a new one in its place", (server.ended(), server.told.find("bayou: .*server-0.journal: it lacks Writes of its own server that server [12] has") is not None), ((3, []), True))
-        os.remove(path)
+        self.that("nothing is left of a new one", os.path.exists(path), False)
         self.refused("new and restored at once", folder, 2, "bayou: --new and --restore are two ways to begin: give one of them", new=True, words=["--restore"])
         server = start(0, False, ["--restore", "--limit", "20"])
         ended, _ = server.ended()
         self.that("more Writes than it may hold", (ended, server.told.all()[-1:]), (3, ["bayou: %s: not restored: it would have more Writes than --limit" % path]))
-        self.that("nothing is left of what wasn't restored", sorted(os.listdir(folder)), ["server-1.journal", "server-2.journal"])
+        self.that("nothing is left of what wasn't restored", written_in(folder), ["server-0.journal.mark", "server-1.journal", "server-2.journal"])
 
     def bad_peers(self):
         """Peers that are away, or that don't answer as a server does."""
@@ -449,7 +450,7 @@ class Tries:
         self.that("what was begun is no journal", os.path.exists(path), False)
         server = start(0, False, ["--restore"])
         self.that("restored behind kills", (server.serving() is not None, server.told.find("bayou: restored 3000 own writes") is not None), (True, True))
-        self.that("nothing else is left", sorted(os.listdir(folder)), ["server-0.journal", "server-1.journal"])
+        self.that("nothing else is left", written_in(folder), ["server-0.journal", "server-1.journal"])
         self.that("with the same Writes", sorted(dump_of(server)) == sorted(dump_of(servers[1])))
         for one in (server, servers[1]):
             one.end()
@@ -514,6 +515,11 @@ class Tries:
         done = subprocess.run([self.program, "audit", path], stdin=subprocess.DEVNULL, capture_output=True, timeout=120)
         self.that("each session had what it asked for", (done.returncode, done.stdout.split(b"\n")[0], done.stderr), (0, b"clean", b""))
         self.that("reads and Writes were served", {entry[5] for each in entries for entry in each}, {"read", "write"})
+
+
+def written_in(folder):
+    """The names of the files in which something is: a server that runs has an empty mark."""
+    return sorted(name for name in os.listdir(folder) if os.path.getsize(os.path.join(folder, name)) > 0)
 
 
 def session_request(session):

@@ -294,7 +294,7 @@ def again_at(checks, host, address, held):
         host.left -= 2
         link, send = session.links[0], bayou.Link._reply
 
-        def lose(_):
+        def lose(_, kinds):
             raise bayou.Lost("tried")
         bayou.Link._reply = lose
         try:

@@ -13,6 +13,7 @@ import contextlib
 import random
 import socket
 import struct
+import time
 
 SERVERS = 16
 SESSIONS = 32
@@ -23,6 +24,12 @@ _READ, _REOPEN, _DUMP, _WRITE = 0x01, 0x03, 0x04, 0x06
 _SEEN, _ACCEPTED, _REFUSED, _REOPENED, _ITEM, _END = 0x11, 0x12, 0x13, 0x14, 0x15, 0x16
 _KEY_BYTES = frozenset(b"abcdefghijklmnopqrstuvwxyz0123456789._-/")
 _ZERO = (0,) * SERVERS
+_MAX_COUNT = 65_536
+_MAX_FRAME = 8_192
+_MAX_WRITE = 5_844
+_MAX_TEXT = 32
+# A reply is to come whole within the timeout, and within a second more for each so many bytes of it that came.
+_SLOWEST_BYTES = 4_096
 
 
 class BayouError(Exception):
@@ -38,7 +45,7 @@ class Away(BayouError):
 
 
 class Lost(BayouError):
-    """The connection ended before the reply came: a Write may have been accepted. `again` asks it once more."""
+    """No whole reply came in time, or what came is none: a Write may have been accepted. `again` asks it once more."""
 
 
 class Refused(BayouError):
@@ -188,36 +195,72 @@ def _frame(kind, payload=b""):
 
 # Bytes that come.
 
+def _none_unless(is_one):
+    if not is_one:
+        raise Lost("a reply that is none")
+
+
 class _Payload:
+    """What a reply carries. Nothing of it is believed that no server says (docs/FORMATS.md)."""
+
     def __init__(self, data):
         self.data, self.at = data, 0
 
     def take(self, form):
         size = struct.calcsize(form)
-        if len(self.data) - self.at < size:
-            raise Lost("a reply that is none")
+        _none_unless(len(self.data) - self.at >= size)
         found = struct.unpack_from(form, self.data, self.at)
         self.at += size
         return found
 
-    def vector(self):
-        return self.take(">%dI" % SERVERS)
+    def end(self):
+        _none_unless(self.at == len(self.data))
 
-    def optional_value(self):
+    def vector(self):
+        counts = self.take(">%dI" % SERVERS)
+        _none_unless(max(counts) <= _MAX_COUNT)
+        return counts
+
+    def name(self):
+        origin, seq = self.take(">BI")
+        _none_unless(origin < SERVERS and 1 <= seq <= _MAX_COUNT)
+        return origin, seq
+
+    def value(self):
         (word,) = self.take(">B")
         if word == 0:
             return None
         if word == 1:
             return self.take(">q")[0]
+        _none_unless(word == 2)
         (length,) = self.take(">B")
+        _none_unless(length <= _MAX_TEXT)
         try:
             return self.take(">%ds" % length)[0].decode("utf-8")
         except UnicodeDecodeError:
             raise Lost("a reply that is none") from None
 
+    def seen(self):
+        return self.value(), self.vector()
+
     def accepted(self):
-        origin, seq, clock = self.take(">BII")
-        return Accepted(origin, seq, clock, self.vector())
+        origin, seq = self.name()
+        (clock,), deps = self.take(">I"), self.vector()
+        _none_unless(seq <= clock <= _MAX_COUNT and deps[origin] == seq - 1)
+        return Accepted(origin, seq, clock, deps)
+
+    def reopened(self):
+        (word,) = self.take(">B")
+        _none_unless(word <= 1)
+        return self.name() if word else None
+
+    def item(self):
+        self.at = len(self.data)
+        _none_unless(self.at <= _MAX_WRITE)
+        return self.data
+
+    def count(self):
+        return self.take(">I")[0]
 
     def refusal(self):
         (code,) = self.take(">B")
@@ -225,28 +268,39 @@ class _Payload:
             return Behind(self.vector())
         if code == 6:
             return BadRecord("at %d" % self.take(">I"))
-        if code not in _REFUSALS:
-            raise Lost("a reply that is none")
+        _none_unless(code in _REFUSALS)
         return _REFUSALS[code](_REFUSALS[code].__doc__)
+
+
+_REPLIES = {_SEEN: _Payload.seen, _ACCEPTED: _Payload.accepted, _REFUSED: _Payload.refusal, _REOPENED: _Payload.reopened, _ITEM: _Payload.item, _END: _Payload.count}
+
+
+def _place(address):
+    host, _, port = address.rpartition(":") if isinstance(address, str) else ("", "", "")
+    if not host or not port.isascii() or not port.isdigit() or not 0 < int(port) < 65_536:
+        raise BadRequest("%r is no HOST:PORT" % (address,))
+    return host.strip("[]"), int(port)
 
 
 class Link:
     """A connection to one server, which is made when it is needed, and anew where the server closed it."""
 
-    def __init__(self, address, timeout=10.0):
-        host, _, port = address.rpartition(":")
-        self.address, self.timeout = (host.strip("[]"), int(port)), timeout
-        self.socket, self.replies = None, None
+    def __init__(self, address, timeout=3.0):
+        self.address, self.timeout = _place(address), timeout
+        self.socket = None
+        # What came of replies and wasn't read yet, and when the reply is to be there.
+        self.came, self.latest = bytearray(), 0.0
 
     def close(self):
         if self.socket is not None:
-            self.replies.close()
             self.socket.close()
-        self.socket = self.replies = None
+        self.socket = None
+        self.came.clear()
 
     def _is_open(self):
-        """Whether the server hasn't ended the connection: nothing stands there to be read, not even its end."""
-        if self.socket is None:
+        """Whether the server hasn't ended the connection: nothing stands there to be read, not even its end. What stands there would be read as the
+        next reply."""
+        if self.socket is None or self.came:
             return False
         try:
             self.socket.setblocking(False)
@@ -270,17 +324,32 @@ class Link:
         except OSError as error:
             self.close()
             raise Away(str(error)) from None
-        self.replies = self.socket.makefile("rb")
 
-    def _reply(self):
-        length, kind = struct.unpack(">HB", self._exactly(3))
-        return kind, _Payload(self._exactly(length - 1))
+    def _reply(self, kinds):
+        """The next reply, which is of one of these kinds or a refusal, and what it carries."""
+        (length,) = struct.unpack(">H", self._exactly(2))
+        _none_unless(1 <= length <= _MAX_FRAME)
+        kind, payload = self._exactly(1)[0], _Payload(self._exactly(length - 1))
+        if kind != _REFUSED and kind not in kinds:
+            raise Lost("a reply to something else")
+        carried = _REPLIES[kind](payload)
+        payload.end()
+        return kind, carried
 
     def _exactly(self, count):
-        piece = self.replies.read(count)
-        if len(piece) < count:
-            raise Lost("the connection ended")
-        return piece
+        while len(self.came) < count:
+            left = self.latest - time.monotonic()
+            if left <= 0:
+                raise Lost("no whole reply in time")
+            self.socket.settimeout(left)
+            piece = self.socket.recv(65_536)
+            if not piece:
+                raise Lost("the connection ended")
+            self.came += piece
+            self.latest += len(piece) / _SLOWEST_BYTES
+        found = bytes(self.came[:count])
+        del self.came[:count]
+        return found
 
     @contextlib.contextmanager
     def _closed_where_lost(self):
@@ -295,32 +364,29 @@ class Link:
             raise
 
     def ask(self, request, *kinds):
-        """The first reply to the request, which is of one of these kinds."""
+        """The first reply to the request, of which the kind is one of these, and what it carries."""
         self._connect()
         with self._closed_where_lost():
+            self.latest = time.monotonic() + self.timeout
             self.socket.sendall(request)
-            kind, payload = self._reply()
-            if kind == _REFUSED:
-                raise payload.refusal()
-            if kind not in kinds:
-                raise Lost("a reply to something else")
-            return kind, payload
+            kind, carried = self._reply(kinds)
+        if kind == _REFUSED:
+            raise carried
+        return kind, carried
 
     def reopen(self):
         """Has the server open its journal again, and tells the name of the Write that was adopted, if one was."""
-        _, payload = self.ask(_frame(_REOPEN), _REOPENED)
-        (adopted,) = payload.take(">B")
-        return payload.take(">BI") if adopted else None
+        return self.ask(_frame(_REOPEN), _REOPENED)[1]
 
     def dump(self):
         """All Writes that the server holds, in order of receipt, each as its bytes."""
         writes = []
-        kind, payload = self.ask(_frame(_DUMP), _ITEM, _END)
+        kind, carried = self.ask(_frame(_DUMP), _ITEM, _END)
         with self._closed_where_lost():
-            while kind == _ITEM:
-                writes.append(payload.data)
-                kind, payload = self._reply()
-            if kind != _END or payload.take(">I") != (len(writes),):
+            while kind == _ITEM and len(writes) < _MAX_COUNT:
+                writes.append(carried)
+                kind, carried = self._reply((_ITEM, _END))
+            if kind != _END or carried != len(writes):
                 raise Lost("a dump that isn't whole")
         return writes
 
@@ -330,10 +396,15 @@ class Session:
 
     `asks` says what it asks for, any of "ryw" (Read Your Writes), "mr" (Monotonic Reads), "wfr" (Writes Follow Reads) and "mw" (Monotonic
     Writes). `number` and `run` name its Writes, so that one that is asked again acts once: no two sessions of a store may have the same pair,
-    in this program or another. Each is drawn at random where it isn't given.
+    in this program or another. Each is drawn at random where it isn't given. A server that is silent, or drips, is `Lost` after `timeout` seconds, and a
+    second more for each 4,096 bytes that came.
     """
 
-    def __init__(self, addresses, asks=(), number=None, run=None, timeout=10.0):
+    def __init__(self, addresses, asks=(), number=None, run=None, timeout=3.0):
+        if isinstance(addresses, str):
+            raise BadRequest("%r is no list of addresses" % (addresses,))
+        if isinstance(asks, str):
+            raise BadRequest("what a session asks for is a list of names, as ['ryw', 'mr'], and not %r" % (asks,))
         if not set(asks) <= set(ASKS):
             raise BadRequest("%r isn't of %s" % (asks, ", ".join(ASKS)))
         self.links = [None if address is None else Link(address, timeout) for address in addresses]
@@ -381,8 +452,7 @@ class Session:
         request = _frame(_READ, _vector(need) + _key(key))
         link = self._link(server)
         self._begin()
-        _, payload = link.ask(request, _SEEN)
-        value, vector = payload.optional_value(), payload.vector()
+        _, (value, vector) = link.ask(request, _SEEN)
         if not all(has >= wants for has, wants in zip(vector, need)):
             raise Lost("a read of less than was needed")
         self.has_read, self.seen = tuple(map(max, self.has_read, vector)), vector
@@ -404,8 +474,7 @@ class Session:
         if self.pending is None:
             raise BayouError("there is no Write to ask again")
         server, request, need = self.pending
-        _, payload = self._link(server).ask(request, _ACCEPTED)
-        accepted = payload.accepted()
+        _, accepted = self._link(server).ask(request, _ACCEPTED)
         if accepted.origin != server or not all(has >= wants for has, wants in zip(accepted.deps, need)):
             raise Lost("a Write of another server, or before less than was needed")
         written = list(self.has_written)

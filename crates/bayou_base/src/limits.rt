@@ -138,3 +138,6 @@ pub const ROUND_MILLISECONDS: u64 = 250;
 
 /// How many entries a state file has at the most before it is written anew, with what is kept of each session at last.
 pub const MAX_KEPT_ENTRIES: u64 = 65_536;
+
+/// How many seconds pass from one line of a server that lost Writes of its own to the next.
+pub const LOST_SECONDS: u32 = 60;

@@ -1,5 +1,5 @@
 -- The least number of servers of which some are these.
-use Rattle.std.proofs.Common.{arith, ◌≡◌, ℕ, ◌+◌, ◌<◌, ◌≤◌, All, List, [], ◌∷◌, get_or, length, max, subst, take}
+use Rattle.std.proofs.Common.{arith, ◌≡◌, ℕ, ◌+◌, ◌<◌, All, List, [], ◌∷◌, get_or, length, max, subst, take}
 use Rattle.std.proofs.lemmas.List.{get_or-take, length-take, take-take}
 use Rattle.std.proofs.lemmas.List.Elements.{All-head, All-more, All-take, All-weaker}
 use Rattle.bayou_connect.specs.Plans.{IsLeast}

@@ -1,4 +1,5 @@
 pub mod Going
+pub mod Kept
 pub mod Least
 pub mod Naming
 pub mod Opening

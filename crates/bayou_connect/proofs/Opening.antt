@@ -1,10 +1,10 @@
 -- A session that is opened.
-use Rattle.std.proofs.Common.{◌≡◌, ◌∙◌, ℕ, List, Option, Some, None, ap, get_or, set, subst}
+use Rattle.std.proofs.Common.{◌≡◌, ◌∙◌, ℕ, List, Option, Some, None, ap, get_or, set}
 use Rattle.std.proofs.lemmas.List.{set-set}
 use Rattle.bayou_base.specs.declared.asks.Asks.{Asks}
 use Rattle.bayou_base.specs.declared.session.SessionId.{SessionId}
 use Rattle.bayou_client.specs.declared.client.Asked.{Asked}
-use Rattle.bayou_connect.specs.Sessions.{IsOpened, kept_of, opened}
+use Rattle.bayou_connect.specs.Sessions.{IsOpened, opened}
 use Rattle.bayou_remember.specs.Spelling.{Keeping}
 use Rattle.bayou_session.specs.Needs.{Told as Session, resumed}
 use Rattle.bayou_session.specs.declared.past.Past.{Past}

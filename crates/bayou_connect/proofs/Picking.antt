@@ -1,9 +1,8 @@
 -- What a test of the elements of a list found, as one of them.
-use Rattle.std.proofs.Common.{arith, ◌≡◌, ◌∙◌, ◌<◌, ◌≤◌, ℕ, zero, suc, Bool, true, false, All, Any, IsSomeAnd, List, [], ◌∷◌, MatchBool, MatchOption, Option, None, Some, ap, get_or, length, refl, subst, sym}
+use Rattle.std.proofs.Common.{arith, ◌≡◌, ◌<◌, ℕ, zero, suc, Bool, true, false, All, Any, IsSomeAnd, List, [], ◌∷◌, MatchBool, MatchOption, Option, None, Some, get_or, length, refl, sym}
 use Rattle.std.specs.List.{AllWithin, HoldsAt, slice_get}
 use Rattle.std.proofs.lemmas.Bool.{false≢true}
 use Rattle.std.proofs.lemmas.List.Elements.{All-from_all_within}
-use Rattle.std.proofs.lemmas.Option.{slice_get-get_or}
 
 -- one stands there
 pub one_at : {X : Type 0} (P : X → Type 0) (xs : List X) (at : ℕ) → at < length xs → HoldsAt P xs at → Any P xs

@@ -1,5 +1,5 @@
 -- Rounds at servers, one after another, and what each of their answers says.
-use Rattle.std.proofs.Common.{arith, ◌≡◌, ◌⊎◌, ℕ, zero, suc, ◌+◌, ◌-◌, ◌<◌, ◌≤◌, Bool, true, false, List, [], ◌∷◌, inl, inr, refl, subst, sym}
+use Rattle.std.proofs.Common.{arith, ◌≡◌, ℕ, zero, suc, ◌+◌, ◌-◌, ◌<◌, ◌≤◌, Bool, true, false, List, [], ◌∷◌, inl, inr, refl, subst, sym}
 use Rattle.bayou_connect.specs.Round.{AsksInRounds, AsksInTurn, GoesRound, after_refusal, may_ask_another}
 use Rattle.bayou_connect.specs.declared.told.Told.{Told}
 use Rattle.bayou_connect.specs.declared.told.Told.TheVariants as told

@@ -1,7 +1,7 @@
 -- A key that has a value was written by some program.
-use Rattle.std.proofs.Common.{arith, ◌≡◌, ◌⊎◌, ◌∙◌, ◌+◌, ◌++◌, ℕ, Bool, true, false, cond, List, [], ◌∷◌, Option, None, Some, All, Contains, IsSome, ap, flat_map, inl, inr, map, refl, subst, sym}
+use Rattle.std.proofs.Common.{arith, ◌≡◌, ◌⊎◌, ◌+◌, ◌++◌, ℕ, true, false, cond, List, [], ◌∷◌, Option, None, Some, All, Contains, IsSome, flat_map, inl, inr, map, refl, subst, sym}
 use Rattle.std.specs.Cmp.Lexicographic.{bytes_decides}
-use Rattle.std.specs.Option.{option_and_then, option_map, option_map_or}
+use Rattle.std.specs.Option.{option_map, option_map_or}
 use Rattle.std.proofs.lemmas.List.Elements.{All-cons, All-head, All-tail}
 use Rattle.std.proofs.lemmas.Option.{none-some, option_and_then_some, same_Some}
 use Rattle.bayou_base.specs.declared.value.Value.{Value}

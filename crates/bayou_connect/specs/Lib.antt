@@ -1,3 +1,4 @@
+pub mod Anew
 pub mod Anywhere
 pub mod Keeping
 pub mod Listing

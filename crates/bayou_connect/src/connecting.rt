@@ -13,6 +13,7 @@ use crate::remembering::{Remembered, StateFile, remember};
 use crate::round::ROUNDS_PER_SECOND;
 use crate::store::Store;
 use bayou_base::{Asks, SESSIONS, SessionId};
+use bayou_journal::DamagedEntry;
 use bayou_net::Sockets;
 use bayou_person::{WishFault, wish_in};
 use bayou_remember::{Kept, nothing_kept};
@@ -212,12 +213,25 @@ struct Found {
     ghost one_each: { vec_len sessions ≡ NUMBER },
 }
 
-// What the file of this name keeps of sessions; nothing, where there is no name.
-fn found_in<T: Files<File = File>>(
+// Tells, as far as it can be told, that the last entry of the state file was dropped.
+fn tell_entry<E: Write>(
+    alloc: Global,
+    errors: &mut E,
+    path: &str,
+    entry: DamagedEntry,
+) -> Result<(), ConnectFault> {
+    let line = format!(in alloc; "bayou: {path}: {entry}\n")?;
+    let _ = errors.write_all(line.as_bytes());
+    Ok(())
+}
+
+// What the file of this name keeps of sessions; nothing, where there is no name. A last entry that was dropped is told.
+fn found_in<E: Write, T: Files<File = File>>(
     rt: &T,
     alloc: Global,
     name: Option<&str>,
     run: u32,
+    errors: &mut E,
 ) -> Result<Found, ConnectFault>
     requires { 0 < run }
 {
@@ -227,7 +241,10 @@ fn found_in<T: Files<File = File>>(
             sessions: nothing_kept(alloc)?,
         });
     };
-    let Remembered { memory, all } = remember(rt, alloc, path, run)?;
+    let Remembered { memory, all, entry } = remember(rt, alloc, path, run)?;
+    if let Some(entry) = entry {
+        tell_entry(alloc, errors, path, entry)?;
+    }
     let path = path.to_string(alloc)?;
     Ok(Found {
         state: Some(StateFile::new(memory, path, run)),
@@ -325,7 +342,7 @@ where
     T: Files<File = File> + Sockets + Wait + Clock + RandomSource,
 {
     let run = drawn_run(rt)?;
-    let Found { state, sessions } = found_in(rt, alloc, names.state, run)?;
+    let Found { state, sessions } = found_in(rt, alloc, names.state, run, errors)?;
     let Some(asks) = own_asks(plan, &sessions, OWN) else {
         if let (Some(path), Some(said), Some(kept)) = (
             names.state,

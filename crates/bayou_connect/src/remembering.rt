@@ -1,12 +1,15 @@
 //! The file in which sessions are kept.
-ghost use Rattle.std.specs.Prelude.{◌≡◌, ◌<◌, OnOk, vec_len};
+ghost use Rattle.std.specs.Prelude.{◌≡◌, ◌<◌, ◌≤◌, ◌++◌, IfOk, List, Ok, OnOk, vec_len};
+ghost use Rattle.bayou_base.specs.declared.limits.TheConstants.{MAX_KEPT_ENTRIES as MOST};
+ghost use Rattle.bayou_connect.specs.Anew.{entries_behind, those};
 ghost use Rattle.bayou_base.specs.declared.limits.TheConstants.{SESSIONS as NUMBER};
-ghost use Rattle.bayou_remember.specs.Memory.{EndsWith};
+ghost use Rattle.bayou_remember.specs.Memory.{EndsWith, HasAll};
+ghost use Rattle.bayou_remember.specs.Spelling.{Keeping};
 
 use crate::fault::ConnectFault;
 use bayou_base::limits::MAX_KEPT_ENTRIES;
-use bayou_device::{CarefulDevice, FileDevice};
-use bayou_journal::{OpenFault, with_care};
+use bayou_device::{Device, FileDevice};
+use bayou_journal::{CarefulDevice, DamagedEntry, OpenFault};
 use bayou_remember::{KeepFault, Kept, Memory, RememberFault};
 use bayou_session::FIRST_RUN;
 use std::alloc::Global;
@@ -21,6 +24,8 @@ pub(crate) type StateDevice = CarefulDevice<FileDevice<File>>;
 pub(crate) struct Remembered {
     pub(crate) memory: Memory<StateDevice>,
     pub(crate) all: Vec<Option<Kept>>,
+    /// The last entry, which was dropped as it was opened, though all its bytes were there.
+    pub(crate) entry: Option<DamagedEntry>,
     pub(crate) ghost one_each: { vec_len all ≡ NUMBER },
 }
 
@@ -69,29 +74,52 @@ fn open_at<T: Files<File = File>>(
     let Ok(file) = FileDevice::open(rt, path) else {
         return Err(ConnectFault::StateNotOpened);
     };
-    let device = with_care(file);
+    let device = CarefulDevice::new(file);
     match Memory::open(alloc, device, run) {
-        Ok((memory, all)) => Ok(Remembered { memory, all }),
+        Ok((memory, all)) => {
+            let entry = memory.see_device().entry();
+            Ok(Remembered { memory, all, entry })
+        }
         Err(refused) => Err(fault_of(refused.fault, &refused.device)),
     }
 }
 
-// Writes what is kept of each session at last to a file that is new.
+// Keeps each of those that there are, one behind another.
+fn keep_each<D: Device>(
+    alloc: Global,
+    memory: &mut Memory<D>,
+    all: &[Option<Kept>],
+) -> Result<(), ConnectFault>
+    ensures kept { D.is_modelled → OnOk result ((had : List Keeping) → HasAll D.Device memory.old had → HasAll D.Device memory.new (had ++ those all.now)) }
+    ensures entries { OnOk result (memory.new.entries ≡ entries_behind memory.old.entries (those all.now)) }
+{
+    for kept in all {
+        if let Some(kept) = kept {
+            if let Err(fault) = memory.keep(alloc, kept) {
+                return Err(fault_of_keeping(fault));
+            }
+        }
+    }
+    Ok(())
+}
+
+// Writes what is kept of each session at last to a file that is new. What a file has no clause can say.
 fn write_part<T: Files<File = File>>(
     rt: &T,
     alloc: Global,
     part: &str,
     all: &[Option<Kept>],
-) -> Result<(), ConnectFault> {
+) -> Result<Memory<StateDevice>, ConnectFault>
+    ensures { IfOk result (λ memory. memory.entries ≡ entries_behind 0 (those all.now)) }
+{
     // What an interrupted call left of it.
     let _ = fs::remove_file(rt, part);
     let Remembered { mut memory, .. } = open_at(rt, alloc, part, FIRST_RUN)?;
-    for kept in all.iter().flatten() {
-        if let Err(fault) = memory.keep(alloc, kept) {
-            return Err(fault_of_keeping(fault));
-        }
+    if memory.entries() != 0 {
+        return Err(ConnectFault::State);
     }
-    Ok(())
+    keep_each(alloc, &mut memory, all)?;
+    Ok(memory)
 }
 
 // Puts a file with what is kept of each session at last in the place of the longer one, and opens it.
@@ -105,7 +133,8 @@ fn write_anew<T: Files<File = File>>(
     requires { 0 < run }
 {
     let part = format!(in alloc; "{path}.part")?;
-    write_part(rt, alloc, part.as_str(), all)?;
+    let memory = write_part(rt, alloc, part.as_str(), all)?;
+    drop(memory);
     if fs::rename(rt, part.as_str(), path).is_err() {
         return Err(ConnectFault::State);
     }
@@ -126,7 +155,15 @@ pub(crate) fn remember<T: Files<File = File>>(
     if remembered.memory.entries() <= MAX_KEPT_ENTRIES {
         return Ok(remembered);
     }
-    write_anew(rt, alloc, path, run, remembered.all.as_slice())
+    let entry = remembered.entry;
+    let Remembered { memory, all, .. } = write_anew(
+        rt,
+        alloc,
+        path,
+        run,
+        remembered.all.as_slice(),
+    )?;
+    Ok(Remembered { memory, all, entry })
 }
 
 impl StateFile {
@@ -147,12 +184,16 @@ impl StateFile {
         }
     }
 
-    /// The same, written anew where it has grown long meanwhile. It is let go for a moment then.
+    /// The same, written anew where it has grown long meanwhile. It is let go for a moment then. What a file that was written anew has no clause can
+    /// say; [`keep_each`] has one of any device.
     pub(crate) fn shortened<T: Files<File = File>>(
         self,
         rt: &T,
         alloc: Global,
-    ) -> Result<Self, ConnectFault> {
+    ) -> Result<Self, ConnectFault>
+        ensures short { self.memory.entries ≤ MOST → result ≡ Ok self }
+        ensures same { IfOk result (λ file. (file.path ≡ self.path) × (file.run ≡ self.run)) }
+    {
         if self.memory.entries() <= MAX_KEPT_ENTRIES {
             return Ok(self);
         }

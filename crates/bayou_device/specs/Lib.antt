@@ -1,4 +1,3 @@
-pub mod Careful
 pub mod Device
 pub mod Laws
 pub mod Memory

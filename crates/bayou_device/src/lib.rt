@@ -10,14 +10,12 @@
 //! over one gives `is_modelled` as empty, and then no clause says what it holds, only when its calls may fail.
 #![tactic(auto)]
 
-pub mod careful;
 pub mod device;
 pub mod file;
 pub mod fuse;
 pub mod gate;
 pub mod memory;
 
-pub use careful::{CarefulDevice, Damage};
 pub use device::{Device, Failed, ReadFault};
 pub use file::FileDevice;
 pub use fuse::Fuse;

@@ -5,5 +5,7 @@ pub mod Heading
 pub mod Honesty
 pub mod Raising
 pub mod Reading
+pub mod Tails
 pub mod Tearing
+pub mod Unfinished
 pub mod Walking

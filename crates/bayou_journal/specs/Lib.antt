@@ -1,3 +1,4 @@
+pub mod Careful
 pub mod Chain
 pub mod Faults
 pub mod Honest
@@ -6,4 +7,5 @@ pub mod Journal
 pub mod Laws
 pub mod Opened
 pub mod Opening
+pub mod Torn
 pub mod Versions

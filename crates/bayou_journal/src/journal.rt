@@ -161,6 +161,13 @@ impl<D: Device> Journal<D> {
         device
     }
 
+    /// Its device, to look at.
+    pub fn see_device(&self) -> &D
+        ensures { result.now ≡ self.now.device }
+    {
+        &self.device
+    }
+
     /// Its device, for what only the device can do, as to set a fuse in a test.
     pub fn device(&mut self) -> &mut D
         ensures value { result.now ≡ self.old.device }

@@ -15,7 +15,7 @@
 //! real file holds, nor that a digest is never met by chance.
 #![tactic(auto)]
 
-pub mod care;
+pub mod careful;
 mod chain;
 pub mod fault;
 pub mod format;
@@ -23,8 +23,10 @@ pub mod journal;
 pub mod laws;
 pub mod opened;
 mod restore;
+pub mod torn;
 
-pub use care::with_care;
+pub use careful::{CarefulDevice, Damage, DamagedEntry};
 pub use fault::{AppendFault, NotOpened, OpenFault};
 pub use journal::Journal;
 pub use opened::Opened;
+pub use torn::Tear;

@@ -1,3 +1,4 @@
 pub mod Desks
 mod Done
+mod Loss
 mod Tally

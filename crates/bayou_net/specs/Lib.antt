@@ -1,3 +1,4 @@
+pub mod Halting
 pub mod Inner
 pub mod Lent
 pub mod Replies

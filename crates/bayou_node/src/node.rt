@@ -28,7 +28,8 @@ use std::marker::Model;
 use std::sync::ledger::Blank;
 use std::sync::{Mutex, Wait};
 
-/// A server behind its lock, which threads share. Each call takes the lock once, and may wait for it.
+/// A server behind its lock, which threads share. Each call that takes the lock may wait for it, and holds it for itself alone; those that take it
+/// several times, or never, say so.
 #[derive(Drop)]
 pub struct Node<D, L: Desks> {
     held: Mutex<Held<D, L>>,

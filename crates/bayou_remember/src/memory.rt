@@ -153,6 +153,13 @@ impl<D: Device + Drop> Memory<D> {
         self.journal.close()
     }
 
+    /// Its device, to look at.
+    pub fn see_device(&self) -> &D
+        ensures { result.now ≡ self.now.device }
+    {
+        self.journal.see_device()
+    }
+
     /// How many entries there are, of all sessions, of which the last of each counts.
     pub fn entries(&self) -> u64
         ensures { result ≡ self.now.entries }

@@ -1,3 +1,4 @@
+mod Alike
 mod Due
 mod Gap
 mod Held

@@ -1,5 +1,5 @@
 -- What a server made is a history.
-use Rattle.std.proofs.Common.{◌≡◌, ℕ, ◌+◌, ◌<◌, ◌≤◌, ◌⊎◌, inl, inr, List, ◌∷◌, ◌++◌, get_or, length, slice_index, All, Contains, ap, sym, ◌∙◌, refl, subst, arith}
+use Rattle.std.proofs.Common.{◌≡◌, ℕ, ◌≤◌, inl, inr, List, slice_index, Contains, ap, sym, ◌∙◌, subst, arith}
 use Rattle.std.proofs.lemmas.Bool.{cases_lt}
 use Rattle.std.proofs.lemmas.List.Elements.{All-contains}
 use Rattle.bayou_base.specs.Vector.{Covers, Dominates}
@@ -9,7 +9,7 @@ use Rattle.bayou_lang.specs.Laws.Equality.{server-ext, wid-ext}
 use Rattle.bayou_lang.specs.Laws.Fitting.{fitting_is_prefix_closed}
 use Rattle.bayou_lang.specs.Writes.{AreFitting, Fits, IsSound, count_of}
 use Rattle.bayou_restore.specs.Restoring.{IsHistory, IsOwnAmong}
-use Rattle.bayou_restore.proofs.Parts.{Named, Split, front_fits, named, of_front, split_of}
+use Rattle.bayou_restore.proofs.Parts.{Split, front_fits, named, of_front, split_of}
 
 -- a Write of a fitting list counts no more than the list has
 past_counted : (count : ℕ) (writes : List Write) (write : Write) → AreFitting count writes → Contains writes write → Dominates (count_of writes) write.deps

@@ -1,3 +1,4 @@
+pub mod Differing
 pub mod Gathering
 pub mod Inner
 pub mod Restoring

@@ -1,3 +1,4 @@
+mod Choosing
 mod Ended
 mod Gathering
 mod Living

@@ -1,8 +1,8 @@
 -- Why nothing is served, or no more: this project's own.
 use Rattle.std.specs.Prelude.{◌≡◌, ◌≢◌, Option, None, Some}
-use Rattle.bayou_device.specs.declared.careful.Damage.{Damage}
+use Rattle.bayou_journal.specs.declared.careful.Damage.{Damage}
 use Rattle.bayou_serve.specs.declared.fault.ServeFault.{ServeFault}
-use Rattle.bayou_serve.specs.declared.fault.ServeFault.TheVariants.{NotOpened, Missing, Present, Device, Damaged, NotAJournal, OtherServer, BadRecord, Gap, LogFull, OwnLost, NotRestored, Memory, Port, Output}
+use Rattle.bayou_serve.specs.declared.fault.ServeFault.TheVariants.{NotOpened, Missing, Present, Device, Damaged, NotAJournal, OtherServer, BadRecord, Gap, LogFull, OwnLost, Lost, MarkFailed, NotRestored, Memory, Port, Output}
 use Rattle.bayou_serve.specs.declared.fault.Unrestored.TheVariants as why
 use Rattle.bayou_serve.specs.declared.plan.Beginning.{Beginning}
 use Rattle.bayou_serve.specs.declared.plan.Beginning.TheVariants.{GoOn}
@@ -42,11 +42,14 @@ MayEndLook beginning Present = beginning ≢ GoOn
 MayEndLook beginning NotOpened = Unit {0}
 MayEndLook beginning _ = ⊥
 
--- what may end a start: the same, or what the journal or memory is at fault for; no peer was asked yet, and no socket and no output is there
+-- what may end a start: the same, or what the journal or memory is at fault for; no mark and no peer was asked yet, and no socket and no output
+-- is there
 abbrev pub MayEndStart : Beginning → ServeFault → Type 0
 MayEndStart beginning Missing = beginning ≡ GoOn
 MayEndStart beginning Present = beginning ≢ GoOn
 MayEndStart beginning (OwnLost peer) = ⊥
+MayEndStart beginning Lost = ⊥
+MayEndStart beginning MarkFailed = ⊥
 MayEndStart beginning (NotRestored why) = ⊥
 MayEndStart beginning Port = ⊥
 MayEndStart beginning Output = ⊥

@@ -1,8 +1,10 @@
 pub mod Beginnings
+pub mod Choosing
 pub mod Faults
 pub mod Fullness
 pub mod Lived
 pub mod Losing
+pub mod Marks
 pub mod News
 pub mod Receiving
 pub mod Remade

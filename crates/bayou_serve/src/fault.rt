@@ -1,7 +1,7 @@
 ghost use Rattle.std.specs.Prelude.{◌≡◌};
 ghost use Rattle.bayou_serve.specs.Faults.{told_as};
 
-use bayou_device::Damage;
+use bayou_journal::Damage;
 use bayou_restore::RestoreFault;
 use bayou_server::{JournalFault, StartFault};
 use std::alloc::AllocError;
@@ -15,6 +15,9 @@ pub enum Unrestored {
     /// The answer of this server ended early, or can't be one.
     #[error("server {0} didn't answer whole")]
     BadAnswer(u8),
+    /// Under this number these two servers have other Writes of this one: it gave the name twice.
+    #[error("servers {one} and {other} have different Writes {number} of this server")]
+    Differ { one: u8, other: u8, number: u32 },
     /// The own Write of this number can't have been made behind those that it counts.
     #[error("the peers' Write {0} of this server can't be its own")]
     Misfit(u32),
@@ -61,6 +64,12 @@ pub enum ServeFault {
     /// A peer, of this number, has a Write of this server, which its journal lacks.
     #[error("it lacks Writes of its own server that server {0} has")]
     OwnLost(u8),
+    /// Its mark says so, whatever its peers say.
+    #[error("it lost Writes of its own; move it away and start it with --restore")]
+    Lost,
+    /// The mark can't be opened or locked, or a call of it failed.
+    #[error("its .mark can't be read or written, or another process has it")]
+    MarkFailed,
     #[error("not restored: {0}")]
     NotRestored(Unrestored),
     #[error("memory")]

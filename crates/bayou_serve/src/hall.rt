@@ -4,15 +4,18 @@ ghost use Rattle.bayou_base.specs.declared.limits.TheConstants.{CROWDED_MILLISEC
 
 use bayou_base::limits::CROWDED_MILLISECONDS;
 use std::sync::atomic::{AtomicBool, AtomicU64, Ordering};
+use std::sync::{OnceLock, OnceToken, Wait};
 
 const MILLISECONDS: u64 = 1_000;
 
-/// Whether the server ends, and how many of its desks are taken.
+/// Whether the server ends, whether it may take Writes, and how many of its desks are taken.
 #[derive(Drop)]
 pub struct Hall {
     pub stop: AtomicBool,
     /// Whether a thread didn't start.
     pub is_short: AtomicBool,
+    /// Set once the server is known to have lost Writes of its own.
+    pub lost: OnceLock<()>,
     busy: AtomicU64,
     desks: u64,
     idle_milliseconds: u64,
@@ -36,6 +39,7 @@ impl Hall {
         Hall {
             stop: AtomicBool::new(false),
             is_short: AtomicBool::new(false),
+            lost: OnceLock::new(),
             busy: AtomicU64::new(0),
             desks: u64::from(desks),
             idle_milliseconds: u64::from(idle_seconds) * MILLISECONDS,
@@ -50,6 +54,18 @@ impl Hall {
     /// The server ends.
     pub fn end(&self) {
         self.stop.store(true, Ordering::SeqCst);
+    }
+
+    /// Whether the server is known to have lost Writes of its own. What other threads know no clause can say.
+    pub fn has_lost(&self) -> bool {
+        self.lost.get().is_some()
+    }
+
+    /// The server lost Writes of its own: no desk takes a Write any more. What comes back shows that this is known.
+    pub fn lose<T: Wait>(&self, rt: &T) -> OnceToken<'_, ()>
+        ensures { result.of ≡ self.now.lost.id }
+    {
+        self.lost.init(rt, || ())
     }
 
     /// A desk is taken.

@@ -1,5 +1,7 @@
-//! What keeps a server going: its journal is opened again behind a fault of the device, and it is told when it fills up.
-ghost use Rattle.std.specs.Prelude.{◌≡◌, ℕ, max, sum};
+//! What keeps a server going: its journal is opened again behind a fault of the device, and it is told when it fills up, and that it lost Writes of
+//! its own.
+ghost use Rattle.std.specs.Prelude.{◌≡◌, ◌-◌, ℕ, if◌then◌else◌, max, nat_eq, sum};
+ghost use Rattle.bayou_base.specs.declared.limits.TheConstants.{LOOK_SECONDS, LOST_SECONDS};
 ghost use Rattle.bayou_lang.specs.Writes.{count_of};
 ghost use Rattle.bayou_node.specs.Answers.{InSome};
 ghost use Rattle.bayou_serve.specs.Fullness.{IsFullness};
@@ -7,7 +9,9 @@ ghost use Rattle.bayou_serve.specs.Fullness.{IsFullness};
 use crate::filling::Filling;
 use crate::hall::Hall;
 use crate::lines::{holds_line, reopened_line};
-use crate::peers::rest;
+use crate::marking::{Mark, UNMARKED};
+use crate::peers::{TICKS_PER_SECOND, tick};
+use crate::reminding::Reminder;
 use crate::teller::Teller;
 use bayou_base::Vector;
 use bayou_base::limits::LOOK_SECONDS;
@@ -46,17 +50,52 @@ fn tell_fullness<D: Device, L: Desks, E: Write, T: Wait>(
     }
 }
 
-/// Opens the journal again, where a fault of the device took the server down, and tells when the server fills up, until it ends. Which step is
-/// told is [`Filling`]'s; that it is told, and that a journal is opened again, no clause can say.
-pub(crate) fn keep_up<D: Device, L: Desks, E: Write, T: Wait + Clock>(
+// Marks that the server lost Writes of its own, and tells it, where that is due.
+fn tell_loss<M: Device, E: Write, T: Wait>(
+    rt: &T,
+    mark: &Mark<M>,
+    reminder: &mut Reminder,
+    teller: &Teller<E>,
+)
+    ensures { reminder.new.left ≡ (if nat_eq reminder.old.left 0 then LOST_SECONDS else reminder.old.left) - LOOK_SECONDS }
+{
+    let is_marked = mark.make(rt);
+    if !reminder.look() {
+        return;
+    }
+    teller.tell(
+        rt,
+        "bayou: lost Writes of its own; no Write is taken until --restore\n",
+    );
+    if !is_marked {
+        teller.tell(rt, UNMARKED);
+    }
+}
+
+// Rests until the next look, or until the server ends, or it is known that it lost Writes of its own, where it wasn't before.
+fn rest_until_look<T: Clock>(rt: &T, hall: &Hall, has_lost: bool) {
+    for _ in 0..u64::from(LOOK_SECONDS) * TICKS_PER_SECOND {
+        if hall.is_over() || (hall.has_lost() && !has_lost) {
+            return;
+        }
+        tick(rt);
+    }
+}
+
+/// Opens the journal again, where a fault of the device took the server down, and tells when the server fills up, and that it lost Writes of its
+/// own, until it ends. Which step is told is [`Filling`]'s, and when a loss is told again [`Reminder`]'s; that it is told, and that a journal is opened
+/// again, no clause can say.
+pub(crate) fn keep_up<D: Device, L: Desks, M: Device, E: Write, T: Wait + Clock>(
     rt: &T,
     alloc: Global,
     node: &Node<D, L>,
     limit: u32,
     hall: &Hall,
+    mark: &Mark<M>,
     teller: &Teller<E>,
 ) {
     let mut filling = Filling::new();
+    let mut reminder = Reminder::new();
     for _ in rt.forever() {
         if hall.is_over() {
             return;
@@ -66,6 +105,10 @@ pub(crate) fn keep_up<D: Device, L: Desks, E: Write, T: Wait + Clock>(
             teller.tell_made(rt, reopened_line(alloc, reopened.adopted));
         }
         tell_fullness(rt, alloc, node, limit, &mut filling, teller);
-        rest(rt, hall, LOOK_SECONDS);
+        let has_lost = hall.has_lost();
+        if has_lost {
+            tell_loss(rt, mark, &mut reminder, teller);
+        }
+        rest_until_look(rt, hall, has_lost);
     }
 }

@@ -3,7 +3,8 @@
 //! Callers see [`serve_plan`], which serves what a [`Plan`] says until it is told to end, or for ever. Each connection is served at a desk
 //! of its own (`bayou_net`), as long as there is patience with it: a client that says nothing holds nobody up. One thread a peer pulls every
 //! so often; one more opens the journal again where a fault of the device took the server down, and tells when the server fills up. A journal that is
-//! lost is made again of what the peers have (`bayou_restore`), where the plan asks for that.
+//! lost is made again of what the peers have (`bayou_restore`), where the plan asks for that. A server that finds that it lost Writes of its own,
+//! by what a peer sends, takes no more; it tells so, and keeps a mark of it beside its journal, with which it isn't started until that was made again.
 //!
 //! Callers owe a folder in which one process has the journal of a server at a time: a journal in use is refused. It isn't promised that
 //! a thread gets on, that a peer answers, or that a file holds what was written to it.
@@ -14,10 +15,12 @@ pub mod filling;
 pub mod hall;
 mod keeper;
 mod lines;
+mod marking;
 mod peers;
 pub mod plan;
 mod reception;
 mod remaking;
+pub mod reminding;
 mod restoring;
 pub mod serving;
 mod starting;

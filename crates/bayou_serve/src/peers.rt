@@ -1,12 +1,14 @@
 //! The other servers of the store, from which a server that lives takes what it lacks.
+ghost use Rattle.std.specs.Prelude.{◌≡◌, ◌↔◌, IfSome, IsSome, true};
 ghost use Rattle.bayou_serve.specs.Losing.{AsksForOwn};
 ghost use Rattle.bayou_serve.specs.Visits.{Visited};
 
 use crate::hall::Hall;
 use crate::lines::news_line;
+use crate::marking::{Loss, Mark, lose};
 use crate::plan::Peer;
 use crate::teller::Teller;
-use crate::visit::{Acquaintance, Visit, visit_of};
+use crate::visit::{Acquaintance, Outcome, Visit, outcome_of};
 use crate::waiting::{Most, Renewing, Since, Waiting};
 use bayou_base::limits::{PEER_ANSWER_MILLISECONDS, PEER_REACH_SECONDS, TICK_MILLISECONDS};
 use bayou_device::Device;
@@ -22,15 +24,21 @@ use std::sync::Wait;
 use std::thread;
 use std::time::{Clock, Duration};
 
-const TICKS_PER_SECOND: u64 = 1_000 / TICK_MILLISECONDS;
+/// How often it is looked in a second whether to rest on.
+pub(crate) const TICKS_PER_SECOND: u64 = 1_000 / TICK_MILLISECONDS;
 
-/// Rests so long, or until the server ends.
-pub(crate) fn rest<T: Clock>(rt: &T, hall: &Hall, seconds: u32) {
+/// Rests until it is looked whether to rest on.
+pub(crate) fn tick<T: Clock>(rt: &T) {
+    thread::sleep(rt, Duration::from_millis(TICK_MILLISECONDS));
+}
+
+// Rests so long, or until the server ends.
+fn rest<T: Clock>(rt: &T, hall: &Hall, seconds: u32) {
     for _ in 0..u64::from(seconds) * TICKS_PER_SECOND {
         if hall.is_over() {
             return;
         }
-        thread::sleep(rt, Duration::from_millis(TICK_MILLISECONDS));
+        tick(rt);
     }
 }
 
@@ -65,7 +73,7 @@ fn visit_over<D: Device, L: Desks, R: Read + Drop, W: Write + Drop, T: Wait + Cl
     hall: &Hall,
     reader: R,
     writer: W,
-) -> Visit
+) -> Outcome
     ensures { Visited L.begun (R.remaining reader) (W.contents writer) result }
 {
     let since = Since::now(rt);
@@ -79,7 +87,7 @@ fn visit_over<D: Device, L: Desks, R: Read + Drop, W: Write + Drop, T: Wait + Cl
     let writer = Renewing::new(writer, rt, &since);
     let mut channel = CountedChannel::new(reader, writer);
     let counts = node.offer(rt);
-    visit_of(pull_tallied(rt, alloc, node, &counts, &mut channel))
+    outcome_of(pull_tallied(rt, alloc, node, &counts, &mut channel))
 }
 
 // Takes once what this peer has and the server lacks.
@@ -89,10 +97,13 @@ fn visit<D: Device, L: Desks, T: Wait + Clock + Sockets>(
     node: &Node<D, L>,
     peer: Peer,
     hall: &Hall,
-) -> Visit {
+) -> Outcome {
     match reach(rt, peer) {
         Some(stream) => visit_over(rt, alloc, node, hall, &stream, &stream),
-        None => Visit::Away,
+        None => Outcome {
+            visit: Visit::Away,
+            has_lost: false,
+        },
     }
 }
 
@@ -140,23 +151,49 @@ pub(crate) fn has_own_beyond<D: Device, L: Desks, T: Wait + Clock + Sockets>(
     }
 }
 
-/// Pulls from the peer every so many seconds, until the server ends, and tells what is news: that is [`Acquaintance`]'s. That it pulls, and how
-/// often, no clause can say.
-pub(crate) fn keep_pulling<D: Device, L: Desks, E: Write, T: Wait + Clock + Sockets>(
+// Has no Write taken any more where the visit told that the server lost some of its own.
+fn heed<'a, M: Device, T: Wait>(
+    rt: &T,
+    hall: &'a Hall,
+    mark: &Mark<M>,
+    has_lost: bool,
+) -> Option<Loss<'a>>
+    ensures heeded { has_lost ≡ true ↔ IsSome result }
+    ensures known { IfSome result (λ loss. loss.known.of ≡ hall.entry.now.lost.id) }
+{
+    if has_lost {
+        return Some(lose(rt, hall, mark));
+    }
+    None
+}
+
+/// Pulls from the peer every so many seconds, until the server ends, and tells what is news: that is [`Acquaintance`]'s. Where the peer tells that the
+/// server lost Writes of its own, that is known and marked from then on. That it pulls, and how often, no clause can say.
+pub(crate) fn keep_pulling<D, L, M, E, T>(
     rt: &T,
     alloc: Global,
     node: &Node<D, L>,
     peer: Peer,
     every_seconds: u32,
     hall: &Hall,
+    mark: &Mark<M>,
     teller: &Teller<E>,
-) {
+)
+where
+    D: Device,
+    L: Desks,
+    M: Device,
+    E: Write,
+    T: Wait + Clock + Sockets,
+{
     let mut known = Acquaintance::new();
     for _ in rt.forever() {
         if hall.is_over() {
             return;
         }
-        let visit = visit(rt, alloc, node, peer, hall);
+        let Outcome { visit, has_lost } = visit(rt, alloc, node, peer, hall);
+        // What can't be marked now is marked by whoever keeps the server up, who tells it.
+        let _ = heed(rt, hall, mark, has_lost);
         if let Some(news) = known.visited(visit) {
             teller.tell_made(rt, news_line(alloc, peer, &news));
         }

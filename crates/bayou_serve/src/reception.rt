@@ -7,7 +7,7 @@ use crate::teller::Teller;
 use crate::waiting::{Most, Renewing, Since, Waiting};
 use bayou_base::limits::{LINGER_MILLISECONDS, PAUSE_SECONDS};
 use bayou_device::Device;
-use bayou_net::{Attendant, Host, NoGate, drop_rest, serve};
+use bayou_net::{Attendant, Host, NoGate, drop_rest, serve_until_halted};
 use bayou_node::{Desk, Desks, Node};
 use bayou_streams::{CountedChannel, Patient};
 use std::alloc::Global;
@@ -26,7 +26,7 @@ pub(crate) struct Reception<'a, D, L: Desks, C, E> {
     pub(crate) teller: &'a Teller<E>,
 }
 
-// Serves the requests that come in time over these streams, whose waits end by `WouldBlock`.
+// Serves the requests that come in time, Writes until it is known that some were lost, over these streams, whose waits end by `WouldBlock`.
 fn serve_over<D: Device, L: Desks, C: Clock, R: Read + Drop, W: Write + Drop, T: Wait>(
     rt: &T,
     alloc: Global,
@@ -43,7 +43,7 @@ fn serve_over<D: Device, L: Desks, C: Clock, R: Read + Drop, W: Write + Drop, T:
     let reader = Patient::new(reader, Waiting::new(clock, hall, &since, Most::Hall));
     let writer = Renewing::new(writer, clock, &since);
     let mut channel = CountedChannel::new(reader, writer);
-    serve(rt, alloc, node, desk, &NoGate, &mut channel).1
+    serve_until_halted(rt, alloc, node, desk, &NoGate, &hall.lost, &mut channel).1
 }
 
 impl<D: Device, L: Desks, C: Clock, E> Reception<'_, D, L, C, E> {

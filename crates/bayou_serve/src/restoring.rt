@@ -1,7 +1,8 @@
 //! How a journal that is lost is made again of what the peers have.
-ghost use Rattle.std.specs.Prelude.{◌≡◌, ◌≤◌, ◌⊎◌, IfErr, IfOk, IfSome, List, None, slice_index};
+ghost use Rattle.std.specs.Prelude.{◌≡◌, IfErr, IfOk, IfSome, List, None, Ok, slice_index};
 ghost use Rattle.bayou_lang.specs.Writes.{count_of};
 ghost use Rattle.bayou_lang.specs.declared.write.Write.{Write as Made};
+ghost use Rattle.bayou_serve.specs.Choosing.{ChoosesAnswer};
 ghost use Rattle.bayou_serve.specs.Faults.{MayEndRestoring};
 ghost use Rattle.bayou_serve.specs.Remade.{IsRemade};
 ghost use Rattle.bayou_server.specs.Server.{Core};
@@ -21,7 +22,7 @@ use bayou_base::{MAX_WRITES, ServerId, Vector};
 use bayou_device::FileDevice;
 use bayou_net::Sockets;
 use bayou_peer::{PullFault, pull_from_on};
-use bayou_restore::Gathered;
+use bayou_restore::{Gathered, first_difference};
 use bayou_streams::{CountedChannel, Patient};
 use std::alloc::Global;
 use std::fs;
@@ -30,6 +31,13 @@ use std::io::Write;
 use std::random::RandomSource;
 use std::sync::Wait;
 use std::time::Clock;
+
+/// What a peer handed over, and that peer's number.
+#[derive(Drop)]
+pub(crate) struct Answer {
+    peer: u8,
+    gathered: Gathered,
+}
 
 // All that the peer has, or why its answer ended early; nothing where no connection comes about.
 fn gather_from<T: Clock + Sockets>(
@@ -59,21 +67,38 @@ fn gather_from<T: Clock + Sockets>(
     }
 }
 
-// Of two the one that has more Writes of the server: the first, where both have as many.
-fn with_more_own(best: Option<Gathered>, other: Gathered, id: ServerId) -> Gathered
-    ensures first { best ≡ None → result ≡ other }
-    ensures one { IfSome best (λ best. (result ≡ best) ⊎ (result ≡ other)) }
-    ensures most { slice_index (count_of other.writes) id.index ≤ slice_index (count_of result.writes) id.index }
-    ensures least { IfSome best (λ best. slice_index (count_of best.writes) id.index ≤ slice_index (count_of result.writes) id.index) }
+// Of two answers the one with more Writes of the server: the first, where both have as many. Under each name of it that both have they must
+// have the same.
+fn better_of(best: Answer, other: Answer, id: ServerId) -> Result<Answer, ServeFault>
+    ensures { ChoosesAnswer id.index best other result }
+{
+    if let Some(number) = first_difference(&best.gathered, &other.gathered, id) {
+        return Err(ServeFault::NotRestored(Unrestored::Differ {
+            one: best.peer,
+            other: other.peer,
+            number,
+        }));
+    }
+    if best.gathered.vector().get(id) < other.gathered.vector().get(id) {
+        Ok(other)
+    } else {
+        Ok(best)
+    }
+}
+
+// The better of the best so far and of one more.
+fn with_answer(best: Option<Answer>, more: Answer, id: ServerId) -> Result<Answer, ServeFault>
+    ensures first { best ≡ None → result ≡ Ok more }
+    ensures next { IfSome best (λ best. ChoosesAnswer id.index best more result) }
 {
     match best {
-        Some(best) if other.vector().get(id) <= best.vector().get(id) => best,
-        _ => other,
+        None => Ok(more),
+        Some(best) => better_of(best, more, id),
     }
 }
 
 // What that peer has which has most Writes of the server, of those that are reached. Peers that are away are told. An answer that ends early
-// ends it: that peer may have had more.
+// ends it: that peer may have had more. So do two answers with different Writes of one name of the server: nobody can say which one it gave last.
 fn gather<E: Write, T: Wait + Clock + Sockets>(
     rt: &T,
     alloc: Global,
@@ -84,11 +109,14 @@ fn gather<E: Write, T: Wait + Clock + Sockets>(
     ensures fault { IfErr result MayEndRestoring }
 {
     let hall = Hall::new(plan.habits.connections, plan.habits.idle_seconds);
-    let mut best = None;
+    let mut best: Option<Answer> = None;
     for peer in plan.peers.iter() {
         match gather_from(rt, alloc, plan, *peer, &hall) {
             None => teller.tell_made(rt, news_line(alloc, *peer, &News::Away)),
-            Some(Ok(gathered)) => best = Some(with_more_own(best, gathered, plan.id)),
+            Some(Ok(gathered)) => {
+                let peer = peer.id.index;
+                best = Some(with_answer(best, Answer { peer, gathered }, plan.id)?);
+            }
             Some(Err(fault)) => {
                 teller.tell_made(rt, news_line(alloc, *peer, &News::Failed(fault)));
                 let why = Unrestored::BadAnswer(peer.id.index);
@@ -96,7 +124,10 @@ fn gather<E: Write, T: Wait + Clock + Sockets>(
             }
         }
     }
-    best.ok_or(ServeFault::NotRestored(Unrestored::NoPeer))
+    match best {
+        Some(best) => Ok(best.gathered),
+        None => Err(ServeFault::NotRestored(Unrestored::NoPeer)),
+    }
 }
 
 /// Makes the journal of this name, which is lost, again of what the peers have, and tells how many Writes of its own the server has again. It is

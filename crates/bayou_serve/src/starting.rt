@@ -1,26 +1,30 @@
 //! How a server that lives is started on its journal.
-ghost use Rattle.std.specs.Prelude.{◌≡◌, ◌≢◌, ◌↔◌, IfErr, IfOk, OnOk, if◌then◌else◌, true};
+ghost use Rattle.std.specs.Prelude.{◌≡◌, ◌≢◌, ◌≤◌, ◌↔◌, IfErr, IfOk, OnOk, if◌then◌else◌, true};
+ghost use Rattle.bayou_journal.specs.declared.format.TheConstants.{HEADER_BYTES};
 ghost use Rattle.bayou_serve.specs.Faults.{MayEndLook, MayEndStart};
-ghost use Rattle.bayou_serve.specs.declared.plan.Beginning.TheVariants.{GoOn};
-ghost use Rattle.bayou_serve.specs.declared.fault.ServeFault.TheVariants.{Missing, Present};
+ghost use Rattle.bayou_serve.specs.declared.plan.Beginning.TheVariants.{GoOn, New};
+ghost use Rattle.bayou_serve.specs.declared.fault.ServeFault.TheVariants.{Missing, NotOpened, Present};
 
 use crate::fault::{ServeFault, fault_of};
 use crate::plan::{Beginning, Plan};
-use bayou_device::{CarefulDevice, FileDevice};
-use bayou_journal::with_care;
+use bayou_device::FileDevice;
+use bayou_journal::format::HEADER_BYTES;
+use bayou_journal::{CarefulDevice, DamagedEntry};
 use bayou_server::Server;
 use std::alloc::Global;
 use std::fs;
 use std::fs::{File, Files};
+use std::io::ErrorKind;
 
 /// The device of a server that lives.
 pub(crate) type Careful = CarefulDevice<FileDevice<File>>;
 
-/// A server with its journal in a file, and how many bytes of a torn entry were cut.
+/// A server with its journal in a file, and how many bytes of a torn entry were cut; all its bytes were there, where it is told by itself.
 #[derive(Drop)]
 pub(crate) struct Started {
     pub(crate) server: Server<Careful>,
     pub(crate) dropped: usize,
+    pub(crate) entry: Option<DamagedEntry>,
 }
 
 // Whether a journal is there exactly where none is to be made.
@@ -36,6 +40,17 @@ fn is_fit(is_there: bool, beginning: Beginning) -> Result<(), ServeFault>
     }
 }
 
+// Whether there is a journal of this name: an empty file is none.
+fn is_there<T: Files<File = File>>(rt: &T, path: &str) -> Result<bool, ServeFault>
+    ensures { IfErr result (λ fault. fault ≡ NotOpened) }
+{
+    match fs::metadata(rt, path) {
+        Ok(found) => Ok(found.len() > 0),
+        Err(error) if error.kind() == ErrorKind::NotFound => Ok(false),
+        Err(_) => Err(ServeFault::NotOpened),
+    }
+}
+
 /// That there is a journal of this name exactly where none is to be made.
 pub(crate) fn look_for<T: Files<File = File>>(
     rt: &T,
@@ -44,14 +59,60 @@ pub(crate) fn look_for<T: Files<File = File>>(
 ) -> Result<(), ServeFault>
     ensures { IfErr result (MayEndLook beginning) }
 {
-    let Ok(is_there) = fs::exists(rt, path) else {
-        return Err(ServeFault::NotOpened);
-    };
-    is_fit(is_there, beginning)
+    is_fit(is_there(rt, path)?, beginning)
 }
 
-/// The server that the plan asks for, with what its journal of this name has, where that is there just as this way to begin wants it. No more than one torn entry is cut off its end. What a file has
-/// no clause can say, so that a start succeeds is tested alone.
+// The file of this name, locked, which is there just as this way to begin wants it.
+fn open_fit<T: Files<File = File>>(
+    rt: &T,
+    path: &str,
+    beginning: Beginning,
+) -> Result<FileDevice<File>, ServeFault>
+    ensures { IfErr result (MayEndLook beginning) }
+{
+    look_for(rt, path, beginning)?;
+    let Ok(file) = FileDevice::open(rt, path) else {
+        return Err(ServeFault::NotOpened);
+    };
+    // Until it was locked another process may have made a journal of it, or have removed it.
+    look_for(rt, path, beginning)?;
+    match fs::exists(rt, path) {
+        Ok(true) => Ok(file),
+        _ => Err(ServeFault::NotOpened),
+    }
+}
+
+// Whether a start that began so may remove a journal of so many bytes again: it made that itself, and no Write is in it.
+fn may_remove(beginning: Beginning, bytes: u64) -> bool
+    ensures { result ≡ true ↔ ((beginning ≡ New) × (bytes ≤ HEADER_BYTES)) }
+{
+    matches!(beginning, Beginning::New) && bytes <= HEADER_BYTES as u64
+}
+
+/// Removes the journal of this name that a start made which serves nobody, so that the next one may make it. One that was there before stays, as
+/// does one that another process has locked, and one with a Write in it. No clause can say what is removed. The start has closed it.
+pub(crate) fn forget_new<T: Files<File = File>>(rt: &T, path: &str, beginning: Beginning) {
+    let Ok(before) = fs::metadata(rt, path) else {
+        return;
+    };
+    if !may_remove(beginning, before.len()) {
+        return;
+    }
+    let Ok(locked) = FileDevice::open(rt, path) else {
+        return;
+    };
+    // Another process may have gone on with it until it was locked.
+    if let Ok(found) = fs::metadata(rt, path)
+        && may_remove(beginning, found.len())
+    {
+        let _ = fs::remove_file(rt, path);
+    }
+    drop(locked);
+}
+
+/// The server that the plan asks for, with what its journal of this name has, where that is there just as this way to begin wants it. No more
+/// than one torn entry is cut off its end. What a file has no clause can say, so that a start succeeds is tested alone, and that one which fails
+/// leaves no new journal.
 pub(crate) fn start_at<T: Files<File = File>>(
     rt: &T,
     alloc: Global,
@@ -62,13 +123,21 @@ pub(crate) fn start_at<T: Files<File = File>>(
     ensures started { IfOk result (λ started. (started.server.core.id ≡ plan.now.id.index) × (started.server.core.count ≡ plan.now.servers) × (started.server.core.limit ≡ plan.now.habits.limit)) }
     ensures fault { IfErr result (MayEndStart beginning) }
 {
-    look_for(rt, path, beginning)?;
-    let Ok(file) = FileDevice::open(rt, path) else {
-        return Err(ServeFault::NotOpened);
-    };
-    let device = with_care(file);
+    let device = CarefulDevice::new(open_fit(rt, path, beginning)?);
     match Server::start(alloc, plan.id, plan.servers, plan.habits.limit, device) {
-        Ok((server, dropped)) => Ok(Started { server, dropped }),
-        Err(refused) => Err(fault_of(refused.fault, refused.device.damage())),
+        Ok((server, dropped)) => {
+            let entry = server.see_device().entry();
+            Ok(Started {
+                server,
+                dropped,
+                entry,
+            })
+        }
+        Err(refused) => {
+            let fault = fault_of(refused.fault, refused.device.damage());
+            drop(refused);
+            forget_new(rt, path, beginning);
+            Err(fault)
+        }
     }
 }

@@ -1,5 +1,5 @@
 //! What became of visits to a peer, and what of it is news.
-ghost use Rattle.std.specs.Prelude.{◌≡◌, ◌≢◌, ◌<◌, ◌↔◌, IfErr, IfOk, IfSome, None, Some};
+ghost use Rattle.std.specs.Prelude.{◌≡◌, ◌≢◌, ◌<◌, ◌↔◌, IfErr, IfOk, IfSome, None, Some, false};
 ghost use Rattle.bayou_serve.specs.News.{IsNoNews, Tells};
 ghost use Rattle.bayou_serve.specs.declared.visit.Visit.TheVariants.{Failed, Pulled as Came};
 
@@ -18,6 +18,14 @@ pub enum Visit {
     Failed(PullFault),
 }
 
+/// What is known behind a visit to a peer.
+#[derive(Clone, Copy, Debug, PartialEq, Eq)]
+pub struct Outcome {
+    pub visit: Visit,
+    /// Whether the peer told that the server lost Writes of its own.
+    pub has_lost: bool,
+}
+
 /// What is told of a peer.
 #[derive(Clone, Copy, Debug, PartialEq, Eq)]
 pub enum News {
@@ -29,8 +37,8 @@ pub enum News {
     Failed(PullFault),
 }
 
-/// What a visit came to whose pull ended so.
-pub fn visit_of(ended: Result<Pulled, PullStopped>) -> Visit
+// What a visit came to whose pull ended so.
+fn visit_of(ended: Result<Pulled, PullStopped>) -> Visit
     ensures whole { IfOk ended (λ pulled. result ≡ Came pulled) }
     ensures some { IfErr ended (λ stopped. 0 < stopped.before.taken → result ≡ Came stopped.before) }
     ensures none { IfErr ended (λ stopped. stopped.before.taken ≡ 0 → result ≡ Failed stopped.fault) }
@@ -39,6 +47,23 @@ pub fn visit_of(ended: Result<Pulled, PullStopped>) -> Visit
         Ok(pulled) => Visit::Pulled(pulled),
         Err(PullStopped { before, .. }) if before.taken > 0 => Visit::Pulled(before),
         Err(PullStopped { fault, .. }) => Visit::Failed(fault),
+    }
+}
+
+/// What is known behind a visit whose pull ended so.
+pub fn outcome_of(ended: Result<Pulled, PullStopped>) -> Outcome
+    ensures whole { IfOk ended (λ pulled. (result.visit ≡ Came pulled) × (result.has_lost ≡ false)) }
+    ensures some { IfErr ended (λ stopped. 0 < stopped.before.taken → result.visit ≡ Came stopped.before) }
+    ensures none { IfErr ended (λ stopped. stopped.before.taken ≡ 0 → result.visit ≡ Failed stopped.fault) }
+    ensures lost { IfErr ended (λ stopped. result.has_lost ≡ stopped.has_lost) }
+{
+    let has_lost = match ended {
+        Ok(_) => false,
+        Err(stopped) => stopped.has_lost,
+    };
+    Outcome {
+        visit: visit_of(ended),
+        has_lost,
     }
 }
 

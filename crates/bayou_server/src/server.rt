@@ -353,6 +353,13 @@ impl<D: Device> Server<D> {
         }
     }
 
+    /// Its device, to look at.
+    pub fn see_device(&self) -> &D
+        ensures { result.now ≡ self.now.device }
+    {
+        self.journal.see_device()
+    }
+
     /// Its device, for what only the device can do, as to set a fuse in a test.
     pub fn device(&mut self) -> &mut D
         ensures value { result.now ≡ self.old.device }

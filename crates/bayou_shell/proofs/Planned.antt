@@ -1,10 +1,11 @@
 -- What plans say of the words that they are made of.
-use Rattle.std.proofs.Common.{◌≡◌, ◌≢◌, ◌∙◌, ℕ, List, [], ◌∷◌, Some, Result, Ok, Err, IfErr, IfOk, MatchResult, ap, length, map, refl, subst, sym}
+use Rattle.std.proofs.Common.{◌≡◌, ◌≢◌, ◌∙◌, ℕ, List, [], ◌∷◌, Option, None, Some, Result, Ok, Err, IfErr, IfOk, MatchOption, MatchResult, option_map, ap, length, map, refl, subst, sym}
 use Rattle.std.specs.List.{AllZip}
+use Rattle.std.specs.Option.{option_copied}
 use denote.Ref.{Bor}
 use Rattle.bayou_command.specs.Connect.{Connection}
 use Rattle.bayou_command.specs.Serve.{Service}
-use Rattle.bayou_connect.specs.Plans.{SaysPlace}
+use Rattle.bayou_connect.specs.Plans.{AskedBy, IsLeast, IsWrong, SaysPlace}
 use Rattle.bayou_connect.specs.declared.plan.Plan.{Plan as Places}
 use Rattle.bayou_connect.specs.declared.plan.PlanFault.{PlanFault as Wrong}
 use Rattle.bayou_serve.specs.Beginnings.{beginning_of}
@@ -13,7 +14,7 @@ use Rattle.bayou_serve.specs.declared.plan.Habits.{Habits}
 use Rattle.bayou_serve.specs.declared.plan.Plan.{Plan}
 use Rattle.bayou_serve.specs.declared.plan.PlanFault.{PlanFault}
 use Rattle.bayou_serve.specs.declared.plan.PlanFault.TheVariants.{NoServer, NoAddress, OpenToAnyone, NoPeer, SamePeer, TwoBeginnings, OutOfMemory}
-use Rattle.bayou_shell.specs.Plans.{IsPlanOf, IsPlanOfPlaces, RefusesService}
+use Rattle.bayou_shell.specs.Plans.{IsPlanOf, IsPlanOfPlaces, RefusesConnection, RefusesService}
 
 -- what is said of each word is said of each text
 pub zip_seen : {B : Type 0} (R : List ℕ → B → Type 0) (words : List (Bor (List ℕ))) (ys : List B) → AllZip (λ word y. R word.now y) words ys → AllZip R (map (λ word. word.now) words) ys
@@ -73,15 +74,35 @@ plan_of service words habits result kept named of same listens said why is known
     of_result (Err fault) same listens said why known =
         refused service fault (subst (λ (peers : List (List ℕ)). Refuses service.id service.servers service.listen service.serves_anyone peers fault) (sym named) why) known
 
--- the plan of a session at servers
-pub places_of : (connection : Connection) (words : List (Bor (List ℕ))) (result kept : Result Places Wrong) → connection.servers ≡ map (λ word. word.now) words
+-- what is seen of a text that there may be
+copied : (text : Option (Bor (List ℕ))) → option_copied text ≡ option_map (λ text. text.now) text
+copied None = refl
+copied (Some text) = refl
+
+-- the plan of a session at servers, or why there is none
+pub places_of : (connection : Connection) (words : List (Bor (List ℕ))) (asks : Option (Bor (List ℕ))) (result kept : Result Places Wrong) → connection.servers ≡ map (λ word. word.now) words
+    → connection.asks ≡ option_map (λ text. text.now) asks
     → IfOk result (λ plan. AllZip (λ word place. SaysPlace word.now place) words plan.places.items)
     → IfOk result (λ plan. (plan.wait_seconds ≡ connection.wait_seconds) × (length plan.places.items ≡ length words))
-    → kept ≡ result → IfOk kept (IsPlanOfPlaces connection)
-places_of connection words result kept named said same is = subst (λ (r : Result Places Wrong). IfOk r (IsPlanOfPlaces connection)) (sym is) (of_result result said same)
+    → IfOk result (λ plan. MatchOption connection.count (IsLeast plan.servers plan.places.items) (λ number. plan.servers ≡ number))
+    → IfOk result (λ plan. AskedBy (option_copied asks) plan.asks)
+    → IfErr result (IsWrong (map (λ word. word.now) words) connection.count (option_copied asks))
+    → kept ≡ result → MatchResult kept (IsPlanOfPlaces connection) (RefusesConnection connection)
+places_of connection words asks result kept named asked said same counts wants wrong is =
+    subst (λ (r : Result Places Wrong). MatchResult r (IsPlanOfPlaces connection) (RefusesConnection connection)) (sym is) (of_result result said same counts wants wrong)
   where
     of_result : (result : Result Places Wrong) → IfOk result (λ plan. AllZip (λ word place. SaysPlace word.now place) words plan.places.items)
-        → IfOk result (λ plan. (plan.wait_seconds ≡ connection.wait_seconds) × (length plan.places.items ≡ length words)) → IfOk result (IsPlanOfPlaces connection)
-    of_result (Err wrong) said same = tt
-    of_result (Ok plan) said same =
-        record { places = subst (λ (servers : List (List ℕ)). AllZip SaysPlace servers plan.places.items) (sym named) (zip_seen SaysPlace words plan.places.items said); wait = same.0 }
+        → IfOk result (λ plan. (plan.wait_seconds ≡ connection.wait_seconds) × (length plan.places.items ≡ length words))
+        → IfOk result (λ plan. MatchOption connection.count (IsLeast plan.servers plan.places.items) (λ number. plan.servers ≡ number))
+        → IfOk result (λ plan. AskedBy (option_copied asks) plan.asks)
+        → IfErr result (IsWrong (map (λ word. word.now) words) connection.count (option_copied asks))
+        → MatchResult result (IsPlanOfPlaces connection) (RefusesConnection connection)
+    of_result (Err fault) said same counts wants wrong =
+        subst (λ (servers : List (List ℕ)). IsWrong servers connection.count connection.asks fault) (sym named)
+        (subst (λ (text : Option (List ℕ)). IsWrong (map (λ word. word.now) words) connection.count text fault) (copied asks ∙ sym asked) wrong)
+    of_result (Ok plan) said same counts wants wrong = record {
+      places = subst (λ (servers : List (List ℕ)). AllZip SaysPlace servers plan.places.items) (sym named) (zip_seen SaysPlace words plan.places.items said);
+      wait = same.0;
+      count = counts;
+      asks = subst (λ (text : Option (List ℕ)). AskedBy text plan.asks) (copied asks ∙ sym asked) wants;
+    }

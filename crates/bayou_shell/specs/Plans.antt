@@ -1,11 +1,12 @@
 -- The plans that are made of the words that ask for a server, or for a session at servers: this project's own.
-use Rattle.std.specs.Prelude.{◌≡◌, ℕ, List, Option, None, Some}
+use Rattle.std.specs.Prelude.{◌≡◌, ℕ, List, MatchOption, Option, None, Some}
 use Rattle.std.specs.List.{AllZip}
 use Rattle.bayou_command.specs.Connect.{Connection}
 use Rattle.bayou_command.specs.Options.{Input, file, standard}
 use Rattle.bayou_command.specs.Serve.{Service}
-use Rattle.bayou_connect.specs.Plans.{SaysPlace}
+use Rattle.bayou_connect.specs.Plans.{AskedBy, IsLeast, IsWrong, SaysPlace}
 use Rattle.bayou_connect.specs.declared.plan.Plan.{Plan as Places}
+use Rattle.bayou_connect.specs.declared.plan.PlanFault.{PlanFault as Wrong}
 use Rattle.bayou_serve.specs.Beginnings.{beginning_of}
 use Rattle.bayou_serve.specs.Words.{Refuses, SaysListen, SaysPeer}
 use Rattle.bayou_serve.specs.declared.plan.Plan.{Plan}
@@ -35,10 +36,16 @@ RefusesService service SamePeer = Refuses service.id service.servers service.lis
 RefusesService service TwoBeginnings = beginning_of service.is_new service.is_restored ≡ None
 RefusesService service OutOfMemory = ⊥
 
--- the plan asks the servers that the words name, in their order, and waits as long as they say
+-- the plan asks the servers that the words name, in their order, for what they say, and waits and prints as many counts as they say, or as are needed
 pub record IsPlanOfPlaces (connection : Connection) (plan : Places) : Type 0 where
   pub places : AllZip SaysPlace connection.servers plan.places.items
   pub wait : plan.wait_seconds ≡ connection.wait_seconds
+  pub count : MatchOption connection.count (IsLeast plan.servers plan.places.items) (λ number. plan.servers ≡ number)
+  pub asks : AskedBy connection.asks plan.asks
+
+-- why the words make no plan
+abbrev pub RefusesConnection : Connection → Wrong → Type 0
+RefusesConnection connection wrong = IsWrong connection.servers connection.count connection.asks wrong
 
 -- the name of the file that is read, if it has one
 abbrev pub input_name : Input → Option (List ℕ)

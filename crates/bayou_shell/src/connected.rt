@@ -1,9 +1,9 @@
 //! A person at a store, from the words to the exit status.
-ghost use Rattle.std.specs.Prelude.{◌≡◌, ◌≢◌, ◌⊎◌, ℕ, IfErr, IfOk, List, Option, option_map, string_bytes};
+ghost use Rattle.std.specs.Prelude.{◌≡◌, ◌≢◌, ◌⊎◌, ℕ, IfErr, IfOk, List, MatchResult, Option, option_map, string_bytes};
 ghost use Rattle.bayou_command.specs.Connect.{connection_seen};
 ghost use Rattle.bayou_command.specs.Options.{input_seen};
 ghost use Rattle.bayou_connect.specs.declared.plan.PlanFault.TheVariants.{OutOfMemory};
-ghost use Rattle.bayou_shell.specs.Plans.{IsPlanOfPlaces, input_name};
+ghost use Rattle.bayou_shell.specs.Plans.{IsPlanOfPlaces, RefusesConnection, input_name};
 ghost use Rattle.bayou_shell.specs.Told.{lines_status, told_text};
 
 use crate::telling::told_line;
@@ -71,7 +71,7 @@ fn kept_plan(plan: Result<Plan, PlanFault>) -> Result<Result<Plan, PlanFault>, A
 impl Call {
     /// What the words ask for. What can't be done of them is told once it is to be done; want of memory alone is told at once.
     pub fn of(alloc: Global, connecting: &Connecting<'_>) -> Result<Self, AllocError>
-        ensures asked { IfOk result (λ call. IfOk call.plan (IsPlanOfPlaces (connection_seen connecting.now))) }
+        ensures asked { IfOk result (λ call. MatchResult call.plan (IsPlanOfPlaces (connection_seen connecting.now)) (RefusesConnection (connection_seen connecting.now))) }
         ensures known { IfOk result (λ call. IfErr call.plan (λ fault. fault ≢ OutOfMemory)) }
         ensures state { IfOk result (λ call. option_map (λ name. string_bytes name) call.state ≡ (connection_seen connecting.now).state) }
         ensures book { IfOk result (λ call. option_map (λ name. string_bytes name) call.book ≡ (connection_seen connecting.now).book) }

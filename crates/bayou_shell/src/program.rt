@@ -1,5 +1,5 @@
 ghost use Rattle.std.specs.IoError.{error_kind};
-ghost use Rattle.std.specs.Prelude.{◌≡◌, ◌≢◌, ◌<◌, ◌≤◌, ℕ, IfErr, IfSome, List, MatchResult, Result, map, true};
+ghost use Rattle.std.specs.Prelude.{◌≡◌, ◌≢◌, ◌<◌, ◌≤◌, ℕ, IfErr, IfSome, List, Result, map, true};
 ghost use Rattle.bayou_command.specs.Words.{AskFor, Asked, file, input_seen, standard, task_seen};
 ghost use Rattle.bayou_print.specs.declared.ended.Ended.{Ended};
 ghost use Rattle.bayou_print.specs.declared.fault.RunFault.{RunFault};
@@ -7,7 +7,7 @@ ghost use Rattle.bayou_print.specs.declared.fault.RunFault.TheVariants.{Memory};
 ghost use Rattle.bayou_print.specs.Fault.{exit_status, status_of};
 ghost use Rattle.bayou_shell.specs.Program.{TellsOf, Works, WorksOn, WritesText, input_of_asked, refused_status, text_status};
 ghost use Rattle.bayou_socket_run.specs.Books.{PrintsRun};
-ghost use Rattle.bayou_socket_run.specs.Damage.{TellsDamage};
+ghost use Rattle.bayou_socket_run.specs.Damage.{TellsStart};
 ghost use Rattle.bayou_socket_run.specs.Faults.{IsNetFault, KeepsUnstarted};
 ghost use Rattle.bayou_streams.specs.Account.{Pays, TakesBytes, account};
 ghost use Rattle.bayou_print.specs.Telling.{TellsEnd, TellsFault};
@@ -212,7 +212,7 @@ pub fn run_main<'a, S: AsStr, F: Files + Networks, R: Read, W: Write, E: Write>(
 }
 
 /// Runs a script over sockets that a network took ([`Networks`]), tells a fault, and gives the exit status. Before the fault the damage of a
-/// journal is told, where there is some.
+/// journal is told, where there is some; and before all else that the last entry of a journal was dropped.
 pub fn run_taken<T, W, E, D>(
     rt: &T,
     alloc: Global,
@@ -232,7 +232,7 @@ where
         × IfErr ended IsNetFault
         × KeepsUnstarted ended (account W.contents output.old) (account W.contents output.new)
         × PrintsRun script.servers.count ended (account W.contents output.old) (account W.contents output.new)
-        × MatchResult ended (λ _. account D.contents damage.new ≡ account D.contents damage.old) (λ fault. TellsDamage fault folder.now script.servers.count (account D.contents damage.old) (account D.contents damage.new))
+        × TellsStart ended folder.now script.servers.count (account D.contents damage.old) (account D.contents damage.new)
         × IfErr ended (EndsWriting output.new.channel.write_failed output.new.channel.turns_left) }
     ensures paid_errors { Pays (account E.contents errors.old) (account E.contents errors.new) 1 }
 {

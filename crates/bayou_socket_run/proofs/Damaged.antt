@@ -1,8 +1,9 @@
--- What is told of a server that didn't start.
-use Rattle.std.proofs.Common.{◌≡◌, ℕ, ◌<◌, List, inr, subst}
+-- What is told of servers that start, and of one that doesn't.
+use Rattle.std.proofs.Common.{◌≡◌, ℕ, suc, ◌+◌, ◌<◌, ◌≤◌, List, Result, Ok, Err, arith, inl, inr, refl, subst}
 use Rattle.bayou_print.specs.declared.fault.RunFault.{RunFault}
 use Rattle.bayou_print.specs.declared.fault.RunFault.TheVariants.{Line, Memory, Device, Network, Input, Output}
-use Rattle.bayou_socket_run.specs.Damage.{MayTell, RefusesAt, TellsDamage, journal_name}
+use Rattle.bayou_print.specs.declared.ended.Ended.{Ended}
+use Rattle.bayou_socket_run.specs.Damage.{MayTell, MayTellEntry, RefusesAt, StopsStart, TellsDamage, TellsEntries, TellsStart, journal_name}
 use Rattle.bayou_streams.specs.Account.{Account}
 
 pub refusal_told : (fault : RunFault) (name folder : List ℕ) (server servers : ℕ) (old new : Account) → server < servers → name ≡ journal_name folder server
@@ -13,3 +14,33 @@ refusal_told Device name folder server servers old new among is told = inr (serv
 refusal_told Network name folder server servers old new among is told = told
 refusal_told Input name folder server servers old new among is told = told
 refusal_told Output name folder server servers old new among is told = told
+
+-- nothing is told of a server that isn't started any more
+pub nothing_damaged : (fault : RunFault) (folder : List ℕ) (servers : ℕ) (now : Account) → TellsDamage fault folder servers now now
+nothing_damaged (Line number why) folder servers now = refl
+nothing_damaged Memory folder servers now = refl
+nothing_damaged Device folder servers now = inl refl
+nothing_damaged Network folder servers now = refl
+nothing_damaged Input folder servers now = refl
+nothing_damaged Output folder servers now = refl
+
+-- one more server was started
+pub one_more_started : (name folder : List ℕ) (server : ℕ) (old between new : Account) → name ≡ journal_name folder server → TellsEntries folder server old between → MayTellEntry name between new
+    → TellsEntries folder (server + 1) old new
+one_more_started name folder server old between new is so told =
+    let more : suc server ≡ server + 1 = omega arith in
+    subst (λ (n : ℕ). TellsEntries folder n old new) more (between, so, subst (λ (l : List ℕ). MayTellEntry l between new) is told)
+
+-- the start stops where so many were started
+pub stopped : (fault : RunFault) (folder : List ℕ) (started servers : ℕ) (old between new : Account) → started ≤ servers → TellsEntries folder started old between → TellsDamage fault folder servers between new
+    → StopsStart fault folder servers old new
+stopped fault folder started servers old between new few so told = (started, few, between, so, told)
+
+-- or once all were
+pub stopped_behind_all : (fault : RunFault) (folder : List ℕ) (servers : ℕ) (old new : Account) → TellsEntries folder servers old new → StopsStart fault folder servers old new
+stopped_behind_all fault folder servers old new so = (servers, omega arith, new, so, nothing_damaged fault folder servers new)
+
+-- and however the run ended behind that
+pub ended_so : (ended : Result Ended RunFault) (folder : List ℕ) (servers : ℕ) (old new : Account) → TellsEntries folder servers old new → TellsStart ended folder servers old new
+ended_so (Ok ended) folder servers old new so = so
+ended_so (Err fault) folder servers old new so = stopped_behind_all fault folder servers old new so

@@ -1,7 +1,9 @@
--- What is told of a journal that is damaged, beside the fault of the run: this project's own.
-use Rattle.std.specs.Prelude.{◌≡◌, ◌⊎◌, ℕ, ◌<◌, List, ◌++◌, codes, decimal}
-use Rattle.bayou_device.specs.Careful.{damage_text}
-use Rattle.bayou_device.specs.declared.careful.Damage.{Damage}
+-- What is told of journals that are damaged, beside the fault of the run: this project's own.
+use Rattle.std.specs.Prelude.{◌≡◌, ◌⊎◌, ℕ, zero, suc, ◌<◌, ◌≤◌, List, ◌++◌, codes, decimal, Result, Ok, Err}
+use Rattle.bayou_journal.specs.Careful.{damage_text, entry_text}
+use Rattle.bayou_journal.specs.declared.careful.Damage.{Damage}
+use Rattle.bayou_journal.specs.declared.careful.DamagedEntry.{DamagedEntry}
+use Rattle.bayou_print.specs.declared.ended.Ended.{Ended}
 use Rattle.bayou_print.specs.declared.fault.RunFault.{RunFault}
 use Rattle.bayou_print.specs.declared.fault.RunFault.TheVariants.{Device}
 use Rattle.bayou_streams.specs.Account.{Account, TakesFront}
@@ -27,3 +29,25 @@ RefusesAt name other old new = new ≡ old
 abbrev pub TellsDamage : RunFault → (folder : List ℕ) (servers : ℕ) → Account → Account → Type 0
 TellsDamage Device folder servers old new = (new ≡ old) ⊎ ((server : ℕ) × (server < servers) × MayTell (journal_name folder server) old new)
 TellsDamage other folder servers old new = new ≡ old
+
+-- the line that tells of the last entry of the file of this name, which was dropped
+abbrev pub entry_text_of : (name : List ℕ) → DamagedEntry → List ℕ
+entry_text_of name entry = codes "bayou: " ++ (name ++ (codes ": " ++ (entry_text entry ++ codes "\n")))
+
+-- nothing was told, or that the last entry of the file of this name was dropped, or a front of that line
+abbrev pub MayTellEntry : (name : List ℕ) → Account → Account → Type 0
+MayTellEntry name old new = (new ≡ old) ⊎ ((entry : DamagedEntry) × TakesFront old new (entry_text_of name entry))
+
+-- the same of the journals of so many servers, from server 0 on
+abbrev pub TellsEntries : (folder : List ℕ) (servers : ℕ) → Account → Account → Type 0
+TellsEntries folder zero old new = new ≡ old
+TellsEntries folder (suc servers) old new = (between : Account) × TellsEntries folder servers old between × MayTellEntry (journal_name folder servers) between new
+
+-- A start that ended so: some servers were started, and then the device of one may have been at fault.
+abbrev pub StopsStart : RunFault → (folder : List ℕ) (servers : ℕ) → Account → Account → Type 0
+StopsStart fault folder servers old new = (started : ℕ) × (started ≤ servers) × (between : Account) × TellsEntries folder started old between × TellsDamage fault folder servers between new
+
+-- what is told beside a run that ended so, all of it while its servers are started
+abbrev pub TellsStart : Result Ended RunFault → (folder : List ℕ) (servers : ℕ) → Account → Account → Type 0
+TellsStart (Ok ended) folder servers old new = TellsEntries folder servers old new
+TellsStart (Err fault) folder servers old new = StopsStart fault folder servers old new

@@ -1,19 +1,20 @@
 //! Servers that are started on journals in files.
 ghost use Rattle.std.specs.Prelude.{◌≡◌, ◌<◌, All, IfErr, IfOk, MatchResult, string_bytes};
-ghost use Rattle.bayou_socket_run.specs.Damage.{MayTell, RefusesAt, TellsDamage, damage_text_of};
+ghost use Rattle.bayou_socket_run.specs.Damage.{MayTell, MayTellEntry, RefusesAt, StopsStart, TellsDamage, TellsEntries, damage_text_of, entry_text_of, journal_name};
 ghost use Rattle.bayou_socket_run.specs.Inner.Faults.{IsStartFault};
 ghost use Rattle.bayou_socket_run.specs.Inner.Runs.{HasRunsBefore};
 ghost use Rattle.bayou_streams.specs.Account.{account};
 
 use bayou_base::ServerId;
-use bayou_device::{CarefulDevice, Damage, FileDevice};
-use bayou_journal::with_care;
+use bayou_device::FileDevice;
+use bayou_journal::{CarefulDevice, Damage, DamagedEntry};
 use bayou_print::{RunFault, write_text};
 use bayou_script::Servers;
 use bayou_server::{Server, StartFault};
 use bayou_streams::Output;
 use std::alloc::{AllocError, Global};
 use std::collections::VecDeque;
+use std::fs;
 use std::fs::{File, Files};
 use std::io::Write;
 
@@ -61,6 +62,29 @@ fn tell_damage<E: Write>(alloc: Global, path: &str, damage: Option<Damage>, told
     }
 }
 
+/// The line that tells that the last entry of the journal of this name was dropped.
+fn entry_line(alloc: Global, path: &str, entry: DamagedEntry) -> Result<String, AllocError>
+    ensures { IfOk result (λ line. string_bytes line ≡ entry_text_of path.now entry) }
+{
+    format!(in alloc; "bayou: {path}: {entry}\n")
+}
+
+/// Tells that the last entry of the journal of this name was dropped, where it was, as far as memory suffices and it can be told.
+fn tell_entry<E: Write>(
+    alloc: Global,
+    path: &str,
+    entry: Option<DamagedEntry>,
+    told: &mut Output<E>,
+)
+    ensures { MayTellEntry path.now (account E.contents told.old) (account E.contents told.new) }
+{
+    let Some(entry) = entry else { return };
+    if let Ok(line) = entry_line(alloc, path, entry) {
+        // Where it can't be told, the run goes on as it would.
+        let _ = write_text(told, line.as_bytes());
+    }
+}
+
 /// What a start that was refused comes to, once the damage of the journal of this name is told.
 fn refuse<E: Write>(
     alloc: Global,
@@ -84,31 +108,46 @@ fn refuse<E: Write>(
     }
 }
 
-/// The server of this number, on the journal that the folder has of it. A missing one is made. Damage is told.
+/// Whether the file of this name has no byte. One that can't be asked has some.
+fn is_empty<T: Files<File = File>>(rt: &T, path: &str) -> bool {
+    matches!(fs::metadata(rt, path), Ok(found) if found.len() == 0)
+}
+
+/// The server of this number, on the journal that the folder has of it. A missing one is made, and is noted among those that were. Damage is told,
+/// and so is a last entry that was dropped.
 fn start_one<T: Files<File = File>, E: Write>(
     rt: &T,
     alloc: Global,
     folder: &str,
     servers: Servers,
     index: u8,
+    made: &mut Vec<String>,
     told: &mut Output<E>,
 ) -> Result<Box<Journaled>, RunFault>
     requires { index < servers.count }
     ensures fault { IfErr result IsStartFault }
-    ensures told { MatchResult result (λ _. account E.contents told.new ≡ account E.contents told.old) (λ fault. TellsDamage fault folder.now servers.count (account E.contents told.old) (account E.contents told.new)) }
+    ensures told { MatchResult result (λ _. MayTellEntry (journal_name folder.now index) (account E.contents told.old) (account E.contents told.new)) (λ fault. TellsDamage fault folder.now servers.count (account E.contents told.old) (account E.contents told.new)) }
 {
     let path = format!(in alloc; "{folder}/server-{index}.journal")?;
+    let was_there = matches!(fs::exists(rt, path.as_str()), Ok(true));
     let Ok(device) = FileDevice::open(rt, path.as_str()) else {
         return Err(RunFault::Device);
     };
+    if !was_there && is_empty(rt, path.as_str()) {
+        made.push(format!(in alloc; "{folder}/server-{index}.journal")?)?;
+    }
     match Server::start(
         alloc,
         ServerId { index },
         servers.count,
         servers.limit,
-        with_care(device),
+        CarefulDevice::new(device),
     ) {
-        Ok((server, _)) => boxed(alloc, server),
+        Ok((server, _)) => {
+            let server = boxed(alloc, server)?;
+            tell_entry(alloc, path.as_str(), server.see_device().entry(), told);
+            Ok(server)
+        }
         Err(refused) => {
             let damage = refused.device.damage();
             Err(refuse(alloc, path.as_str(), refused.fault, damage, told))
@@ -132,7 +171,54 @@ fn next_run(servers: &VecDeque<Box<Journaled>>) -> Result<u32, RunFault>
     }
 }
 
-/// The servers, from server 0 on, each on the journal that the folder has of it, and the run that begins.
+/// Puts each of the servers, from server 0 on, behind those that were started, on the journal that the folder has of it.
+fn start_each<T: Files<File = File>, E: Write>(
+    rt: &T,
+    alloc: Global,
+    folder: &str,
+    servers: Servers,
+    started: &mut VecDeque<Box<Journaled>>,
+    made: &mut Vec<String>,
+    told: &mut Output<E>,
+) -> Result<(), RunFault>
+    ensures fault { IfErr result IsStartFault }
+    ensures told { MatchResult result (λ _. TellsEntries folder.now servers.count (account E.contents told.old) (account E.contents told.new)) (λ fault. StopsStart fault folder.now servers.count (account E.contents told.old) (account E.contents told.new)) }
+{
+    for index in 0..servers.count {
+        started.push_back(start_one(rt, alloc, folder, servers, index, made, told)?)?;
+    }
+    Ok(())
+}
+
+/// Starts each of the servers so, and gives the run that begins.
+fn start_run<T: Files<File = File>, E: Write>(
+    rt: &T,
+    alloc: Global,
+    folder: &str,
+    servers: Servers,
+    started: &mut VecDeque<Box<Journaled>>,
+    made: &mut Vec<String>,
+    told: &mut Output<E>,
+) -> Result<u32, RunFault>
+    ensures counted { IfOk result (λ run. 0 < run) }
+    ensures later { IfOk result (λ run. All (λ server. HasRunsBefore run server.value.core) started.new.items) }
+    ensures fault { IfErr result IsStartFault }
+    ensures told { MatchResult result (λ _. TellsEntries folder.now servers.count (account E.contents told.old) (account E.contents told.new)) (λ fault. StopsStart fault folder.now servers.count (account E.contents told.old) (account E.contents told.new)) }
+{
+    start_each(rt, alloc, folder, servers, started, made, told)?;
+    next_run(started)
+}
+
+/// Removes the journals of these names, which were made for a run that doesn't begin.
+fn forget_made<T: Files<File = File>>(rt: &T, made: &[String]) {
+    for path in made {
+        // One that can't be removed has no Write.
+        let _ = fs::remove_file(rt, path.as_str());
+    }
+}
+
+/// The servers, from server 0 on, each on the journal that the folder has of it, and the run that begins. Where it doesn't begin, the journals
+/// that were made for it are gone before they are anybody else's.
 pub(crate) fn start_all<T: Files<File = File>, E: Write>(
     rt: &T,
     alloc: Global,
@@ -142,15 +228,18 @@ pub(crate) fn start_all<T: Files<File = File>, E: Write>(
 ) -> Result<Started, RunFault>
     ensures later { IfOk result (λ started. All (λ server. HasRunsBefore started.run server.value.core) started.servers.items) }
     ensures fault { IfErr result IsStartFault }
-    ensures told { MatchResult result (λ _. account E.contents told.new ≡ account E.contents told.old) (λ fault. TellsDamage fault folder.now servers.count (account E.contents told.old) (account E.contents told.new)) }
+    ensures told { MatchResult result (λ _. TellsEntries folder.now servers.count (account E.contents told.old) (account E.contents told.new)) (λ fault. StopsStart fault folder.now servers.count (account E.contents told.old) (account E.contents told.new)) }
 {
     let mut started = VecDeque::new(alloc);
-    for index in 0..servers.count {
-        started.push_back(start_one(rt, alloc, folder, servers, index, told)?)?;
+    let mut made = Vec::new(alloc);
+    match start_run(rt, alloc, folder, servers, &mut started, &mut made, told) {
+        Ok(run) => Ok(Started {
+            servers: started,
+            run,
+        }),
+        Err(fault) => {
+            forget_made(rt, &made);
+            Err(fault)
+        }
     }
-    let run = next_run(&started)?;
-    Ok(Started {
-        servers: started,
-        run,
-    })
 }

@@ -1,6 +1,6 @@
 //! Scripts over sockets: servers with journals in files, each at a port of the loopback address.
 ghost use Rattle.std.specs.Thread.{IsSend};
-ghost use Rattle.std.specs.Prelude.{◌≡◌, ◌≤◌, IfErr, IfOk, IfSome, List, Ok, OnOk, ℕ, MatchResult, is_some, min, vec_len};
+ghost use Rattle.std.specs.Prelude.{◌≡◌, ◌≤◌, IfErr, IfOk, IfSome, List, Ok, OnOk, ℕ, is_some, min, vec_len};
 ghost use Rattle.bayou_audit.specs.Blanks.{AreBlanksOf, named};
 ghost use Rattle.bayou_base.specs.declared.limits.TheConstants.{SESSIONS as SESSIONS_NUMBER};
 ghost use Rattle.bayou_node.specs.Books.{IsBlankOf, begun_of};
@@ -11,7 +11,7 @@ ghost use Rattle.bayou_socket_run.specs.Inner.Runs.{connections_of, opens_one};
 ghost use Rattle.bayou_socket_run.specs.Inner.Settling.{EndsAt, EndsRunAt};
 ghost use Rattle.bayou_print.specs.Waiting.{stage};
 ghost use Rattle.bayou_socket_run.specs.Inner.Telling.{Tells};
-ghost use Rattle.bayou_socket_run.specs.Damage.{TellsDamage};
+ghost use Rattle.bayou_socket_run.specs.Damage.{TellsStart};
 ghost use Rattle.bayou_socket_run.specs.Faults.{IsNetFault, KeepsUnstarted};
 ghost use Rattle.bayou_print.specs.Turns.{EndsWriting};
 ghost use Rattle.bayou_streams.specs.Account.{TakesBytes, account};
@@ -437,8 +437,8 @@ where
 
 /// Runs a script over sockets: each of its servers has its journal in the folder of this name, and listens at a port of the loopback address
 /// that the system picks; each session has a thread of its own. The lines of a phase are written at its end. Where a journal is damaged, that is
-/// told beside.
-#[tactic(auto, using(crate::proofs::Told::took_nothing, crate::proofs::Told::start_net, crate::proofs::Told::start_unstarted, crate::proofs::Told::start_writes, crate::proofs::Told::phase_net, crate::proofs::Told::phase_unstarted))]
+/// told beside, and so is a last entry that was dropped.
+#[tactic(auto, using(crate::proofs::Told::took_nothing, crate::proofs::Told::start_net, crate::proofs::Told::start_unstarted, crate::proofs::Told::start_writes, crate::proofs::Told::phase_net, crate::proofs::Told::phase_unstarted, crate::proofs::Damaged::ended_so))]
 pub fn run_on_sockets<T, W, E>(
     rt: &T,
     alloc: Global,
@@ -455,7 +455,7 @@ where
     ensures took { (text : List ℕ) × TakesBytes (account W.contents output.old) (account W.contents output.new) text }
     ensures fault { IfErr result IsNetFault }
     ensures unstarted { KeepsUnstarted result (account W.contents output.old) (account W.contents output.new) }
-    ensures told { MatchResult result (λ _. account E.contents told.new ≡ account E.contents told.old) (λ fault. TellsDamage fault folder.now script.servers.count (account E.contents told.old) (account E.contents told.new)) }
+    ensures told { TellsStart result folder.now script.servers.count (account E.contents told.old) (account E.contents told.new) }
     ensures ended { IfErr result (EndsWriting output.new.channel.write_failed output.new.channel.turns_left) }
     ensures ready { OnOk result (output.old.channel.turns_left ≤ output.new.channel.turns_left) }
 {

@@ -1,90 +1,136 @@
-//! A device that cuts no more than may be torn: which cuts it makes, and what it tells of those that it refuses.
+//! What an opening of a journal with care drops, and what it refuses as damage: a journal of three entries is changed in one way each.
 use crate::fixtures::must_be_so;
-use bayou_device::{CarefulDevice, Damage, Device, MemoryDevice, OpenGate};
+use bayou_base::ServerId;
+use bayou_device::{Device, MemoryDevice, OpenGate};
+use bayou_journal::{CarefulDevice, Damage, DamagedEntry, Journal, Opened};
 use std::alloc::Global;
+use std::process::Abort;
 
-type Careful = CarefulDevice<MemoryDevice<OpenGate>>;
+const OWNER: ServerId = ServerId { index: 0 };
 
-/// What is done to a device, which succeeds but for a cut that is refused.
+/// The bodies: the entries begin at the bytes 10, 47 and 84, and the last one ends at 123.
+static BODIES: [&str; 3] = ["one", "two", "three"];
+
+/// What becomes of the bytes of the journal.
 #[derive(Clone, Copy)]
-enum Step {
-    /// A read, which gives so many bytes.
-    Read(usize),
-    Append(&'static str),
-    Sync,
-    /// A cut that leaves so many bytes.
+enum Change {
+    /// So many are left.
     Cut(usize),
-    /// One that would leave so many, and is refused: so many would go.
-    Refused(usize, usize),
+    /// Bits of the byte at this place are turned: these.
+    Turned(usize, u8),
+    /// These come behind them.
+    Longer(&'static [u8]),
 }
 
-use Step::{Append, Cut, Read, Refused, Sync};
+/// What an opening finds.
+#[derive(Clone, Copy)]
+enum Finding {
+    /// So many bodies, with so many bytes dropped.
+    Opens(usize, usize),
+    /// The same, and the last entry is told, from this byte on.
+    Tells(usize, usize, usize),
+    /// Damage behind so many bytes, of so many; nothing is changed.
+    Damaged(usize, usize),
+}
 
-/// Whether the damage is this.
-fn is_damage(damage: Option<Damage>, told: Option<(usize, usize)>) -> bool {
-    match (damage, told) {
-        (Some(damage), Some((whole, behind))) => damage.whole == whole && damage.behind == behind,
-        (None, None) => true,
+use Change::{Cut, Longer, Turned};
+use Finding::{Damaged, Opens, Tells};
+
+static CASES: [(Change, Finding); 20] = [
+    (Cut(123), Opens(3, 0)),
+    (Cut(122), Opens(2, 38)),
+    (Cut(86), Opens(2, 2)),
+    (Cut(85), Opens(2, 1)),
+    (Cut(84), Opens(2, 0)),
+    (Cut(11), Opens(0, 1)),
+    (Cut(9), Opens(0, 9)),
+    // A bit of the last body, and one of its digest.
+    (Turned(86, 1), Tells(2, 39, 84)),
+    (Turned(122, 128), Tells(2, 39, 84)),
+    // The last length: more than there is, less, and more than may be.
+    (Turned(85, 64), Opens(2, 39)),
+    (Turned(85, 1), Damaged(84, 39)),
+    (Turned(84, 64), Damaged(84, 39)),
+    // A bit of the second body; its length: more than there is behind it, and just so much.
+    (Turned(50, 4), Damaged(47, 76)),
+    (Turned(48, 64), Damaged(47, 76)),
+    (Turned(48, 41), Damaged(47, 76)),
+    // The first body, and the first digest.
+    (Turned(12, 1), Damaged(10, 113)),
+    (Turned(20, 2), Damaged(10, 113)),
+    // Room that isn't written yet; what can't be that.
+    (Longer(&[0, 0, 0, 0, 0]), Opens(3, 5)),
+    (Longer(&[0, 0, 0, 0, 1]), Damaged(123, 5)),
+    (Longer(&[0]), Opens(3, 1)),
+];
+
+/// The bytes of the journal, changed so.
+fn bytes_of(rt: &impl Abort, alloc: Global, change: Change) -> Vec<u8> {
+    let device = MemoryDevice::new(alloc, OpenGate);
+    let (journal, _) = Journal::open(alloc, OWNER, device)
+        .ok()
+        .expect(rt, "not opened");
+    let mut journal = journal;
+    for body in BODIES.iter() {
+        must_be_so(rt, journal.append(body.as_bytes()).is_ok(), 0);
+    }
+    let mut device = journal.close();
+    let mut bytes = device.read_all(alloc).ok().expect(rt, "not read");
+    match change {
+        Cut(len) => bytes.truncate(len),
+        Turned(at, bits) => {
+            assert!(rt; at < bytes.len(), "no byte {at}");
+            bytes[at] ^= bits;
+        }
+        Longer(more) => bytes.extend_from_slice(more).expect(rt, "no memory"),
+    }
+    bytes
+}
+
+/// Whether an opening that succeeds finds this.
+fn opens(opened: &Opened, entry: Option<DamagedEntry>, finding: Finding) -> bool {
+    match (finding, entry) {
+        (Opens(bodies, dropped), None) => opened.len() == bodies && opened.dropped() == dropped,
+        (Tells(bodies, dropped, start), Some(entry)) => {
+            let is_told = entry.start == start && entry.bytes == dropped;
+            is_told && opened.len() == bodies && opened.dropped() == dropped
+        }
         _ => false,
     }
 }
 
-/// Whether a cut of what a read gave, to so many bytes, goes so: with this damage, or without any.
-fn cuts(alloc: Global, device: &mut Careful, len: usize, told: Option<(usize, usize)>) -> bool {
-    let Ok(bytes) = device.read_all(alloc) else {
-        return false;
-    };
-    let is_cut = device.cut(len.min(bytes.len())).is_ok();
-    is_cut == told.is_none() && is_damage(device.damage(), told)
+/// Whether one that is refused finds this.
+fn is_damage(damage: Option<Damage>, finding: Finding) -> bool {
+    match (finding, damage) {
+        (Damaged(whole, behind), Some(damage)) => damage.whole == whole && damage.behind == behind,
+        _ => false,
+    }
 }
 
-/// Whether a read gives so many bytes.
-fn reads(alloc: Global, device: &mut Careful, count: usize) -> bool {
+/// Whether the device holds so many bytes.
+fn holds(alloc: Global, device: &mut CarefulDevice<MemoryDevice<OpenGate>>, count: usize) -> bool {
     match device.read_all(alloc) {
         Ok(bytes) => bytes.len() == count,
         Err(_) => false,
     }
 }
 
-/// Does the step. Whether it goes so.
-fn goes(alloc: Global, device: &mut Careful, step: Step) -> bool {
-    match step {
-        Read(count) => reads(alloc, device, count),
-        Append(piece) => device.append(piece.as_bytes()).is_ok(),
-        Sync => device.sync().is_ok(),
-        Cut(len) => cuts(alloc, device, len, None),
-        Refused(len, behind) => cuts(alloc, device, len, Some((len, behind))),
-    }
-}
-
-/// Steps of one device that has twenty bytes. A cut takes five at the most.
-static STEPS: [Step; 19] = [
-    Read(20),
-    Refused(14, 6),
-    Refused(0, 20),
-    Read(20),
-    Cut(15),
-    Cut(15),
-    Refused(9, 6),
-    Cut(10),
-    Append("abc"),
-    Sync,
-    Refused(7, 6),
-    Read(13),
-    Cut(8),
-    Cut(3),
-    Append("abcdef"),
-    Refused(3, 6),
-    Cut(4),
-    Read(4),
-    Cut(0),
-];
-
 #[test]
-fn a_cut_takes_no_more_than_may_be_torn(rt: HostRuntime) {
-    let bytes = [7; 20].to_vec(rt.alloc()).expect(&rt, "no memory");
-    let mut device = CarefulDevice::new(MemoryDevice::with_bytes(bytes, OpenGate), 5);
-    for (at, step) in STEPS.iter().enumerate() {
-        must_be_so(&rt, goes(rt.alloc(), &mut device, *step), at);
+fn one_torn_entry_is_dropped_and_no_more(rt: HostRuntime) {
+    for (at, (change, finding)) in CASES.iter().enumerate() {
+        let bytes = bytes_of(&rt, rt.alloc(), *change);
+        let count = bytes.len();
+        let device = CarefulDevice::new(MemoryDevice::with_bytes(bytes, OpenGate));
+        match Journal::open(rt.alloc(), OWNER, device) {
+            Ok((journal, opened)) => {
+                let entry = journal.see_device().entry();
+                must_be_so(&rt, opens(&opened, entry, *finding), at);
+            }
+            Err(refused) => {
+                let mut device = refused.device;
+                must_be_so(&rt, is_damage(device.damage(), *finding), at);
+                must_be_so(&rt, holds(rt.alloc(), &mut device, count), at);
+            }
+        }
     }
 }

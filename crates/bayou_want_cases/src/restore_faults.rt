@@ -1,8 +1,8 @@
 //! What isn't made again, and why; and devices that fail.
-use crate::fixtures::{begun_at_last, must_be_so};
+use crate::fixtures::{begun_at_last, must_be_so, server_id};
 use crate::stores::{COUNT, Given, LIMIT, restored, start, vector, write};
 use bayou_peer::Replica;
-use bayou_restore::{Gathered, RestoreFault};
+use bayou_restore::{Gathered, RestoreFault, first_difference};
 use bayou_server::{TakeFault, Took, TookAll};
 use std::alloc::Global;
 use std::process::Abort;
@@ -170,6 +170,64 @@ fn what_is_gathered_twice_is_had(rt: HostRuntime) {
         && lacking.len() == 1
         && lacking[0] == write(&rt, alloc, (1, 1, 1, [0, 0, 0]));
     must_be_so(&rt, is_so, 0);
+}
+
+/// What a peer has beside one that has the plain ones, and the number of the first Write of the first server which isn't the same in both.
+static BESIDE: [(&[Given], Option<u32>); 7] = [
+    (&[], None),
+    (&[(0, 1, 1, [0, 0, 0])], None),
+    (
+        &[
+            (1, 1, 1, [0, 0, 0]),
+            (0, 1, 1, [0, 0, 0]),
+            (2, 1, 2, [0, 1, 0]),
+            (0, 2, 3, [1, 1, 1]),
+            (0, 3, 4, [2, 1, 1]),
+        ],
+        None,
+    ),
+    // Other servers' Writes alone differ.
+    (
+        &[
+            (0, 1, 1, [0, 0, 0]),
+            (2, 1, 1, [0, 0, 0]),
+            (1, 1, 2, [0, 0, 1]),
+        ],
+        None,
+    ),
+    // The first one is another, and the second isn't there, or is another too.
+    (&[(1, 1, 1, [0, 0, 0]), (0, 1, 2, [0, 1, 0])], Some(1)),
+    (
+        &[
+            (1, 1, 1, [0, 0, 0]),
+            (0, 1, 2, [0, 1, 0]),
+            (0, 2, 3, [1, 1, 0]),
+        ],
+        Some(1),
+    ),
+    // The last one of the plain ones is another, and there is one more.
+    (
+        &[
+            (0, 1, 1, [0, 0, 0]),
+            (0, 2, 2, [1, 0, 0]),
+            (0, 3, 3, [2, 0, 0]),
+        ],
+        Some(2),
+    ),
+];
+
+#[test]
+fn the_first_difference_is_told(rt: HostRuntime) {
+    let alloc = rt.alloc();
+    let first = server_id(&rt, 0);
+    let (plain, _) = gather(&rt, alloc, &PLAIN, LIMIT);
+    for (row, (given, number)) in BESIDE.iter().enumerate() {
+        let (beside, told) = gather(&rt, alloc, *given, LIMIT);
+        let is_so = told.fault.is_none()
+            && first_difference(&plain, &beside, first) == *number
+            && first_difference(&beside, &plain, first) == *number;
+        must_be_so(&rt, is_so, row);
+    }
 }
 
 /// Each device call of a restoring fails in turn: it is told, and what is held is a front of what was to be.

@@ -1,6 +1,5 @@
-use Rattle.std.proofs.Common.{ℕ, true}
+use Rattle.std.proofs.Common.{true}
 use Rattle.bayou_connect.specs.Listing.{ListsEnough}
-use Rattle.bayou_connect.specs.declared.told.Told.{Told}
 use Rattle.bayou_connect.proofs.Rounding.{all_hold}
 use Rattle.bayou_connect.proofs.anywhere.listed_anywhere.Goals as goal
 

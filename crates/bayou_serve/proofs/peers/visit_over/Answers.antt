@@ -20,5 +20,5 @@ returns g c =
       c.offer-counts.result,
       c.offer-counts.ensures,
       (after, by_writer),
-      (rest, read, of_reader, visit_ends _ read _ c.pull_tallied.result c.visit_of.result ends c.visit_of.ensures.whole c.visit_of.ensures.some c.visit_of.ensures.none),
+      (rest, read, of_reader, visit_ends _ read _ c.pull_tallied.result c.outcome_of.result ends c.pull_tallied.ensures.lost c.outcome_of.ensures.whole c.outcome_of.ensures.some c.outcome_of.ensures.none c.outcome_of.ensures.lost),
     )

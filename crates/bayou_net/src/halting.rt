@@ -1,0 +1,151 @@
+//! A node that serves whoever has a desk there until it is halted: then it takes no Write any more, and serves reads as before.
+ghost use Rattle.std.specs.Prelude.{◌≡◌, ◌≤◌, ℕ, List, IfErr};
+ghost use Rattle.std.specs.Io.KnownBytes.{Consumes, IsAtEnd};
+ghost use Rattle.bayou_net.specs.Halting.{halting};
+ghost use Rattle.bayou_net.specs.Lent.{desk_steps};
+ghost use Rattle.bayou_net.specs.Serving.{ServeEnds};
+ghost use Rattle.bayou_frames.specs.Stopping.{Stops};
+
+use crate::at_node::AtNode;
+use crate::gate::RequestGate;
+use crate::served::Served;
+use crate::serving::serve_on;
+use bayou_base::{Key, Seen, Tag, Vector};
+use bayou_device::Device;
+use bayou_frames::ChannelFault;
+use bayou_lang::{RestingProgram, RestingWrite};
+use bayou_node::{Desk, Desks, Node};
+use bayou_peer::Replica;
+use bayou_server::{Behind, ReopenFault, Reopened, TakeFault, Took, TookAll, WriteFault, Written};
+use bayou_streams::CountedChannel;
+use std::alloc::{AllocError, Global};
+use std::io::{Read, Write};
+use std::marker::Model;
+use std::sync::{OnceLock, Wait};
+
+/// Something that serves, and what halts it once it is set.
+#[derive(Drop)]
+struct Halting<'a, S> {
+    served: S,
+    halted: &'a OnceLock<()>,
+}
+
+impl<'a, S> Model for Halting<'a, S> {
+    ghost Value = { S };
+
+    ghost view = { λ a. a.served };
+}
+
+impl<S> Halting<'_, S> {
+    // Whether it is halted. What is set meanwhile no clause can say.
+    fn is_halted(&self) -> bool {
+        self.halted.get().is_some()
+    }
+
+    // What serves, given back.
+    fn into_served(self) -> S
+        ensures { result ≡ self.entry }
+    {
+        self.served
+    }
+}
+
+impl<S: Replica> Replica for Halting<'_, S> {
+    ghost list = { S.list };
+
+    ghost takes = { S.takes };
+
+    fn offer(&mut self) -> Vector {
+        self.served.offer()
+    }
+
+    fn lacking(
+        &mut self,
+        alloc: Global,
+        counts: &Vector,
+        most: usize,
+    ) -> Result<Vec<RestingWrite>, AllocError> {
+        self.served.lacking(alloc, counts, most)
+    }
+
+    fn take(&mut self, alloc: Global, write: RestingWrite) -> Result<Took, TakeFault> {
+        self.served.take(alloc, write)
+    }
+
+    fn take_all(&mut self, alloc: Global, writes: Vec<RestingWrite>) -> TookAll {
+        self.served.take_all(alloc, writes)
+    }
+}
+
+impl<S: Served> Served for Halting<'_, S> {
+    ghost use Rattle.bayou_net.specs.Halting.{ReopensOrNot, WritesOrNot};
+
+    ghost reads = { S.reads };
+
+    ghost writes = { WritesOrNot S.writes };
+
+    ghost reopens = { ReopensOrNot S.reopens };
+
+    fn read(&mut self, need: &Vector, key: &Key) -> Result<Seen, Behind> {
+        self.served.read(need, key)
+    }
+
+    fn write(
+        &mut self,
+        alloc: Global,
+        tag: Tag,
+        need: &Vector,
+        program: RestingProgram,
+    ) -> Result<Written, WriteFault> {
+        if self.is_halted() {
+            return Err(WriteFault::Down);
+        }
+        self.served.write(alloc, tag, need, program)
+    }
+
+    fn answer_without_memory(
+        &mut self,
+        tag: Tag,
+        need: &Vector,
+        program: &RestingProgram,
+    ) -> Result<Written, WriteFault> {
+        if self.is_halted() {
+            return Err(WriteFault::Down);
+        }
+        self.served.answer_without_memory(tag, need, program)
+    }
+
+    fn reopen(&mut self, alloc: Global) -> Result<Reopened, ReopenFault> {
+        if self.is_halted() {
+            return Err(ReopenFault::Lost);
+        }
+        self.served.reopen(alloc)
+    }
+
+    fn dump(&mut self, alloc: Global) -> Result<Vec<RestingWrite>, AllocError> {
+        self.served.dump(alloc)
+    }
+}
+
+/// As [`serve`](crate::serve), until `halted` is set: each Write that comes from then on is refused as at a server that is down, and each
+/// reopening as one whose journal lost a Write. Neither reaches the node. When it is set no clause can tell.
+pub fn serve_until_halted<D: Device, L: Desks, G: RequestGate, R: Read, W: Write, T: Wait>(
+    rt: &T,
+    alloc: Global,
+    node: &Node<D, L>,
+    desk: Desk<L>,
+    gate: &G,
+    halted: &OnceLock<()>,
+    channel: &mut CountedChannel<R, W>,
+) -> (Result<u32, ChannelFault>, Desk<L>)
+    ensures serves { (read : List ℕ) × Consumes (R.remaining channel.old.reader) (R.remaining channel.new.reader) read
+        × ServeEnds (halting (desk_steps L.begun)) desk result.1 read (W.contents channel.old.writer) (W.contents channel.new.writer) (IsAtEnd (R.remaining channel.new.reader)) result.0 }
+    ensures stopped { IfErr result.0 (Stops channel.new.read_failed channel.new.write_failed channel.new.turns_left) }
+    ensures turns { channel.new.turns_left ≤ channel.old.turns_left }
+{
+    let served = AtNode { node, desk, rt };
+    let mut halting = Halting { served, halted };
+    let answer = serve_on(alloc, &mut halting, gate, channel);
+    let at_desk = halting.into_served();
+    (answer, at_desk.desk)
+}

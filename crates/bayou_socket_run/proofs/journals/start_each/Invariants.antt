@@ -1,0 +1,7 @@
+-- what was told of the servers that were started
+use Rattle.bayou_socket_run.specs.Damage.{TellsEntries}
+use Rattle.bayou_streams.specs.Account.{account}
+use Rattle.bayou_socket_run.proofs.journals.start_each.Given as goal
+
+abbrev pub invariant-loop-index : goal.invariant-loop-index
+invariant-loop-index g l = TellsEntries l.folder l.index (account g.E.Write.contents l.initial.told) (account g.E.Write.contents l.told)
