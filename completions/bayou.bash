@@ -10,7 +10,7 @@ _bayou() {
             words='--id --servers --dir --listen --peer --every --limit --connections --idle'
             words+=' --until-input-ends --new --restore --anyone -h --help'
             ;;
-        connect) words='--server --servers --session --state --book --wait -h --help' ;;
+        connect) words='--server --servers --session --state --book --wait --timeout -h --help' ;;
         help) words='run net audit serve connect help' ;;
         *) words='' ;;
     esac

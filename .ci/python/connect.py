@@ -1,11 +1,15 @@
 """A person at a store, tried from outside. Call: connect.py PROGRAM [GROUP..]."""
 import hashlib
+import itertools
 import json
 import os
+import pty
 import random
+import resource
 import shutil
 import signal
 import socket
+import struct
 import subprocess
 import sys
 import tempfile
@@ -21,6 +25,15 @@ import bayou  # noqa: E402
 
 CALENDAR = os.path.join("..", "examples", "calendar")
 HEADER_BYTES = 10
+UNKNOWN = "unknown word; `help` tells the lines that there are"
+COUNT = "wrong number of words; a text with spaces stands in double quotes"
+KEY = "bad key; a key has 1 to 32 bytes of a-z 0-9 . _ - /"
+NUMBER = "bad number; it is an integer of 64 bits, with no zeros in front, plus sign or point"
+LIKE_NUMBER = "bad value; a number is an integer of 64 bits, with no zeros in front, plus sign or point; as a text it stands in double quotes"
+QUOTED = "bad value; from a double quote on the line is one text, as JSON spells it"
+LONG = "bad value; a text has at most 32 bytes"
+# What a server has for its connection and its whole reply where nothing is said, and what a busy machine may add.
+TIMEOUT, BUSY = 3, 4
 ENTRY_BYTES = 179
 MOST_ENTRIES = 65536
 
@@ -35,16 +48,21 @@ def chained(header, bodies):
     return b"".join(entries)
 
 
-class DropReply:
+class Listening:
+    """Serves at a port of its own, in a thread of its own."""
+
+    def listen(self):
+        self.listener = socket.create_server(("127.0.0.1", 0))
+        self.address = "127.0.0.1:%d" % self.listener.getsockname()[1]
+        threading.Thread(target=self.serve, daemon=True).start()
+
+
+class DropReply(Listening):
     """A way to a server on which the reply to the n-th request is dropped, and the connection with it."""
 
     def __init__(self, port, dropped):
         self.port, self.dropped = port, dropped
-        self.listener = socket.socket()
-        self.listener.bind(("127.0.0.1", 0))
-        self.listener.listen()
-        self.address = "127.0.0.1:%d" % self.listener.getsockname()[1]
-        threading.Thread(target=self.serve, daemon=True).start()
+        self.listen()
 
     def serve(self):
         while True:
@@ -63,6 +81,75 @@ class DropReply:
                     if self.dropped == 0 or not reply:
                         break
                     near.sendall(reply)
+
+
+class Dripping(Listening):
+    """Answers each request with a read of nothing, byte by byte."""
+
+    def __init__(self, rest):
+        self.rest = rest
+        self.listen()
+
+    def serve(self):
+        near, _ = self.listener.accept()
+        with near:
+            try:
+                near.recv(65536)
+                for byte in b"\x00\x42\x11\x00" + 64 * b"\x00":
+                    near.sendall(bytes([byte]))
+                    time.sleep(self.rest)
+                near.recv(1)
+            except OSError:
+                pass
+
+
+class Holding(Listening):
+    """Tells a read that it holds nothing, and sends these Items to whoever asks what it holds, and an end behind the last, if one is the last."""
+
+    def __init__(self, items):
+        self.items, self.sent = items, 0
+        self.listen()
+
+    def serve(self):
+        while True:
+            try:
+                near, _ = self.listener.accept()
+            except OSError:
+                return
+            with near:
+                try:
+                    while self.answer(near, near.recv(65536)):
+                        pass
+                except OSError:
+                    pass
+
+    def answer(self, near, request):
+        if request[2:3] == b"\x04":
+            self.sent = 0
+            for item in self.items():
+                near.sendall(item)
+                self.sent += 1
+            near.sendall(b"\x00\x05\x16" + self.sent.to_bytes(4, "big"))
+        elif request:
+            near.sendall(b"\x00\x42\x11\x00" + 64 * b"\x00")
+        return request
+
+
+def item_of(write):
+    """The Item of a Write, which is its bytes."""
+    return (len(write) + 1).to_bytes(2, "big") + b"\x15" + write
+
+
+def apart_items(count):
+    """The Items of so many Writes of server 0, and as many of server 1, which knew nothing of them: each comes late."""
+    items = []
+    for origin in range(2):
+        for seq in range(1, count + 1):
+            deps = [0] * 16
+            deps[origin] = seq - 1
+            program = bayou.program_bytes({"update": [["put", "k%d" % (seq % 5000), seq]]})
+            items.append(item_of(struct.pack(">BII16I", origin, seq, seq, *deps) + program))
+    return items
 
 
 class Tries:
@@ -117,7 +204,13 @@ class Tries:
             self.row(name, [], ["session"], [], 2, [line], words)
         status, printed, told = self.call([], ["session"])
         self.that("no server", (status, printed, bool(told)), (2, [], True))
-        self.row("a file that isn't there", [(0, "127.0.0.1:1")], [], [], 3, ["bayou: input"], [os.path.join(self.room, "none")])
+        for name in [os.path.join(self.room, "none"), "get a"]:
+            self.row("a file that isn't there: " + name, [(0, "127.0.0.1:1")], [], [], 3,
+                     ["bayou: %s: it can't be opened; the word is taken as the name of a file of lines, and a line itself comes by the standard input" % name],
+                     [name])
+        for seconds in ["0", "86401", "x"]:
+            status, printed, told = self.call([(0, "127.0.0.1:1")], ["session"], ["--timeout", seconds])
+            self.that("no such timeout: " + seconds, (status, printed, bool(told)), (2, [], True))
         self.row("a state in a folder that isn't there", [(0, "127.0.0.1:1")], [], [], 3,
                  ["bayou: %s/none/state: it can't be opened, or another process has it" % self.room], ["--state", self.room + "/none/state"])
         self.row("a book in a folder that isn't there", [(0, "127.0.0.1:1")], [], [], 3,
@@ -129,15 +222,15 @@ class Tries:
         at = [(0, server.address())]
         self.row("a put is read", at, ["put room kim", "get room", "get none"],
                  ["0 wrote 0:1 clock 1 deps 0", '0 read room text "kim" at 1', "0 read none none at 1"])
-        self.row("a number", at, ["put n 007", "add n -9", "get n", "add m 5", "get m", "add room 1", "get room"],
+        self.row("a number", at, ["put n 7", "add n -9", "get n", "add m 5", "get m", "add room 1", "get room"],
                  ["0 wrote 0:2 clock 2 deps 1", "0 wrote 0:3 clock 3 deps 2", "0 read n num -2 at 3", "0 wrote 0:4 clock 4 deps 3", "0 read m num 5 at 4",
-                  "0 wrote 0:5 clock 5 deps 4", '0 read room text "kim" at 5'])
+                  "0 wrote 0:5 clock 5 deps 4", "0 did nothing", '0 read room text "kim" at 5'], 1)
         self.row("a key is removed", at, ["del n", "get n", "", "   "], ["0 wrote 0:6 clock 6 deps 5", "0 read n none at 6"])
         self.row("a claim that is had", at, ["claim a b lee"], ["0 wrote 0:7 clock 7 deps 6", '0 read a text "lee" at 7'])
         self.row("a claim that falls back", at, ["claim a b kim"],
                  ["0 wrote 0:8 clock 8 deps 7", '0 read a text "lee" at 8', '0 read b text "kim" at 8'])
         self.row("a claim of what is taken", at, ["claim a b jo"],
-                 ["0 wrote 0:9 clock 9 deps 8", '0 read a text "lee" at 9', '0 read b text "kim" at 9'])
+                 ["0 wrote 0:9 clock 9 deps 8", '0 read a text "lee" at 9', '0 read b text "kim" at 9', "0 did nothing"], 1)
         self.row("a list", at, ["list", "servers", "session", "at 0"],
                  ['a text "lee"', 'b text "kim"', "m num 5", 'room text "kim"', "list 0 keys 4", "server 0 at 9",
                   "session 0 asks none", "session 0 read 0 wrote 0"])
@@ -145,9 +238,9 @@ class Tries:
                                           '["again",3]', "again"],
                  ["3 wrote 0:10 clock 10 deps 9", '3 read x text "a b" at 10', "reopen refused notdown", "3 again none", "0 again none"], 1)
         for name, line, fault in [
-            ("an unknown word", "put1 a b", "unknown word"), ("too few words", "put a", "wrong number of words"), ("no key", "get A", "bad key"),
-            ("no number", "add a b", "bad number"), ("no server", "at 16", "bad server"), ("a server that isn't named", "at 1", "out of place"),
-            ("a long text", "put a " + 33 * "x", "bad value"), ("no JSON", "[1,", "not JSON"), ("no command", '["none",1]', "bad shape"),
+            ("an unknown word", "put1 a b", UNKNOWN), ("too few words", "put a", COUNT), ("no key", "get A", KEY),
+            ("no number", "add a b", NUMBER), ("no server", "at 16", "bad server; servers have the numbers 0 to 15"),
+            ("a server that isn't named", "at 1", "out of place"), ("a long text", "put a " + 33 * "x", LONG), ("no JSON", "[1,", "not JSON"), ("no command", '["none",1]', "bad shape"),
             ("a capital in a script's line", '["read",0,0,"A"]', "bad key"), ("a line for scripts alone", '["log",0]', "out of place"),
             ("a session that isn't open", '["read",1,0,"a"]', "out of place"), ("a server of a script that isn't named", '["read",0,1,"a"]', "out of place"),
             ("a dump without a book", "dump", "out of place"), ("a line that is too long", "put a " + 65531 * "x", "bad shape"),
@@ -162,6 +255,193 @@ class Tries:
         session.write({"update": [["put", "shared", "python"]]})
         self.row("a Write of the client in python", at, ["get shared"], ['0 read shared text "python" at 11'])
         self.stop_all()
+
+    def values(self):
+        """Values as a person spells them: numbers in one way, and texts, in double quotes where they could be something else."""
+        server = self.start(self.folder())
+        at = [(0, server.address())]
+        count = 0
+        for spelled, shown in [
+            ("7", "num 7"), ("-7", "num -7"), ("0", "num 0"), ("9223372036854775807", "num 9223372036854775807"),
+            ("-9223372036854775808", "num -9223372036854775808"), ('"red room"', 'text "red room"'), ('"007"', 'text "007"'), ('""', 'text ""'),
+            ('"a \\"b\\" \\u00e9\\n"', 'text "a \\"b\\" \u00e9\\n"'), ('"  two  "', 'text "  two  "'), ("10.0.0.1", 'text "10.0.0.1"'), ("7kim", 'text "7kim"'),
+            ("2026-11-28", 'text "2026-11-28"'), ("-", 'text "-"'), ("'x'", """text "'x'\""""), ('"' + 32 * "x" + '"', 'text "%s"' % (32 * "x")),
+        ]:
+            count += 1
+            self.row("a value that is spelled " + spelled, at, ["put k " + spelled, "get k"],
+                     ["0 wrote 0:%d clock %d deps %d" % (count, count, count - 1), "0 read k %s at %d" % (shown, count)])
+        for spelled, fault in [
+            ("1.5", LIKE_NUMBER), ("007", LIKE_NUMBER), ("9223372036854775808", LIKE_NUMBER), ("-9223372036854775809", LIKE_NUMBER), ("+5", LIKE_NUMBER),
+            ("-0", LIKE_NUMBER), (".5", LIKE_NUMBER), ("5.", LIKE_NUMBER), ('"red room', QUOTED), ('"red" room', QUOTED), ('"red\\x"', QUOTED), ('"', QUOTED),
+            ('"' + 33 * "x" + '"', LONG), ("red room", COUNT), ('red" room', COUNT),
+        ]:
+            for line in ["put k " + spelled, "claim k l " + spelled]:
+                expected = KEY if line.startswith("claim") and spelled == "red room" else fault
+                if line.startswith("claim") and fault == COUNT:
+                    continue
+                self.row("no value: " + line, at, [line], [], 2, ["bayou: line 1: " + expected])
+        for spelled in ["1.5", "007", "+5", "-0", "9223372036854775808", '"5"']:
+            self.row("no number: " + spelled, at, ["add n " + spelled], [], 2, ["bayou: line 1: " + NUMBER])
+        self.row("nothing of that was done", at, ["servers"], ["server 0 at %d" % count])
+        self.stop_all()
+
+    def claims(self):
+        """A claim that is made twice has one key, and one that has got nothing is told so."""
+        folder = self.folder()
+        first, second = self.start(folder, 0, 2), self.start(folder, 1, 2)
+        at = [(0, first.address())]
+        self.row("a claim", at, ["claim a b kim"], ["0 wrote 0:1 clock 1 deps 0", '0 read a text "kim" at 1'])
+        self.row("the same once more", at, ["claim a b kim", "get b"], ['0 read a text "kim" at 1', "0 read b none at 1"])
+        self.row("of the second key too", at, ["claim b c lee", "claim c b a lee", "claim c b a kim", "get c"],
+                 ["0 wrote 0:2 clock 2 deps 1", '0 read b text "lee" at 2', '0 read b text "lee" at 2', '0 read a text "kim" at 2', "0 read c none at 2"])
+        self.row("one that gets nothing", at, ["claim a b jo"],
+                 ["0 wrote 0:3 clock 3 deps 2", '0 read a text "kim" at 3', '0 read b text "lee" at 3', "0 did nothing"], 1)
+        self.row("a single key, twice", at, ["claim d 5", "claim d 5"], ["0 wrote 0:4 clock 4 deps 3", "0 read d num 5 at 4", "0 read d num 5 at 4"])
+        both = at + [(1, second.address())]
+        state = os.path.join(self.room, "claims")
+        self.row("with a session", both, ["claim x y kim"], ["0 wrote 0:5 clock 5 deps 4,0", '0 read x text "kim" at 5,0'],
+                 words=["--state", state, "--session", "all"])
+        self.row("at a server that is behind nothing is claimed", both, ["at 1", "claim x y kim"], ['0 read x text "kim" at 5,0'], words=["--state", state])
+        self.row("alone there it is refused", both[1:], ["claim x y kim", "servers"], ["0 refused behind at 0,0", "server 1 at 0,0"], 1, words=["--state", state])
+        first.kill()
+        self.row("no server", at, ["claim a b kim"], ["0 refused away"], 1)
+        self.stop_all()
+
+    def additions(self):
+        """An addition to a text says that it did nothing, and the session has read nothing by that."""
+        server = self.start(self.folder())
+        at = [(0, server.address())]
+        self.row("to nothing, to a number, to a text", at, ["add n 5", "add n 2", "put t kim", "session", "add t 1", "session", "get n"],
+                 ["0 wrote 0:1 clock 1 deps 0", "0 wrote 0:2 clock 2 deps 1", "0 wrote 0:3 clock 3 deps 2", "session 0 asks all",
+                  "session 0 read 0 wrote 3", "0 wrote 0:4 clock 4 deps 3", "0 did nothing", "session 0 asks all", "session 0 read 0 wrote 4",
+                  "0 read n num 7 at 4"], 1, words=["--session", "all"])
+        self.stop_all()
+
+    def talk(self, call, lines):
+        """What is printed and told at a terminal where these lines are typed, and the status."""
+        near, far = pty.openpty()
+        process = subprocess.Popen(call, stdin=far, stdout=subprocess.PIPE, stderr=subprocess.PIPE)
+        os.close(far)
+        try:
+            os.write(near, "".join(line + "\n" for line in lines).encode())
+            printed, told = process.communicate(timeout=SECONDS)
+        finally:
+            process.kill()
+            os.close(near)
+        return process.returncode, printed.decode().splitlines(), told.decode()
+
+    def words_of_lines(self):
+        """`help`, `quit`, and the prompt at a terminal."""
+        folder = self.folder()
+        first, second = self.start(folder, 0, 2), self.start(folder, 1, 2)
+        at = [(0, first.address())]
+        both = at + [(1, second.address())]
+        status, printed, told = self.call(at, ["help", "get a"])
+        words = [line.split()[0] for line in printed[:-1]]
+        self.that("help", (status, set("put add del claim get again at list servers session dump help quit".split()) - set(words), printed[-1:], told),
+                  (0, set(), ["0 read a none at 0"], []))
+        self.row("quit", at, ["get a", "  quit ", "get a", "nothing"], ["0 read a none at 0"])
+        self.row("help and quit take no words", at, ["help me"], [], 2, ["bayou: line 1: " + UNKNOWN])
+        self.row("nor does quit", at, ["quit now"], [], 2, ["bayou: line 1: " + UNKNOWN])
+        call = [self.program, "connect"] + [word for index, address in both for word in ("--server", "%d=%s" % (index, address))]
+        self.that("a prompt that names the server", self.talk(call, ["get a", "at 1", "put a 007", "get a", "quit"]),
+                  (2, ["0 read a none at 0,0", "0 read a none at 0,0"],
+                   "server 0> server 0> server 1> bayou: line 3: %s\nserver 1> server 1> " % LIKE_NUMBER))
+        self.that("the end at a terminal", self.talk(call, ["get a", "\x04"]), (0, ["0 read a none at 0,0"], "server 0> server 0> \n"))
+        self.stop_all()
+
+    def silent(self):
+        """A server that is stopped has so long and no longer, and then the next one serves; for a minute it is asked last."""
+        folder = self.folder()
+        first, second = self.start(folder, 0, 2), self.start(folder, 1, 2)
+        both = [(0, first.address()), (1, second.address())]
+        call = [self.program, "connect"] + [word for index, address in both for word in ("--server", "%d=%s" % (index, address))]
+        os.kill(first.process.pid, signal.SIGSTOP)
+        try:
+            for words, most in [([], TIMEOUT), (["--timeout", "1"], 1)]:
+                process = subprocess.Popen(call + words, stdin=subprocess.PIPE, stdout=subprocess.PIPE)
+                for name, line, expected, least, seconds in [
+                    ("a read", b"get none\n", "0 read none none at 0,0", most, most + BUSY), ("a second read", b"get none\n", "0 read none none at 0,0", 0, 1),
+                    ("a list", b"list\n", "list 1 keys 0", 0, 1), ("a Write", b"del none\n", "0 wrote 1:1 clock 1 deps 0,0", 0, 1),
+                ]:
+                    process.stdin.write(line)
+                    process.stdin.flush()
+                    begun = time.monotonic()
+                    printed = process.stdout.readline().decode().strip()
+                    took = time.monotonic() - begun
+                    if words:
+                        expected = expected.replace("1:1 clock 1 deps 0,0", "1:2 clock 2 deps 0,1").replace("at 0,0", "at 0,1")
+                    self.that("%s with %s" % (name, words), printed, expected)
+                    self.that("%s with %s takes %.1f s" % (name, words, took), least - 0.1 <= took <= seconds, True)
+                process.stdin.close()
+                process.stdout.read()
+                process.wait(SECONDS)
+            begun = time.monotonic()
+            self.row("a Write is in doubt", both, ["put a 1"], ["0 lost"], 1, words=["--timeout", "1"])
+            self.that("so long", 1 <= time.monotonic() - begun <= 1 + BUSY)
+            with bayou.Session([address for _, address in both], timeout=1.0) as session:
+                begun = time.monotonic()
+                told, seen = session.read_anywhere("none"), session.seen
+                took = time.monotonic() - begun
+                self.that("in python: %.1f s" % took, (told, 0.9 <= took <= 1 + BUSY), (None, True))
+                begun = time.monotonic()
+                session.read_anywhere("none")
+                self.that("in python, once more", time.monotonic() - begun < 1)
+        finally:
+            os.kill(first.process.pid, signal.SIGCONT)
+        self.stop_all()
+
+    def dripped(self):
+        """A reply that drips has the same time in all, and a whole one of any pieces that comes in it is taken."""
+        dripping = Dripping(1.0)
+        begun = time.monotonic()
+        self.row("a reply that drips", [(0, dripping.address)], ["get a"], ["0 lost"], 1, words=["--timeout", "2"])
+        self.that("it has its time", 2 <= time.monotonic() - begun <= 2 + BUSY)
+        self.row("one that is there in time", [(0, Dripping(0.01).address)], ["get a"], ["0 read a none at 0"], words=["--timeout", "20"])
+
+    def unbelievable(self):
+        """What a server sends of what it holds has an end, and is the Writes of a server."""
+        server = self.start(self.folder())
+        link = bayou.Link(server.address())
+        session = bayou.Session([server.address()])
+        ops = [["put", "a" * 30 + str(number), "x" * 32] for number in range(8)]
+        session.write({"update": ops})
+        (write,) = link.dump()
+        item = item_of(write)
+        # What stands in the buffers of sockets.
+        slack = 16 * 2**20 // len(item)
+        endless = Holding(lambda: itertools.repeat(item))
+        begun = time.monotonic()
+        self.row("a list of a server that never ends", [(0, endless.address)], ["list"], ["list lost"], 1)
+        self.that("it is left behind as many Writes as a server holds: %d Items" % endless.sent, 65536 <= endless.sent <= 65537 + slack)
+        self.that("and that takes some seconds", time.monotonic() - begun < 20)
+        self.row("the next one is listed", [(0, endless.address), (1, server.address())], ["list"],
+                 ['%s text "%s"' % (key, text) for _, key, text in ops] + ["list 1 keys 8"])
+        book = os.path.join(self.room, "endless.book")
+        self.row("what it holds isn't in the book", [(0, endless.address)], ["dump"], ["dump 0 away"], 1, words=["--book", book])
+        self.row("one Write", [(0, Holding(lambda: [item]).address)], ["list"], ['%s text "%s"' % (key, text) for _, key, text in ops] + ["list 0 keys 8"])
+        self.row("twice the same Write", [(0, Holding(lambda: [item, item]).address)], ["list"], ["list lost"], 1)
+        with open(book) as file:
+            self.that("the book is as it was", [json.loads(line)[0] for line in file.read().splitlines()], ["servers"])
+        try:
+            told = bayou.Link(endless.address).dump()
+        except bayou.Lost:
+            told = "lost"
+        self.that("in python too", told, "lost")
+        self.stop_all()
+
+    def late(self):
+        """A list of many Writes that come late takes time in proportion: of eight times as many at most 24 times as long."""
+        took = []
+        for count in [4000, 32000]:
+            holding = Holding(lambda: items)
+            items = apart_items(count)
+            before = resource.getrusage(resource.RUSAGE_CHILDREN)
+            status, printed, told = self.call([(0, holding.address)], ["list"], seconds=120)
+            after = resource.getrusage(resource.RUSAGE_CHILDREN)
+            took.append(after.ru_utime - before.ru_utime)
+            self.that("a list of %d Writes" % (2 * count), (status, printed[-1], told), (0, "list 0 keys %d" % min(count, 5000), []))
+        self.that("processor seconds: %.2f and %.2f" % tuple(took), took[1] <= 24 * max(took[0], 0.05))
 
     def turns(self):
         folder = self.folder()
@@ -510,7 +790,7 @@ class Tries:
         self.that("server %d is apart again" % to, again.serving() is not None)
 
 
-GROUPS = ["words", "lines", "turns", "lost", "asks", "lists", "guarantees_alone", "kept", "grown", "killed", "guarantees", "calendar"]
+GROUPS = ["words", "lines", "values", "claims", "additions", "words_of_lines", "silent", "dripped", "unbelievable", "late", "turns", "lost", "asks", "lists", "guarantees_alone", "kept", "grown", "killed", "guarantees", "calendar"]
 
 
 def main():

@@ -14,6 +14,7 @@ import time
 
 import frames
 from checks import Checks
+from holding import Holding
 from living import SECONDS, Server
 from meeting import Fake, count_of, dump_of, ended, free_port, items, soon, struct_of
 
@@ -27,7 +28,7 @@ def numbered(number):
     return {"update": [["put", "k%03d" % (number % 500), number]]}
 
 
-class Tries:
+class Tries(Holding):
     def __init__(self, program, kills, room):
         self.program, self.kills, self.room, self.checks = program, kills, room, Checks()
 
@@ -617,7 +618,7 @@ def asked_again(session, stop):
     return None
 
 
-GROUPS = ["words", "guards", "clients", "repeats", "patience", "strangers", "short_connections", "crowds", "peers", "hanging", "restores", "full_disk", "killed"]
+GROUPS = ["words", "guards", "clients", "repeats", "patience", "strangers", "short_connections", "crowds", "peers", "hanging", "restores", "full_disk", "dumps", "together", "bad_peers_at_start", "offers_while_starting", "descriptors", "strays", "written_to_steadily", "fair", "killed"]
 
 
 def main():

@@ -69,6 +69,13 @@ def courses_given_back(count=30_000, places=20):
         yield write(0, {"check": [["atmost", "course/", places]], "update": update})
 
 
+def roomy(count=40_000):
+    """Each puts a key of its own where at most so many are present as there can never be."""
+    yield from begin()
+    for at in range(count):
+        yield write(0, {"check": [["atmost", "", 4_294_967_295]], "update": [["put", f"k{at}", at]]})
+
+
 def full_programs(count=10_000):
     """The longest Writes that may be, with keys and texts of 32 bytes."""
     keys = [f"k{at:031}" for at in range(MAX_OPS)]
@@ -232,6 +239,7 @@ SCRIPTS = {
     "bookings with a fallback": ("run", bookings),
     "courses with places": ("run", courses),
     "places given back": ("run", courses_given_back),
+    "room for all": ("run", roomy),
     "full programs": ("run", full_programs),
     "many conditions": ("run", conditions),
     "reads": ("run", reads),

@@ -110,7 +110,7 @@ impl Database {
         }
     }
 
-    /// Whether at most so many keys that are present begin so.
+    /// Whether at most so many keys that are present begin so. So few keys can't be more, whatever they begin with.
     fn has_at_most(&mut self, prefix: &str, most: u32) -> bool {
         let keys = self
             .in_order
@@ -118,7 +118,7 @@ impl Database {
         let most = most as usize;
         let behind = keys.range::<str, _>((Bound::Included(prefix), Bound::Unbounded));
         let beginning = behind.take_while(|key| key.starts_with(prefix));
-        beginning.take(most + 1).count() <= most
+        keys.len() <= most || beginning.take(most + 1).count() <= most
     }
 
     fn holds(&mut self, condition: &Condition) -> bool {

@@ -28,7 +28,9 @@ _MAX_COUNT = 65_536
 _MAX_FRAME = 8_192
 _MAX_WRITE = 5_844
 _MAX_TEXT = 32
-# A reply is to come whole within the timeout, and within a second more for each so many bytes of it that came.
+# For so long a server that was silent is asked after all others.
+_SILENT_SECONDS = 60
+# A reply is to come whole within the timeout, the connection too, and within a second more for each so many bytes of it that came.
 _SLOWEST_BYTES = 4_096
 
 
@@ -288,6 +290,8 @@ class Link:
     def __init__(self, address, timeout=3.0):
         self.address, self.timeout = _place(address), timeout
         self.socket = None
+        # Until when it is asked after all others: it was silent.
+        self.silent_until = 0.0
         # What came of replies and wasn't read yet, and when the reply is to be there.
         self.came, self.latest = bytearray(), 0.0
 
@@ -313,6 +317,10 @@ class Link:
         except OSError:
             pass
         return False
+
+    def is_silent(self):
+        """Whether it was silent for its whole time, less than a minute ago."""
+        return time.monotonic() < self.silent_until
 
     def _connect(self):
         if self._is_open():
@@ -363,13 +371,27 @@ class Link:
             self.close()
             raise
 
+    @contextlib.contextmanager
+    def _silent_where_late(self):
+        """Notes a server that had its whole time and gave no reply."""
+        over = time.monotonic() + self.timeout
+        try:
+            yield
+        except (Away, Lost):
+            now = time.monotonic()
+            if now >= over:
+                self.silent_until = now + _SILENT_SECONDS
+            raise
+        self.silent_until = 0.0
+
     def ask(self, request, *kinds):
         """The first reply to the request, of which the kind is one of these, and what it carries."""
-        self._connect()
-        with self._closed_where_lost():
+        with self._silent_where_late():
             self.latest = time.monotonic() + self.timeout
-            self.socket.sendall(request)
-            kind, carried = self._reply(kinds)
+            self._connect()
+            with self._closed_where_lost():
+                self.socket.sendall(request)
+                kind, carried = self._reply(kinds)
         if kind == _REFUSED:
             raise carried
         return kind, carried
@@ -397,7 +419,7 @@ class Session:
     `asks` says what it asks for, any of "ryw" (Read Your Writes), "mr" (Monotonic Reads), "wfr" (Writes Follow Reads) and "mw" (Monotonic
     Writes). `number` and `run` name its Writes, so that one that is asked again acts once: no two sessions of a store may have the same pair,
     in this program or another. Each is drawn at random where it isn't given. A server that is silent, or drips, is `Lost` after `timeout` seconds, and a
-    second more for each 4,096 bytes that came.
+    second more for each 4,096 bytes that came; for a minute it is asked after all others then, where any server may be asked.
     """
 
     def __init__(self, addresses, asks=(), number=None, run=None, timeout=3.0):
@@ -494,9 +516,8 @@ class Session:
 
     def _anywhere(self, ask, is_read):
         fault = Away("no server has an address")
-        for server, link in enumerate(self.links):
-            if link is None:
-                continue
+        servers = [server for server, link in enumerate(self.links) if link is not None]
+        for server in sorted(servers, key=lambda server: self.links[server].is_silent()):
             try:
                 return ask(server)
             except (JournalFailed, Lost) as doubt:

@@ -187,8 +187,8 @@ fn run<
         Some(Taken::Serve(service)) => {
             // A server that lives is at work for as long as it does, which is no news.
             screen.lock(rt).end();
-            let (mut input, ()) = input.into_parts();
-            run_served(rt, alloc, service, &mut input, &mut output, told)
+            let (input, ()) = input.into_parts();
+            run_served(rt, alloc, service, input, &mut output, told)
         }
         Some(Taken::Connect(call)) => {
             // So is a person.

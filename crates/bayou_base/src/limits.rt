@@ -79,6 +79,9 @@ pub const PIECE_BYTES: usize = 65_536;
 /// How many Writes that another server lacks are copied and sent at once at the most.
 pub const ITEMS_AT_ONCE: usize = 16;
 
+/// How many Writes of a dump are copied and sent at once at the most: as many as fit a mebibyte, the longest too.
+pub const DUMPED_AT_ONCE: usize = 128;
+
 /// How many entries a book of what was served has places for at the most, and how many an audit file has.
 pub const MAX_ENTRIES: usize = 65_536;
 
@@ -106,8 +109,14 @@ pub const DEFAULT_EVERY_SECONDS: u32 = 1;
 /// How many milliseconds one wait for bytes takes at a server that lives at the most, before it is looked whether to go on.
 pub const TICK_MILLISECONDS: u64 = 250;
 
-/// How many milliseconds a connection may ask nothing where each desk is taken.
-pub const CROWDED_MILLISECONDS: u64 = 2_000;
+/// How many milliseconds a connection that asks nothing keeps its desk where each desk is taken and somebody waits for one.
+pub const CROWDED_MILLISECONDS: u64 = 1_000;
+
+/// How many desks a server that lives keeps for the pulls of each of its peers.
+pub const DESKS_OF_A_PEER: u32 = 2;
+
+/// How many connections wait for a desk at the most. The next one is closed at once.
+pub const WAITING_CONNECTIONS: u32 = 64;
 
 /// For how many milliseconds what comes behind the last reply is dropped.
 pub const LINGER_MILLISECONDS: u64 = 2_000;
@@ -124,14 +133,23 @@ pub const PEER_REACH_SECONDS: u64 = 2;
 /// How many milliseconds a peer has between two pieces of its answer.
 pub const PEER_ANSWER_MILLISECONDS: u64 = 10_000;
 
+/// For how many seconds all peers are asked, side by side, before a server starts.
+pub const STARTING_SECONDS: u64 = 5;
+
+/// How many bytes a second a peer's answer brings at the least, over each so many seconds.
+pub const LEAST_BYTES_A_SECOND: u64 = 4_096;
+
+/// Over how many seconds it is looked at how many bytes came.
+pub const RATE_SECONDS: u64 = 30;
+
 /// How many bytes of stack a thread has that serves one connection after another.
 pub const DESK_STACK_BYTES: usize = 1_048_576;
 
-/// How many seconds a server has to take the connection of a person or a program.
-pub const SERVER_REACH_SECONDS: u64 = 5;
+/// How many seconds a server has for the connection of a person or a program and its whole reply where the command line doesn't say.
+pub const DEFAULT_TIMEOUT_SECONDS: u32 = 3;
 
-/// How many seconds a server has for each piece of its reply to them.
-pub const SERVER_REPLY_SECONDS: u64 = 30;
+/// For how many seconds a server that was silent is asked after all others.
+pub const SILENT_SECONDS: u64 = 60;
 
 /// How many milliseconds pass before all servers are asked once more.
 pub const ROUND_MILLISECONDS: u64 = 250;
@@ -141,3 +159,6 @@ pub const MAX_KEPT_ENTRIES: u64 = 65_536;
 
 /// How many seconds pass from one line of a server that lost Writes of its own to the next.
 pub const LOST_SECONDS: u32 = 60;
+
+/// How many seconds pass from one line about what lasts, as a full house or want of descriptors does, to the next.
+pub const NOTICE_SECONDS: u32 = 60;

@@ -1,9 +1,10 @@
 -- How much of a reply was read, and how it grows by a frame.
-use Rattle.std.proofs.Common.{arith, inl, inr, ◌≡◌, ◌≢◌, Bool, true, false, ℕ, zero, suc, ◌+◌, ◌<◌, ◌≤◌, drop, List, [], ◌∷◌, ◌++◌, Option, None, Some, Ok, Err, refl, sym, ap, subst, ◌∙◌, append_assoc, length}
+use Rattle.std.proofs.Common.{arith, inl, inr, ◌≡◌, ◌≢◌, ◌⊎◌, Bool, true, false, ℕ, zero, suc, ◌+◌, ◌<◌, ◌≤◌, drop, List, [], ◌∷◌, ◌++◌, Option, None, Some, Ok, Err, refl, sym, ap, subst, ◌∙◌, append_assoc, length}
 use Rattle.std.specs.List.{AllByRecursion}
 use Rattle.std.specs.Bool.{IsTrue}
 use Rattle.std.proofs.lemmas.List.{append-nil, length-append}
 use Rattle.std.proofs.lemmas.Grind.{flat_map-append}
+use Rattle.bayou_base.specs.declared.limits.TheConstants.{MAX_WRITES}
 use Rattle.bayou_client.specs.Inner.Taking.{Ends, ReplyRead, TakesFrames}
 use Rattle.bayou_client.specs.Replies.{Begins, IsLast, IsNoReply, IsReply, IsUnfinished}
 use Rattle.bayou_lang.specs.declared.write.Write.{Write}
@@ -37,15 +38,30 @@ not_both : (b : Bool) → b ≡ true → b ≡ false → ⊥
 not_both b is none = let bad : true ≡ false = sym is ∙ none in cc
 
 -- an Item is kept
-pub kept : (many : Bool) (read behind : List ℕ) (old now : List Write) (write : Write) (frame : Frame) → many ≡ true → frame ≡ Item write → now ≡ old ++ write ∷ [] → IsFrame frame
-    → Begins many read old (spelling frame ++ behind) → Begins many read now behind
-kept many read behind old now write frame is_many same pushed is before =
+pub kept : (many : Bool) (read behind : List ℕ) (old now : List Write) (write : Write) (frame : Frame) → many ≡ true → frame ≡ Item write → now ≡ old ++ write ∷ []
+    → length old < MAX_WRITES → IsFrame frame → Begins many read old (spelling frame ++ behind) → Begins many read now behind
+kept many read behind old now write frame is_many same pushed room is before =
     let b = subst (λ (f : Frame). Begins many read old (spelling f ++ behind)) same before in
     rw pushed (record {
       whole = b.whole ∙ item_bytes_push old write behind;
       each = all_push old write b.each (subst (λ (f : Frame). IsFrame f) same is);
       few = λ none. absurd (not_both many is_many none);
+      within = omega (arith, room, length-append old (write ∷ []));
     })
+
+-- one Item more than a server holds
+pub too_many : (many : Bool) (read behind : List ℕ) (writes : List Write) (write : Write) (frame : Frame) → frame ≡ Item write → MAX_WRITES ≤ length writes
+    → Begins many read writes (spelling frame ++ behind) → IsNoReply many read
+too_many many read behind writes write frame same full before =
+    let b = subst (λ (f : Frame). Begins many read writes (spelling f ++ behind)) same before in
+    (writes, spelling (Item write) ++ behind, b, inr (inr (write, behind, omega (arith, full, b.within), refl)))
+
+-- an Item that isn't kept ends it
+pub not_kept : (many : Bool) (read behind : List ℕ) (writes : List Write) (write : Write) (frame : Frame) (fault : ChannelFault) → frame ≡ Item write
+    → (fault ≡ faults.OutOfMemory) ⊎ ((fault ≡ faults.BadFrame) × (MAX_WRITES ≤ length writes)) → Begins many read writes (spelling frame ++ behind) → Ends many read fault
+not_kept many read behind writes write frame fault same (inl is) before = subst (Ends many read) (sym is) tt
+not_kept many read behind writes write frame fault same (inr (is, full)) before =
+    subst (Ends many read) (sym is) (too_many many read behind writes write frame same full before)
 
 -- the rest in another way
 pub rest_is : (many : Bool) (read : List ℕ) (writes : List Write) (rest left : List ℕ) → rest ≡ left → Begins many read writes rest → Begins many read writes left
@@ -57,11 +73,12 @@ more many read held piece writes b = record {
   whole = ap (λ s. s ++ piece) b.whole ∙ append_assoc (item_bytes writes) held piece;
   each = b.each;
   few = b.few;
+  within = b.within;
 }
 
 -- nothing was read yet
 pub nothing : (many : Bool) → Begins many [] [] []
-nothing many = record { whole = refl; each = tt; few = λ _. refl }
+nothing many = record { whole = refl; each = tt; few = λ _. refl; within = omega arith }
 
 -- ---- where no reply stands
 
@@ -74,12 +91,12 @@ pub bad_behind : (many : Bool) (read behind : List ℕ) (writes : List Write) (l
     → TakesFrames many read behind writes (Ok last) → IsNoReply many read
 bad_behind many read behind writes None fault faulty takes = (writes, behind, takes, inl (fault, faulty))
 bad_behind many read behind writes (Some last) fault faulty takes =
-    (writes, spelling last ++ behind, takes.0, inr (last, behind, takes.1, faulty_some behind fault faulty, refl))
+    (writes, spelling last ++ behind, takes.0, inr (inl (last, behind, takes.1, faulty_some behind fault faulty, refl)))
 
 -- something behind the last frame
 pub more_behind : (many : Bool) (read behind : List ℕ) (writes : List Write) (last : Frame) → behind ≢ []
     → TakesFrames many read behind writes (Ok (Some last)) → IsNoReply many read
-more_behind many read behind writes last some takes = (writes, spelling last ++ behind, takes.0, inr (last, behind, takes.1, some, refl))
+more_behind many read behind writes last some takes = (writes, spelling last ++ behind, takes.0, inr (inl (last, behind, takes.1, some, refl)))
 
 spelling_begins : (frame : Frame) (frames : List Frame) (behind : List ℕ) → spellings (frame ∷ frames) ++ behind ≡ spelling frame ++ (spellings frames ++ behind)
 spelling_begins frame frames behind = append_assoc (spelling frame) (spellings frames) behind
@@ -129,7 +146,7 @@ some_behind frame more none = omega (arith, spelling_some frame, length-append (
 pub ends_before : (many : Bool) (read behind rest : List ℕ) (writes : List Write) (last : Frame) → behind ≢ [] → IsLast many last
     → Begins many read writes (spelling last ++ (rest ++ behind)) → IsNoReply many read
 ends_before many read behind rest writes last some is b =
-    (writes, spelling last ++ (rest ++ behind), b, inr (last, rest ++ behind, is, none_behind rest behind some, refl))
+    (writes, spelling last ++ (rest ++ behind), b, inr (inl (last, rest ++ behind, is, none_behind rest behind some, refl)))
 
 -- the newest frame stands behind the others
 pub newest_behind : (others : List Frame) (newest : Frame) (frames : List Frame) (behind : List ℕ) → frames ≡ others ++ newest ∷ []

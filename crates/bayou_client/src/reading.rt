@@ -1,17 +1,18 @@
 //! One whole reply from a channel.
-ghost use Rattle.std.specs.Prelude.{◌≡◌, ◌≢◌, ◌≤◌, ◌∷◌, ◌++◌, [], true, ℕ, List, None, Some, IfErr, IfSome, OnOk};
+ghost use Rattle.std.specs.Prelude.{◌≡◌, ◌≢◌, ◌⊎◌, ◌<◌, ◌≤◌, ◌∷◌, ◌++◌, [], true, ℕ, List, None, Some, IfErr, IfSome, OnOk, length};
 ghost use Rattle.std.specs.Io.KnownBytes.{Consumes, IsAtEnd};
 ghost use Rattle.std.specs.List.{AllByRecursion};
+ghost use Rattle.bayou_base.specs.declared.limits.TheConstants.{MAX_WRITES};
 ghost use Rattle.bayou_client.specs.Inner.Taking.{ReplyRead, TakesFrames, TakesItems, TakesPiece};
 ghost use Rattle.bayou_client.specs.Replies.{Begins, IsLast};
-ghost use Rattle.bayou_frames.specs.declared.fault.ChannelFault.TheVariants.{OutOfMemory};
+ghost use Rattle.bayou_frames.specs.declared.fault.ChannelFault.TheVariants.{BadFrame, OutOfMemory};
 ghost use Rattle.bayou_frames.specs.First.{IsFeedFault};
 ghost use Rattle.bayou_frames.specs.Stopping.{Stops};
 ghost use Rattle.bayou_wire.specs.declared.frame.Frame.TheVariants.{Item};
 ghost use Rattle.bayou_wire.specs.Spelling.{IsFrame};
 ghost use Rattle.bayou_wire.specs.Stream.{IsPartial, spelling, spellings};
 
-use bayou_base::limits::READ_BYTES;
+use bayou_base::limits::{MAX_WRITES, READ_BYTES};
 use bayou_frames::{ChannelFault, feed_piece, read_piece};
 use bayou_lang::RestingWrite;
 use bayou_streams::CountedChannel;
@@ -19,22 +20,25 @@ use bayou_wire::{Frame, Frames};
 use std::alloc::Global;
 use std::io::Read;
 
-/// A reply: Items, where they are asked for, and a last frame.
+/// A reply: Items, where they are asked for, as many as a server holds at the most, and a last frame.
 #[derive(Drop)]
 pub(crate) struct Reply {
     pub(crate) writes: Vec<RestingWrite>,
     pub(crate) last: Frame,
 }
 
-// Keeps the Write of an Item.
+// Keeps the Write of an Item, unless there are as many as a server holds.
 fn keep(
     alloc: Global,
     write: &RestingWrite,
     writes: &mut Vec<RestingWrite>,
 ) -> Result<(), ChannelFault>
-    ensures kept { OnOk result (writes.new.items ≡ writes.old.items ++ write.now ∷ []) }
-    ensures refused { IfErr result (λ fault. fault ≡ OutOfMemory) }
+    ensures kept { OnOk result ((writes.new.items ≡ writes.old.items ++ write.now ∷ []) × (length writes.old.items < MAX_WRITES)) }
+    ensures refused { IfErr result (λ fault. (fault ≡ OutOfMemory) ⊎ ((fault ≡ BadFrame) × (MAX_WRITES ≤ length writes.old.items))) }
 {
+    if writes.len() >= MAX_WRITES as usize {
+        return Err(ChannelFault::BadFrame);
+    }
     let Ok(resting) = write.copy(alloc) else {
         return Err(ChannelFault::OutOfMemory);
     };

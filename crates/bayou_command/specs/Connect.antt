@@ -3,7 +3,7 @@ use Rattle.std.specs.Prelude.{ℕ, List, [], ◌∷◌, Option, Some, codes, map
 use Rattle.clap.specs.Words.{App, Row, Rule, Text, new_app}
 use Rattle.clap.specs.declared.builder.action.ArgAction.TheVariants.{Append}
 use Rattle.clap.specs.declared.builder.value_parser.ValueParser.TheVariants.{NonEmptyString}
-use Rattle.bayou_base.specs.declared.limits.TheConstants.{MAX_SECONDS, SERVERS}
+use Rattle.bayou_base.specs.declared.limits.TheConstants.{DEFAULT_TIMEOUT_SECONDS, MAX_SECONDS, SERVERS}
 use Rattle.bayou_command.specs.Options.{Input, file_rule, given_of, input_of, input_seen, needed, number_given, number_of, number_rule, option_rule, texts_of, with_rules}
 use Rattle.bayou_command.specs.declared.connecting.Connecting.{Connecting}
 
@@ -17,7 +17,7 @@ store_rules = record (needed (option_rule (codes "server"))) { action = Some App
 
 -- what is kept, for how long it waits, and a file of lines or none
 abbrev pub kept_rules : List Rule
-kept_rules = file_option_rule (codes "state") ∷ file_option_rule (codes "book") ∷ number_rule (codes "wait") 0 MAX_SECONDS ∷ file_rule ∷ []
+kept_rules = file_option_rule (codes "state") ∷ file_option_rule (codes "book") ∷ number_rule (codes "wait") 0 MAX_SECONDS ∷ number_rule (codes "timeout") 1 MAX_SECONDS ∷ file_rule ∷ []
 
 abbrev pub connect_app : App
 connect_app = with_rules (with_rules (new_app (codes "connect")) store_rules) kept_rules
@@ -30,6 +30,7 @@ pub record Connection : Type 0 where
   pub state : Option Text
   pub book : Option Text
   pub wait_seconds : ℕ
+  pub timeout_seconds : ℕ
   pub input : Input
 
 -- what the options ask for
@@ -41,6 +42,7 @@ connection_of rows = record {
   state = given_of (codes "state") rows;
   book = given_of (codes "book") rows;
   wait_seconds = number_of (codes "wait") 0 MAX_SECONDS 0 rows;
+  timeout_seconds = number_of (codes "timeout") 1 MAX_SECONDS DEFAULT_TIMEOUT_SECONDS rows;
   input = input_of rows;
 }
 
@@ -53,5 +55,6 @@ connection_seen connecting = record {
   state = option_map (λ name. name.now) connecting.state;
   book = option_map (λ name. name.now) connecting.book;
   wait_seconds = connecting.wait_seconds;
+  timeout_seconds = connecting.timeout_seconds;
   input = input_seen connecting.input;
 }

@@ -51,6 +51,7 @@ plain_connection = record {
   state = None;
   book = None;
   wait_seconds = 0;
+  timeout_seconds = 3;
   input = standard;
 }
 

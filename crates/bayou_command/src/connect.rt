@@ -11,7 +11,7 @@ use crate::options::{
     number_if_given, number_in, number_option, text_if_given, texts_in, value_option,
 };
 use crate::source_in;
-use bayou_base::limits::{MAX_SECONDS, SERVERS};
+use bayou_base::limits::{DEFAULT_TIMEOUT_SECONDS, MAX_SECONDS, SERVERS};
 use clap::builder::ValueParser;
 use clap::{Arg, ArgAction, ArgMatches, Command};
 use std::alloc::{AllocError, Global};
@@ -35,6 +35,9 @@ const BOOK: &str = "The file that what was served is written to, as an audit fil
 const WAIT: &str =
     "For so many seconds servers that are away or behind are tried again (0 to 86400; without it 0)";
 
+const TIMEOUT: &str =
+    "So many seconds a server has for the connection and its whole reply (1 to 86400; without it 3)";
+
 const LINES: &str = "The lines; without it, and where it is -, the standard input";
 
 const CONNECT_FORM: &str =
@@ -50,13 +53,14 @@ A calendar, at two of three servers (bayou serve --help starts them). The lines 
       > get mon/9
       0 read mon/9 text "kim" at 1,0,0
 
-Lines. K is a key, of 1 to 32 bytes of a-z 0-9 . _ - /; V an integer, or a text of up to 32 bytes without spaces; N an integer.
+Lines. K is a key, of 1 to 32 bytes of a-z 0-9 . _ - /; N an integer of 64 bits; V such an integer, or a text of up to 32 bytes. A text with
+spaces, or one that looks like a number, as "red room" and "007", stands in double quotes as JSON has it, to the end of the line.
 
   put K V               sets K to V
   add K N               adds N to the number of K; where K has no value it becomes N
   del K                 K has no value from then on
-  claim K1 [K2..] V     sets the first of these keys that has no value to V, and no other; up to four behind K1. Behind it each
-                        key is read, up to the first that has V
+  claim K1 [K2..] V     sets the first of these keys that has no value to V, and no other; up to four behind K1. Before it each
+                        key is read: where one has V already, nothing is written. Behind it each is read, up to the first that has V
   get K                 reads K
   again                 asks the last Write once more, where its reply was lost or it was refused
   at I                  server I is the first to be asked from here on
@@ -64,6 +68,8 @@ Lines. K is a key, of 1 to 32 bytes of a-z 0-9 . _ - /; V an integer, or a text 
   servers               each server, and what it holds, or that it is away
   session               what the session asks for, and what it read and wrote
   dump                  puts what each server holds into the book (--book), once, at the end
+  help                  the lines that there are
+  quit                  ends, as the end of the input does
 
 A line that begins with [ is a line of a script (bayou run --help), and is done at just the server that it names:
 
@@ -72,13 +78,15 @@ A line that begins with [ is a line of a script (bayou run --help), and is done 
   ["reopen",S]          server S, which a fault of its device took down, opens its journal again
 
 A short line goes to the first server. Where that is away or refuses, and nothing was done, it goes to the next in the order of the
-words; with --wait the round begins anew until a server serves it, or the time is over. A read whose reply was lost goes on, too. A Write
+words; with --wait the round begins anew until a server serves it, or the time is over. A server has --timeout seconds for its connection and its
+whole reply; one that was silent for so long is asked after all others for a minute. A read whose reply was lost goes on, too. A Write
 whose reply was lost goes to no other server, since it may have been done: `I lost` says so, and `again` asks it again, which makes no
 second one of it.
 
 Answers are those of bayou net. `I wrote ..` says that the Write is held, not that it did what it was meant to: another Write may still come
 before it. So later ask again who has the key. New are
   I refused away        no server could be reached: nothing was sent
+  I did nothing         each key of the claim has another value, or the key of the add has a text
   server I at V         server I holds so many Writes of each server; `server I away` where it can't be reached
 
 --state keeps the session in FILE, before an answer is printed, so that the next call goes on as the same session, at any server: it sees what
@@ -87,8 +95,10 @@ What the session asks for is kept, too: a later --session that says anything els
 --book writes what was served to FILE, as an audit file; with the dumps of all servers bayou audit tells whether the session had what it
 asked for.
 
+At a terminal a prompt on standard error names the server that is asked first; rlwrap in front of the call brings line editing with history.
+
 What is wrong is told on standard error, in one line; of a line of the input as `bayou: line N: FAULT`. At a terminal the lines go on behind it,
-else they end there. Exit status: 0 each operation was served; 1 some weren't; 2 the command line or a line is refused; 3 the input, the
+else they end there. Exit status: 0 each operation was served; 1 some weren't, or did nothing; 2 the command line or a line is refused; 3 the input, the
 output, memory or the state (its file can't be had, is in use, or has something else) failed.
 
 Pages: docs/CONNECT.md (a calendar's day, and what a session keeps), docs/SERVE.md (servers that live), docs/GUARANTEES.md (what a session may
@@ -124,6 +134,7 @@ fn with_kept<'a>(alloc: Global, command: Command<'a>) -> Result<Command<'a>, All
         .arg(file_option(alloc, "state", STATE))?
         .arg(file_option(alloc, "book", BOOK))?
         .arg(number_option(alloc, "wait", "SECONDS", WAIT, 0, MAX_SECONDS))?
+        .arg(number_option(alloc, "timeout", "SECONDS", TIMEOUT, 1, MAX_SECONDS))?
         .arg(Arg::new(alloc, "FILE").help(LINES))
 }
 
@@ -161,6 +172,7 @@ pub(crate) fn connecting_in<'a>(
         state: text_if_given(found, "state"),
         book: text_if_given(found, "book"),
         wait_seconds: number_in(found, "wait", 0, MAX_SECONDS, 0),
+        timeout_seconds: number_in(found, "timeout", 1, MAX_SECONDS, DEFAULT_TIMEOUT_SECONDS),
         input: source_in(found),
     })
 }

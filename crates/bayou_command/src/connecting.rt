@@ -20,8 +20,11 @@ pub struct Connecting<'a> {
     pub book: Option<&'a str>,
     /// For how many seconds servers that are away, or behind, are tried again.
     pub wait_seconds: u32,
+    /// How many seconds a server has for its connection and its whole reply.
+    pub timeout_seconds: u32,
     /// Where the lines come from.
     pub input: Source<'a>,
     pub ghost count_in_range: { ForSome count (λ number. (0 < number) × (number ≤ SERVERS)) },
     pub ghost wait_in_range: { wait_seconds ≤ MAX_SECONDS },
+    pub ghost timeout_in_range: { (0 < timeout_seconds) × (timeout_seconds ≤ MAX_SECONDS) },
 }

@@ -494,18 +494,21 @@ pub fn connections_are_named()
     ensures state { AskFor (connect_with (codes "--state" ∷ codes "s" ∷ [])) (a_connect (record plain_connection { state = Some (codes "s") })) }
     ensures book { AskFor (connect_with (codes "--book" ∷ codes "b" ∷ [])) (a_connect (record plain_connection { book = Some (codes "b") })) }
     ensures wait { AskFor (connect_with (codes "--wait" ∷ codes "5" ∷ [])) (a_connect (record plain_connection { wait_seconds = 5 })) }
+    ensures timeout { AskFor (connect_with (codes "--timeout" ∷ codes "5" ∷ [])) (a_connect (record plain_connection { timeout_seconds = 5 })) }
     ensures named { AskFor (connect_with (codes "a.txt" ∷ [])) (a_connect (record plain_connection { input = file (codes "a.txt") })) }
     ensures dash { AskFor (connect_with (codes "-" ∷ [])) (a_connect plain_connection) }
-    ensures whole { AskFor (connect_with (codes "--server" ∷ codes "2=h:3" ∷ codes "--servers" ∷ codes "3" ∷ codes "--session" ∷ codes "ryw,mr" ∷ codes "--state" ∷ codes "s" ∷ codes "--book" ∷ codes "b" ∷ codes "--wait" ∷ codes "5" ∷ codes "a.txt" ∷ [])) (a_connect (record plain_connection { servers = codes "0=h:1" ∷ codes "2=h:3" ∷ []; count = Some 3; asks = Some (codes "ryw,mr"); state = Some (codes "s"); book = Some (codes "b"); wait_seconds = 5; input = file (codes "a.txt") })) }
-    ensures turned { AskFor (connect_words (codes "a.txt" ∷ codes "--wait" ∷ codes "5" ∷ codes "--server" ∷ codes "0=h:1" ∷ codes "--book" ∷ codes "b" ∷ codes "--state" ∷ codes "s" ∷ codes "--server" ∷ codes "2=h:3" ∷ codes "--session" ∷ codes "ryw,mr" ∷ codes "--servers" ∷ codes "3" ∷ [])) (a_connect (record plain_connection { servers = codes "0=h:1" ∷ codes "2=h:3" ∷ []; count = Some 3; asks = Some (codes "ryw,mr"); state = Some (codes "s"); book = Some (codes "b"); wait_seconds = 5; input = file (codes "a.txt") })) }
-    ensures least { AskFor (connect_with (codes "--servers" ∷ codes "1" ∷ codes "--wait" ∷ codes "0" ∷ [])) (a_connect (record plain_connection { count = Some 1 })) }
-    ensures most { AskFor (connect_with (codes "--servers" ∷ codes "16" ∷ codes "--wait" ∷ codes "86400" ∷ [])) (a_connect (record plain_connection { count = Some 16; wait_seconds = 86400 })) }
+    ensures whole { AskFor (connect_with (codes "--server" ∷ codes "2=h:3" ∷ codes "--servers" ∷ codes "3" ∷ codes "--session" ∷ codes "ryw,mr" ∷ codes "--state" ∷ codes "s" ∷ codes "--book" ∷ codes "b" ∷ codes "--wait" ∷ codes "5" ∷ codes "--timeout" ∷ codes "9" ∷ codes "a.txt" ∷ [])) (a_connect (record plain_connection { servers = codes "0=h:1" ∷ codes "2=h:3" ∷ []; count = Some 3; asks = Some (codes "ryw,mr"); state = Some (codes "s"); book = Some (codes "b"); wait_seconds = 5; timeout_seconds = 9; input = file (codes "a.txt") })) }
+    ensures turned { AskFor (connect_words (codes "a.txt" ∷ codes "--timeout" ∷ codes "9" ∷ codes "--wait" ∷ codes "5" ∷ codes "--server" ∷ codes "0=h:1" ∷ codes "--book" ∷ codes "b" ∷ codes "--state" ∷ codes "s" ∷ codes "--server" ∷ codes "2=h:3" ∷ codes "--session" ∷ codes "ryw,mr" ∷ codes "--servers" ∷ codes "3" ∷ [])) (a_connect (record plain_connection { servers = codes "0=h:1" ∷ codes "2=h:3" ∷ []; count = Some 3; asks = Some (codes "ryw,mr"); state = Some (codes "s"); book = Some (codes "b"); wait_seconds = 5; timeout_seconds = 9; input = file (codes "a.txt") })) }
+    ensures least { AskFor (connect_with (codes "--servers" ∷ codes "1" ∷ codes "--wait" ∷ codes "0" ∷ codes "--timeout" ∷ codes "1" ∷ [])) (a_connect (record plain_connection { count = Some 1; timeout_seconds = 1 })) }
+    ensures most { AskFor (connect_with (codes "--servers" ∷ codes "16" ∷ codes "--wait" ∷ codes "86400" ∷ codes "--timeout" ∷ codes "86400" ∷ [])) (a_connect (record plain_connection { count = Some 16; wait_seconds = 86400; timeout_seconds = 86400 })) }
     ensures bare { faults_of (connect_words []) ≡ ErrorKind.MissingRequiredArgument ∷ [] }
     ensures no_server { faults_of (connect_words (codes "--servers" ∷ codes "3" ∷ codes "--session" ∷ codes "ryw" ∷ codes "--state" ∷ codes "s" ∷ codes "--book" ∷ codes "b" ∷ codes "--wait" ∷ codes "5" ∷ codes "a.txt" ∷ [])) ≡ ErrorKind.MissingRequiredArgument ∷ [] }
     ensures count_below { faults_of (connect_with (codes "--servers" ∷ codes "0" ∷ [])) ≡ ErrorKind.ValueValidation ∷ [] }
     ensures count_above { faults_of (connect_with (codes "--servers" ∷ codes "17" ∷ [])) ≡ ErrorKind.ValueValidation ∷ [] }
     ensures wait_below { faults_of (connect_with (codes "--wait=-1" ∷ [])) ≡ ErrorKind.ValueValidation ∷ [] }
     ensures wait_above { faults_of (connect_with (codes "--wait" ∷ codes "86401" ∷ [])) ≡ ErrorKind.ValueValidation ∷ [] }
+    ensures timeout_below { faults_of (connect_with (codes "--timeout" ∷ codes "0" ∷ [])) ≡ ErrorKind.ValueValidation ∷ [] }
+    ensures timeout_above { faults_of (connect_with (codes "--timeout" ∷ codes "86401" ∷ [])) ≡ ErrorKind.ValueValidation ∷ [] }
     ensures state_unnamed { faults_of (connect_with (codes "--state" ∷ [] ∷ [])) ≡ ErrorKind.InvalidValue ∷ [] }
     ensures book_unnamed { faults_of (connect_with (codes "--book" ∷ [] ∷ [])) ≡ ErrorKind.InvalidValue ∷ [] }
     ensures count_twice { faults_of (connect_with (codes "--servers" ∷ codes "3" ∷ codes "--servers" ∷ codes "3" ∷ [])) ≡ ErrorKind.ArgumentConflict ∷ [] }
@@ -513,16 +516,18 @@ pub fn connections_are_named()
     ensures state_twice { faults_of (connect_with (codes "--state" ∷ codes "s" ∷ codes "--state" ∷ codes "s" ∷ [])) ≡ ErrorKind.ArgumentConflict ∷ [] }
     ensures book_twice { faults_of (connect_with (codes "--book" ∷ codes "b" ∷ codes "--book" ∷ codes "b" ∷ [])) ≡ ErrorKind.ArgumentConflict ∷ [] }
     ensures wait_twice { faults_of (connect_with (codes "--wait" ∷ codes "5" ∷ codes "--wait" ∷ codes "5" ∷ [])) ≡ ErrorKind.ArgumentConflict ∷ [] }
+    ensures timeout_twice { faults_of (connect_with (codes "--timeout" ∷ codes "5" ∷ codes "--timeout" ∷ codes "5" ∷ [])) ≡ ErrorKind.ArgumentConflict ∷ [] }
     ensures two_files { faults_of (connect_with (codes "a.txt" ∷ codes "b.txt" ∷ [])) ≡ ErrorKind.UnknownArgument ∷ [] }
     ensures no_option { faults_of (connect_with (codes "--walk" ∷ [])) ≡ ErrorKind.UnknownArgument ∷ [] }
 {}
 
-/// A law: whatever stands behind `--servers=` and `--wait=` is taken as the number in decimal digits that it is, where that is in its range, and
-/// any other text is refused. What stands behind `--server=`, `--session=`, `--state=` and `--book=` is taken as it stands, where the name of a
+/// A law: whatever stands behind `--servers=`, `--wait=` and `--timeout=` is taken as the number in decimal digits that it is, where that is in
+/// its range, and any other text is refused. What stands behind `--server=`, `--session=`, `--state=` and `--book=` is taken as it stands, where the name of a
 /// file has a byte, and the servers in their order.
 pub fn connections_are_taken()
     ensures count { TakesNumbers 1 16 (λ text. connect_with ((codes "--servers=" ++ text) ∷ [])) (λ number. a_connect (record plain_connection { count = Some number })) }
     ensures wait { TakesNumbers 0 86400 (λ text. connect_with ((codes "--wait=" ++ text) ∷ [])) (λ number. a_connect (record plain_connection { wait_seconds = number })) }
+    ensures timeout { TakesNumbers 1 86400 (λ text. connect_with ((codes "--timeout=" ++ text) ∷ [])) (λ number. a_connect (record plain_connection { timeout_seconds = number })) }
     ensures servers { (first second : List ℕ) → AskFor (connect_words ((codes "--server=" ++ first) ∷ (codes "--server=" ++ second) ∷ [])) (a_connect (record plain_connection { servers = first ∷ second ∷ [] })) }
     ensures asks { (text : List ℕ) → AskFor (connect_with ((codes "--session=" ++ text) ∷ [])) (a_connect (record plain_connection { asks = Some text })) }
     ensures state { (byte : ℕ) (text : List ℕ) → AskFor (connect_with ((codes "--state=" ++ byte ∷ text) ∷ [])) (a_connect (record plain_connection { state = Some (byte ∷ text) })) }

@@ -3,17 +3,20 @@ use Rattle.std.proofs.Common.{◌≡◌, ℕ, Bool, List, IfOk, OnOk, Result, Ok
 use Rattle.bayou_base.specs.declared.session.SessionId.{SessionId}
 use Rattle.bayou_connect.specs.Anywhere.{AsksAnywhere, AsksAt}
 use Rattle.bayou_connect.specs.Operating.{is_read}
-use Rattle.bayou_connect.specs.Round.{AsksInRounds, turns}
+use Rattle.bayou_connect.specs.Round.{AsksInRounds, turns_but_last}
 use Rattle.bayou_connect.specs.declared.asking.Attempt.{Attempt}
 use Rattle.bayou_connect.specs.declared.store.Store.{Store}
 use Rattle.bayou_connect.specs.declared.told.Told.{Told}
 
-pub asked_anywhere : {E : Type 0} (who : SessionId) (attempt : Attempt) (first rounds : ℕ) (reads : Bool) (order : List ℕ) (old new : Store) (result : Result Told E) → reads ≡ is_read attempt
-    → order ≡ turns first (vec_len old.accesses) → IfOk result (AsksInRounds (AsksAt who attempt) reads order rounds old new) → IfOk result (AsksAnywhere who attempt first rounds old new)
-asked_anywhere {E} who attempt first rounds reads order old new (Ok told) same is asked =
-    inr (subst (λ (o : List ℕ). AsksInRounds (AsksAt who attempt) (is_read attempt) o rounds old new told) is
-    (subst (λ (r : Bool). AsksInRounds (AsksAt who attempt) r order rounds old new told) same asked))
-asked_anywhere {E} who attempt first rounds reads order old new (Err fault) same is asked = tt
+pub asked_anywhere : {E : Type 0} (who : SessionId) (attempt : Attempt) (first rounds : ℕ) (reads : Bool) (order : List ℕ) (silent : List Bool) (old new : Store) (result : Result Told E) → reads ≡ is_read attempt
+    → order ≡ turns_but_last silent first (vec_len old.accesses) → IfOk result (AsksInRounds (AsksAt who attempt) reads order rounds old new) → IfOk result (AsksAnywhere who attempt first rounds old new)
+asked_anywhere {E} who attempt first rounds reads order silent old new (Ok told) same is asked =
+    inr (
+      silent,
+      subst (λ (o : List ℕ). AsksInRounds (AsksAt who attempt) (is_read attempt) o rounds old new told) is
+          (subst (λ (r : Bool). AsksInRounds (AsksAt who attempt) r order rounds old new told) same asked),
+    )
+asked_anywhere {E} who attempt first rounds reads order silent old new (Err fault) same is asked = tt
 
 -- what follows where it went well
 pub then_ok : {A E : Type 0} (result : Result A E) (P Q : Type 0) → OnOk result P → (P → Q) → OnOk result Q

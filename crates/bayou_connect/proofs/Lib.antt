@@ -5,6 +5,7 @@ pub mod Naming
 pub mod Opening
 pub mod Picking
 pub mod Rounding
+pub mod Rows
 pub mod Serving
 pub mod Shares
 pub mod Telling

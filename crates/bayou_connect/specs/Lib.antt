@@ -7,3 +7,4 @@ pub mod Plans
 pub mod Printing
 pub mod Round
 pub mod Sessions
+pub mod Speaking

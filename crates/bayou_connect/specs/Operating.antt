@@ -1,6 +1,7 @@
 -- What becomes of a session at one server, by what it is told: this project's own (sessions by Terry et al. 1994).
-use Rattle.std.specs.Prelude.{◌≡◌, ◌⊎◌, Bool, true, false, Option, None, Some}
+use Rattle.std.specs.Prelude.{◌≡◌, ◌≢◌, ◌⊎◌, Bool, true, false, Option, None, Some}
 use Rattle.bayou_base.specs.declared.server.ServerId.{ServerId}
+use Rattle.bayou_base.specs.declared.value.Value.{Value}
 use Rattle.bayou_client.specs.declared.client.Asked.{Asked}
 use Rattle.bayou_connect.specs.declared.asking.Attempt.{Attempt}
 use Rattle.bayou_connect.specs.declared.asking.Attempt.TheVariants as attempts
@@ -47,3 +48,11 @@ IsNoService (told.Seen seen) = ⊥
 IsNoService (told.Accepted accepted) = ⊥
 IsNoService (told.Refused fault) = Unit {0}
 IsNoService told.Lost = Unit {0}
+
+-- a read was served, and saw another value than this, or none
+abbrev pub SeesOther : Value → Told → Type 0
+SeesOther value told.Away = ⊥
+SeesOther value (told.Seen seen) = seen.value ≢ Some value
+SeesOther value (told.Accepted accepted) = ⊥
+SeesOther value (told.Refused fault) = ⊥
+SeesOther value told.Lost = ⊥

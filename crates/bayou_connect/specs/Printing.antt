@@ -30,3 +30,7 @@ is_service told.Lost = false
 abbrev pub IsAsksLine : SessionId → Asks → List ℕ → Type 0
 IsAsksLine who asks line =
     (words : List ℕ) × (asks_said words ≡ Some asks) × (line ≡ codes "session " ++ (decimal who.index ++ (codes " asks " ++ (words ++ codes "\n"))))
+
+-- the line of a Write that did nothing
+abbrev pub nothing_text : SessionId → List ℕ
+nothing_text who = decimal who.index ++ codes " did nothing\n"

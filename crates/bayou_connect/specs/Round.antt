@@ -1,5 +1,5 @@
 -- One server after another is asked the same, until one serves it or may have done it: this project's own.
-use Rattle.std.specs.Prelude.{◌≡◌, ◌⊎◌, ℕ, zero, suc, ◌-◌, Bool, true, false, List, [], ◌∷◌, ◌++◌}
+use Rattle.std.specs.Prelude.{◌≡◌, ◌⊎◌, ℕ, zero, suc, ◌-◌, Bool, true, false, List, [], ◌∷◌, ◌++◌, filter, not, slice_index_or}
 use Rattle.std.specs.List.{range_with_len}
 use Rattle.bayou_connect.specs.declared.told.Told.{Told}
 use Rattle.bayou_connect.specs.declared.told.Told.TheVariants as told
@@ -30,6 +30,18 @@ after_refusal before told.Lost = told.Lost
 -- so many servers, from this one on, and then those before it
 abbrev pub turns : (first count : ℕ) → List ℕ
 turns first count = range_with_len first (count - first) ++ range_with_len 0 first
+
+-- whether the place is among those that are last
+abbrev pub is_last : List Bool → ℕ → Bool
+is_last last at = slice_index_or last at false
+
+-- those that aren't last, in this order, and then those that are
+abbrev pub but_last : List Bool → List ℕ → List ℕ
+but_last last order = filter (λ at. not (is_last last at)) order ++ filter (is_last last) order
+
+-- all of them from this one on, but those that are last behind all others
+abbrev pub turns_but_last : List Bool → (first count : ℕ) → List ℕ
+turns_but_last last first count = but_last last (turns first count)
 
 -- The servers are asked in this order, each of them once at the most: up to the first after which no other may be asked, and what that told is
 -- told. Where there is none, the last refusal or lost reply is told, or what stood before.

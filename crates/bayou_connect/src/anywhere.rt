@@ -6,7 +6,7 @@ ghost use Rattle.bayou_connect.specs.Listing.{IsPassedBy, ListsEnough};
 
 use crate::asking::Attempt;
 use crate::fault::ConnectFault;
-use crate::round::{Ways, in_rounds, in_turn};
+use crate::round::{Ways, in_rounds};
 use crate::store::Store;
 use crate::told::Told;
 use bayou_base::{Seen, SessionId, Vector};
@@ -25,7 +25,7 @@ struct Asking<'a, T> {
     attempt: &'a Attempt,
 }
 
-impl<'a, T: Files<File = File> + Sockets + Wait> Ways<Asking<'a, T>> for Store {
+impl<'a, T: Files<File = File> + Sockets + Wait + Clock> Ways<Asking<'a, T>> for Store {
     type Fault = ConnectFault;
 
     ghost asks = { λ what old at new told. AsksAt what.who what.attempt.now old at new told };
@@ -50,7 +50,7 @@ pub(crate) fn anywhere<T: Files<File = File> + Sockets + Wait + Clock>(
     if first >= store.len() {
         return Ok(Told::Away);
     }
-    let order = in_turn(store.alloc(), first, store.len())?;
+    let order = store.order(rt, first)?;
     let asking = Asking { rt, who, attempt };
     in_rounds(rt, store, &asking, &order, attempt.is_read(), rounds)
 }
@@ -78,7 +78,7 @@ fn enough(held: Option<Vector>, need: &Vector) -> Result<Vector, Told>
     }
 }
 
-impl<T: Sockets + Wait> Ways<Vector> for Listing<'_, T> {
+impl<T: Sockets + Wait + Clock> Ways<Vector> for Listing<'_, T> {
     type Fault = ConnectFault;
 
     ghost asks = { λ need old at new told. ListsEnough need told };
@@ -127,7 +127,7 @@ pub(crate) fn listed_anywhere<T: Sockets + Wait + Clock>(
             writes: Vec::new(alloc),
         });
     }
-    let order = in_turn(alloc, first, count)?;
+    let order = store.order(rt, first)?;
     let mut listing = Listing {
         rt,
         store,

@@ -24,6 +24,7 @@ use std::io::{Read, Write};
 use std::marker::Brand;
 use std::sync::Wait;
 use std::sync::ledger::{Blank, Ledger};
+use std::time::Clock;
 
 /// What is asked of a server.
 #[derive(Drop)]
@@ -214,7 +215,7 @@ fn operate_with<S, R, W, F, T>(
     alloc: Global,
     blanks: Blanks,
     kept: Kept,
-    link: &mut SocketLink,
+    link: &mut SocketLink<'_, T>,
     server: ServerId,
     asking: Attempt,
 ) -> Result<Done, AllocError>
@@ -223,7 +224,7 @@ where
     R: Ledger + Send + Sync,
     W: Ledger + Send + Sync,
     F: Ledger + Send + Sync,
-    T: Wait,
+    T: Wait + Clock,
     requires blanks { AreBlanksOf blanks (named S.name S.parts) (named R.name R.parts) (named W.name W.parts) (named F.name F.parts) (kept.session.id.index + 1) }
     requires left { kept.session.begun < MAX_PLACES }
     ensures { IfOk result (λ done. HasDone asking server kept done.kept done.told) }
@@ -262,12 +263,12 @@ pub(crate) fn keep(
 
 /// Does it at this server, which the link goes to, and tells what became of the session, which is kept by then, and what is entered of it. A Write
 /// that it sends was kept before.
-pub(crate) fn operate<T: Wait>(
+pub(crate) fn operate<T: Wait + Clock>(
     rt: &T,
     alloc: Global,
     state: &mut Option<StateFile>,
     kept: Kept,
-    link: &mut SocketLink,
+    link: &mut SocketLink<'_, T>,
     server: ServerId,
     asking: Attempt,
 ) -> Result<Done, ConnectFault>

@@ -6,6 +6,7 @@ ghost use Rattle.bayou_connect.specs.Sessions.{IsOpened, kept_of};
 
 use crate::audit_file::AuditFile;
 use crate::desk::{Desk, OWN};
+use crate::doing::{Became, Wrong, do_line};
 use crate::fault::ConnectFault;
 use crate::lines::{Lines, Next};
 use crate::plan::{Plan, asks_of_both, asks_text};
@@ -15,22 +16,15 @@ use crate::store::Store;
 use bayou_base::{Asks, SESSIONS, SessionId};
 use bayou_journal::DamagedEntry;
 use bayou_net::Sockets;
-use bayou_person::{WishFault, wish_in};
 use bayou_remember::{Kept, nothing_kept};
 use bayou_script::ScriptFault;
 use bayou_streams::Output;
-use bayou_text::{Line, LineFault, read_line};
 use std::alloc::Global;
 use std::fs::{File, Files};
 use std::io::{Read, Write};
 use std::random::RandomSource;
-use std::str;
 use std::sync::Wait;
 use std::time::Clock;
-use thiserror::Error;
-
-/// The short line that asks a Write again.
-const ASK_AGAIN: &[u8] = b"again";
 
 /// Where lines come from.
 #[derive(Drop)]
@@ -60,86 +54,6 @@ pub enum Ended {
     Refused,
 }
 
-/// What is wrong with a line.
-#[derive(Clone, Copy, Debug, PartialEq, Eq, Error)]
-pub enum Wrong {
-    /// As a line of a script.
-    #[error("{0}")]
-    Script(ScriptFault),
-    /// As a short line.
-    #[error("{0}")]
-    Wish(WishFault),
-}
-
-// What a line of a script that wasn't read is told as.
-fn wrong_of(fault: LineFault) -> Result<Wrong, ConnectFault> {
-    Ok(Wrong::Script(match fault {
-        LineFault::OutOfMemory => return Err(ConnectFault::Memory),
-        LineFault::NotJson => ScriptFault::NotJson,
-        LineFault::BadShape(_) => ScriptFault::BadShape,
-        LineFault::Key(_) => ScriptFault::BadKey,
-        LineFault::Program(_) => ScriptFault::BadProgram,
-    }))
-}
-
-// Does a line of a script, and tells what is wrong with it, if anything.
-fn do_script_line<W: Write, T: Files<File = File> + Sockets + Wait>(
-    rt: &T,
-    desk: &mut Desk,
-    output: &mut Output<W>,
-    line: &[u8],
-) -> Result<Option<Wrong>, ConnectFault> {
-    let command = match read_line(desk.alloc, line) {
-        Ok(Line::Command(command)) => command,
-        Ok(_) => return Ok(Some(Wrong::Script(ScriptFault::OutOfPlace))),
-        Err(fault) => return Ok(Some(wrong_of(fault)?)),
-    };
-    if desk.command(rt, output, command)? {
-        return Ok(None);
-    }
-    Ok(Some(Wrong::Script(ScriptFault::OutOfPlace)))
-}
-
-// Does a short line, and tells what is wrong with it, if anything.
-fn do_short_line<W: Write, T: Files<File = File> + Sockets + Wait + Clock>(
-    rt: &T,
-    desk: &mut Desk,
-    output: &mut Output<W>,
-    line: &[u8],
-) -> Result<Option<Wrong>, ConnectFault> {
-    if line == ASK_AGAIN {
-        desk.ask_again(rt, output, OWN)?;
-        return Ok(None);
-    }
-    let Ok(text) = str::from_utf8(line) else {
-        return Ok(Some(Wrong::Wish(WishFault::Word)));
-    };
-    match wish_in(desk.alloc, text) {
-        Ok(wish) => {
-            if desk.wish(rt, output, wish)? {
-                return Ok(None);
-            }
-            Ok(Some(Wrong::Script(ScriptFault::OutOfPlace)))
-        }
-        Err(WishFault::OutOfMemory) => Err(ConnectFault::Memory),
-        Err(fault) => Ok(Some(Wrong::Wish(fault))),
-    }
-}
-
-// Does a line, and tells what is wrong with it, if anything.
-fn do_line<W: Write, T: Files<File = File> + Sockets + Wait + Clock>(
-    rt: &T,
-    desk: &mut Desk,
-    output: &mut Output<W>,
-    line: &[u8],
-) -> Result<Option<Wrong>, ConnectFault> {
-    match line.trim_ascii() {
-        [] => Ok(None),
-        [b'[', ..] => do_script_line(rt, desk, output, line),
-        short => do_short_line(rt, desk, output, short),
-    }
-}
-
 // Tells what is wrong with a line, as far as it can be told.
 fn tell_wrong<E: Write>(
     alloc: Global,
@@ -150,6 +64,32 @@ fn tell_wrong<E: Write>(
     let line = format!(in alloc; "bayou: line {number}: {wrong}\n")?;
     // Where it can't be told nothing else is to be done.
     let _ = errors.write_all(line.as_bytes());
+    Ok(())
+}
+
+// Does the next line, and tells what became of it. Behind the end of the input there is none.
+fn do_next<I: Read, W: Write, T: Files<File = File> + Sockets + Wait + Clock>(
+    rt: &T,
+    desk: &mut Desk,
+    lines: &mut Lines<I>,
+    output: &mut Output<W>,
+) -> Result<Became, ConnectFault> {
+    match lines.next_line()? {
+        Next::End => Ok(Became::Ended),
+        Next::TooLong => Ok(Became::Wrong(Wrong::Script(ScriptFault::BadShape))),
+        Next::Line(line) => do_line(rt, desk, output, &line),
+    }
+}
+
+// Asks for the next line, as far as that can be told: it names the server that is asked first.
+fn prompt<E: Write>(desk: &Desk, errors: &mut E) -> Result<(), ConnectFault> {
+    let Some(server) = desk.store.server_at(desk.first) else {
+        return Ok(());
+    };
+    let index = server.index;
+    let line = format!(in desk.alloc; "server {index}> ")?;
+    let _ = errors.write_all(line.as_bytes());
+    let _ = errors.flush();
     Ok(())
 }
 
@@ -174,16 +114,25 @@ where
     let mut lines = Lines::new(desk.alloc, reader);
     let mut is_wrong = false;
     for number in 1..u64::MAX {
-        let wrong = match lines.next_line()? {
-            Next::End => break,
-            Next::TooLong => Some(Wrong::Script(ScriptFault::BadShape)),
-            Next::Line(line) => do_line(rt, desk, output, &line)?,
-        };
-        if let Some(wrong) = wrong {
-            tell_wrong(desk.alloc, errors, number, wrong)?;
-            is_wrong = true;
-            if !is_terminal {
+        if is_terminal {
+            prompt(desk, errors)?;
+        }
+        match do_next(rt, desk, &mut lines, output)? {
+            Became::Done => {}
+            Became::Quit => break,
+            Became::Ended => {
+                if is_terminal {
+                    // What is printed next stands on a line of its own.
+                    let _ = errors.write_all(b"\n");
+                }
                 break;
+            }
+            Became::Wrong(wrong) => {
+                tell_wrong(desk.alloc, errors, number, wrong)?;
+                is_wrong = true;
+                if !is_terminal {
+                    break;
+                }
             }
         }
     }
@@ -354,7 +303,14 @@ where
         return Ok(Ended::Refused);
     };
     let book = book_in(rt, alloc, names.book, plan.servers)?;
-    let store = Store::new(alloc, &plan.places, sessions, state, book)?;
+    let store = Store::new(
+        alloc,
+        &plan.places,
+        sessions,
+        state,
+        book,
+        plan.timeout_seconds,
+    )?;
     let mut desk = desk_of(alloc, plan, store, run, OWN, asks);
     do_lines(rt, &mut desk, input, output, errors)
 }

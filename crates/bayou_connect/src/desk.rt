@@ -2,8 +2,8 @@
 ghost use Rattle.std.specs.Prelude.{◌≡◌, ◌<◌, ◌≤◌, ◌↔◌, ◌&&◌, false, IfOk, IsTrue, MatchBool, None, OnOk, Some, slice_get, slice_set, true};
 ghost use Rattle.std.specs.Bool.{OnFalse, OnTrue};
 ghost use Rattle.bayou_base.specs.declared.limits.TheConstants.{SERVERS as NUMBER};
-ghost use Rattle.bayou_connect.specs.Anywhere.{AsksAnywhere, AsksAt, AsksServer};
-ghost use Rattle.bayou_connect.specs.Printing.{is_service, told_text};
+ghost use Rattle.bayou_connect.specs.Anywhere.{AsksAnywhere, AsksServer};
+ghost use Rattle.bayou_connect.specs.Printing.{is_service, nothing_text, told_text};
 ghost use Rattle.bayou_connect.specs.Sessions.{IsOpened};
 ghost use Rattle.bayou_connect.specs.declared.asking.Attempt.TheVariants as attempts;
 ghost use Rattle.bayou_connect.specs.declared.told.Told.{Told as Answered};
@@ -12,11 +12,11 @@ ghost use Rattle.bayou_streams.specs.Account.{TakesBytes, account};
 use crate::anywhere::anywhere;
 use crate::asking::Attempt;
 use crate::fault::ConnectFault;
-use crate::saying::told_line;
+use crate::saying::{nothing_line, told_line};
 use crate::store::Store;
 use crate::told::Told;
 use bayou_answers::Answer;
-use bayou_base::{Asks, Key, SESSIONS, ServerId, SessionId, Value};
+use bayou_base::{Asks, Key, SESSIONS, ServerId, SessionId};
 use bayou_lang::RestingProgram;
 use bayou_net::Sockets;
 use bayou_print::{last_line, write_text};
@@ -80,8 +80,23 @@ impl Desk {
         print(output, line.as_str())
     }
 
+    /// Prints that a Write did nothing. It isn't what was asked for.
+    pub(crate) fn tell_nothing<W: Write>(
+        &mut self,
+        output: &mut Output<W>,
+        who: SessionId,
+    ) -> Result<(), ConnectFault>
+        ensures printed { OnOk result (TakesBytes (account W.contents output.old) (account W.contents output.new) (nothing_text who)) }
+        ensures served { self.new.is_served ≡ false }
+        ensures same { self.new.store ≡ self.old.store }
+    {
+        self.is_served = false;
+        let line = nothing_line(self.alloc, who)?;
+        print(output, line.as_str())
+    }
+
     // A script's operation: at the server that it names, once.
-    fn operate_at<W: Write, T: Files<File = File> + Sockets + Wait>(
+    fn operate_at<W: Write, T: Files<File = File> + Sockets + Wait + Clock>(
         &mut self,
         rt: &T,
         output: &mut Output<W>,
@@ -107,7 +122,7 @@ impl Desk {
     }
 
     // The Write that may be asked again, once more, or that there is none.
-    pub(crate) fn ask_again<W: Write, T: Files<File = File> + Sockets + Wait>(
+    pub(crate) fn ask_again<W: Write, T: Files<File = File> + Sockets + Wait + Clock>(
         &mut self,
         rt: &T,
         output: &mut Output<W>,
@@ -131,7 +146,7 @@ impl Desk {
     }
 
     // A script's operation.
-    fn operate<W: Write, T: Files<File = File> + Sockets + Wait>(
+    fn operate<W: Write, T: Files<File = File> + Sockets + Wait + Clock>(
         &mut self,
         rt: &T,
         output: &mut Output<W>,
@@ -167,7 +182,7 @@ impl Desk {
     }
 
     /// Does what a script's line asks for. Whether the line is in its place here.
-    pub(crate) fn command<W: Write, T: Files<File = File> + Sockets + Wait>(
+    pub(crate) fn command<W: Write, T: Files<File = File> + Sockets + Wait + Clock>(
         &mut self,
         rt: &T,
         output: &mut Output<W>,
@@ -225,48 +240,5 @@ impl Desk {
         };
         self.finish(output, who, &None, told)?;
         Ok(at)
-    }
-
-    // Has the server of this place in the list read the key, and prints what it told. Whether it told another value than this.
-    fn tell_key<W: Write, T: Files<File = File> + Sockets + Wait>(
-        &mut self,
-        rt: &T,
-        output: &mut Output<W>,
-        who: SessionId,
-        at: usize,
-        key: &Key,
-        value: &Value,
-    ) -> Result<bool, ConnectFault>
-        ensures { OnOk result ((told : Answered) × AsksAt who (attempts.Read key.now) self.old.store at self.new.store told
-            × TakesBytes (account W.contents output.old) (account W.contents output.new) (told_text self.old.servers who (Some key.now) told)) }
-    {
-        let told = self.store.ask_at(rt, who, at, Attempt::Read(key.copy()))?;
-        let is_other = match &told {
-            Told::Seen(seen) => seen.value.as_ref() != Some(value),
-            Told::Away | Told::Accepted(_) | Told::Refused(_) | Told::Lost => false,
-        };
-        self.finish(output, who, &Some(key.copy()), told)?;
-        Ok(is_other)
-    }
-
-    /// Prints what became of a claim, by the server that accepted it: what each key has, up to the first that has the value.
-    pub(crate) fn tell_claim<W: Write, T: Files<File = File> + Sockets + Wait>(
-        &mut self,
-        rt: &T,
-        output: &mut Output<W>,
-        who: SessionId,
-        at: usize,
-        key: &Key,
-        others: &[Key],
-        value: &Value,
-    ) -> Result<(), ConnectFault> {
-        let mut is_other = self.tell_key(rt, output, who, at, key, value)?;
-        for key in others {
-            if !is_other {
-                break;
-            }
-            is_other = self.tell_key(rt, output, who, at, key, value)?;
-        }
-        Ok(())
     }
 }

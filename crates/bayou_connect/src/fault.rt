@@ -8,6 +8,9 @@ use thiserror::Error;
 pub enum ConnectFault {
     #[error("input")]
     Input,
+    /// The file of the lines can't be opened.
+    #[error("it can't be opened; the word is taken as the name of a file of lines, and a line itself comes by the standard input")]
+    LinesNotOpened,
     #[error("output")]
     Output,
     #[error("memory")]
@@ -44,6 +47,7 @@ impl ConnectFault {
             | ConnectFault::StateDamaged { .. }
             | ConnectFault::State => true,
             ConnectFault::Input
+            | ConnectFault::LinesNotOpened
             | ConnectFault::Output
             | ConnectFault::Memory
             | ConnectFault::Random
@@ -55,6 +59,11 @@ impl ConnectFault {
     /// Whether it is the book's, so that its file is to be named.
     pub fn is_of_book(self) -> bool {
         matches!(self, ConnectFault::BookNotOpened | ConnectFault::Book)
+    }
+
+    /// Whether it is that of the file of lines, so that this is to be named.
+    pub fn is_of_lines(self) -> bool {
+        matches!(self, ConnectFault::LinesNotOpened)
     }
 }
 

@@ -35,7 +35,7 @@ fn recovery_of(server: ServerId, told: Result<Option<Wid>, LinkFault>) -> Option
 
 impl Desk {
     /// Has a server open its journal again. Whether it is one that is at hand.
-    pub(crate) fn reopen<W: Write, T: Sockets>(
+    pub(crate) fn reopen<W: Write, T: Sockets + Clock>(
         &mut self,
         rt: &T,
         output: &mut Output<W>,
@@ -65,7 +65,7 @@ impl Desk {
     }
 
     /// Prints what each server holds.
-    pub(crate) fn tell_servers<W: Write, T: Sockets + Wait>(
+    pub(crate) fn tell_servers<W: Write, T: Sockets + Wait + Clock>(
         &mut self,
         rt: &T,
         output: &mut Output<W>,
@@ -110,14 +110,23 @@ impl Desk {
         }
     }
 
-    // Prints what the server of this place in the list sent: each key that has a value, in order, and how many there are.
+    // Prints that no server is listed.
+    fn tell_list_lost<W: Write>(&mut self, output: &mut Output<W>) -> Result<(), ConnectFault> {
+        self.is_served = false;
+        print(output, LIST_LOST)
+    }
+
+    // Prints what the server of this place in the list sent: each key that has a value, in order, and how many there are. Where no server holds just
+    // what it sent, none of that is believed.
     fn print_rows<W: Write>(
-        &self,
+        &mut self,
         output: &mut Output<W>,
         at: usize,
-        writes: &[RestingWrite],
+        writes: Vec<RestingWrite>,
     ) -> Result<(), ConnectFault> {
-        let rows = rows_of(self.alloc, writes)?;
+        let Some(rows) = rows_of(self.alloc, writes)? else {
+            return self.tell_list_lost(output);
+        };
         for row in &rows {
             let line = row_line(self.alloc, &row.key, &row.value)?;
             print(output, line.as_str())?;
@@ -146,17 +155,14 @@ impl Desk {
             self.rounds,
         )?;
         match told {
-            Told::Seen(_) => self.print_rows(output, at, &writes),
+            Told::Seen(_) => self.print_rows(output, at, writes),
             Told::Refused(_) => self.finish(output, who, &None, told),
-            Told::Away | Told::Accepted(_) | Told::Lost => {
-                self.is_served = false;
-                print(output, LIST_LOST)
-            }
+            Told::Away | Told::Accepted(_) | Told::Lost => self.tell_list_lost(output),
         }
     }
 
     /// Puts what each server holds into the book. Whether there is one.
-    pub(crate) fn dump<W: Write, T: Sockets>(
+    pub(crate) fn dump<W: Write, T: Sockets + Clock>(
         &mut self,
         rt: &T,
         output: &mut Output<W>,

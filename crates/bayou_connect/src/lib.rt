@@ -12,9 +12,13 @@
 mod anywhere;
 pub mod asking;
 mod audit_file;
+mod claiming;
 pub mod connecting;
+pub mod deadline;
 mod desk;
+pub mod doing;
 pub mod fault;
+mod help;
 mod inquiring;
 mod lines;
 mod listing;
@@ -27,7 +31,8 @@ mod store;
 pub mod told;
 mod wishes;
 
-pub use connecting::{Ended, Input, Names, Wrong, connect_plan};
+pub use connecting::{Ended, Input, Names, connect_plan};
+pub use doing::Wrong;
 pub use fault::ConnectFault;
 pub use plan::{Place, Plan, PlanFault};
 pub use round::{Ways, first_served, in_rounds};

@@ -31,6 +31,8 @@ pub struct Plan {
     pub asks: Option<Asks>,
     /// How long a short line is tried again that no server serves.
     pub wait_seconds: u32,
+    /// How long a server has for its connection and its whole reply.
+    pub timeout_seconds: u32,
     pub ghost some: { 0 < length places.items },
     pub ghost among: { All (λ place. place.id.index < servers) places.items },
     pub ghost once: { AllPairs (λ one other. one.id ≢ other.id) places.items },
@@ -265,10 +267,11 @@ impl Plan {
         count: Option<u8>,
         asks: Option<&str>,
         wait_seconds: u32,
+        timeout_seconds: u32,
     ) -> Result<Plan, PlanFault>
         requires { IfSome count (λ count. count ≤ NUMBER) }
         ensures said { IfOk result (λ plan. AllZip (λ word place. SaysPlace word.now place) servers.now plan.places.items) }
-        ensures same { IfOk result (λ plan. (plan.wait_seconds ≡ wait_seconds) × (length plan.places.items ≡ length servers.now)) }
+        ensures same { IfOk result (λ plan. (plan.wait_seconds ≡ wait_seconds) × (plan.timeout_seconds ≡ timeout_seconds) × (length plan.places.items ≡ length servers.now)) }
         ensures servers { IfOk result (λ plan. MatchOption count (IsLeast plan.servers plan.places.items) (λ number. plan.servers ≡ number)) }
         ensures asks { IfOk result (λ plan. AskedBy (option_copied asks.entry) plan.asks) }
         ensures refused { IfErr result (IsWrong (map (λ word. word.now) servers.now) count (option_copied asks.entry)) }
@@ -287,6 +290,7 @@ impl Plan {
             servers,
             asks,
             wait_seconds,
+            timeout_seconds,
         })
     }
 }

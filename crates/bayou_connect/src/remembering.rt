@@ -184,14 +184,15 @@ impl StateFile {
         }
     }
 
-    /// The same, written anew where it has grown long meanwhile. It is let go for a moment then. What a file that was written anew has no clause can
-    /// say; [`keep_each`] has one of any device.
+    /// The same, written anew where it has grown long meanwhile: then it is short, and keeps something. It is let go for a moment then. What a file that
+    /// was written anew keeps of each session no clause can say; [`keep_each`] has one of any device.
     pub(crate) fn shortened<T: Files<File = File>>(
         self,
         rt: &T,
         alloc: Global,
     ) -> Result<Self, ConnectFault>
         ensures short { self.memory.entries ≤ MOST → result ≡ Ok self }
+        ensures long { MOST < self.memory.entries → IfOk result (λ file. (0 < file.memory.entries) × (file.memory.entries ≤ MOST)) }
         ensures same { IfOk result (λ file. (file.path ≡ self.path) × (file.run ≡ self.run)) }
     {
         if self.memory.entries() <= MAX_KEPT_ENTRIES {
@@ -200,6 +201,9 @@ impl StateFile {
         let StateFile { memory, path, run } = self;
         drop(memory);
         let Remembered { memory, .. } = remember(rt, alloc, path.as_str(), run)?;
+        if memory.entries() == 0 || memory.entries() > MAX_KEPT_ENTRIES {
+            return Err(ConnectFault::State);
+        }
         Ok(StateFile { memory, path, run })
     }
 }

@@ -1,6 +1,6 @@
 //! One server after another is asked, until one of them serves it, or may have done it.
-ghost use Rattle.std.specs.Prelude.{◌≡◌, ◌<◌, ℕ, IfOk};
-ghost use Rattle.bayou_connect.specs.Round.{AsksInRounds, AsksInTurn, after_refusal, may_ask_another, turns};
+ghost use Rattle.std.specs.Prelude.{◌≡◌, ◌<◌, ℕ, IfOk, cond, filter, not};
+ghost use Rattle.bayou_connect.specs.Round.{AsksInRounds, AsksInTurn, after_refusal, but_last, is_last, may_ask_another, turns};
 ghost use Rattle.bayou_connect.specs.declared.told.Told.{Told as Answer};
 ghost use Rattle.bayou_connect.specs.declared.told.Told.TheVariants.{Away};
 
@@ -106,4 +106,42 @@ pub fn in_turn(alloc: Global, first: usize, count: usize) -> Result<Vec<usize>, 
         order.push(at)?;
     }
     Ok(order)
+}
+
+// Those of these places that are last, or those that aren't.
+fn those(
+    alloc: Global,
+    order: &[usize],
+    last: &[bool],
+    wanted: bool,
+) -> Result<Vec<usize>, AllocError>
+    ensures { IfOk result (λ found. found.items ≡ filter (λ at. cond wanted (is_last last.now at) (not (is_last last.now at))) order.now) }
+{
+    let mut found = Vec::with_capacity(alloc, order.len())?;
+    for at in order {
+        if is_last(last, *at) == wanted {
+            found.push(*at)?;
+        }
+    }
+    Ok(found)
+}
+
+// Whether the place is last.
+fn is_last(last: &[bool], at: usize) -> bool
+    ensures { result ≡ is_last last.now at }
+{
+    match last.get(at) {
+        Some(is_last) => *is_last,
+        None => false,
+    }
+}
+
+/// These places in their order, but those that are last behind all others.
+pub fn but_last(alloc: Global, order: &[usize], last: &[bool]) -> Result<Vec<usize>, AllocError>
+    ensures { IfOk result (λ found. found.items ≡ but_last last.now order.now) }
+{
+    let mut found = those(alloc, order, last, false)?;
+    let behind = those(alloc, order, last, true)?;
+    found.extend_from_slice(&behind)?;
+    Ok(found)
 }

@@ -1,7 +1,7 @@
 //! What is printed of an operation, and of what a session asks for.
 ghost use Rattle.std.specs.Prelude.{◌≡◌, ◌≤◌, ℕ, IfOk, MatchOption, Some, string_bytes};
 ghost use Rattle.bayou_base.specs.declared.limits.TheConstants.{SERVERS as NUMBER};
-ghost use Rattle.bayou_connect.specs.Printing.{IsAsksLine, told_text};
+ghost use Rattle.bayou_connect.specs.Printing.{IsAsksLine, nothing_text, told_text};
 ghost use Rattle.bayou_connect.specs.declared.told.Told.TheVariants.{Away};
 ghost use Rattle.bayou_print.specs.Printed.{last_text};
 
@@ -52,4 +52,12 @@ pub(crate) fn asks_line(alloc: Global, session: SessionId, asks: Asks) -> Result
 {
     let (session, words) = (session.index, asks_text(asks));
     format!(in alloc; "session {session} asks {words}\n")
+}
+
+/// The line of a Write that did nothing.
+pub(crate) fn nothing_line(alloc: Global, session: SessionId) -> Result<String, AllocError>
+    ensures { IfOk result (λ line. string_bytes line ≡ nothing_text session) }
+{
+    let session = session.index;
+    format!(in alloc; "{session} did nothing\n")
 }

@@ -1,18 +1,21 @@
 //! The servers of a store and the sessions of a person there: each operation, with what is kept of it.
-ghost use Rattle.std.specs.Prelude.{◌≡◌, ◌≢◌, ◌<◌, ◌↔◌, All, false, IfOk, IsSomeAnd, IsTrue, MatchOption, OnOk, is_some, map, option_map, slice_get, vec_len};
+ghost use Rattle.std.specs.Prelude.{◌≡◌, ◌≢◌, ◌<◌, ◌↔◌, All, false, IfOk, IsSomeAnd, IsTrue, MatchOption, OnOk, is_some, map, option_map, slice_get, vec_len, Bool, List};
 ghost use Rattle.std.specs.Option.{option_copied};
 ghost use Rattle.bayou_base.specs.declared.limits.TheConstants.{MAX_PLACES, SESSIONS as NUMBER};
 ghost use Rattle.bayou_connect.specs.Keeping.{HasAsked, IsReady, begun_of};
+ghost use Rattle.bayou_connect.specs.Round.{turns_but_last};
 ghost use Rattle.bayou_connect.specs.Sessions.{IsOpened, kept_of, opened};
 
 use crate::asking::{Attempt, Done, keep, operate};
 use crate::audit_file::AuditFile;
+use crate::deadline::milliseconds;
 use crate::fault::ConnectFault;
 use crate::plan::Place;
 use crate::reach::Access;
 use crate::remembering::StateFile;
+use crate::round::{but_last, in_turn};
 use crate::told::Told;
-use bayou_base::{Asks, Entry, Key, ServerId, SessionId, Vector, Wid};
+use bayou_base::{Asks, Entry, Key, Seen, ServerId, SessionId, Vector, Wid};
 use bayou_client::{Asked, LinkFault};
 use bayou_lang::RestingWrite;
 use bayou_net::Sockets;
@@ -21,6 +24,7 @@ use bayou_session::{FIRST_RUN, Session};
 use std::alloc::{AllocError, Global};
 use std::fs::{File, Files};
 use std::sync::Wait;
+use std::time::Clock;
 
 /// Whose read asks what a server holds: it is of no session that is kept.
 const NOBODY: SessionId = SessionId { index: 0 };
@@ -37,6 +41,8 @@ pub(crate) struct Store {
     sessions: Vec<Option<Kept>>,
     state: Option<StateFile>,
     book: Option<AuditFile>,
+    /// How long a server has for its connection and its whole reply.
+    timeout_seconds: u32,
     ghost one_each: { vec_len sessions ≡ NUMBER },
 }
 
@@ -144,10 +150,11 @@ impl Store {
         sessions: Vec<Option<Kept>>,
         state: Option<StateFile>,
         book: Option<AuditFile>,
+        timeout_seconds: u32,
     ) -> Result<Self, AllocError>
         requires { vec_len sessions ≡ NUMBER }
         ensures places { IfOk result (λ store. map (λ access. access.place) store.accesses.items ≡ places.now) }
-        ensures kept { IfOk result (λ store. (store.sessions ≡ sessions) × (store.state ≡ state) × (store.book ≡ book)) }
+        ensures kept { IfOk result (λ store. (store.sessions ≡ sessions) × (store.state ≡ state) × (store.book ≡ book) × (store.timeout_seconds ≡ timeout_seconds)) }
     {
         Ok(Store {
             alloc,
@@ -155,6 +162,7 @@ impl Store {
             sessions,
             state,
             book,
+            timeout_seconds,
         })
     }
 
@@ -168,6 +176,25 @@ impl Store {
         ensures { result ≡ vec_len self.now.accesses }
     {
         self.accesses.len()
+    }
+
+    // Whether each server, by its place in the list, counts as silent by now.
+    fn are_silent<T: Clock>(&self, rt: &T) -> Result<Vec<bool>, AllocError> {
+        let now = milliseconds(rt);
+        self.accesses
+            .iter()
+            .map(|access| access.is_silent(now))
+            .collect(self.alloc)
+    }
+
+    /// The places of all servers, in the order in which they are asked: from this one on, and those that were silent last.
+    pub(crate) fn order<T: Clock>(&self, rt: &T, first: usize) -> Result<Vec<usize>, AllocError>
+        requires { first < vec_len self.now.accesses }
+        ensures { IfOk result (λ order. (silent : List Bool) × (order.items ≡ turns_but_last silent first (vec_len self.now.accesses))) }
+    {
+        let silent = self.are_silent(rt)?;
+        let order = in_turn(self.alloc, first, self.accesses.len())?;
+        but_last(self.alloc, &order, &silent)
     }
 
     /// The place of this server in the list.
@@ -210,7 +237,7 @@ impl Store {
 
     /// Has the session do this at a server, by its place in the list. A Write is kept before it is sent, and what was told before anybody
     /// is told of it.
-    pub(crate) fn ask_at<T: Files<File = File> + Sockets + Wait>(
+    pub(crate) fn ask_at<T: Files<File = File> + Sockets + Wait + Clock>(
         &mut self,
         rt: &T,
         who: SessionId,
@@ -225,7 +252,7 @@ impl Store {
             return Ok(Told::Away);
         };
         let server = access.place.id;
-        let Some(link) = access.link(rt) else {
+        let Some(mut link) = access.link(rt, self.timeout_seconds) else {
             return Ok(Told::Away);
         };
         let place = usize::from(who.index);
@@ -236,7 +263,8 @@ impl Store {
             unreachable!();
         };
         begin(alloc, &mut self.state, &kept, server, &attempt)?;
-        let done = operate(rt, alloc, &mut self.state, kept, link, server, attempt)?;
+        let done = operate(rt, alloc, &mut self.state, kept, &mut link, server, attempt)?;
+        access.settle(rt, &link);
         enter(alloc, &mut self.book, &done.entry)?;
         self.sessions[place] = Some(done.kept);
         Ok(done.told)
@@ -252,12 +280,13 @@ impl Store {
         }
     }
 
-    /// What the server of this place in the list holds, if it tells that: as a read tells it that needs nothing, of a session that nobody keeps.
-    pub(crate) fn held_at<T: Sockets + Wait>(
+    /// What the server of this place in the list tells of a key, if it tells it: to a read that needs nothing, of a session that nobody keeps.
+    pub(crate) fn look_at<T: Sockets + Wait + Clock>(
         &mut self,
         rt: &T,
         at: usize,
-    ) -> Result<Option<Vector>, ConnectFault>
+        key: &Key,
+    ) -> Result<Option<Seen>, ConnectFault>
         ensures { (self.new.sessions ≡ self.old.sessions) × (self.new.state ≡ self.old.state) × (self.new.book ≡ self.old.book) }
     {
         let alloc = self.alloc;
@@ -265,31 +294,39 @@ impl Store {
             return Ok(None);
         };
         let server = access.place.id;
-        let Some(link) = access.link(rt) else {
+        let Some(mut link) = access.link(rt, self.timeout_seconds) else {
             return Ok(None);
         };
         let nobody = Kept::new(Session::new(NOBODY, FIRST_RUN, Asks::default()), None);
-        let Ok(key) = Key::new(ANY_KEY) else {
-            return Ok(None);
-        };
-        let done = operate(
-            rt,
-            alloc,
-            &mut None,
-            nobody,
-            link,
-            server,
-            Attempt::Read(key),
-        )?;
+        let attempt = Attempt::Read(key.copy());
+        let done = operate(rt, alloc, &mut None, nobody, &mut link, server, attempt)?;
+        access.settle(rt, &link);
         let Done { told, .. } = done;
         match told {
-            Told::Seen(seen) => Ok(Some(seen.vector)),
+            Told::Seen(seen) => Ok(Some(seen)),
             Told::Away | Told::Accepted(_) | Told::Refused(_) | Told::Lost => Ok(None),
         }
     }
 
+    /// What the server of this place in the list holds, if it tells that.
+    pub(crate) fn held_at<T: Sockets + Wait + Clock>(
+        &mut self,
+        rt: &T,
+        at: usize,
+    ) -> Result<Option<Vector>, ConnectFault>
+        ensures { (self.new.sessions ≡ self.old.sessions) × (self.new.state ≡ self.old.state) × (self.new.book ≡ self.old.book) }
+    {
+        let Ok(key) = Key::new(ANY_KEY) else {
+            return Ok(None);
+        };
+        match self.look_at(rt, at, &key)? {
+            Some(seen) => Ok(Some(seen.vector)),
+            None => Ok(None),
+        }
+    }
+
     /// What the server of this place in the list tells as it is to open its journal again, if it is reached.
-    pub(crate) fn reopen<T: Sockets>(
+    pub(crate) fn reopen<T: Sockets + Clock>(
         &mut self,
         rt: &T,
         at: usize,
@@ -298,12 +335,14 @@ impl Store {
     {
         let alloc = self.alloc;
         let access = self.accesses.get_mut(at)?;
-        let link = access.link(rt)?;
-        Some(link.reopen(alloc))
+        let mut link = access.link(rt, self.timeout_seconds)?;
+        let told = link.reopen(alloc);
+        access.settle(rt, &link);
+        Some(told)
     }
 
     /// What the server of this place in the list sends of what it holds, if it sends all of it.
-    pub(crate) fn dump<T: Sockets>(
+    pub(crate) fn dump<T: Sockets + Clock>(
         &mut self,
         rt: &T,
         at: usize,
@@ -314,10 +353,12 @@ impl Store {
         let Some(access) = self.accesses.get_mut(at) else {
             return Ok(None);
         };
-        let Some(link) = access.link(rt) else {
+        let Some(mut link) = access.link(rt, self.timeout_seconds) else {
             return Ok(None);
         };
-        match link.dump(alloc) {
+        let told = link.dump(alloc);
+        access.settle(rt, &link);
+        match told {
             Ok(writes) => Ok(Some(writes)),
             Err(LinkFault::OutOfMemory) => Err(ConnectFault::Memory),
             Err(_) => Ok(None),

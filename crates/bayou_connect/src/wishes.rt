@@ -1,4 +1,5 @@
 //! What short lines ask for.
+use crate::claiming::Claim;
 use crate::desk::{Desk, OWN};
 use crate::fault::ConnectFault;
 use bayou_net::Sockets;
@@ -10,7 +11,7 @@ use std::sync::Wait;
 use std::time::Clock;
 
 impl Desk {
-    // Does what a wish that is a Write asks for, and tells what became of a claim.
+    // Does what a wish that is a Write asks for, and tells what became of a claim or an addition.
     fn wish_write<W: Write, T: Files<File = File> + Sockets + Wait + Clock>(
         &mut self,
         rt: &T,
@@ -21,14 +22,17 @@ impl Desk {
             return Ok(());
         };
         let program = program.rest(self.alloc)?;
-        let Some(at) = self.write(rt, output, OWN, program)? else {
-            return Ok(());
-        };
         match wish {
             Wish::Claim { key, others, value } => {
-                self.tell_claim(rt, output, OWN, at, key, others.as_slice(), value)
+                let others = others.as_slice();
+                let claim = Claim { key, others, value };
+                self.claim(rt, output, OWN, claim, program)
             }
-            _ => Ok(()),
+            Wish::Add { key, .. } => self.add(rt, output, OWN, key, program),
+            _ => {
+                let _ = self.write(rt, output, OWN, program)?;
+                Ok(())
+            }
         }
     }
 

@@ -9,7 +9,11 @@ use bayou_streams::{CountedChannel, Turn};
 use std::alloc::Global;
 use std::fs::{File, Files, OpenFile, OpenOptions};
 use std::io::{Read, Seek, SeekFrom, Write};
+use std::os::unix::fs::OpenOptionsExt;
 use std::path::Path;
+
+// With what mode a file is made: who runs the program reads and writes it, and nobody else.
+const OWN_MODE: u32 = 0o600;
 
 /// A device over a file, of whose content no clause says anything. Each of its calls makes at most
 /// [`MAX_TURNS`](bayou_base::limits::MAX_TURNS) calls of the file that read or write, and fails where that isn't enough. Its count
@@ -121,7 +125,7 @@ impl<F> FileDevice<F> {
 }
 
 impl FileDevice<File> {
-    /// The device over the file of this name. A missing file is made, and made to last, with its name in its folder. The file is locked
+    /// The device over the file of this name. A missing file is made, for its owner alone, and made to last, with its name in its folder. The file is locked
     /// as long as the device is there (an advisory lock): one that another has open so is refused, as is one that can't be opened, and a
     /// name whose folder isn't there. A refusal may leave an empty file.
     pub fn open<R: Files<File = File>>(files: &R, path: &str) -> Result<Self, Failed>
@@ -131,6 +135,7 @@ impl FileDevice<File> {
         options.read(true);
         options.append(true);
         options.create(true);
+        options.mode(OWN_MODE);
         let Ok(file) = options.open(files, path) else {
             return Err(Failed);
         };

@@ -1,4 +1,4 @@
-ghost use Rattle.std.specs.Prelude.{◌≡◌, ◌+◌, false, None, Some, ◌<◌, ◌≤◌, ◌∷◌, IfSome, length, map, min, not};
+ghost use Rattle.std.specs.Prelude.{◌≡◌, ◌+◌, false, None, Some, ◌<◌, ◌≤◌, ◌∷◌, IfSome, length, map, nat_le, not};
 ghost use Rattle.std.specs.List.{filter, flat_map};
 ghost use Rattle.std.specs.Option.{option_map};
 ghost use Rattle.arrayvec.specs.ArrayVec.{array_vec_len};
@@ -33,9 +33,9 @@ pub trait Look {
     fn look(&self, key: &Key) -> Option<Value>
         ensures { result ≡ value_at (database self.now) key.now };
 
-    /// How many keys that are present begin so, or one more than `most` where those are more: so it may stop counting there.
-    fn number_with(&self, prefix: &Prefix, most: u32) -> usize
-        ensures { result ≡ min (number_with prefix.now (database self.now)) (most + 1) };
+    /// Whether at most so many of the keys that are present begin so. It may stop counting behind those.
+    fn has_at_most(&self, prefix: &Prefix, most: u32) -> bool
+        ensures { result ≡ nat_le (number_with prefix.now (database self.now)) most };
 }
 
 /// What the key has, if anything, in a database with these changes.
@@ -60,7 +60,7 @@ fn holds<L: Look>(condition: &Cond, look: &L) -> bool
             Some(Value::Num(found)) => *number <= found,
             _ => false,
         },
-        Cond::AtMost(prefix, most) => look.number_with(prefix, *most) <= *most as usize,
+        Cond::AtMost(prefix, most) => look.has_at_most(prefix, *most),
     }
 }
 

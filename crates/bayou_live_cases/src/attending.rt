@@ -215,13 +215,16 @@ where
     let ended = attend(rt, alloc, &door, desks, move |unserved| {
         let is_so = visit(rt, alloc, place.address, visitors);
         place.stop.store(true, Ordering::SeqCst);
-        let is_shut = shut(&place.listener) && TcpStream::connect(rt, place.address).is_err();
+        let is_shut = match place.listener.try_clone() {
+            Ok(copy) => shut(copy) && TcpStream::connect(rt, place.address).is_err(),
+            Err(_) => false,
+        };
         place
             .is_so
             .store(is_so && is_shut && unserved == 0, Ordering::SeqCst);
     });
     match ended {
-        Ok(desks) if place.is_so.load(Ordering::SeqCst) => Some(desks),
+        Ok((desks, ())) if place.is_so.load(Ordering::SeqCst) => Some(desks),
         _ => None,
     }
 }

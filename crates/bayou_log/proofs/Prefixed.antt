@@ -189,3 +189,16 @@ number_with-slots prefix (slot ∷ slots) sorted =
       | true ↦ λ sum. omega (arith, sum, nothing, rest)
       | false ↦ λ sum. omega (arith, sum, nothing, rest)
     ] (number_with-changed prefix slot.0 slot.1 database)
+
+-- no more keys begin so than there are slots
+pub number_with-within : (prefix : List ℕ) (slots : Slots) → number_with prefix (database_of slots) ≤ length slots
+number_with-within prefix [] = omega (arith, number_with-empty prefix)
+number_with-within prefix (slot ∷ slots) =
+    let database = database_of slots in
+    let begins = begins_with prefix slot.0 in
+    let before = begins && is_some (value_at database slot.0) in
+    let rest = number_with-within prefix slots in
+    elim (begins && is_some slot.1) as (λ one. number_with prefix (changed slot.0 slot.1 database) + cond before 1 0 ≡ number_with prefix database + cond one 1 0 → number_with prefix (changed slot.0 slot.1 database) ≤ length (slot ∷ slots)) [
+      | true ↦ λ sum. omega (arith, sum, rest)
+      | false ↦ λ sum. omega (arith, sum, rest)
+    ] (number_with-changed prefix slot.0 slot.1 database)

@@ -1,4 +1,4 @@
-ghost use Rattle.std.specs.Prelude.{◌≡◌, ◌+◌, [], List, ℕ, IsTrue, OnOk, IfOk, All, Contains, map, min};
+ghost use Rattle.std.specs.Prelude.{◌≡◌, ◌+◌, [], List, ℕ, IsTrue, OnOk, IfOk, All, Contains, map, nat_le};
 ghost use Rattle.arrayvec.specs.ArrayVec.{array_vec_len};
 ghost use Rattle.std.specs.List.{flat_map, list_any};
 ghost use Rattle.bayou_lang.specs.Changes.{after_changes, op_key, ChangeOnly};
@@ -235,12 +235,12 @@ impl Db {
         }
     }
 
-    /// How many keys that are present begin so, or one more than `most` where those are more. It goes over those of them that begin so, and
-    /// stops once the number is greater than `most`. Where the present keys aren't kept, it passes over those that have room and no value.
-    pub fn number_with(&self, prefix: &Prefix, most: u32) -> usize
-        ensures { result ≡ min (number_with prefix.now (database_of self.now)) (most + 1) }
+    /// Whether at most so many of the keys that are present begin so. It goes over no key where there are no more than so many; else over those
+    /// that begin so, and stops once they are more. Where the present keys aren't kept, it passes over those that have room and no value.
+    pub fn has_at_most(&self, prefix: &Prefix, most: u32) -> bool
+        ensures { result ≡ nat_le (number_with prefix.now (database_of self.now)) most }
     {
-        self.present.number_with(&self.slots, prefix, most)
+        self.present.has_at_most(&self.slots, prefix, most)
     }
 
     /// Applies the program, from which no want of memory keeps it, and gives the outcome. The undo is then what [`Db::undo`] needs to take that
@@ -301,7 +301,7 @@ impl Look for Db {
         self.get(key)
     }
 
-    fn number_with(&self, prefix: &Prefix, most: u32) -> usize {
-        Db::number_with(self, prefix, most)
+    fn has_at_most(&self, prefix: &Prefix, most: u32) -> bool {
+        Db::has_at_most(self, prefix, most)
     }
 }

@@ -1,5 +1,5 @@
 //! The keys that are present, in order, beside those that have room.
-ghost use Rattle.std.specs.Prelude.{◌≡◌, ◌+◌, None, Option, IfOk, OnOk, min};
+ghost use Rattle.std.specs.Prelude.{◌≡◌, ◌+◌, None, Option, IfOk, OnOk, min, nat_le};
 ghost use Rattle.std.specs.Option.{is_some};
 ghost use Rattle.bayou_lang.specs.Database.{Database, begins_with as begins, changed, number_with};
 ghost use Rattle.bayou_base.specs.declared.value.Value.{Value as Worth};
@@ -67,6 +67,13 @@ fn count(slots: &Slots, prefix: &Prefix, most: u32) -> usize
     number
 }
 
+/// Whether at most so many of the keys that have something begin so. So few keys can't be more, whatever they begin with.
+fn are_at_most(slots: &Slots, prefix: &Prefix, most: u32) -> bool
+    ensures { result ≡ nat_le (number_with prefix.now (database_of slots.now.entries)) most }
+{
+    slots.len() <= most as usize || count(slots, prefix, most) <= most as usize
+}
+
 /// Notes whether the key is present.
 fn note(keys: &mut Slots, key: &Key, is_there: bool) -> Result<(), AllocError>
     ensures { OnOk result (Notes key.now is_there keys.old.entries keys.new.entries) }
@@ -122,14 +129,14 @@ impl PresentKeys {
         self.kept = Some(keys);
     }
 
-    /// How many of the keys of a database begin so, of which the slots have what it has, or one more than `most` where those are more.
-    pub(crate) fn number_with(&self, slots: &Slots, prefix: &Prefix, most: u32) -> usize
+    /// Whether at most so many of the keys of a database begin so, of which the slots have what it has.
+    pub(crate) fn has_at_most(&self, slots: &Slots, prefix: &Prefix, most: u32) -> bool
         requires { Shows self.now (database_of slots.now.entries) }
-        ensures { result ≡ min (number_with prefix.now (database_of slots.now.entries)) (most + 1) }
+        ensures { result ≡ nat_le (number_with prefix.now (database_of slots.now.entries)) most }
     {
         match &self.kept {
-            Some(keys) => count(keys, prefix, most),
-            None => count(slots, prefix, most),
+            Some(keys) => are_at_most(keys, prefix, most),
+            None => are_at_most(slots, prefix, most),
         }
     }
 }

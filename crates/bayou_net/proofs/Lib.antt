@@ -1,4 +1,5 @@
 pub mod Desks
 mod Done
+mod Dumped
 mod Loss
 mod Tally

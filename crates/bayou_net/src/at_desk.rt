@@ -24,8 +24,7 @@ use std::io::{Read, Write};
 use std::sync::Wait;
 
 impl<D: Device, L: Desks, T: Wait> Served for AtNode<'_, D, L, Desk<L>, T> {
-    ghost use Rattle.std.specs.Prelude.{IfOk, length};
-    ghost use Rattle.bayou_base.specs.declared.limits.TheConstants.{MAX_WRITES};
+    ghost use Rattle.std.specs.Prelude.{IfOk, drop, length, take};
 
     ghost reads = { λ paid need key answer. InSome L.begun (λ core. Reads core need key answer) };
 
@@ -61,12 +60,17 @@ impl<D: Device, L: Desks, T: Wait> Served for AtNode<'_, D, L, Desk<L>, T> {
         self.node.reopen(self.rt, alloc)
     }
 
-    fn dump(&mut self, alloc: Global) -> Result<Vec<RestingWrite>, AllocError>
+    fn dump_part(
+        &mut self,
+        alloc: Global,
+        place: usize,
+        most: usize,
+    ) -> Result<Vec<RestingWrite>, AllocError>
         ensures same { self.new ≡ self.old }
-        ensures few { IfOk result (λ writes. length writes.items ≤ MAX_WRITES) }
-        ensures held { InSome L.begun (λ core. IfOk result (λ writes. writes.items ≡ core.held)) }
+        ensures few { IfOk result (λ writes. length writes.items ≤ most) }
+        ensures held { InSome L.begun (λ core. IfOk result (λ writes. writes.items ≡ take most (drop place core.held))) }
     {
-        self.node.dump(self.rt, alloc)
+        self.node.dump_part(self.rt, alloc, place, most)
     }
 }
 

@@ -1,5 +1,5 @@
 //! Desks at each of which one connection after another is served, for as long as a server lives.
-ghost use Rattle.std.specs.Prelude.{◌≡◌, ◌+◌, ◌≤◌, ℕ, MatchResult, OnOk, vec_capacity, vec_len};
+ghost use Rattle.std.specs.Prelude.{◌≡◌, ◌+◌, ◌≤◌, ℕ, IfOk, MatchResult, vec_capacity, vec_len};
 
 use crate::host::Host;
 use crate::listening::join_all;
@@ -112,18 +112,24 @@ fn begin_all<'s, E, H: Attendant + Sync, T: Wait + Send + Sync>(
 }
 
 /// Has each desk serve one connection after another, in a thread of its own, until the flag of the door is set and each connection ended.
-/// Meanwhile the closure runs, with the number of desks for which no thread began; it ends when the flag is to be set. All desks come back.
-/// For want of memory nobody is served, and the closure isn't run. That a connection is taken, and that a thread serves it, no clause can say.
-pub fn attend<H: Attendant + Sync, T: Threads + Wait + Send + Sync, F: FnOnce(usize) + Drop>(
+/// Meanwhile the closure runs, with the number of desks for which no thread began; it ends when the flag is to be set. All desks come back, with
+/// what the closure returned. For want of memory nobody is served, and the closure isn't run. That a connection is taken, and that a thread serves
+/// it, no clause can say.
+pub fn attend<H, T, X, F>(
     rt: &T,
     alloc: Global,
     door: &Door<'_, H>,
     desks: Vec<H::Desk>,
     meanwhile: F,
-) -> Result<Vec<H::Desk>, Vec<H::Desk>>
+) -> Result<(Vec<H::Desk>, X), Vec<H::Desk>>
+where
+    H: Attendant + Sync,
+    T: Threads + Wait + Send + Sync,
+    X: Drop,
+    F: FnOnce(usize) -> X + Drop,
     requires { F.IsAlwaysCallable meanwhile }
-    ensures desks { MatchResult result (λ back. vec_len back ≡ vec_len desks) (λ left. left ≡ desks) }
-    ensures called { OnOk result ((unserved : ℕ) × (unserved ≤ vec_len desks) × F.post meanwhile unserved tt) }
+    ensures desks { MatchResult result (λ ended. vec_len ended.0 ≡ vec_len desks) (λ left. left ≡ desks) }
+    ensures called { IfOk result (λ ended. (unserved : ℕ) × (unserved ≤ vec_len desks) × F.post meanwhile unserved ended.1) }
 {
     let total = desks.len();
     let (Ok(workers), Ok(left)) = (
@@ -137,33 +143,30 @@ pub fn attend<H: Attendant + Sync, T: Threads + Wait + Send + Sync, F: FnOnce(us
         left,
         total,
     };
-    let posts = thread::scope(
+    let (posts, told) = thread::scope(
         thread::scope_env(),
         rt,
-        move |scope| -> Posts<H::Desk>
+        move |scope| -> (Posts<H::Desk>, X)
             requires { F.IsAlwaysCallable meanwhile × (vec_len posts.workers ≡ 0) × (vec_len posts.left ≡ 0) × (posts.total ≡ vec_len desks) }
-            ensures all { vec_len result.workers + vec_len result.left ≡ vec_len desks }
-            ensures total { result.total ≡ vec_len desks }
-            ensures called { F.post meanwhile (vec_len result.left) tt }
+            ensures all { vec_len result.0.workers + vec_len result.0.left ≡ vec_len desks }
+            ensures total { result.0.total ≡ vec_len desks }
+            ensures called { F.post meanwhile (vec_len result.0.left) result.1 }
         {
             let mut posts = posts;
             begin_all(scope, rt, alloc, door, desks, &mut posts);
-            meanwhile(posts.left.len());
-            posts
+            let told = meanwhile(posts.left.len());
+            (posts, told)
         },
     );
     let Posts { workers, left, .. } = posts;
     let mut back = left;
     join_all(rt, workers, &mut back);
-    Ok(back)
+    Ok((back, told))
 }
 
-/// Ends each wait for a connection at this socket, now and from now on: whether it could be done.
-pub fn shut(listener: &TcpListener) -> bool {
-    match listener.try_clone() {
-        Ok(copy) => TcpStream::from(OwnedFd::from(copy))
-            .shutdown(Shutdown::Both)
-            .is_ok(),
-        Err(_) => false,
-    }
+/// Ends each wait for a connection at the socket of which this is a copy, now and from now on: whether it could be done.
+pub fn shut(copy: TcpListener) -> bool {
+    TcpStream::from(OwnedFd::from(copy))
+        .shutdown(Shutdown::Both)
+        .is_ok()
 }

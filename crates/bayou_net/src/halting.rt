@@ -1,4 +1,4 @@
-//! A node that serves whoever has a desk there until it is halted: then it takes no Write any more, and serves reads as before.
+//! A node that serves whoever has a desk there, and takes Writes as long as there is leave: it serves reads all the time.
 ghost use Rattle.std.specs.Prelude.{◌≡◌, ◌≤◌, ℕ, List, IfErr};
 ghost use Rattle.std.specs.Io.KnownBytes.{Consumes, IsAtEnd};
 ghost use Rattle.bayou_net.specs.Halting.{halting};
@@ -23,25 +23,40 @@ use std::io::{Read, Write};
 use std::marker::Model;
 use std::sync::{OnceLock, Wait};
 
-/// Something that serves, and what halts it once it is set.
-#[derive(Drop)]
-struct Halting<'a, S> {
-    served: S,
-    halted: &'a OnceLock<()>,
+/// Who says what is done now at a server beside reads. What it says no clause can tell.
+pub trait Leave {
+    /// Whether Writes are made.
+    fn is_open(&self) -> bool;
+
+    /// Whether its journal may be opened again.
+    fn may_reopen(&self) -> bool;
 }
 
-impl<'a, S> Model for Halting<'a, S> {
+/// There is leave until it is set.
+impl Leave for OnceLock<()> {
+    fn is_open(&self) -> bool {
+        self.get().is_none()
+    }
+
+    fn may_reopen(&self) -> bool {
+        self.get().is_none()
+    }
+}
+
+/// Something that serves, and who gives it leave.
+#[derive(Drop)]
+struct Halting<'a, S, H> {
+    served: S,
+    leave: &'a H,
+}
+
+impl<'a, S, H> Model for Halting<'a, S, H> {
     ghost Value = { S };
 
     ghost view = { λ a. a.served };
 }
 
-impl<S> Halting<'_, S> {
-    // Whether it is halted. What is set meanwhile no clause can say.
-    fn is_halted(&self) -> bool {
-        self.halted.get().is_some()
-    }
-
+impl<S, H> Halting<'_, S, H> {
     // What serves, given back.
     fn into_served(self) -> S
         ensures { result ≡ self.entry }
@@ -50,7 +65,7 @@ impl<S> Halting<'_, S> {
     }
 }
 
-impl<S: Replica> Replica for Halting<'_, S> {
+impl<S: Replica, H> Replica for Halting<'_, S, H> {
     ghost list = { S.list };
 
     ghost takes = { S.takes };
@@ -77,7 +92,7 @@ impl<S: Replica> Replica for Halting<'_, S> {
     }
 }
 
-impl<S: Served> Served for Halting<'_, S> {
+impl<S: Served, H: Leave> Served for Halting<'_, S, H> {
     ghost use Rattle.bayou_net.specs.Halting.{ReopensOrNot, WritesOrNot};
 
     ghost reads = { S.reads };
@@ -97,7 +112,7 @@ impl<S: Served> Served for Halting<'_, S> {
         need: &Vector,
         program: RestingProgram,
     ) -> Result<Written, WriteFault> {
-        if self.is_halted() {
+        if !self.leave.is_open() {
             return Err(WriteFault::Down);
         }
         self.served.write(alloc, tag, need, program)
@@ -109,42 +124,55 @@ impl<S: Served> Served for Halting<'_, S> {
         need: &Vector,
         program: &RestingProgram,
     ) -> Result<Written, WriteFault> {
-        if self.is_halted() {
+        if !self.leave.is_open() {
             return Err(WriteFault::Down);
         }
         self.served.answer_without_memory(tag, need, program)
     }
 
     fn reopen(&mut self, alloc: Global) -> Result<Reopened, ReopenFault> {
-        if self.is_halted() {
+        if !self.leave.may_reopen() {
             return Err(ReopenFault::Lost);
         }
         self.served.reopen(alloc)
     }
 
-    fn dump(&mut self, alloc: Global) -> Result<Vec<RestingWrite>, AllocError> {
-        self.served.dump(alloc)
+    fn dump_part(
+        &mut self,
+        alloc: Global,
+        place: usize,
+        most: usize,
+    ) -> Result<Vec<RestingWrite>, AllocError> {
+        self.served.dump_part(alloc, place, most)
     }
 }
 
-/// As [`serve`](crate::serve), until `halted` is set: each Write that comes from then on is refused as at a server that is down, and each
-/// reopening as one whose journal lost a Write. Neither reaches the node. When it is set no clause can tell.
-pub fn serve_until_halted<D: Device, L: Desks, G: RequestGate, R: Read, W: Write, T: Wait>(
+/// As [`serve`](crate::serve), as long as there is leave: each Write that comes where there is none is refused as at a server that is down, and each
+/// reopening as one whose journal lost a Write. Neither reaches the node. When there is leave no clause can tell.
+pub fn serve_with_leave<D, L, G, H, R, W, T>(
     rt: &T,
     alloc: Global,
     node: &Node<D, L>,
     desk: Desk<L>,
     gate: &G,
-    halted: &OnceLock<()>,
+    leave: &H,
     channel: &mut CountedChannel<R, W>,
 ) -> (Result<u32, ChannelFault>, Desk<L>)
+where
+    D: Device,
+    L: Desks,
+    G: RequestGate,
+    H: Leave,
+    R: Read,
+    W: Write,
+    T: Wait,
     ensures serves { (read : List ℕ) × Consumes (R.remaining channel.old.reader) (R.remaining channel.new.reader) read
         × ServeEnds (halting (desk_steps L.begun)) desk result.1 read (W.contents channel.old.writer) (W.contents channel.new.writer) (IsAtEnd (R.remaining channel.new.reader)) result.0 }
     ensures stopped { IfErr result.0 (Stops channel.new.read_failed channel.new.write_failed channel.new.turns_left) }
     ensures turns { channel.new.turns_left ≤ channel.old.turns_left }
 {
     let served = AtNode { node, desk, rt };
-    let mut halting = Halting { served, halted };
+    let mut halting = Halting { served, leave };
     let answer = serve_on(alloc, &mut halting, gate, channel);
     let at_desk = halting.into_served();
     (answer, at_desk.desk)

@@ -44,10 +44,12 @@ impl<D: Device> Served for Server<D> {
         Server::reopen(self, alloc)
     }
 
-    fn dump(&mut self, alloc: Global) -> Result<Vec<RestingWrite>, AllocError> {
-        // What it holds stays below its limit, which is within its range.
-        let _limit = self.limit();
-        let _sound = self.receipts();
-        Server::dump(self, alloc)
+    fn dump_part(
+        &mut self,
+        alloc: Global,
+        place: usize,
+        most: usize,
+    ) -> Result<Vec<RestingWrite>, AllocError> {
+        Server::dump_part(self, alloc, place, most)
     }
 }

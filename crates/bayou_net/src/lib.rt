@@ -3,7 +3,7 @@
 //! Callers see something that is [`Served`] as a `Steps`: the Writes that it holds, where it tells them, and how it answers a read, a
 //! program and a reopening. [`serve_on`] is lent one, and a channel (`bayou_streams`): it does each request in its order and writes its
 //! reply, until the input ends between two frames. [`serve`] does so at a node (`bayou_node`), for whoever has a desk there, and
-//! [`serve_until_halted`] until the node may take no more Writes, which are refused from then on. By
+//! [`serve_with_leave`] where Writes are made only as long as there is leave, and else refused. By
 //! [`answer_offer`], [`serve_offer`], [`pull`] and [`pull_from`] a node takes part in anti-entropy (`bayou_peer`): its lock is free between two
 //! batches that it sends and between a few Writes that it takes, so that others are served meanwhile; of what it holds no more is told than that it may be behind its lock.
 //!
@@ -15,6 +15,7 @@
 pub mod at_desk;
 mod at_node;
 pub mod attending;
+mod dumping;
 pub mod gate;
 pub mod halting;
 pub mod host;
@@ -30,7 +31,7 @@ pub mod tallying;
 pub use at_desk::serve;
 pub use attending::{Attendant, Door, attend, shut};
 pub use gate::{NoGate, RequestGate};
-pub use halting::serve_until_halted;
+pub use halting::{Leave, serve_with_leave};
 pub use host::{Host, drop_rest, serve_connection};
 pub use listening::{ListenFault, ListenerBroken, ListenerEnded, listen, listen_on};
 pub use node::{answer_offer, pull, pull_from, serve_offer};

@@ -1,9 +1,7 @@
 //! What is done of one request, and the bytes of its reply.
-ghost use Rattle.std.specs.Prelude.{◌≡◌, ◌≢◌, ◌≤◌, ◌↔◌, ℕ, List, Result, Err, IfOk, IfSome, IsTrue, None, Some, length};
-ghost use Rattle.bayou_base.specs.declared.limits.TheConstants.{MAX_WRITES};
+ghost use Rattle.std.specs.Prelude.{◌≡◌, ◌≢◌, ◌↔◌, ℕ, List, Result, Err, IfOk, IfSome, IsTrue, None, Some};
 ghost use Rattle.bayou_net.specs.Replies.{read_reply, reopen_refusal, reopen_reply, write_refusal, write_reply};
 ghost use Rattle.bayou_net.specs.Serving.{IsRequest, Serves};
-ghost use Rattle.bayou_frames.specs.Spelled.{answer_bytes};
 ghost use Rattle.bayou_server.specs.declared.answer.Written.{Written as WriteMade};
 ghost use Rattle.bayou_server.specs.declared.fault.ReopenFault.{ReopenFault as ReopenRefused};
 ghost use Rattle.bayou_server.specs.declared.fault.WriteFault.{WriteFault as WriteRefused};
@@ -13,8 +11,7 @@ ghost use Rattle.bayou_wire.specs.Stream.{spelling};
 
 use crate::served::Served;
 use bayou_base::{Key, Seen, Tag, Vector};
-use bayou_lang::{RestingProgram, RestingWrite};
-use bayou_peer::gather;
+use bayou_lang::RestingProgram;
 use bayou_server::{Behind, JournalFault, ReopenFault, Reopened, WriteFault, Written};
 use bayou_wire::{Frame, Refusal, encode_frame};
 use std::alloc::{AllocError, Global};
@@ -120,26 +117,16 @@ fn told_reopen(answer: Result<Reopened, ReopenFault>) -> Frame
     }
 }
 
-// The bytes of the frame.
-fn encoded(alloc: Global, frame: &Frame) -> Result<Vec<u8>, AllocError>
+/// The bytes of the frame.
+pub(crate) fn encoded(alloc: Global, frame: &Frame) -> Result<Vec<u8>, AllocError>
     ensures { IfOk result (λ text. text.items ≡ spelling frame.now) }
 {
     let text = encode_frame(alloc, frame)?;
     Ok(text)
 }
 
-// The Items of the Writes, and an End of their number.
-fn dumped(alloc: Global, writes: &[RestingWrite]) -> Result<Vec<u8>, AllocError>
-    requires { length writes.now ≤ MAX_WRITES }
-    ensures { IfOk result (λ text. text.items ≡ answer_bytes writes.now) }
-{
-    let mut text = gather(alloc, writes)?;
-    let end = encoded(alloc, &Frame::End(writes.len() as u32))?;
-    text.extend_from_slice(&end)?;
-    Ok(text)
-}
-
-fn wanting(alloc: Global) -> Result<Vec<u8>, AllocError>
+/// What is told where there is no memory for what is asked for.
+pub(crate) fn wanting(alloc: Global) -> Result<Vec<u8>, AllocError>
     ensures { IfOk result (λ text. text.items ≡ spelling (frames.Refused refusals.OutOfMemory)) }
 {
     encoded(alloc, &Frame::Refused(Refusal::OutOfMemory))
@@ -196,20 +183,7 @@ fn of_reopen<S: Served>(alloc: Global, served: &mut S) -> Result<Vec<u8>, AllocE
     encoded(alloc, &frame)
 }
 
-fn of_dump<S: Served>(alloc: Global, served: &mut S) -> Result<Vec<u8>, AllocError>
-    ensures { (reply : List ℕ) × Serves (record { list = S.list; reads = S.reads; writes = S.writes; reopens = S.reopens }) served.old frames.Dump reply served.new
-        × IfOk result (λ text. text.items ≡ reply) }
-{
-    let Ok(writes) = served.dump(alloc) else {
-        return wanting(alloc);
-    };
-    let Ok(text) = dumped(alloc, &writes) else {
-        return wanting(alloc);
-    };
-    Ok(text)
-}
-
-/// Does the request, which is no Offer, and gives the bytes of its reply. Where there is no memory for those it was done all the same.
+/// Does the request, whose reply is one frame, and gives the bytes of that. Where there is no memory for those it was done all the same.
 pub(crate) fn reply_to<S: Served>(
     alloc: Global,
     served: &mut S,
@@ -217,6 +191,7 @@ pub(crate) fn reply_to<S: Served>(
 ) -> Result<Vec<u8>, AllocError>
     requires request { IsRequest request.now }
     requires no_offer { (counts : List ℕ) → request.now ≢ frames.Offer counts }
+    requires no_dump { request.now ≢ frames.Dump }
     ensures { (reply : List ℕ) × Serves (record { list = S.list; reads = S.reads; writes = S.writes; reopens = S.reopens }) served.old request.now reply served.new
         × IfOk result (λ text. text.items ≡ reply) }
 {
@@ -224,7 +199,6 @@ pub(crate) fn reply_to<S: Served>(
         Frame::Read(need, key) => of_read(alloc, served, need, key),
         Frame::Write(tag, need, program) => of_write(alloc, served, *tag, need, program),
         Frame::Reopen => of_reopen(alloc, served),
-        Frame::Dump => of_dump(alloc, served),
         _ => unreachable!(),
     }
 }

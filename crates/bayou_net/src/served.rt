@@ -1,7 +1,6 @@
-ghost use Rattle.std.specs.Prelude.{◌≡◌, ◌≤◌, ℕ, List, Result, IfOk, IfSome, length};
+ghost use Rattle.std.specs.Prelude.{◌≡◌, ◌≤◌, ℕ, List, Result, IfOk, IfSome, drop, length, take};
 ghost use Rattle.bayou_base.specs.declared.answer.Seen.{Seen as Told};
 ghost use Rattle.bayou_base.specs.declared.tag.Tag.{Tag as Name};
-ghost use Rattle.bayou_base.specs.declared.limits.TheConstants.{MAX_WRITES};
 ghost use Rattle.bayou_lang.specs.declared.program.Program.{Program as Asked};
 ghost use Rattle.bayou_server.specs.declared.answer.Reopened.{Reopened as Up};
 ghost use Rattle.bayou_server.specs.declared.answer.Written.{Written as Made};
@@ -51,9 +50,14 @@ pub trait Served: Replica {
     fn reopen(&mut self, alloc: Global) -> Result<Reopened, ReopenFault>
         ensures { reopens self.old result self.new };
 
-    /// Copies of the Writes held, in order of receipt.
-    fn dump(&mut self, alloc: Global) -> Result<Vec<RestingWrite>, AllocError>
+    /// Copies of the Writes held from this place on in order of receipt, the first of which is at 0, and so many at the most.
+    fn dump_part(
+        &mut self,
+        alloc: Global,
+        place: usize,
+        most: usize,
+    ) -> Result<Vec<RestingWrite>, AllocError>
         ensures same { self.new ≡ self.old }
-        ensures few { IfOk result (λ writes. length writes.items ≤ MAX_WRITES) }
-        ensures value { IfSome (Self.list self.old) (λ held. IfOk result (λ writes. writes.items ≡ held)) };
+        ensures few { IfOk result (λ writes. length writes.items ≤ most) }
+        ensures value { IfSome (Self.list self.old) (λ held. IfOk result (λ writes. writes.items ≡ take most (drop place held))) };
 }

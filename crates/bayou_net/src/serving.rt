@@ -7,10 +7,11 @@ ghost use Rattle.bayou_net.specs.Inner.Steps.{DoesOne, Goes, GoesOn, IsServeFaul
 ghost use Rattle.bayou_net.specs.Serving.{HasServed, IsRequest, ServeEnds};
 ghost use Rattle.bayou_frames.specs.declared.fault.ChannelFault.TheVariants.{Cut};
 ghost use Rattle.bayou_frames.specs.Stopping.{Stops};
-ghost use Rattle.bayou_wire.specs.declared.frame.Frame.TheVariants.{Offer};
+ghost use Rattle.bayou_wire.specs.declared.frame.Frame.TheVariants.{Dump, Offer};
 ghost use Rattle.bayou_wire.specs.Spelling.{IsFrame};
 ghost use Rattle.bayou_wire.specs.Stream.{IsPartial, spellings};
 
+use crate::dumping::answer_dump;
 use crate::gate::RequestGate;
 use crate::replying::{is_request, reply_to};
 use crate::served::Served;
@@ -22,7 +23,7 @@ use bayou_wire::{Frame, Frames};
 use std::alloc::Global;
 use std::io::{Read, Write};
 
-// Does a request that isn't an Offer, and writes its reply.
+// Does a request whose reply is one frame, and writes that.
 fn do_other<S: Served, R, W: Write>(
     alloc: Global,
     served: &mut S,
@@ -31,6 +32,7 @@ fn do_other<S: Served, R, W: Write>(
 ) -> Result<(), ChannelFault>
     requires request { IsRequest request.now }
     requires no_offer { (counts : List ℕ) → request.now ≢ Offer counts }
+    requires no_dump { request.now ≢ Dump }
     ensures does { DoesOne (record { list = S.list; reads = S.reads; writes = S.writes; reopens = S.reopens }) served.old request.now (W.contents channel.old.writer) (W.contents channel.new.writer) result served.new }
     ensures fault { IfErr result IsServeFault }
     ensures stopped { IfErr result (Stops channel.new.read_failed channel.new.write_failed channel.new.turns_left) }
@@ -64,6 +66,7 @@ fn do_one<S: Served, G: RequestGate, R, W: Write>(
             answer_offer_on(alloc, served, counts, channel)?;
             Ok(())
         }
+        Frame::Dump => answer_dump(alloc, served, channel),
         _ => do_other(alloc, served, request, channel),
     }
 }

@@ -1,4 +1,4 @@
-ghost use Rattle.std.specs.Prelude.{◌≡◌, ◌≤◌, ◌<◌, ◌+◌, ◌⊎◌, ℕ, [], None, Err, IfOk, MatchResult, length, slice_index, sum, take};
+ghost use Rattle.std.specs.Prelude.{◌≡◌, ◌≤◌, ◌<◌, ◌+◌, ◌⊎◌, ℕ, [], None, Err, IfOk, MatchResult, drop, length, slice_index, sum, take};
 ghost use Rattle.std.specs.Vec.Iter.{into_iter_items};
 ghost use Rattle.bayou_base.specs.declared.limits.TheConstants.{MAX_WRITES};
 ghost use Rattle.bayou_lang.specs.Writes.{count_of, lacking_of};
@@ -257,6 +257,19 @@ impl<D: Device, L: Desks> Held<D, L> {
         // The limit, below which all that is held stays, is within its range.
         let _limit = self.server.limit();
         self.server.dump(alloc)
+    }
+
+    /// As [`Server::dump_part`].
+    pub fn dump_part(
+        &self,
+        alloc: Global,
+        place: usize,
+        most: usize,
+    ) -> Result<Vec<RestingWrite>, AllocError>
+        ensures value { IfOk result (λ writes. writes.items ≡ take most (drop place self.now.server.core.held)) }
+        ensures exact { IsExact L.begun self.now }
+    {
+        self.server.dump_part(alloc, place, most)
     }
 
     /// What the books come to, where all desks are back. Else books and desks come back.

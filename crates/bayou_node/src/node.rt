@@ -1,4 +1,4 @@
-ghost use Rattle.std.specs.Prelude.{◌≡◌, ◌≤◌, ◌<◌, ◌^◌, ℕ, List, [], None, Err, IfOk, MatchResult, length, take};
+ghost use Rattle.std.specs.Prelude.{◌≡◌, ◌≤◌, ◌<◌, ◌^◌, ℕ, List, [], None, Err, IfOk, MatchResult, drop, length, take};
 ghost use Rattle.bayou_base.specs.Vector.{Dominates};
 ghost use Rattle.bayou_base.specs.declared.limits.TheConstants.{MAX_WRITES};
 ghost use Rattle.bayou_lang.specs.declared.write.Write.{Write};
@@ -194,6 +194,20 @@ impl<D: Device, L: Desks> Node<D, L> {
         ensures few { IfOk result (λ writes. length writes.items ≤ MAX_WRITES) }
     {
         self.held.lock(rt).dump(alloc)
+    }
+
+    /// As [`Held::dump_part`].
+    pub fn dump_part<R: Wait>(
+        &self,
+        rt: &R,
+        alloc: Global,
+        place: usize,
+        most: usize,
+    ) -> Result<Vec<RestingWrite>, AllocError>
+        ensures value { InSome L.begun (λ core. IfOk result (λ writes. writes.items ≡ take most (drop place core.held))) }
+        ensures few { IfOk result (λ writes. length writes.items ≤ most) }
+    {
+        self.held.lock(rt).dump_part(alloc, place, most)
     }
 
     /// What the books come to, where all desks are back; the server is dropped, and its device with it. Else node and desks come back.

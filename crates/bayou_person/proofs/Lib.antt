@@ -1,5 +1,6 @@
 pub mod Claiming
 pub mod Once
+pub mod Places
 pub mod Sound
 pub mod Telling
 pub mod Zipped

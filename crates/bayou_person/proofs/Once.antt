@@ -1,5 +1,6 @@
 -- A line says one thing.
-use Rattle.std.proofs.Common.{◌≡◌, ◌∙◌, ◌&&◌, ℤ, true, false, List, [], ◌∷◌, ◌++◌, ap, ap₂, arith, codes, drop, eq-eqb, get_or, length, refl, subst, sym, true≢false}
+use Rattle.std.proofs.Common.{◌≡◌, ◌∙◌, ◌&&◌, ℕ, ℤ, Option, None, Some, true, false, List, [], ◌∷◌, ◌++◌, ap, ap₂, arith, codes, drop, eq-eqb, get_or, length, refl, subst, sym, true≢false}
+use Rattle.std.proofs.lemmas.Fmt.{signed_decimal_injective}
 use Rattle.std.proofs.lemmas.List.{length-append}
 use Rattle.std.specs.Str.Parse.{digits_value, without_leading_plus}
 use Rattle.bayou_lang.specs.Laws.Equality.{server-ext}
@@ -51,13 +52,19 @@ differ words one other apart first second =
     absurd (true≢false (sym (same_self (first_of one)) ∙ ap (bytes_eq (first_of one)) same ∙ apart))
 
 reads_once : (word : Word) (one other : ℤ) → Reads word one → Reads word other → one ≡ other
-reads_once word one other first second = first.is ∙ sym second.is
+reads_once word one other first second =
+    signed_decimal_injective one other first.fits.sfits second.fits.sfits (sym first.is ∙ second.is)
+
+-- the text, where there is one
+abbrev text_or_none : Option (List ℕ) → List ℕ
+text_or_none None = []
+text_or_none (Some text) = text
 
 value_once : (word : Word) (one other : Value) → IsValueOf word one → IsValueOf word other → one ≡ other
 value_once word (Num one) (Num other) first second = ap Num (reads_once word one other first second)
 value_once word (Num one) (Text other) first second = absurd (second.2 one first)
 value_once word (Text one) (Num other) first second = absurd (first.2 other second)
-value_once word (Text one) (Text other) first second = ap Text (first.0 ∙ sym second.0)
+value_once word (Text one) (Text other) first second = ap Text (ap text_or_none (sym first.0 ∙ second.0))
 
 -- two lists with a last one more
 pub same_ends : {A : Type 0} (xs ys : List A) (x y : A) → xs ++ x ∷ [] ≡ ys ++ y ∷ [] → (xs ≡ ys) × (x ≡ y)

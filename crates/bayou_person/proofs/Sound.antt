@@ -178,7 +178,7 @@ no_fault words wish (fault.Key why) says (other, front, key, after, formed, plac
     let key_is : key_fault key ≡ None = good.keys front key after rests (subst (λ word. is_key_place word (length front) (length after) ≡ true) (sym same) place) in
     let both : None ≡ Some why = sym key_is ∙ bad in
     absurd (cc)
-no_fault words wish fault.Value says (other, keys, word, formed, one, all, none) =
+no_fault words wish (fault.Value why) says (other, keys, word, formed, one, all, reason, none) =
     let (first, behind, is, good) = said words wish says in
     let same = first_is words first other behind (keys ++ word ∷ []) is formed.is in
     let rests = rest_is words first other behind (keys ++ word ∷ []) is formed.is in

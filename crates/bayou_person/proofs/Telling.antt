@@ -5,11 +5,11 @@ use Rattle.std.proofs.lemmas.List.Elements.{All-cons, All-nil, All-push}
 use Rattle.bayou_base.specs.Key.{key_fault}
 use Rattle.bayou_base.specs.declared.key.KeyFault.{KeyFault}
 use Rattle.bayou_base.specs.declared.limits.TheConstants.{MAX_ALTERNATIVES}
-use Rattle.bayou_base.specs.declared.value.Value.{Value}
 use Rattle.bayou_lang.specs.Ranges.{IsKey}
 use Rattle.bayou_person.specs.declared.wish.WishFault.{WishFault}
 use Rattle.bayou_person.specs.declared.wish.WishFault.TheVariants as fault
-use Rattle.bayou_person.specs.Wishes.{Faults, IsValueOf, Word, is_first, is_key_place, takes}
+use Rattle.bayou_person.specs.Inner.Values.{IsValueFault}
+use Rattle.bayou_person.specs.Wishes.{Faults, Word, is_first, is_key_place, is_one_of, takes}
 
 -- the word behind the first is no key
 pub first_key : (first key : Word) (after : List Word) (why : KeyFault) → is_first first ≡ true → takes first (length (key ∷ after)) ≡ true
@@ -48,10 +48,22 @@ claim_other key others good other after word why within is split all bad =
       bad,
     )
 
-pub claim_value : (key : Word) (others : List Word) (word : Word) → length others ≤ MAX_ALTERNATIVES → IsKey key → All IsKey others
-    → ((value : Value) → ¬ (IsValueOf word value)) → Faults (codes "claim" ∷ key ∷ others ++ word ∷ []) fault.Value
-claim_value key others word within is all none =
-    (codes "claim", key ∷ others, word, record { is = refl; known = refl; fits = claim_takes key others word within }, refl, All-cons IsKey key others is all, none)
+-- the last word is no value, for this reason
+pub value_told : (first : Word) (keys : List Word) (word : Word) (told : WishFault) → is_first first ≡ true → takes first (length (keys ++ word ∷ [])) ≡ true
+    → is_one_of (codes "put" ∷ codes "claim" ∷ []) first ≡ true → All IsKey keys → IsValueFault word told → Faults (first ∷ keys ++ word ∷ []) told
+value_told first keys word fault.Word known fits one all why = absurd why
+value_told first keys word fault.Count known fits one all why = absurd why
+value_told first keys word (fault.Key bad) known fits one all why = absurd why
+value_told first keys word (fault.Value reason) known fits one all (is, none) =
+    (first, keys, word, record { is = refl; known = known; fits = fits }, one, all, is, none)
+value_told first keys word fault.Number known fits one all why = absurd why
+value_told first keys word fault.Server known fits one all why = absurd why
+value_told first keys word fault.OutOfMemory known fits one all why = tt
+
+pub claim_value : (key : Word) (others : List Word) (word : Word) (told : WishFault) → length others ≤ MAX_ALTERNATIVES → IsKey key → All IsKey others
+    → IsValueFault word told → Faults (codes "claim" ∷ key ∷ others ++ word ∷ []) told
+claim_value key others word told within is all why =
+    value_told (codes "claim") (key ∷ others) word told refl (claim_takes key others word within) refl (All-cons IsKey key others is all) why
 
 -- a list is what stands before a place, what stands there, and the rest
 pub split_at : {A B : Type 0} (f : A → B) (xs : List A) (at : ℕ) (d : A) → at < length xs → map f xs ≡ map f (take at xs) ++ f (get_or xs at d) ∷ map f (drop (suc at) xs)

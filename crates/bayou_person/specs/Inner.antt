@@ -1,1 +1,2 @@
 pub mod Alternatives
+pub mod Values

@@ -1,9 +1,13 @@
--- What a person asks for in a line: its words, and what they say. The forms are this project's own.
-use Rattle.std.specs.Prelude.{◌≡◌, ◌⊎◌, ◌≤◌, ◌+◌, ◌==◌, ◌&&◌, if◌then◌else◌, ℕ, ℤ, Bool, true, false, List, [], ◌∷◌, ◌++◌, All, FitsSigned, Some, codes, filter, length, nat_le, nat_lt}
+-- What a person asks for in a line: its words, and what they say. The forms are this project's own; texts in double quotes are those of RFC 8259.
+use Rattle.std.specs.Prelude.{◌≡◌, ◌⊎◌, ◌≤◌, ◌+◌, ◌==◌, ◌&&◌, if◌then◌else◌, ℕ, ℤ, Bool, true, false, List, [], ◌∷◌, ◌++◌, All, FitsSigned, IsSomeAnd, Option, None, Some, codes, drop, filter, length, nat_le, nat_lt, option_and_then, slice_index}
+use Rattle.std.specs.Char.{is_ascii_digit}
+use Rattle.std.specs.Fmt.{signed_decimal}
 use Rattle.std.specs.Int.{w64}
-use Rattle.std.specs.List.{list_any, slice_split}
+use Rattle.std.specs.List.{after_first, before_first, list_all, list_any, position_or_len, slice_split}
 use Rattle.std.specs.Str.{bytes_eq}
-use Rattle.std.specs.Str.Parse.{IsNumeral, digits_value, signed_digits_value, without_leading_plus, without_leading_sign}
+use Rattle.std.specs.Str.Parse.{IsNumeral, digits_value, without_leading_plus, without_leading_sign}
+use Rattle.serde_json.specs.Find.{as_str}
+use Rattle.serde_json.specs.Read.{read}
 use Rattle.bayou_base.specs.Key.{key_fault}
 use Rattle.bayou_base.specs.Text.{IsShort}
 use Rattle.bayou_base.specs.declared.limits.TheConstants.{MAX_ALTERNATIVES}
@@ -13,6 +17,8 @@ use Rattle.bayou_base.specs.declared.value.Value.TheVariants.{Num, Text}
 use Rattle.bayou_lang.specs.Ranges.{IsKey}
 use Rattle.bayou_person.specs.declared.wish.Wish.{Wish}
 use Rattle.bayou_person.specs.declared.wish.Wish.TheVariants.{Put, Add, Del, Claim, Get, At, List as Whole, Servers, Session, Dump}
+use Rattle.bayou_person.specs.declared.wish.ValueFault.{ValueFault}
+use Rattle.bayou_person.specs.declared.wish.ValueFault.TheVariants as values
 use Rattle.bayou_person.specs.declared.wish.WishFault.{WishFault}
 use Rattle.bayou_person.specs.declared.wish.WishFault.TheVariants as fault
 
@@ -20,25 +26,58 @@ use Rattle.bayou_person.specs.declared.wish.WishFault.TheVariants as fault
 abbrev pub Word : Type 0
 Word = List ℕ
 
--- the words of a line: its parts between spaces that have a byte
-abbrev pub words_of : List ℕ → List Word
-words_of text = filter (λ part. nat_lt 0 (length part)) (slice_split (λ byte. byte == 32) text)
+-- the parts of a text between spaces that have a byte
+abbrev pub spaced : List ℕ → List Word
+spaced text = filter (λ part. nat_lt 0 (length part)) (slice_split (λ byte. byte == 32) text)
 
--- the word reads as this number, in decimal digits, behind a sign or none, and the number is an i64
+-- a double quote
+abbrev pub is_quote : ℕ → Bool
+is_quote byte = byte == 34
+
+-- the words of a line: those between its spaces, and from its first double quote on one word
+abbrev pub words_of : List ℕ → List Word
+words_of text =
+    if nat_lt (position_or_len is_quote text) (length text) then spaced (before_first is_quote text) ++ drop (position_or_len is_quote text) text ∷ []
+    else spaced text
+
+-- the word reads as this number, an i64: it is its decimal digits, behind a minus where it is below 0
 pub record Reads (word : Word) (number : ℤ) : Type 0 where
-  pub digits : IsNumeral 10 (without_leading_sign word)
-  pub fits : FitsSigned w64 (signed_digits_value 10 word)
-  pub is : number ≡ signed_digits_value 10 word
+  pub fits : FitsSigned w64 number
+  pub is : word ≡ signed_decimal number
+
+-- a point
+abbrev pub is_point : ℕ → Bool
+is_point byte = byte == 46
+
+-- the word looks like a number: digits, with a point among them or none, behind a sign or none
+abbrev pub looks_like_number : Word → Bool
+looks_like_number word =
+    let digits = without_leading_sign word in
+    list_any is_ascii_digit digits && list_all is_ascii_digit (before_first is_point digits) && list_all is_ascii_digit (after_first is_point digits)
+
+-- the word begins with a double quote
+abbrev pub begins_quoted : Word → Bool
+begins_quoted word = is_quote (slice_index word 0)
+
+-- the text that a word stands for, if it is one: what JSON reads there where it begins with a double quote; else itself, unless it looks like a number
+abbrev pub text_of : Word → Option (List ℕ)
+text_of word = if begins_quoted word then option_and_then as_str (read word) else if looks_like_number word then None else Some word
 
 -- the word reads as the number of this server
 pub record ReadsServer (word : Word) (server : ServerId) : Type 0 where
   pub digits : IsNumeral 10 (without_leading_plus word)
   pub is : server.index ≡ digits_value 10 (without_leading_plus word)
 
--- a value is a number where the word reads as one, and else the word as a text, where that is short enough
+-- a value is a number where the word reads as one, and else the text that the word stands for, where that is short enough
 abbrev pub IsValueOf : Word → Value → Type 0
 IsValueOf word (Num number) = Reads word number
-IsValueOf word (Text text) = (text ≡ word) × IsShort word × ((number : ℤ) → ¬ (Reads word number))
+IsValueOf word (Text text) = (text_of word ≡ Some text) × IsShort text × ((number : ℤ) → ¬ (Reads word number))
+
+-- why it is no value
+abbrev pub IsNoValue : Word → ValueFault → Type 0
+IsNoValue word values.Number = (begins_quoted word ≡ false) × (looks_like_number word ≡ true) × ((number : ℤ) → ¬ (Reads word number))
+IsNoValue word values.Quoted = (begins_quoted word ≡ true) × (text_of word ≡ None)
+IsNoValue word values.TooLong = IsSomeAnd (text_of word) (λ text. ¬ (IsShort text))
 
 -- the words say this
 abbrev pub Says : List Word → Wish → Type 0
@@ -92,8 +131,8 @@ Faults words fault.Word = (words ≡ []) ⊎ ((first : Word) × (behind : List W
 Faults words fault.Count = (first : Word) × (behind : List Word) × (words ≡ first ∷ behind) × (is_first first ≡ true) × (takes first (length behind) ≡ false)
 Faults words (fault.Key why) = (first : Word) × (good : List Word) × (key : Word) × (after : List Word) × IsFormed words first (good ++ key ∷ after)
     × (is_key_place first (length good) (length after) ≡ true) × All IsKey good × (key_fault key ≡ Some why)
-Faults words fault.Value = (first : Word) × (keys : List Word) × (word : Word) × IsFormed words first (keys ++ word ∷ [])
-    × (is_one_of (codes "put" ∷ codes "claim" ∷ []) first ≡ true) × All IsKey keys × ((value : Value) → ¬ (IsValueOf word value))
+Faults words (fault.Value why) = (first : Word) × (keys : List Word) × (word : Word) × IsFormed words first (keys ++ word ∷ [])
+    × (is_one_of (codes "put" ∷ codes "claim" ∷ []) first ≡ true) × All IsKey keys × IsNoValue word why × ((value : Value) → ¬ (IsValueOf word value))
 Faults words fault.Number = (key : Word) × (word : Word) × (words ≡ codes "add" ∷ key ∷ word ∷ []) × IsKey key × ((number : ℤ) → ¬ (Reads word number))
 Faults words fault.Server = (word : Word) × (words ≡ codes "at" ∷ word ∷ []) × ((server : ServerId) → ¬ (ReadsServer word server))
 Faults words fault.OutOfMemory = Unit {0}

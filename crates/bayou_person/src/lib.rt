@@ -4,14 +4,15 @@
 //! which wish, a row for each form, and `Faults` why words are none. Of a wish that is a Write [`Wish::program`] is what the Write does; what
 //! that means for a database stands in `specs/Doing`, in the words of the merge language.
 //!
-//! Nothing here knows of servers, sessions or connections, or takes memory but for the list of a line's words.
+//! Nothing here knows of servers, sessions or connections, or takes memory but for the list of a line's words and a text in double quotes.
 #![tactic(auto)]
 
 pub mod doing;
 pub mod laws;
+mod number;
 pub mod reading;
 pub mod wish;
 mod words;
 
 pub use reading::wish_in;
-pub use wish::{Wish, WishFault};
+pub use wish::{ValueFault, Wish, WishFault};

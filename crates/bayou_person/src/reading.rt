@@ -1,19 +1,23 @@
 //! From a line to what is asked for in it.
-ghost use Rattle.std.specs.Prelude.{◌≡◌, ◌≤◌, ◌∷◌, ◌++◌, [], All, ℕ, ℤ, List, MatchResult, Some, codes, length, map};
+ghost use Rattle.std.specs.Prelude.{◌≡◌, ◌≤◌, ◌∷◌, ◌++◌, [], All, ℕ, ℤ, IfOk, List, MatchResult, Some, codes, length, map, option_map, true};
 ghost use Rattle.bayou_base.specs.declared.key.KeyFault.{KeyFault};
 ghost use Rattle.bayou_base.specs.declared.limits.TheConstants.{MAX_ALTERNATIVES};
 ghost use Rattle.bayou_base.specs.declared.server.ServerId.{ServerId};
-ghost use Rattle.bayou_base.specs.declared.value.Value.{Value as Worth};
 ghost use Rattle.bayou_base.specs.Key.{key_fault};
 ghost use Rattle.bayou_lang.specs.Ranges.{IsKey};
-ghost use Rattle.bayou_person.specs.declared.wish.WishFault.TheVariants.{Key as BadKey, Number as BadNumber, Server as BadServer, Value as BadValue};
-ghost use Rattle.bayou_person.specs.Wishes.{Faults, IsFaultOf, IsValueOf, Reads, ReadsServer, Says, Wishes};
+ghost use Rattle.bayou_person.specs.declared.wish.WishFault.TheVariants.{Key as BadKey, Number as BadNumber, Server as BadServer};
+ghost use Rattle.bayou_person.specs.Inner.Values.{IsValueFault};
+ghost use Rattle.bayou_person.specs.Wishes.{Faults, IsFaultOf, IsValueOf, Reads, ReadsServer, Says, Wishes, begins_quoted, text_of};
+ghost use Rattle.serde_json.specs.Read.{read as json_of};
+ghost use Rattle.serde_json.specs.View.{view};
 
-use crate::wish::{Wish, WishFault};
-use crate::words::words_in;
+use crate::number::{looks_like_number, number_in};
+use crate::wish::{ValueFault, Wish, WishFault};
+use crate::words::{begins_quoted, words_in};
 use arrayvec::ArrayVec;
 use bayou_base::{Key, MAX_ALTERNATIVES, ServerId, Value};
-use std::alloc::Global;
+use serde_json::Value as Json;
+use std::alloc::{AllocError, Global};
 
 fn key_in(word: &str) -> Result<Key, WishFault>
     ensures { MatchResult result (λ key. IsKey word.now × (key ≡ word.now)) (λ fault. (why : KeyFault) × (fault ≡ BadKey why) × (key_fault word.now ≡ Some why)) }
@@ -24,25 +28,57 @@ fn key_in(word: &str) -> Result<Key, WishFault>
     }
 }
 
-fn number_in(word: &str) -> Result<i64, WishFault>
-    ensures { MatchResult result (λ number. Reads word.now number) (λ fault. (fault ≡ BadNumber) × ((number : ℤ) → ¬ (Reads word.now number))) }
+// What JSON reads in the text, if it reads something.
+fn json_in(alloc: Global, text: &str) -> Result<Option<Json>, AllocError>
+    ensures { IfOk result (λ json. option_map view json ≡ json_of text.now) }
 {
-    match word.parse::<i64>() {
-        Ok(number) => Ok(number),
-        Err(_) => Err(WishFault::Number),
+    match Json::from_str(alloc, text) {
+        Ok(json) => Ok(Some(json)),
+        Err(fault) if fault.is_memory() => Err(AllocError),
+        Err(_) => Ok(None),
     }
 }
 
-fn value_in(word: &str) -> Result<Value, WishFault>
-    ensures { MatchResult result (λ value. IsValueOf word.now value) (λ fault. (fault ≡ BadValue) × ((value : Worth) → ¬ (IsValueOf word.now value))) }
+// The text as a value, which begins with a double quote or doesn't look like a number.
+fn text_in(word: &str, text: &str) -> Result<Value, WishFault>
+    requires text { text_of word.now ≡ Some text.now }
+    requires none { (number : ℤ) → ¬ (Reads word.now number) }
+    ensures { MatchResult result (IsValueOf word.now) (IsValueFault word.now) }
+{
+    match Value::text(text) {
+        Some(value) => Ok(value),
+        None => Err(WishFault::Value(ValueFault::TooLong)),
+    }
+}
+
+// The text that stands in double quotes, as a value.
+fn quoted_in(alloc: Global, word: &str) -> Result<Value, WishFault>
+    requires quoted { begins_quoted word.now ≡ true }
+    requires none { (number : ℤ) → ¬ (Reads word.now number) }
+    ensures { MatchResult result (IsValueOf word.now) (IsValueFault word.now) }
+{
+    let Some(json) = json_in(alloc, word)? else {
+        return Err(WishFault::Value(ValueFault::Quoted));
+    };
+    let Some(text) = json.as_str() else {
+        return Err(WishFault::Value(ValueFault::Quoted));
+    };
+    text_in(word, text)
+}
+
+fn value_in(alloc: Global, word: &str) -> Result<Value, WishFault>
+    ensures { MatchResult result (IsValueOf word.now) (IsValueFault word.now) }
 {
     if let Ok(number) = number_in(word) {
         return Ok(Value::Num(number));
     }
-    match Value::text(word) {
-        Some(value) => Ok(value),
-        None => Err(WishFault::Value),
+    if begins_quoted(word) {
+        return quoted_in(alloc, word);
     }
+    if looks_like_number(word) {
+        return Err(WishFault::Value(ValueFault::Number));
+    }
+    text_in(word, word)
 }
 
 fn server_in(word: &str) -> Result<ServerId, WishFault>
@@ -71,19 +107,19 @@ fn keys_in(words: &[&str]) -> Result<ArrayVec<Key, MAX_ALTERNATIVES>, WishFault>
     Ok(keys)
 }
 
-fn put_of(key: &str, word: &str) -> Result<Wish, WishFault>
+fn put_of(alloc: Global, key: &str, word: &str) -> Result<Wish, WishFault>
     ensures { MatchResult result (Says (codes "put" ∷ key.now ∷ word.now ∷ [])) (Faults (codes "put" ∷ key.now ∷ word.now ∷ [])) }
 {
     let key = key_in(key)?;
-    let value = value_in(word)?;
+    let value = value_in(alloc, word)?;
     Ok(Wish::Put { key, value })
 }
 
-fn put_in(behind: &[&str]) -> Result<Wish, WishFault>
+fn put_in(alloc: Global, behind: &[&str]) -> Result<Wish, WishFault>
     ensures { MatchResult result (Says (codes "put" ∷ map (λ word. word.now) behind.now)) (Faults (codes "put" ∷ map (λ word. word.now) behind.now)) }
 {
     match behind {
-        [key, word] => put_of(key, word),
+        [key, word] => put_of(alloc, key, word),
         _ => Err(WishFault::Count),
     }
 }
@@ -121,22 +157,24 @@ fn del_in(behind: &[&str]) -> Result<Wish, WishFault>
     }
 }
 
-fn claim_of(key: &str, others: &[&str], word: &str) -> Result<Wish, WishFault>
+fn claim_of(alloc: Global, key: &str, others: &[&str], word: &str) -> Result<Wish, WishFault>
     requires { length others.now ≤ MAX_ALTERNATIVES }
     ensures { MatchResult result (Says (codes "claim" ∷ key.now ∷ map (λ word. word.now) others.now ++ word.now ∷ []))
         (Faults (codes "claim" ∷ key.now ∷ map (λ word. word.now) others.now ++ word.now ∷ [])) }
 {
     let key = key_in(key)?;
     let others = keys_in(others)?;
-    let value = value_in(word)?;
+    let value = value_in(alloc, word)?;
     Ok(Wish::Claim { key, others, value })
 }
 
-fn claim_in(behind: &[&str]) -> Result<Wish, WishFault>
+fn claim_in(alloc: Global, behind: &[&str]) -> Result<Wish, WishFault>
     ensures { MatchResult result (Says (codes "claim" ∷ map (λ word. word.now) behind.now)) (Faults (codes "claim" ∷ map (λ word. word.now) behind.now)) }
 {
     match behind {
-        [key, others @ .., word] if others.len() <= MAX_ALTERNATIVES => claim_of(key, others, word),
+        [key, others @ .., word] if others.len() <= MAX_ALTERNATIVES => {
+            claim_of(alloc, key, others, word)
+        }
         _ => Err(WishFault::Count),
     }
 }
@@ -212,17 +250,17 @@ fn dump_in(behind: &[&str]) -> Result<Wish, WishFault>
     }
 }
 
-fn wish_of(words: &[&str]) -> Result<Wish, WishFault>
+fn wish_of(alloc: Global, words: &[&str]) -> Result<Wish, WishFault>
     ensures { MatchResult result (Says (map (λ word. word.now) words.now)) (Faults (map (λ word. word.now) words.now)) }
 {
     let [first, behind @ ..] = words else {
         return Err(WishFault::Word);
     };
     match *first {
-        "put" => put_in(behind),
+        "put" => put_in(alloc, behind),
         "add" => add_in(behind),
         "del" => del_in(behind),
-        "claim" => claim_in(behind),
+        "claim" => claim_in(alloc, behind),
         "get" => get_in(behind),
         "at" => at_in(behind),
         "list" => list_in(behind),
@@ -233,10 +271,10 @@ fn wish_of(words: &[&str]) -> Result<Wish, WishFault>
     }
 }
 
-/// What is asked for in a line, which spaces part into words.
+/// What is asked for in a line, which spaces part into words. From a double quote on it is one text, as JSON spells it.
 pub fn wish_in(alloc: Global, text: &str) -> Result<Wish, WishFault>
     ensures { MatchResult result (Wishes text.now) (IsFaultOf text.now) }
 {
     let words = words_in(alloc, text)?;
-    wish_of(words.as_slice())
+    wish_of(alloc, words.as_slice())
 }

@@ -42,26 +42,40 @@ pub enum Wish {
     Dump,
 }
 
+/// Why a word is no value.
+#[derive(Clone, Copy, Debug, PartialEq, Eq, Error)]
+pub enum ValueFault {
+    /// It looks like a number, but isn't an integer of `i64` as it is spelled: a person who types it may mean the one or the other.
+    #[error("a number is an integer of 64 bits, with no zeros in front, plus sign or point; as a text it stands in double quotes")]
+    Number,
+    /// It begins with a double quote, but is no text as JSON spells it.
+    #[error("from a double quote on the line is one text, as JSON spells it")]
+    Quoted,
+    /// It is too long for a text.
+    #[error("a text has at most 32 bytes")]
+    TooLong,
+}
+
 /// Why a line is no wish. The first fault is told: the first word, then how many words there are, then the words from the left.
 #[derive(Clone, Copy, Debug, PartialEq, Eq, Error)]
 pub enum WishFault {
     /// No line begins with its first word, or it has none.
-    #[error("unknown word")]
+    #[error("unknown word; `help` tells the lines that there are")]
     Word,
     /// Such a line has another number of words.
-    #[error("wrong number of words")]
+    #[error("wrong number of words; a text with spaces stands in double quotes")]
     Count,
     /// A word that is to be a key is none.
-    #[error("bad key")]
+    #[error("bad key; a key has 1 to 32 bytes of a-z 0-9 . _ - /")]
     Key(KeyFault),
-    /// The word that is to be a value is too long for a text.
-    #[error("bad value")]
-    Value,
-    /// The word that is to be a number isn't an integer of `i64`.
-    #[error("bad number")]
+    /// The word that is to be a value is none.
+    #[error("bad value; {0}")]
+    Value(ValueFault),
+    /// The word that is to be a number isn't an integer of `i64`, as it is spelled.
+    #[error("bad number; it is an integer of 64 bits, with no zeros in front, plus sign or point")]
     Number,
     /// The word that is to be a server isn't the number of one.
-    #[error("bad server")]
+    #[error("bad server; servers have the numbers 0 to 15")]
     Server,
     /// Memory ran out.
     #[error("memory")]

@@ -7,6 +7,10 @@ use Rattle.bayou_serve.specs.Lived.{PrintsLife}
 use Rattle.bayou_streams.specs.Account.{Account, TakesBytes}
 use Rattle.bayou_streams.specs.Laws.Taken.{TakesBytes-trans}
 
+-- what follows from success, where that is what came about
+pub came_about : {A E P : Type 0} (result : Result A E) {value : A} → result ≡ Ok value → OnOk result P → P
+came_about {P = P} result is follows = subst (λ r. OnOk r P) is follows
+
 pub three_lines : {T E : Type 0} (server servers : ℕ) (a b c d : Account) (address counts : List ℕ) (settled : NodeSettled) (second third : List ℕ) (result : Result T E)
     → TakesBytes a b (serving_text server address servers counts)
     → second ≡ settled_text server settled → TakesBytes b c second

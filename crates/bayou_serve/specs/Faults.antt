@@ -2,7 +2,7 @@
 use Rattle.std.specs.Prelude.{◌≡◌, ◌≢◌, Option, None, Some}
 use Rattle.bayou_journal.specs.declared.careful.Damage.{Damage}
 use Rattle.bayou_serve.specs.declared.fault.ServeFault.{ServeFault}
-use Rattle.bayou_serve.specs.declared.fault.ServeFault.TheVariants.{NotOpened, Missing, Present, Device, Damaged, NotAJournal, OtherServer, BadRecord, Gap, LogFull, OwnLost, Lost, MarkFailed, NotRestored, Memory, Port, Output}
+use Rattle.bayou_serve.specs.declared.fault.ServeFault.TheVariants.{NotOpened, Missing, Present, Device, Damaged, NotAJournal, OtherServer, BadRecord, Gap, LogFull, OwnLost, Lost, MarkFailed, NotRestored, Memory, Port, NoDescriptor, Output}
 use Rattle.bayou_serve.specs.declared.fault.Unrestored.TheVariants as why
 use Rattle.bayou_serve.specs.declared.plan.Beginning.{Beginning}
 use Rattle.bayou_serve.specs.declared.plan.Beginning.TheVariants.{GoOn}
@@ -12,9 +12,9 @@ use Rattle.bayou_server.specs.declared.fault.JournalFault.TheVariants as journal
 use Rattle.bayou_server.specs.declared.fault.StartFault.{StartFault}
 use Rattle.bayou_server.specs.declared.fault.StartFault.TheVariants as starts
 
--- each but those of memory, of the socket and of the output
+-- each but those of memory, of the socket, of descriptors and of the output
 abbrev pub IsOfJournal : ServeFault → Type 0
-IsOfJournal fault = (fault ≢ Memory) × (fault ≢ Port) × (fault ≢ Output)
+IsOfJournal fault = (fault ≢ Memory) × (fault ≢ Port) × (fault ≢ NoDescriptor) × (fault ≢ Output)
 
 -- A start that was refused is told by its own name. Where the device refused a cut, the damage is told in place of the call that failed.
 abbrev pub told_as : StartFault → Option Damage → ServeFault
@@ -52,6 +52,7 @@ MayEndStart beginning Lost = ⊥
 MayEndStart beginning MarkFailed = ⊥
 MayEndStart beginning (NotRestored why) = ⊥
 MayEndStart beginning Port = ⊥
+MayEndStart beginning NoDescriptor = ⊥
 MayEndStart beginning Output = ⊥
 MayEndStart beginning _ = Unit {0}
 

@@ -8,6 +8,7 @@ pub mod Marks
 pub mod News
 pub mod Receiving
 pub mod Remade
+pub mod Straying
 pub mod Told
 pub mod Visits
 pub mod Words

@@ -76,6 +76,9 @@ pub enum ServeFault {
     Memory,
     #[error("no socket can be listened at there")]
     Port,
+    /// A connection takes one.
+    #[error("no more files may be open, so no connection can be taken: raise that limit (ulimit -n)")]
+    NoDescriptor,
     #[error("output")]
     Output,
 }
@@ -90,7 +93,7 @@ impl ServeFault {
     {
         !matches!(
             self,
-            ServeFault::Memory | ServeFault::Port | ServeFault::Output
+            ServeFault::Memory | ServeFault::Port | ServeFault::NoDescriptor | ServeFault::Output
         )
     }
 }

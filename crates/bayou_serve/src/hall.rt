@@ -2,7 +2,9 @@
 ghost use Rattle.std.specs.Prelude.{◌≡◌, ◌*◌, ℕ, min, nat_le, if◌then◌else◌};
 ghost use Rattle.bayou_base.specs.declared.limits.TheConstants.{CROWDED_MILLISECONDS};
 
+use crate::notice::Notice;
 use bayou_base::limits::CROWDED_MILLISECONDS;
+use bayou_net::Leave;
 use std::sync::atomic::{AtomicBool, AtomicU64, Ordering};
 use std::sync::{OnceLock, OnceToken, Wait};
 
@@ -14,8 +16,16 @@ pub struct Hall {
     pub stop: AtomicBool,
     /// Whether a thread didn't start.
     pub is_short: AtomicBool,
+    /// Set once the peers were asked whether the server lost Writes of its own.
+    pub opened: OnceLock<()>,
     /// Set once the server is known to have lost Writes of its own.
     pub lost: OnceLock<()>,
+    /// Set once its journal's file is known to be no more what it wrote.
+    pub strayed: OnceLock<()>,
+    /// When it was told last that a connection can't be taken.
+    pub untaken: Notice,
+    /// When it was told last that connections wait.
+    pub full: Notice,
     busy: AtomicU64,
     desks: u64,
     idle_milliseconds: u64,
@@ -39,7 +49,11 @@ impl Hall {
         Hall {
             stop: AtomicBool::new(false),
             is_short: AtomicBool::new(false),
+            opened: OnceLock::new(),
             lost: OnceLock::new(),
+            strayed: OnceLock::new(),
+            untaken: Notice::new(),
+            full: Notice::new(),
             busy: AtomicU64::new(0),
             desks: u64::from(desks),
             idle_milliseconds: u64::from(idle_seconds) * MILLISECONDS,
@@ -56,6 +70,30 @@ impl Hall {
         self.stop.store(true, Ordering::SeqCst);
     }
 
+    /// Writes may be made from now on. What comes back shows that this is known.
+    pub fn open<T: Wait>(&self, rt: &T) -> OnceToken<'_, ()>
+        ensures { result.of ≡ self.now.opened.id }
+    {
+        self.opened.init(rt, || ())
+    }
+
+    /// Whether it was opened. What other threads know no clause can say.
+    pub fn is_opened(&self) -> bool {
+        self.opened.get().is_some()
+    }
+
+    /// Its journal's file is no more what it wrote: no desk takes a Write any more. What comes back shows that this is known.
+    pub fn stray<T: Wait>(&self, rt: &T) -> OnceToken<'_, ()>
+        ensures { result.of ≡ self.now.strayed.id }
+    {
+        self.strayed.init(rt, || ())
+    }
+
+    /// Whether its journal's file is known to be no more what it wrote.
+    pub fn has_strayed(&self) -> bool {
+        self.strayed.get().is_some()
+    }
+
     /// Whether the server is known to have lost Writes of its own. What other threads know no clause can say.
     pub fn has_lost(&self) -> bool {
         self.lost.get().is_some()
@@ -66,6 +104,13 @@ impl Hall {
         ensures { result.of ≡ self.now.lost.id }
     {
         self.lost.init(rt, || ())
+    }
+
+    /// How long a connection that has a place may ask nothing.
+    pub fn idle_milliseconds(&self) -> u64
+        ensures { result ≡ self.now.idle_milliseconds }
+    {
+        self.idle_milliseconds
     }
 
     /// A desk is taken.
@@ -87,5 +132,15 @@ impl Hall {
             self.desks,
             self.idle_milliseconds,
         )
+    }
+}
+
+impl Leave for Hall {
+    fn is_open(&self) -> bool {
+        self.is_opened() && self.may_reopen()
+    }
+
+    fn may_reopen(&self) -> bool {
+        !self.has_lost() && !self.has_strayed()
     }
 }

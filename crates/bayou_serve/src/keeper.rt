@@ -10,7 +10,7 @@ use crate::filling::Filling;
 use crate::hall::Hall;
 use crate::lines::{holds_line, reopened_line};
 use crate::marking::{Mark, UNMARKED};
-use crate::peers::{TICKS_PER_SECOND, tick};
+use crate::peers::{TICKS_PER_SECOND, rest_until_open, tick};
 use crate::reminding::Reminder;
 use crate::teller::Teller;
 use bayou_base::Vector;
@@ -82,8 +82,8 @@ fn rest_until_look<T: Clock>(rt: &T, hall: &Hall, has_lost: bool) {
     }
 }
 
-/// Opens the journal again, where a fault of the device took the server down, and tells when the server fills up, and that it lost Writes of its
-/// own, until it ends. Which step is told is [`Filling`]'s, and when a loss is told again [`Reminder`]'s; that it is told, and that a journal is opened
+/// Once Writes may be made, opens the journal again, where a fault of the device took the server down and its file hasn't strayed, and tells when the
+/// server fills up, and that it lost Writes of its own, until it ends. Which step is told is [`Filling`]'s, and when a loss is told again [`Reminder`]'s; that it is told, and that a journal is opened
 /// again, no clause can say.
 pub(crate) fn keep_up<D: Device, L: Desks, M: Device, E: Write, T: Wait + Clock>(
     rt: &T,
@@ -94,6 +94,7 @@ pub(crate) fn keep_up<D: Device, L: Desks, M: Device, E: Write, T: Wait + Clock>
     mark: &Mark<M>,
     teller: &Teller<E>,
 ) {
+    rest_until_open(rt, hall);
     let mut filling = Filling::new();
     let mut reminder = Reminder::new();
     for _ in rt.forever() {
@@ -101,7 +102,9 @@ pub(crate) fn keep_up<D: Device, L: Desks, M: Device, E: Write, T: Wait + Clock>
             return;
         }
         // A server that is up says so, which is no news.
-        if let Ok(reopened) = node.reopen(rt, alloc) {
+        if !hall.has_strayed()
+            && let Ok(reopened) = node.reopen(rt, alloc)
+        {
             teller.tell_made(rt, reopened_line(alloc, reopened.adopted));
         }
         tell_fullness(rt, alloc, node, limit, &mut filling, teller);

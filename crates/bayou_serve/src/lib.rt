@@ -10,23 +10,31 @@
 //! a thread gets on, that a peer answers, or that a file holds what was written to it.
 #![tactic(auto)]
 
+mod descriptors;
 pub mod fault;
 pub mod filling;
 pub mod hall;
 mod keeper;
 mod lines;
 mod marking;
+pub mod notice;
+pub mod pace;
 mod peers;
 pub mod plan;
 mod reception;
 mod remaking;
 pub mod reminding;
 mod restoring;
+mod rollcall;
+pub mod rooms;
 pub mod serving;
 mod starting;
+mod staying;
+pub mod straying;
 pub mod teller;
 pub mod visit;
 pub mod waiting;
+pub mod watched;
 
 pub use fault::{ServeFault, Unrestored};
 pub use plan::{Beginning, Habits, Peer, Plan, PlanFault};

@@ -1,21 +1,20 @@
 //! The other servers of the store, from which a server that lives takes what it lacks.
 ghost use Rattle.std.specs.Prelude.{◌≡◌, ◌↔◌, IfSome, IsSome, true};
-ghost use Rattle.bayou_serve.specs.Losing.{AsksForOwn};
 ghost use Rattle.bayou_serve.specs.Visits.{Visited};
 
 use crate::hall::Hall;
 use crate::lines::news_line;
 use crate::marking::{Loss, Mark, lose};
+use crate::pace::Pace;
 use crate::plan::Peer;
+use crate::rollcall::{Rollcall, has_own_beyond, rest_while_starting};
 use crate::teller::Teller;
 use crate::visit::{Acquaintance, Outcome, Visit, outcome_of};
 use crate::waiting::{Most, Renewing, Since, Waiting};
 use bayou_base::limits::{PEER_ANSWER_MILLISECONDS, PEER_REACH_SECONDS, TICK_MILLISECONDS};
 use bayou_device::Device;
-use bayou_frames::ChannelFault;
 use bayou_net::{Sockets, pull_tallied};
 use bayou_node::{Desks, Node};
-use bayou_peer::has_lost;
 use bayou_streams::{CountedChannel, Patient};
 use std::alloc::Global;
 use std::io::{Read, Write};
@@ -32,8 +31,8 @@ pub(crate) fn tick<T: Clock>(rt: &T) {
     thread::sleep(rt, Duration::from_millis(TICK_MILLISECONDS));
 }
 
-// Rests so long, or until the server ends.
-fn rest<T: Clock>(rt: &T, hall: &Hall, seconds: u32) {
+/// Rests so long, or until the server ends.
+pub(crate) fn rest<T: Clock>(rt: &T, hall: &Hall, seconds: u32) {
     for _ in 0..u64::from(seconds) * TICKS_PER_SECOND {
         if hall.is_over() {
             return;
@@ -42,13 +41,13 @@ fn rest<T: Clock>(rt: &T, hall: &Hall, seconds: u32) {
     }
 }
 
-/// Whether reads and writes at the socket end in time.
-pub(crate) fn is_timed(stream: &TcpStream) -> bool {
+/// Whether reads at the socket end in time, and writes behind so many milliseconds.
+pub(crate) fn is_timed(stream: &TcpStream, write_milliseconds: u64) -> bool {
     // A socket that can't be told so sends small pieces later.
     let _ = stream.set_nodelay(true);
     let tick = Duration::from_millis(TICK_MILLISECONDS);
-    let answer = Duration::from_millis(PEER_ANSWER_MILLISECONDS);
-    stream.set_read_timeout(Some(tick)).is_ok() && stream.set_write_timeout(Some(answer)).is_ok()
+    let write = Duration::from_millis(write_milliseconds);
+    stream.set_read_timeout(Some(tick)).is_ok() && stream.set_write_timeout(Some(write)).is_ok()
 }
 
 /// A connection to the peer, whose reads and writes end in time, if one comes about.
@@ -58,7 +57,7 @@ pub(crate) fn reach<T: Sockets>(rt: &T, peer: Peer) -> Option<TcpStream> {
         &peer.address,
         Duration::from_secs(PEER_REACH_SECONDS),
     ).ok()?;
-    if is_timed(&stream) {
+    if is_timed(&stream, PEER_ANSWER_MILLISECONDS) {
         Some(stream)
     } else {
         None
@@ -66,25 +65,23 @@ pub(crate) fn reach<T: Sockets>(rt: &T, peer: Peer) -> Option<TcpStream> {
 }
 
 // Takes once what comes of the node's Offer over these streams, whose waits end by `WouldBlock`, and tells what became of that.
-fn visit_over<D: Device, L: Desks, R: Read + Drop, W: Write + Drop, T: Wait + Clock>(
-    rt: &T,
+fn visit_over<'x, D: Device, L: Desks, R: Read + Drop, W: Write + Drop, T: Wait + Clock>(
+    rt: &'x T,
     alloc: Global,
     node: &Node<D, L>,
-    hall: &Hall,
+    hall: &'x Hall,
+    since: &'x Since,
+    pace: &'x Pace,
     reader: R,
     writer: W,
 ) -> Outcome
     ensures { Visited L.begun (R.remaining reader) (W.contents writer) result }
 {
-    let since = Since::now(rt);
-    let patience = Waiting::new(
-        rt,
-        hall,
-        &since,
-        Most::Milliseconds(PEER_ANSWER_MILLISECONDS),
-    );
-    let reader = Renewing::new(Patient::new(reader, patience), rt, &since);
-    let writer = Renewing::new(writer, rt, &since);
+    let most = Most::Paced(PEER_ANSWER_MILLISECONDS, pace);
+    let patience = Waiting::new(rt, hall, since, most);
+    let patient = Patient::new(reader, patience);
+    let reader = Renewing::paced(patient, rt, since, pace);
+    let writer = Renewing::new(writer, rt, since);
     let mut channel = CountedChannel::new(reader, writer);
     let counts = node.offer(rt);
     outcome_of(pull_tallied(rt, alloc, node, &counts, &mut channel))
@@ -99,55 +96,14 @@ fn visit<D: Device, L: Desks, T: Wait + Clock + Sockets>(
     hall: &Hall,
 ) -> Outcome {
     match reach(rt, peer) {
-        Some(stream) => visit_over(rt, alloc, node, hall, &stream, &stream),
+        Some(stream) => {
+            let (since, pace) = (Since::now(rt), Pace::new());
+            visit_over(rt, alloc, node, hall, &since, &pace, &stream, &stream)
+        }
         None => Outcome {
             visit: Visit::Away,
             has_lost: false,
         },
-    }
-}
-
-// Whether the other end of these streams, whose waits end by `WouldBlock`, has a Write of this server which the node lacks.
-fn asked_over<D: Device, L: Desks, R: Read + Drop, W: Write + Drop, T: Wait + Clock>(
-    rt: &T,
-    alloc: Global,
-    node: &Node<D, L>,
-    hall: &Hall,
-    reader: R,
-    writer: W,
-) -> Result<bool, ChannelFault>
-    ensures { AsksForOwn L.begun (R.remaining reader) (W.contents writer) result }
-{
-    let since = Since::now(rt);
-    let patience = Waiting::new(
-        rt,
-        hall,
-        &since,
-        Most::Milliseconds(PEER_ANSWER_MILLISECONDS),
-    );
-    let reader = Renewing::new(Patient::new(reader, patience), rt, &since);
-    let writer = Renewing::new(writer, rt, &since);
-    let mut channel = CountedChannel::new(reader, writer);
-    let id = node.id();
-    let own = node.offer(rt).get(id);
-    has_lost(alloc, id, own, &mut channel)
-}
-
-/// Whether the peer has a Write of this server which the server lacks. One that can't be asked has none, as far as is known. What an answer
-/// says is [`has_lost`]'s; that a peer is reached no clause can say.
-pub(crate) fn has_own_beyond<D: Device, L: Desks, T: Wait + Clock + Sockets>(
-    rt: &T,
-    alloc: Global,
-    node: &Node<D, L>,
-    peer: Peer,
-    hall: &Hall,
-) -> bool {
-    match reach(rt, peer) {
-        Some(stream) => matches!(
-            asked_over(rt, alloc, node, hall, &stream, &stream),
-            Ok(true)
-        ),
-        None => false,
     }
 }
 
@@ -167,8 +123,50 @@ fn heed<'a, M: Device, T: Wait>(
     None
 }
 
-/// Pulls from the peer every so many seconds, until the server ends, and tells what is news: that is [`Acquaintance`]'s. Where the peer tells that the
-/// server lost Writes of its own, that is known and marked from then on. That it pulls, and how often, no clause can say.
+// Asks the peer for the rollcall, and tells where no answer came. Where it tells that the server lost Writes of its own, that is known from then on.
+fn ask_first<D, L, M, E, T>(
+    rt: &T,
+    alloc: Global,
+    node: &Node<D, L>,
+    peer: Peer,
+    hall: &Hall,
+    mark: &Mark<M>,
+    teller: &Teller<E>,
+    rollcall: &Rollcall,
+) -> Acquaintance
+where
+    D: Device,
+    L: Desks,
+    M: Device,
+    E: Write,
+    T: Wait + Clock + Sockets,
+{
+    let mut known = Acquaintance::new();
+    let answer = has_own_beyond(rt, alloc, node, peer, hall, rollcall.since());
+    if answer.is_none()
+        && let Some(news) = known.visited(Visit::Away)
+    {
+        teller.tell_made(rt, news_line(alloc, peer, &news));
+    }
+    let has_lost = answer == Some(true);
+    let _ = heed(rt, hall, mark, has_lost);
+    rollcall.answered(rt, peer.id, has_lost);
+    known
+}
+
+/// Rests until Writes may be made, or the server ends.
+pub(crate) fn rest_until_open<T: Wait + Clock>(rt: &T, hall: &Hall) {
+    for _ in rt.forever() {
+        if hall.is_opened() || hall.is_over() {
+            return;
+        }
+        rest_while_starting(rt);
+    }
+}
+
+/// Asks the peer for the rollcall, and once Writes may be made pulls from it every so many seconds, until the server ends, and tells what is news:
+/// that is [`Acquaintance`]'s. Where the peer tells that the server lost Writes of its own, that is known and marked from then on. Nothing is pulled
+/// into a journal whose file has strayed. That it pulls, and how often, no clause can say.
 pub(crate) fn keep_pulling<D, L, M, E, T>(
     rt: &T,
     alloc: Global,
@@ -178,6 +176,7 @@ pub(crate) fn keep_pulling<D, L, M, E, T>(
     hall: &Hall,
     mark: &Mark<M>,
     teller: &Teller<E>,
+    rollcall: &Rollcall,
 )
 where
     D: Device,
@@ -186,9 +185,10 @@ where
     E: Write,
     T: Wait + Clock + Sockets,
 {
-    let mut known = Acquaintance::new();
+    let mut known = ask_first(rt, alloc, node, peer, hall, mark, teller, rollcall);
+    rest_until_open(rt, hall);
     for _ in rt.forever() {
-        if hall.is_over() {
+        if hall.is_over() || hall.has_strayed() {
             return;
         }
         let Outcome { visit, has_lost } = visit(rt, alloc, node, peer, hall);

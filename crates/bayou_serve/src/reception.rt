@@ -3,30 +3,44 @@ ghost use Rattle.bayou_serve.specs.Receiving.{ServedOver};
 
 use crate::hall::Hall;
 use crate::peers::is_timed;
+use crate::rooms::{Place, Rooms};
 use crate::teller::Teller;
-use crate::waiting::{Most, Renewing, Since, Waiting};
-use bayou_base::limits::{LINGER_MILLISECONDS, PAUSE_SECONDS};
+use crate::waiting::{Heard, Most, Since, Told, Waiting};
+use bayou_base::limits::{LINGER_MILLISECONDS, MAX_WAITS, PAUSE_SECONDS, TICK_MILLISECONDS};
 use bayou_device::Device;
-use bayou_net::{Attendant, Host, NoGate, drop_rest, serve_until_halted};
+use bayou_frames::ChannelFault;
+use bayou_net::{Attendant, Host, NoGate, drop_rest, serve_with_leave};
 use bayou_node::{Desk, Desks, Node};
-use bayou_streams::{CountedChannel, Patient};
+use bayou_streams::{CountedChannel, Patience, Patient};
+use bayou_wire::layout::KIND_OFFER;
 use std::alloc::Global;
-use std::io::{Read, Write};
+use std::io::{ErrorKind, Read, Write};
 use std::net::{Shutdown, TcpStream};
 use std::sync::Wait;
 use std::thread;
 use std::time::{Clock, Duration};
 
-/// A node whose connections are served with patience.
+/// How many milliseconds the front of a frame has to come whole.
+const FRONT_MILLISECONDS: u64 = 50;
+
+/// A node whose connections are served with patience, each at a place of one of the rooms.
 #[derive(Drop)]
 pub(crate) struct Reception<'a, D, L: Desks, C, E> {
     pub(crate) node: &'a Node<D, L>,
     pub(crate) hall: &'a Hall,
+    pub(crate) rooms: &'a Rooms,
     pub(crate) clock: &'a C,
     pub(crate) teller: &'a Teller<E>,
 }
 
-// Serves the requests that come in time, Writes until it is known that some were lost, over these streams, whose waits end by `WouldBlock`.
+/// A connection that was served: the desk, and whether it ended since a stream failed, or was waited for in vain.
+#[derive(Drop)]
+struct Received<L: Desks> {
+    desk: Desk<L>,
+    is_silent: bool,
+}
+
+// Serves the requests that come in time over these streams, whose waits end by `WouldBlock`; Writes as long as the hall gives leave.
 fn serve_over<D: Device, L: Desks, C: Clock, R: Read + Drop, W: Write + Drop, T: Wait>(
     rt: &T,
     alloc: Global,
@@ -34,32 +48,77 @@ fn serve_over<D: Device, L: Desks, C: Clock, R: Read + Drop, W: Write + Drop, T:
     desk: Desk<L>,
     hall: &Hall,
     clock: &C,
+    place: &Place,
     reader: R,
     writer: W,
-) -> Desk<L>
-    ensures { ServedOver L.begun desk result (R.remaining reader) (W.contents writer) }
+) -> Received<L>
+    ensures { ServedOver L.begun desk result.desk (R.remaining reader) (W.contents writer) }
 {
-    let since = Since::now(clock);
-    let reader = Patient::new(reader, Waiting::new(clock, hall, &since, Most::Hall));
-    let writer = Renewing::new(writer, clock, &since);
+    let most = Most::Placed(hall.idle_milliseconds(), place);
+    let patience = Waiting::new(clock, hall, &place.since, most);
+    let heard = Heard::new(reader, clock, place);
+    let reader = Patient::new(heard, patience);
+    let patience = Waiting::new(clock, hall, &place.since, most);
+    let writer = Told::new(writer, patience, clock, place);
     let mut channel = CountedChannel::new(reader, writer);
-    serve_until_halted(rt, alloc, node, desk, &NoGate, &hall.lost, &mut channel).1
+    let (answer, desk) = serve_with_leave(rt, alloc, node, desk, &NoGate, hall, &mut channel);
+    Received {
+        desk,
+        is_silent: matches!(answer, Err(ChannelFault::Read | ChannelFault::Write)),
+    }
 }
 
-impl<D: Device, L: Desks, C: Clock, E> Reception<'_, D, L, C, E> {
+// Whether the first frame of the connection is an Offer, as far as its front says it that has come; nothing where none comes in time.
+fn offers_first<P: Patience, C: Clock>(clock: &C, stream: &TcpStream, patience: P) -> Option<bool> {
+    let mut patience = patience;
+    let mut front = [0; 3];
+    let mut is_begun = false;
+    for _ in 0..MAX_WAITS {
+        if !patience.waits_on() {
+            return None;
+        }
+        match stream.peek(&mut front) {
+            Ok(0) => return None,
+            Ok(count) if is_begun || count == front.len() => {
+                return Some(count == front.len() && front[2] == KIND_OFFER);
+            }
+            Ok(_) => {
+                is_begun = true;
+                thread::sleep(clock, Duration::from_millis(FRONT_MILLISECONDS));
+            }
+            Err(error) if error.kind() == ErrorKind::WouldBlock => {}
+            Err(_) => return None,
+        }
+    }
+    None
+}
+
+// Whether the connection asks as a peer does, once it asks something.
+fn is_peer<'x, C: Clock>(
+    clock: &'x C,
+    hall: &'x Hall,
+    since: &'x Since,
+    stream: &TcpStream,
+) -> Option<bool> {
+    let patience = Waiting::new(clock, hall, since, Most::Hall);
+    offers_first(clock, stream, patience)
+}
+
+impl<D: Device, L: Desks, C: Clock, E: Write> Reception<'_, D, L, C, E> {
     // Serves the requests that come in time, and then says that no more replies come.
     fn serve_requests<T: Wait>(
         &self,
         rt: &T,
         alloc: Global,
         desk: Desk<L>,
+        place: &Place,
         stream: &TcpStream,
-    ) -> Desk<L> {
-        let desk = serve_over(
-            rt, alloc, self.node, desk, self.hall, self.clock, stream, stream,
+    ) -> Received<L> {
+        let received = serve_over(
+            rt, alloc, self.node, desk, self.hall, self.clock, place, stream, stream,
         );
         let _ = stream.shutdown(Shutdown::Write);
-        desk
+        received
     }
 
     // Drops what still comes for a short while: a socket that is closed with bytes unread would take back replies on their way.
@@ -69,6 +128,34 @@ impl<D: Device, L: Desks, C: Clock, E> Reception<'_, D, L, C, E> {
         let patience = Waiting::new(self.clock, self.hall, &since, most);
         drop_rest(&mut CountedChannel::new(Patient::new(stream, patience), ()));
     }
+
+    // Serves the connection, once there is a place for it, if there is one. Where a stream failed, or was waited for in vain, no reply is on its way.
+    fn receive<T: Wait>(
+        &self,
+        rt: &T,
+        alloc: Global,
+        desk: Desk<L>,
+        stream: &TcpStream,
+    ) -> Desk<L> {
+        let since = Since::now(self.clock);
+        let Some(is_peer) = is_peer(self.clock, self.hall, &since, stream) else {
+            return desk;
+        };
+        let room = self.rooms.room_of(is_peer);
+        if room.is_full() && self.hall.full.is_due(self.clock) {
+            self.teller
+                .tell(rt, "bayou: each desk is taken, and others wait for one\n");
+        }
+        let Some(place) = room.enter(self.clock, self.hall) else {
+            return desk;
+        };
+        let received = self.serve_requests(rt, alloc, desk, place, stream);
+        place.leave();
+        if !received.is_silent {
+            self.linger(stream);
+        }
+        received.desk
+    }
 }
 
 impl<D: Device + Send + Sync, L: Desks + Send + Sync, C: Clock + Sync, E: Write + Send + Drop> Host
@@ -77,12 +164,11 @@ impl<D: Device + Send + Sync, L: Desks + Send + Sync, C: Clock + Sync, E: Write 
 
     fn serve<T: Wait>(&self, rt: &T, alloc: Global, desk: Desk<L>, stream: TcpStream) -> Desk<L> {
         // Nobody is served whose silence couldn't be ended.
-        if !is_timed(&stream) {
+        if !is_timed(&stream, TICK_MILLISECONDS) {
             return desk;
         }
         self.hall.enter();
-        let desk = self.serve_requests(rt, alloc, desk, &stream);
-        self.linger(&stream);
+        let desk = self.receive(rt, alloc, desk, &stream);
         self.hall.leave();
         desk
     }
@@ -95,7 +181,9 @@ impl<
     E: Write + Send + Drop,
 > Attendant for Reception<'_, D, L, C, E> {
     fn pause<T: Wait>(&self, rt: &T) {
-        self.teller.tell(rt, "bayou: a connection can't be taken\n");
+        if self.hall.untaken.is_due(self.clock) {
+            self.teller.tell(rt, "bayou: a connection can't be taken\n");
+        }
         thread::sleep(self.clock, Duration::from_secs(PAUSE_SECONDS));
     }
 }

@@ -10,6 +10,7 @@ ghost use Rattle.bayou_server.specs.Server.{Core};
 use crate::fault::{ServeFault, Unrestored};
 use crate::hall::Hall;
 use crate::lines::news_line;
+use crate::pace::Pace;
 use crate::peers::reach;
 use crate::plan::{Beginning, Peer, Plan};
 use crate::remaking::{Restored, make_again};
@@ -27,7 +28,7 @@ use bayou_streams::{CountedChannel, Patient};
 use std::alloc::Global;
 use std::fs;
 use std::fs::{File, Files};
-use std::io::Write;
+use std::io::{Read, Write};
 use std::random::RandomSource;
 use std::sync::Wait;
 use std::time::Clock;
@@ -37,6 +38,31 @@ use std::time::Clock;
 pub(crate) struct Answer {
     peer: u8,
     gathered: Gathered,
+}
+
+// All that comes of an Offer of nothing over these streams, whose waits end by `WouldBlock`, or why it ended early.
+fn gather_over<'x, R: Read + Drop, W: Write + Drop, T: Clock>(
+    rt: &'x T,
+    alloc: Global,
+    plan: &Plan,
+    hall: &'x Hall,
+    since: &'x Since,
+    pace: &'x Pace,
+    reader: R,
+    writer: W,
+) -> Result<Gathered, PullFault>
+    ensures { IfOk result (λ gathered. gathered.count ≡ plan.now.servers) }
+{
+    let most = Most::Paced(PEER_ANSWER_MILLISECONDS, pace);
+    let patience = Waiting::new(rt, hall, since, most);
+    let reader = Renewing::paced(Patient::new(reader, patience), rt, since, pace);
+    let writer = Renewing::new(writer, rt, since);
+    let mut channel = CountedChannel::new(reader, writer);
+    let mut gathered = Gathered::new(alloc, plan.servers, MAX_WRITES);
+    match pull_from_on(alloc, &mut gathered, &Vector::zero(), &mut channel) {
+        Ok(_) => Ok(gathered),
+        Err(fault) => Err(fault),
+    }
 }
 
 // All that the peer has, or why its answer ended early; nothing where no connection comes about.
@@ -50,21 +76,8 @@ fn gather_from<T: Clock + Sockets>(
     ensures { IfSome result (λ answer. IfOk answer (λ gathered. gathered.count ≡ plan.now.servers)) }
 {
     let stream = reach(rt, peer)?;
-    let since = Since::now(rt);
-    let patience = Waiting::new(
-        rt,
-        hall,
-        &since,
-        Most::Milliseconds(PEER_ANSWER_MILLISECONDS),
-    );
-    let reader = Renewing::new(Patient::new(&stream, patience), rt, &since);
-    let writer = Renewing::new(&stream, rt, &since);
-    let mut channel = CountedChannel::new(reader, writer);
-    let mut gathered = Gathered::new(alloc, plan.servers, MAX_WRITES);
-    match pull_from_on(alloc, &mut gathered, &Vector::zero(), &mut channel) {
-        Ok(_) => Some(Ok(gathered)),
-        Err(fault) => Some(Err(fault)),
-    }
+    let (since, pace) = (Since::now(rt), Pace::new());
+    Some(gather_over(rt, alloc, plan, hall, &since, &pace, &stream, &stream))
 }
 
 // Of two answers the one with more Writes of the server: the first, where both have as many. Under each name of it that both have they must

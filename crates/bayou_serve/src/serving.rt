@@ -1,5 +1,5 @@
 //! A server that lives, from its start to its end.
-ghost use Rattle.std.specs.Prelude.{◌≡◌, ℕ, List, IfErr, IfOk, MatchResult, OnOk, true, vec_len};
+ghost use Rattle.std.specs.Prelude.{◌≡◌, ◌≤◌, ℕ, List, IfErr, IfOk, MatchResult, OnOk, true, vec_len};
 ghost use Rattle.std.specs.Thread.{IsSend};
 ghost use Rattle.bayou_node.specs.Books.{IsBlankOf, begun_of};
 ghost use Rattle.bayou_print.specs.Living.{serving_text};
@@ -7,16 +7,23 @@ ghost use Rattle.bayou_serve.specs.declared.fault.ServeFault.TheVariants.{Output
 ghost use Rattle.bayou_serve.specs.Lived.{IsBeforeServing, PrintsLife};
 ghost use Rattle.bayou_streams.specs.Account.{TakesBytes, account};
 
+use crate::descriptors::look_for_descriptors;
 use crate::fault::ServeFault;
 use crate::hall::Hall;
 use crate::keeper::keep_up;
 use crate::marking::{Mark, UNMARKED, look_for_mark, lose, open_mark, put_away};
-use crate::peers::{has_own_beyond, keep_pulling};
+use crate::peers::keep_pulling;
 use crate::plan::{Beginning, Plan};
 use crate::reception::Reception;
 use crate::restoring::restore_journal;
+use crate::rollcall::Rollcall;
+use crate::rooms::{Room, Rooms};
 use crate::starting::{Careful, Started, forget_new, start_at};
+use crate::staying::until_input_ends;
+use crate::straying::{Journal, keep_watch};
 use crate::teller::Teller;
+use crate::watched::Extent;
+use bayou_base::limits::{DESKS_OF_A_PEER, WAITING_CONNECTIONS};
 use bayou_device::Device;
 use bayou_net::{Door, Sockets, attend, shut};
 use bayou_node::{Desk, Desks, Node};
@@ -39,11 +46,21 @@ use std::time::Clock;
 #[derive(Drop)]
 struct Life<'s, D, L: Desks, M: Device, E> {
     plan: &'s Plan,
+    journal: Journal<'s>,
     node: &'s Node<D, L>,
     listener: &'s TcpListener,
     hall: &'s Hall,
     mark: &'s Mark<M>,
     teller: &'s Teller<E>,
+    rollcall: &'s Rollcall,
+    rooms: &'s Rooms,
+}
+
+/// How a server began to serve, and where that was printed.
+#[derive(Drop)]
+struct Begun<'a, W> {
+    output: &'a mut Output<W>,
+    ended: Result<(), ServeFault>,
 }
 
 // Writes a line, or has the output at fault.
@@ -57,18 +74,7 @@ fn print<W: Write>(output: &mut Output<W>, line: &str) -> Result<(), ServeFault>
     }
 }
 
-// Reads up to the end of the input, or to where it fails.
-fn await_end<I: Read, T: Wait>(rt: &T, input: &mut I) {
-    let mut piece = [0; 64];
-    for _ in rt.forever() {
-        match input.read(&mut piece) {
-            Ok(0) | Err(_) => return,
-            Ok(_) => {}
-        }
-    }
-}
-
-// Begins to pull from each peer, and to keep the server up, each in a thread of its own. What has no thread is told.
+// Begins to ask each peer and to pull from it, and to keep the server up, each in a thread of its own. What has no thread is told.
 fn begin_beside<'s, Env, D, L, M, E, T>(
     scope: &'s Scope<'s, Env>,
     rt: &'s T,
@@ -88,15 +94,17 @@ where
         hall,
         mark,
         teller,
+        rollcall,
         ..
     } = *life;
     let (limit, every) = (plan.habits.limit, plan.habits.every_seconds);
     for peer in plan.peers.iter() {
         let peer = *peer;
         let begun = scope.spawn(move || keep_pulling(
-            rt, alloc, node, peer, every, hall, mark, teller,
+            rt, alloc, node, peer, every, hall, mark, teller, rollcall,
         ));
         if begun.is_err() {
+            rollcall.answered(rt, peer.id, false);
             teller.tell(
                 rt,
                 "bayou: no thread for a peer: nothing is pulled from it\n",
@@ -112,34 +120,38 @@ where
     }
 }
 
-// Serves at each desk until the server is told to end. All desks come back, and whether anybody was served.
-fn attend_all<D, L, M, I, E, T>(
+// Serves at each desk, while the closure runs, until the server ends. All desks come back; where nobody was served, the closure didn't run.
+fn attend_all<D, L, M, E, T, X, F>(
     rt: &T,
     alloc: Global,
     life: &Life<'_, D, L, M, E>,
     desks: Vec<Desk<L>>,
-    input: &mut I,
-) -> Result<Vec<Desk<L>>, Vec<Desk<L>>>
+    meanwhile: F,
+) -> Result<(Vec<Desk<L>>, X), Vec<Desk<L>>>
 where
     D: Device + Send + Sync,
     L: Desks + Send + Sync,
     M: Device + Send,
-    I: Read,
     E: Write + Send + Drop,
     T: Threads + Wait + Clock + Sockets + Send + Sync,
-    ensures { MatchResult result (λ back. vec_len back ≡ vec_len desks) (λ left. vec_len left ≡ vec_len desks) }
+    X: Drop,
+    F: FnOnce() -> X + Drop,
+    requires { F.IsAlwaysCallable meanwhile }
+    ensures desks { MatchResult result (λ ended. vec_len ended.0 ≡ vec_len desks) (λ left. vec_len left ≡ vec_len desks) }
+    ensures called { IfOk result (λ ended. F.post meanwhile ended.1) }
 {
     let Life {
-        plan,
         node,
         listener,
         hall,
         teller,
+        rooms,
         ..
     } = *life;
     let reception = Reception {
         node,
         hall,
+        rooms,
         clock: rt,
         teller,
     };
@@ -149,48 +161,56 @@ where
         stop: &hall.stop,
         is_short: &hall.is_short,
     };
-    let until = plan.habits.until_input_ends;
-    let ended = attend(rt, alloc, &door, desks, move |unserved| {
-        if unserved > 0 {
-            teller.tell(rt, "bayou: fewer threads than connections\n");
-        }
-        if until {
-            await_end(rt, input);
-            hall.end();
-            let _ = shut(listener);
-        }
-    });
+    let ended = attend(
+        rt,
+        alloc,
+        &door,
+        desks,
+        move |unserved| -> X
+            requires { F.IsAlwaysCallable meanwhile }
+            ensures { F.post meanwhile result }
+        {
+            if unserved > 0 {
+                teller.tell(rt, "bayou: fewer threads than connections\n");
+            }
+            meanwhile()
+        },
+    );
     // Whoever pulls and keeps the server up ends too.
     hall.end();
     ended
 }
 
-// The same, while Writes are pulled from each peer and the server is kept up.
-fn live<D, L, M, I, E, T>(
+// The same, while the peers are asked, Writes are pulled from each of them, and the server is kept up.
+fn live<D, L, M, E, T, X, F>(
     rt: &T,
     alloc: Global,
     life: &Life<'_, D, L, M, E>,
     desks: Vec<Desk<L>>,
-    input: &mut I,
-) -> Result<Vec<Desk<L>>, Vec<Desk<L>>>
+    meanwhile: F,
+) -> Result<(Vec<Desk<L>>, X), Vec<Desk<L>>>
 where
     D: Device + Send + Sync,
     L: Desks + Send + Sync,
     M: Device + Send,
-    I: Read,
     E: Write + Send + Drop,
     T: Threads + Wait + Clock + Sockets + Send + Sync,
-    ensures { MatchResult result (λ back. vec_len back ≡ vec_len desks) (λ left. vec_len left ≡ vec_len desks) }
+    X: Drop,
+    F: FnOnce() -> X + Drop,
+    requires { F.IsAlwaysCallable meanwhile }
+    ensures desks { MatchResult result (λ ended. vec_len ended.0 ≡ vec_len desks) (λ left. vec_len left ≡ vec_len desks) }
+    ensures called { IfOk result (λ ended. F.post meanwhile ended.1) }
 {
     thread::scope(
         thread::scope_env(),
         rt,
-        move |scope| -> Result<Vec<Desk<L>>, Vec<Desk<L>>>
-            requires { IsSend T.row × IsSend L.row × IsSend D.row × IsSend M.row × IsSend E.row }
-            ensures { MatchResult result (λ back. vec_len back ≡ vec_len desks) (λ left. vec_len left ≡ vec_len desks) }
+        move |scope| -> Result<(Vec<Desk<L>>, X), Vec<Desk<L>>>
+            requires { F.IsAlwaysCallable meanwhile × IsSend T.row × IsSend L.row × IsSend D.row × IsSend M.row × IsSend E.row }
+            ensures desks { MatchResult result (λ ended. vec_len ended.0 ≡ vec_len desks) (λ left. vec_len left ≡ vec_len desks) }
+            ensures called { IfOk result (λ ended. F.post meanwhile ended.1) }
         {
             begin_beside(scope, rt, alloc, life);
-            attend_all(rt, alloc, life, desks, input)
+            attend_all(rt, alloc, life, desks, meanwhile)
         },
     )
 }
@@ -216,13 +236,14 @@ fn print_serving<D: Device, L: Desks, M: Device, W: Write, E, T: Wait>(
 }
 
 // The server, with its journal as the plan has it begin: one that is lost is made again first, and then gone on from.
-fn begin<E, T>(
+fn begin<'e, E, T>(
     rt: &T,
     alloc: Global,
     plan: &Plan,
     path: &str,
+    extent: &'e Extent,
     teller: &Teller<E>,
-) -> Result<Started, ServeFault>
+) -> Result<Started<'e>, ServeFault>
 where
     E: Write,
     T: Wait + Clock + Files<File = File> + RandomSource + Sockets,
@@ -231,28 +252,152 @@ where
     let beginning = plan.habits.beginning;
     if beginning == Beginning::Restore {
         restore_journal(rt, alloc, plan, path, teller)?;
-        return start_at(rt, alloc, plan, path, Beginning::GoOn);
+        return start_at(rt, alloc, plan, path, Beginning::GoOn, extent);
     }
-    start_at(rt, alloc, plan, path, beginning)
+    start_at(rt, alloc, plan, path, beginning, extent)
 }
 
-// What a peer has of the server that must have: else it would give names twice. A server that lost some is marked.
-fn look_for_loss<D: Device, L: Desks, M: Device, E: Write, T: Wait + Clock + Sockets>(
+// Waits until the peers were asked. What one has of the server that must have: else it would give names twice. A server that lost some is marked.
+fn look_for_loss<D: Device, L: Desks, M: Device, E: Write, T: Wait + Clock>(
     rt: &T,
-    alloc: Global,
     life: &Life<'_, D, L, M, E>,
 ) -> Result<(), ServeFault>
     ensures { IfErr result (λ fault. (peer : ℕ) × (fault ≡ OwnLost peer)) }
 {
-    for peer in life.plan.peers.iter() {
-        if has_own_beyond(rt, alloc, life.node, *peer, life.hall) {
-            if !lose(rt, life.hall, life.mark).is_marked {
-                life.teller.tell(rt, UNMARKED);
-            }
-            return Err(ServeFault::OwnLost(peer.id.index));
-        }
+    let Some(peer) = life.rollcall.wait(rt) else {
+        return Ok(());
+    };
+    if !lose(rt, life.hall, life.mark).is_marked {
+        life.teller.tell(rt, UNMARKED);
     }
-    Ok(())
+    Err(ServeFault::OwnLost(peer.index))
+}
+
+// Has Writes made from now on, if the server lost none of its own as far as its peers know, and tells that it takes connections.
+fn open<D: Device, L: Desks, M: Device, W: Write, E: Write, T: Wait + Clock>(
+    rt: &T,
+    alloc: Global,
+    life: &Life<'_, D, L, M, E>,
+    output: &mut Output<W>,
+) -> Result<(), ServeFault>
+    ensures printed { OnOk result ((address counts : List ℕ) × TakesBytes (account W.contents output.old) (account W.contents output.new) (serving_text life.now.plan.now.id.index address life.now.plan.now.servers counts)) }
+    ensures unserved { IfErr result (λ fault. IsBeforeServing fault → output.new ≡ output.old) }
+{
+    look_for_loss(rt, life)?;
+    // Whoever reads the line finds it open.
+    let _ = life.hall.open(rt);
+    print_serving(rt, alloc, life, output)
+}
+
+// Looks after the journal, until the input ends, where the plan asks for that, or for ever. It runs where the server was started, since a thread that
+// was spawned can't look at files.
+fn stay<D, L, M, I, E, T>(rt: &T, alloc: Global, life: &Life<'_, D, L, M, E>, input: I)
+where
+    L: Desks,
+    M: Device,
+    I: Read + Send + Drop,
+    E: Write,
+    T: Threads + Wait + Clock + Files<File = File> + Send + Sync,
+{
+    let Life {
+        plan,
+        journal,
+        hall,
+        teller,
+        ..
+    } = *life;
+    let every = plan.habits.every_seconds;
+    if plan.habits.until_input_ends {
+        until_input_ends(
+            rt,
+            input,
+            hall,
+            teller,
+            || keep_watch(rt, alloc, journal, every, hall, teller),
+        );
+    } else {
+        keep_watch(rt, alloc, journal, every, hall, teller);
+    }
+}
+
+// What was lent is used no more.
+fn give_back<W>(output: &mut Output<W>)
+    ensures { output.new ≡ output.old }
+{
+    let _ = output;
+}
+
+// Serves at each desk until the server is told to end, and tells how it began; where it didn't begin it ends at once. The copy of its socket is there
+// before, since one may not be had then.
+fn live_begun<D, L, M, I, W, E, T>(
+    rt: &T,
+    alloc: Global,
+    life: &Life<'_, D, L, M, E>,
+    desks: Vec<Desk<L>>,
+    copy: TcpListener,
+    input: I,
+    output: &mut Output<W>,
+) -> Result<(Vec<Desk<L>>, Result<(), ServeFault>), Vec<Desk<L>>>
+where
+    D: Device + Send + Sync,
+    L: Desks + Send + Sync,
+    M: Device + Send,
+    I: Read + Send + Drop,
+    W: Write,
+    E: Write + Send + Drop,
+    T: Threads + Wait + Clock + Files<File = File> + Sockets + Send + Sync,
+    ensures desks { MatchResult result (λ ended. vec_len ended.0 ≡ vec_len desks) (λ left. vec_len left ≡ vec_len desks) }
+    ensures printed { IfOk result (λ lived. OnOk lived.1 ((address counts : List ℕ) × TakesBytes (account W.contents output.old) (account W.contents output.new) (serving_text life.now.plan.now.id.index address life.now.plan.now.servers counts))) }
+    ensures unserved { IfOk result (λ lived. IfErr lived.1 (λ fault. IsBeforeServing fault → output.new ≡ output.old)) }
+{
+    let lent = &mut *output;
+    let lived = live(
+        rt,
+        alloc,
+        life,
+        desks,
+        move || -> Begun<'_, W>
+            ensures same { result.output.ghost_name ≡ lent.entry.ghost_name }
+            ensures printed { OnOk result.ended ((address counts : List ℕ) × TakesBytes (account W.contents lent.entry.now) (account W.contents result.output.now) (serving_text life.entry.now.plan.now.id.index address life.entry.now.plan.now.servers counts)) }
+            ensures unserved { IfErr result.ended (λ fault. IsBeforeServing fault → result.output.now ≡ lent.entry.now) }
+        {
+            let ended = open(rt, alloc, life, lent);
+            if ended.is_ok() {
+                stay(rt, alloc, life, input);
+            }
+            life.hall.end();
+            let _ = shut(copy);
+            Begun {
+                output: lent,
+                ended,
+            }
+        },
+    );
+    match lived {
+        Ok(lived) => {
+            let (desks, begun) = lived;
+            let Begun { output, ended } = begun;
+            give_back(output);
+            Ok((desks, ended))
+        }
+        Err(left) => Err(left),
+    }
+}
+
+// How many connections of peers are served at once.
+fn desks_of_peers(plan: &Plan) -> u32 {
+    let peers = u32::try_from(plan.peers.len()).unwrap_or(u32::MAX);
+    DESKS_OF_A_PEER.saturating_mul(peers)
+}
+
+// How many threads take connections: for each that is served at once one, and for each that may wait.
+fn threads_of(plan: &Plan) -> u32
+    ensures { plan.now.habits.connections ≤ result }
+{
+    plan.habits
+        .connections
+        .saturating_add(desks_of_peers(plan))
+        .saturating_add(WAITING_CONNECTIONS)
 }
 
 // Serves the node from its first connection to a told end, and prints what its books come to. It tells whether anybody may have been served.
@@ -260,11 +405,13 @@ fn serve_node<L, M, I, W, E, T>(
     rt: &T,
     alloc: Global,
     blank: Blank,
-    server: Server<Careful>,
+    threads: u32,
+    server: Server<Careful<'_>>,
+    journal: Journal<'_>,
     plan: &Plan,
     listener: &TcpListener,
     mark: &Mark<M>,
-    input: &mut I,
+    input: I,
     output: &mut Output<W>,
     teller: &Teller<E>,
     is_open: &mut bool,
@@ -272,35 +419,44 @@ fn serve_node<L, M, I, W, E, T>(
 where
     L: Desks + Send + Sync,
     M: Device + Send,
-    I: Read,
+    I: Read + Send + Drop,
     W: Write,
     E: Write + Send + Drop,
-    T: Threads + Wait + Clock + Sockets + Send + Sync,
-    requires blank { IsBlankOf blank L.name L.parts plan.now.habits.connections × (begun_of server.core ≡ L.begun) }
+    T: Threads + Wait + Clock + Files<File = File> + Sockets + Send + Sync,
+    requires blank { IsBlankOf blank L.name L.parts threads × (begun_of server.core ≡ L.begun) }
     ensures lived { OnOk result (PrintsLife plan.now.id.index plan.now.servers (account W.contents output.old) (account W.contents output.new)) }
     ensures unserved { IfErr result (λ fault. IsBeforeServing fault → output.new ≡ output.old) }
     ensures open { OnOk result (is_open.new ≡ true) }
     ensures shut { IfErr result (λ fault. IsBeforeServing fault → is_open.new ≡ is_open.old) }
 {
-    let Ok((node, desks)) = Node::<Careful, L>::new(alloc, blank, server, plan.habits.connections)
-    else {
+    let Ok((node, desks)) = Node::<Careful<'_>, L>::new(alloc, blank, server, threads) else {
         return Err(ServeFault::Memory);
     };
-    let hall = Hall::new(plan.habits.connections, plan.habits.idle_seconds);
+    let rooms = Rooms {
+        clients: Room::new(alloc, plan.habits.connections)?,
+        peers: Room::new(alloc, desks_of_peers(plan))?,
+    };
+    let Ok(copy) = listener.try_clone() else {
+        return Err(ServeFault::Port);
+    };
+    let hall = Hall::new(threads, plan.habits.idle_seconds);
+    let rollcall = Rollcall::of(rt, plan.peers.len());
     let life = Life {
         plan,
+        journal,
         node: &node,
         listener,
         hall: &hall,
         mark,
         teller,
+        rollcall: &rollcall,
+        rooms: &rooms,
     };
-    look_for_loss(rt, alloc, &life)?;
-    print_serving(rt, alloc, &life, output)?;
-    *is_open = true;
-    let Ok(desks) = live(rt, alloc, &life, desks, input) else {
+    let Ok((desks, ended)) = live_begun(rt, alloc, &life, desks, copy, input, output) else {
         return Err(ServeFault::Memory);
     };
+    ended?;
+    *is_open = true;
     let Ok(settled) = node.settle(desks) else {
         unreachable!();
     };
@@ -315,7 +471,7 @@ fn tell_dropped<E: Write, T: Wait>(
     rt: &T,
     alloc: Global,
     path: &str,
-    started: &Started,
+    started: &Started<'_>,
     teller: &Teller<E>,
 ) {
     let dropped = started.dropped;
@@ -335,19 +491,20 @@ fn serve_started<M, I, W, E, T>(
     alloc: Global,
     path: &str,
     plan: &Plan,
-    started: Started,
+    started: Started<'_>,
+    extent: &Extent,
     mark: &Mark<M>,
-    input: &mut I,
+    input: I,
     output: &mut Output<W>,
     teller: &Teller<E>,
     is_open: &mut bool,
 ) -> Result<(), ServeFault>
 where
     M: Device + Send,
-    I: Read,
+    I: Read + Send + Drop,
     W: Write,
     E: Write + Send + Drop,
-    T: Threads + Wait + Clock + Sockets + Send + Sync,
+    T: Threads + Wait + Clock + Files<File = File> + Sockets + Send + Sync,
     requires { (started.server.core.id ≡ plan.now.id.index) × (started.server.core.count ≡ plan.now.servers) × (started.server.core.limit ≡ plan.now.habits.limit) }
     ensures lived { OnOk result (PrintsLife plan.now.id.index plan.now.servers (account W.contents output.old) (account W.contents output.new)) }
     ensures unserved { IfErr result (λ fault. IsBeforeServing fault → output.new ≡ output.old) }
@@ -355,13 +512,16 @@ where
     ensures shut { IfErr result (λ fault. IsBeforeServing fault → is_open.new ≡ is_open.old) }
 {
     tell_dropped(rt, alloc, path, &started, teller);
-    let server = started.server;
+    let Started { server, file, .. } = started;
+    let journal = Journal { path, file, extent };
     let Ok(listener) = TcpListener::bind(rt, plan.listen) else {
         return Err(ServeFault::Port);
     };
-    let blank = Blank::new(u64::from(plan.habits.connections));
+    let threads = threads_of(plan);
+    let blank = Blank::new(u64::from(threads));
     serve_node::<Brand, M, I, W, E, T>(
-        rt, alloc, blank, server, plan, &listener, mark, input, output, teller, is_open,
+        rt, alloc, blank, threads, server, journal, plan, &listener, mark, input, output, teller,
+        is_open,
     )
 }
 
@@ -373,12 +533,12 @@ pub fn serve_plan<I, W, E, T>(
     alloc: Global,
     path: &str,
     plan: &Plan,
-    input: &mut I,
+    input: I,
     output: &mut Output<W>,
     teller: &Teller<E>,
 ) -> Result<(), ServeFault>
 where
-    I: Read,
+    I: Read + Send + Drop,
     W: Write,
     E: Write + Send + Drop,
     T: Threads + Wait + Clock + Files<File = File> + RandomSource + Sockets + Send + Sync,
@@ -386,9 +546,11 @@ where
     ensures unserved { IfErr result (λ fault. IsBeforeServing fault → output.new ≡ output.old) }
 {
     let beginning = plan.habits.beginning;
+    look_for_descriptors(rt, alloc)?;
     let mark_path = format!(in alloc; "{path}.mark")?;
     look_for_mark(rt, mark_path.as_str(), beginning)?;
-    let started = begin(rt, alloc, plan, path, teller)?;
+    let extent = Extent::unknown();
+    let started = begin(rt, alloc, plan, path, &extent, teller)?;
     let mut is_open = false;
     let ended = match open_mark(rt, alloc, mark_path.as_str(), beginning) {
         Ok(mark) => serve_started(
@@ -397,6 +559,7 @@ where
             path,
             plan,
             started,
+            &extent,
             &mark,
             input,
             output,

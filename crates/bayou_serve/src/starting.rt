@@ -7,6 +7,8 @@ ghost use Rattle.bayou_serve.specs.declared.fault.ServeFault.TheVariants.{Missin
 
 use crate::fault::{ServeFault, fault_of};
 use crate::plan::{Beginning, Plan};
+use crate::straying::Identity;
+use crate::watched::{Extent, Watched};
 use bayou_device::FileDevice;
 use bayou_journal::format::HEADER_BYTES;
 use bayou_journal::{CarefulDevice, DamagedEntry};
@@ -17,12 +19,14 @@ use std::fs::{File, Files};
 use std::io::ErrorKind;
 
 /// The device of a server that lives.
-pub(crate) type Careful = CarefulDevice<FileDevice<File>>;
+pub(crate) type Careful<'e> = CarefulDevice<Watched<'e, FileDevice<File>>>;
 
 /// A server with its journal in a file, and how many bytes of a torn entry were cut; all its bytes were there, where it is told by itself.
 #[derive(Drop)]
-pub(crate) struct Started {
-    pub(crate) server: Server<Careful>,
+pub(crate) struct Started<'e> {
+    pub(crate) server: Server<Careful<'e>>,
+    /// Which file its journal is.
+    pub(crate) file: Identity,
     pub(crate) dropped: usize,
     pub(crate) entry: Option<DamagedEntry>,
 }
@@ -62,12 +66,12 @@ pub(crate) fn look_for<T: Files<File = File>>(
     is_fit(is_there(rt, path)?, beginning)
 }
 
-// The file of this name, locked, which is there just as this way to begin wants it.
+// The file of this name, locked, which is there just as this way to begin wants it, and which one it is.
 fn open_fit<T: Files<File = File>>(
     rt: &T,
     path: &str,
     beginning: Beginning,
-) -> Result<FileDevice<File>, ServeFault>
+) -> Result<(FileDevice<File>, Identity), ServeFault>
     ensures { IfErr result (MayEndLook beginning) }
 {
     look_for(rt, path, beginning)?;
@@ -76,10 +80,10 @@ fn open_fit<T: Files<File = File>>(
     };
     // Until it was locked another process may have made a journal of it, or have removed it.
     look_for(rt, path, beginning)?;
-    match fs::exists(rt, path) {
-        Ok(true) => Ok(file),
-        _ => Err(ServeFault::NotOpened),
-    }
+    let Ok(found) = fs::metadata(rt, path) else {
+        return Err(ServeFault::NotOpened);
+    };
+    Ok((file, Identity::of(&found)))
 }
 
 // Whether a start that began so may remove a journal of so many bytes again: it made that itself, and no Write is in it.
@@ -111,24 +115,27 @@ pub(crate) fn forget_new<T: Files<File = File>>(rt: &T, path: &str, beginning: B
 }
 
 /// The server that the plan asks for, with what its journal of this name has, where that is there just as this way to begin wants it. No more
-/// than one torn entry is cut off its end. What a file has no clause can say, so that a start succeeds is tested alone, and that one which fails
+/// than one torn entry is cut off its end. How long the journal is from then on is noted. What a file has no clause can say, so that a start succeeds is tested alone, and that one which fails
 /// leaves no new journal.
-pub(crate) fn start_at<T: Files<File = File>>(
+pub(crate) fn start_at<'e, T: Files<File = File>>(
     rt: &T,
     alloc: Global,
     plan: &Plan,
     path: &str,
     beginning: Beginning,
-) -> Result<Started, ServeFault>
+    extent: &'e Extent,
+) -> Result<Started<'e>, ServeFault>
     ensures started { IfOk result (λ started. (started.server.core.id ≡ plan.now.id.index) × (started.server.core.count ≡ plan.now.servers) × (started.server.core.limit ≡ plan.now.habits.limit)) }
     ensures fault { IfErr result (MayEndStart beginning) }
 {
-    let device = CarefulDevice::new(open_fit(rt, path, beginning)?);
+    let (file, identity) = open_fit(rt, path, beginning)?;
+    let device = CarefulDevice::new(Watched::new(file, extent));
     match Server::start(alloc, plan.id, plan.servers, plan.habits.limit, device) {
         Ok((server, dropped)) => {
             let entry = server.see_device().entry();
             Ok(Started {
                 server,
+                file: identity,
                 dropped,
                 entry,
             })

@@ -1,4 +1,4 @@
-ghost use Rattle.std.specs.Prelude.{◌≡◌, ◌≢◌, ◌+◌, ◌<◌, ◌≤◌, ◌↔◌, ◌⊎◌, ℕ, [], None, All, Contains, Err, IfErr, IfOk, IsSome, IsTrue, MatchOption, MatchResult, OnOk, length, take};
+ghost use Rattle.std.specs.Prelude.{◌≡◌, ◌≢◌, ◌+◌, ◌<◌, ◌≤◌, ◌↔◌, ◌⊎◌, ℕ, [], None, All, Contains, Err, IfErr, IfOk, IsSome, IsTrue, MatchOption, MatchResult, OnOk, drop, length, take};
 ghost use Rattle.std.specs.Borrow.{Lends, sem};
 ghost use Rattle.std.specs.Vec.Iter.{into_iter_items};
 ghost use Rattle.bayou_base.specs.declared.limits.TheConstants.{SERVERS, MAX_WRITES};
@@ -334,6 +334,21 @@ impl<D: Device> Server<D> {
         ensures { IfOk result (λ writes. writes.items ≡ self.now.core.held) }
     {
         copies(alloc, self.holding.log.receipts())
+    }
+
+    /// Copies of the Writes held from this place on in the order of receipt, the first of which is at 0, and so many at the most.
+    pub fn dump_part(
+        &self,
+        alloc: Global,
+        place: usize,
+        most: usize,
+    ) -> Result<Vec<RestingWrite>, AllocError>
+        ensures { IfOk result (λ writes. writes.items ≡ take most (drop place self.now.core.held)) }
+    {
+        let held = self.holding.log.receipts();
+        let (_, behind) = held.split_at(place.min(held.len()));
+        let (part, _) = behind.split_at(most.min(behind.len()));
+        copies(alloc, part)
     }
 
     /// Ends the server, which takes no memory and makes no device call. Its database is gone then.

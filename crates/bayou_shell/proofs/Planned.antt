@@ -83,7 +83,7 @@ copied (Some text) = refl
 pub places_of : (connection : Connection) (words : List (Bor (List ℕ))) (asks : Option (Bor (List ℕ))) (result kept : Result Places Wrong) → connection.servers ≡ map (λ word. word.now) words
     → connection.asks ≡ option_map (λ text. text.now) asks
     → IfOk result (λ plan. AllZip (λ word place. SaysPlace word.now place) words plan.places.items)
-    → IfOk result (λ plan. (plan.wait_seconds ≡ connection.wait_seconds) × (length plan.places.items ≡ length words))
+    → IfOk result (λ plan. (plan.wait_seconds ≡ connection.wait_seconds) × (plan.timeout_seconds ≡ connection.timeout_seconds) × (length plan.places.items ≡ length words))
     → IfOk result (λ plan. MatchOption connection.count (IsLeast plan.servers plan.places.items) (λ number. plan.servers ≡ number))
     → IfOk result (λ plan. AskedBy (option_copied asks) plan.asks)
     → IfErr result (IsWrong (map (λ word. word.now) words) connection.count (option_copied asks))
@@ -92,7 +92,7 @@ places_of connection words asks result kept named asked said same counts wants w
     subst (λ (r : Result Places Wrong). MatchResult r (IsPlanOfPlaces connection) (RefusesConnection connection)) (sym is) (of_result result said same counts wants wrong)
   where
     of_result : (result : Result Places Wrong) → IfOk result (λ plan. AllZip (λ word place. SaysPlace word.now place) words plan.places.items)
-        → IfOk result (λ plan. (plan.wait_seconds ≡ connection.wait_seconds) × (length plan.places.items ≡ length words))
+        → IfOk result (λ plan. (plan.wait_seconds ≡ connection.wait_seconds) × (plan.timeout_seconds ≡ connection.timeout_seconds) × (length plan.places.items ≡ length words))
         → IfOk result (λ plan. MatchOption connection.count (IsLeast plan.servers plan.places.items) (λ number. plan.servers ≡ number))
         → IfOk result (λ plan. AskedBy (option_copied asks) plan.asks)
         → IfErr result (IsWrong (map (λ word. word.now) words) connection.count (option_copied asks))
@@ -103,6 +103,7 @@ places_of connection words asks result kept named asked said same counts wants w
     of_result (Ok plan) said same counts wants wrong = record {
       places = subst (λ (servers : List (List ℕ)). AllZip SaysPlace servers plan.places.items) (sym named) (zip_seen SaysPlace words plan.places.items said);
       wait = same.0;
+      timeout = same.1;
       count = counts;
       asks = subst (λ (text : Option (List ℕ)). AskedBy text plan.asks) (copied asks ∙ sym asked) wants;
     }

@@ -36,10 +36,12 @@ RefusesService service SamePeer = Refuses service.id service.servers service.lis
 RefusesService service TwoBeginnings = beginning_of service.is_new service.is_restored ≡ None
 RefusesService service OutOfMemory = ⊥
 
--- the plan asks the servers that the words name, in their order, for what they say, and waits and prints as many counts as they say, or as are needed
+-- the plan asks the servers that the words name, in their order, for what they say; it waits as long as they say, gives each server as much time, and
+-- prints as many counts as they say, or as are needed
 pub record IsPlanOfPlaces (connection : Connection) (plan : Places) : Type 0 where
   pub places : AllZip SaysPlace connection.servers plan.places.items
   pub wait : plan.wait_seconds ≡ connection.wait_seconds
+  pub timeout : plan.timeout_seconds ≡ connection.timeout_seconds
   pub count : MatchOption connection.count (IsLeast plan.servers plan.places.items) (λ number. plan.servers ≡ number)
   pub asks : AskedBy connection.asks plan.asks
 

@@ -86,6 +86,7 @@ impl Call {
             connecting.count,
             connecting.asks,
             connecting.wait_seconds,
+            connecting.timeout_seconds,
         );
         let plan = kept_plan(plan)?;
         Ok(Call {
@@ -98,14 +99,20 @@ impl Call {
 }
 
 // The line that tells a fault, with the file that is at fault.
-fn fault_line(alloc: Global, names: Names<'_>, fault: ConnectFault) -> Result<String, AllocError>
+fn fault_line(
+    alloc: Global,
+    names: Names<'_>,
+    lines: Option<&str>,
+    fault: ConnectFault,
+) -> Result<String, AllocError>
     ensures { IfOk result (λ line. (file : Option (List ℕ)) × (cause : List ℕ) × (string_bytes line ≡ told_text file cause)) }
 {
     let cause = fault.to_string(alloc)?;
-    let file = match (fault.is_of_state(), fault.is_of_book()) {
-        (true, _) => names.state,
-        (false, true) => names.book,
-        (false, false) => None,
+    let file = match (fault.is_of_state(), fault.is_of_book(), fault.is_of_lines()) {
+        (true, _, _) => names.state,
+        (false, true, _) => names.book,
+        (false, false, true) => lines,
+        (false, false, false) => None,
     };
     told_line(alloc, file, cause.as_str())
 }
@@ -150,7 +157,7 @@ where
         return connect_plan(rt, alloc, plan, names, input, output, errors);
     };
     let Ok(reader) = File::open(rt, name.as_str()) else {
-        return Err(ConnectFault::Input);
+        return Err(ConnectFault::LinesNotOpened);
     };
     let is_terminal = reader.is_terminal();
     let file = Input {
@@ -199,7 +206,10 @@ where
     match connect_on(rt, alloc, &plan, names, &name, input, output, &mut errors) {
         Ok(ended) => status_of(ended),
         Err(fault) => {
-            tell_line(&mut errors, fault_line(alloc, names, fault));
+            tell_line(
+                &mut errors,
+                fault_line(alloc, names, name.as_deref(), fault),
+            );
             FAILED
         }
     }

@@ -107,12 +107,12 @@ pub fn run_served<I, W, E, T>(
     rt: &T,
     alloc: Global,
     service: Service,
-    input: &mut I,
+    input: I,
     output: &mut Output<W>,
     errors: E,
 ) -> u8
 where
-    I: Read,
+    I: Read + Send + Drop,
     W: Write,
     E: Write + Send + Drop,
     T: Threads + Wait + Clock + fs::Files<File = File> + RandomSource + Sockets + Send + Sync,

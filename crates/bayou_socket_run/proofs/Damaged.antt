@@ -1,9 +1,11 @@
 -- What is told of servers that start, and of one that doesn't.
-use Rattle.std.proofs.Common.{◌≡◌, ℕ, suc, ◌+◌, ◌<◌, ◌≤◌, List, Result, Ok, Err, arith, inl, inr, refl, subst}
+use Rattle.std.proofs.Common.{◌≡◌, ℕ, suc, ◌+◌, ◌<◌, ◌≤◌, Bool, List, [], Option, None, Some, Result, Ok, Err, arith, inl, inr, refl, subst, sym}
+use Rattle.std.proofs.lemmas.List.{append-nil}
+use Rattle.bayou_journal.specs.declared.careful.DamagedEntry.{DamagedEntry}
 use Rattle.bayou_print.specs.declared.fault.RunFault.{RunFault}
 use Rattle.bayou_print.specs.declared.fault.RunFault.TheVariants.{Line, Memory, Device, Network, Input, Output}
 use Rattle.bayou_print.specs.declared.ended.Ended.{Ended}
-use Rattle.bayou_socket_run.specs.Damage.{MayTell, MayTellEntry, RefusesAt, StopsStart, TellsDamage, TellsEntries, TellsStart, journal_name}
+use Rattle.bayou_socket_run.specs.Damage.{MayTell, MayTellEntry, RefusesAt, StopsStart, TellsDamage, TellsEntries, TellsEntry, TellsStart, entry_text_of, journal_name}
 use Rattle.bayou_streams.specs.Account.{Account}
 
 pub refusal_told : (fault : RunFault) (name folder : List ℕ) (server servers : ℕ) (old new : Account) → server < servers → name ≡ journal_name folder server
@@ -23,6 +25,12 @@ nothing_damaged Device folder servers now = inl refl
 nothing_damaged Network folder servers now = refl
 nothing_damaged Input folder servers now = refl
 nothing_damaged Output folder servers now = refl
+
+-- what was told of a last entry, if one was dropped, is that line, a front of it, or nothing
+pub entry_told : (name : List ℕ) (entry : Option DamagedEntry) (old new : Account) (has_failed : Bool) → TellsEntry name entry old new has_failed → MayTellEntry name old new
+entry_told name None old new has_failed same = inl same
+entry_told name (Some entry) old new has_failed (inl whole) = inr (entry, (entry_text_of name entry, [], sym (append-nil (entry_text_of name entry)), whole))
+entry_told name (Some entry) old new has_failed (inr part) = inr (entry, part.0)
 
 -- one more server was started
 pub one_more_started : (name folder : List ℕ) (server : ℕ) (old between new : Account) → name ≡ journal_name folder server → TellsEntries folder server old between → MayTellEntry name between new

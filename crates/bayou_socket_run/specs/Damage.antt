@@ -1,11 +1,12 @@
 -- What is told of journals that are damaged, beside the fault of the run: this project's own.
-use Rattle.std.specs.Prelude.{◌≡◌, ◌⊎◌, ℕ, zero, suc, ◌<◌, ◌≤◌, List, ◌++◌, codes, decimal, Result, Ok, Err}
+use Rattle.std.specs.Prelude.{◌≡◌, ◌⊎◌, ℕ, zero, suc, ◌<◌, ◌≤◌, Bool, List, ◌++◌, Option, None, Some, codes, decimal, Result, Ok, Err}
 use Rattle.bayou_journal.specs.Careful.{damage_text, entry_text}
 use Rattle.bayou_journal.specs.declared.careful.Damage.{Damage}
 use Rattle.bayou_journal.specs.declared.careful.DamagedEntry.{DamagedEntry}
 use Rattle.bayou_print.specs.declared.ended.Ended.{Ended}
 use Rattle.bayou_print.specs.declared.fault.RunFault.{RunFault}
 use Rattle.bayou_print.specs.declared.fault.RunFault.TheVariants.{Device}
+use Rattle.bayou_print.specs.Telling.{IsPut}
 use Rattle.bayou_streams.specs.Account.{Account, TakesFront}
 
 -- the name of a server's journal in a folder
@@ -33,6 +34,11 @@ TellsDamage other folder servers old new = new ≡ old
 -- the line that tells of the last entry of the file of this name, which was dropped
 abbrev pub entry_text_of : (name : List ℕ) → DamagedEntry → List ℕ
 entry_text_of name entry = codes "bayou: " ++ (name ++ (codes ": " ++ (entry_text entry ++ codes "\n")))
+
+-- what is told of the last entry of the file of this name, where it was dropped: all of that line, but for where the output ends
+abbrev pub TellsEntry : (name : List ℕ) → Option DamagedEntry → (old new : Account) → (has_failed : Bool) → Type 0
+TellsEntry name None old new has_failed = new ≡ old
+TellsEntry name (Some entry) old new has_failed = IsPut (entry_text_of name entry) old new has_failed
 
 -- nothing was told, or that the last entry of the file of this name was dropped, or a front of that line
 abbrev pub MayTellEntry : (name : List ℕ) → Account → Account → Type 0

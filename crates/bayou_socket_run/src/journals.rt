@@ -1,6 +1,7 @@
 //! Servers that are started on journals in files.
-ghost use Rattle.std.specs.Prelude.{◌≡◌, ◌<◌, All, IfErr, IfOk, MatchResult, string_bytes};
-ghost use Rattle.bayou_socket_run.specs.Damage.{MayTell, MayTellEntry, RefusesAt, StopsStart, TellsDamage, TellsEntries, damage_text_of, entry_text_of, journal_name};
+ghost use Rattle.std.specs.Prelude.{◌≡◌, ◌<◌, All, IfErr, IfOk, MatchResult, OnOk, string_bytes};
+ghost use Rattle.bayou_print.specs.declared.fault.RunFault.TheVariants.{Memory};
+ghost use Rattle.bayou_socket_run.specs.Damage.{MayTell, RefusesAt, StopsStart, TellsDamage, TellsEntries, TellsEntry, damage_text_of, entry_text_of, journal_name};
 ghost use Rattle.bayou_socket_run.specs.Inner.Faults.{IsStartFault};
 ghost use Rattle.bayou_socket_run.specs.Inner.Runs.{HasRunsBefore};
 ghost use Rattle.bayou_streams.specs.Account.{account};
@@ -69,20 +70,21 @@ fn entry_line(alloc: Global, path: &str, entry: DamagedEntry) -> Result<String, 
     format!(in alloc; "bayou: {path}: {entry}\n")
 }
 
-/// Tells that the last entry of the journal of this name was dropped, where it was, as far as memory suffices and it can be told.
+/// Tells that the last entry of the journal of this name was dropped, where it was, as far as it can be told.
 fn tell_entry<E: Write>(
     alloc: Global,
     path: &str,
     entry: Option<DamagedEntry>,
     told: &mut Output<E>,
-)
-    ensures { MayTellEntry path.now (account E.contents told.old) (account E.contents told.new) }
+) -> Result<(), RunFault>
+    ensures told { OnOk result (TellsEntry path.now entry (account E.contents told.old) (account E.contents told.new) told.new.channel.write_failed) }
+    ensures fault { IfErr result (λ fault. (fault ≡ Memory) × (account E.contents told.new ≡ account E.contents told.old)) }
 {
-    let Some(entry) = entry else { return };
-    if let Ok(line) = entry_line(alloc, path, entry) {
-        // Where it can't be told, the run goes on as it would.
-        let _ = write_text(told, line.as_bytes());
-    }
+    let Some(entry) = entry else { return Ok(()) };
+    let line = entry_line(alloc, path, entry)?;
+    // Where it can't be told, the run goes on as it would.
+    let _ = write_text(told, line.as_bytes());
+    Ok(())
 }
 
 /// What a start that was refused comes to, once the damage of the journal of this name is told.
@@ -126,7 +128,7 @@ fn start_one<T: Files<File = File>, E: Write>(
 ) -> Result<Box<Journaled>, RunFault>
     requires { index < servers.count }
     ensures fault { IfErr result IsStartFault }
-    ensures told { MatchResult result (λ _. MayTellEntry (journal_name folder.now index) (account E.contents told.old) (account E.contents told.new)) (λ fault. TellsDamage fault folder.now servers.count (account E.contents told.old) (account E.contents told.new)) }
+    ensures told { MatchResult result (λ server. TellsEntry (journal_name folder.now index) server.value.device.entry (account E.contents told.old) (account E.contents told.new) told.new.channel.write_failed) (λ fault. TellsDamage fault folder.now servers.count (account E.contents told.old) (account E.contents told.new)) }
 {
     let path = format!(in alloc; "{folder}/server-{index}.journal")?;
     let was_there = matches!(fs::exists(rt, path.as_str()), Ok(true));
@@ -145,7 +147,7 @@ fn start_one<T: Files<File = File>, E: Write>(
     ) {
         Ok((server, _)) => {
             let server = boxed(alloc, server)?;
-            tell_entry(alloc, path.as_str(), server.see_device().entry(), told);
+            tell_entry(alloc, path.as_str(), server.see_device().entry(), told)?;
             Ok(server)
         }
         Err(refused) => {

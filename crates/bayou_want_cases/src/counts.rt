@@ -97,6 +97,12 @@ fn takes(
     does(rt, alloc, db, checks, Op::Del(numbered(rt, number)))
 }
 
+/// Whether so many keys begin so, no more and no fewer.
+fn has_exactly(db: &Db, prefix: &Prefix, number: usize) -> bool {
+    let most = u32::try_from(number).unwrap_or(u32::MAX);
+    db.has_at_most(prefix, most) && (most == 0 || !db.has_at_most(prefix, most.saturating_sub(1)))
+}
+
 /// Puts that many keys, not in their order, and takes some away again. Where memory is refused, as many begin so as before, and it is done again.
 fn fills(rt: &impl Abort, alloc: Global, db: &mut Db, checks: Checks, keys: usize) -> bool {
     let all = Prefix::default();
@@ -104,8 +110,7 @@ fn fills(rt: &impl Abort, alloc: Global, db: &mut Db, checks: Checks, keys: usiz
     for step in 0..keys {
         let number = at_step(step);
         is_so &= puts(rt, alloc, db, checks, number).is_ok()
-            || (db.number_with(&all, u32::MAX) == step
-                && puts(rt, alloc, db, checks, number).is_ok());
+            || (has_exactly(db, &all, step) && puts(rt, alloc, db, checks, number).is_ok());
     }
     for step in 0..keys {
         let number = at_step(step);
@@ -152,13 +157,13 @@ static ASKED: [&str; 16] = [
 /// The bounds of the counts: none, one, as many as some have and one less, and all.
 static BOUNDS: [u32; 7] = [0, 1, 56, 57, 171, 200, u32::MAX];
 
-/// Whether the database has as many of them as the list, or one more than the bound where those are more.
+/// Whether the database has as many of them as the list, and at most so many where the list has.
 fn is_listed(db: &Db, prefix: &Prefix, listed: usize) -> bool {
-    let mut is_so = true;
+    let mut is_so = has_exactly(db, prefix, listed);
     for most in BOUNDS.iter() {
-        let told = listed.min((*most as usize).saturating_add(1));
-        is_so &= db.number_with(prefix, *most) == told
-            && Look::number_with(db, prefix, *most) == told;
+        let told = listed <= *most as usize;
+        is_so &= db.has_at_most(prefix, *most) == told
+            && Look::has_at_most(db, prefix, *most) == told;
     }
     is_so
 }
@@ -176,15 +181,17 @@ fn tells_all(rt: &impl Abort, db: &Db, keys: usize) {
 }
 
 /// Counted by hand: of the 200 keys 67 begin with `a/` and a digit, 67 with `a/b` and 66 with `c`, and 10, 10 and 9 of them were taken away.
-static BY_HAND: [(&str, u32, usize); 8] = [
-    ("", 1000, 171),
-    ("", 3, 4),
-    ("a/", 1000, 114),
-    ("a/b", 1000, 57),
-    ("a/b", 57, 57),
-    ("a/b", 56, 57),
-    ("a/b", 55, 56),
-    ("c", 0, 1),
+static BY_HAND: [(&str, u32, bool); 10] = [
+    ("", 1000, true),
+    ("", 171, true),
+    ("", 170, false),
+    ("", 3, false),
+    ("a/", 114, true),
+    ("a/", 113, false),
+    ("a/b", 57, true),
+    ("a/b", 56, false),
+    ("a/b", 55, false),
+    ("c", 0, false),
 ];
 
 #[test]
@@ -195,7 +202,7 @@ fn removed_keys_are_not_counted(rt: HostRuntime) {
         let prefix = Prefix::new(beginning).expect(&rt, "no prefix");
         must_hold(
             &rt,
-            are_put && db.number_with(&prefix, *most) == *told,
+            are_put && db.has_at_most(&prefix, *most) == *told,
             beginning,
         );
     }

@@ -3,7 +3,7 @@ use crate::fixtures::must_hold;
 use bayou_base::limits::*;
 
 /// The name of a limit, the limit, and its number.
-static LIMITS: [(&str, u64, u64); 36] = [
+static LIMITS: [(&str, u64, u64); 43] = [
     ("servers", SERVERS as u64, 16),
     ("servers that there were once", OLD_SERVERS as u64, 8),
     ("servers over a network", NET_SERVERS as u64, 4),
@@ -33,7 +33,7 @@ static LIMITS: [(&str, u64, u64); 36] = [
     ("bytes that are taken at once", PULL_BYTES as u64, 1_048_576),
     ("bytes that are written at once", PIECE_BYTES as u64, 65_536),
     ("milliseconds of a wait", TICK_MILLISECONDS, 250),
-    ("milliseconds in a crowd", CROWDED_MILLISECONDS, 2_000),
+    ("milliseconds in a crowd", CROWDED_MILLISECONDS, 1_000),
     (
         "milliseconds behind the last reply",
         LINGER_MILLISECONDS,
@@ -52,8 +52,19 @@ static LIMITS: [(&str, u64, u64); 36] = [
         DESK_STACK_BYTES as u64,
         1_048_576,
     ),
-    ("seconds to reach a server", SERVER_REACH_SECONDS, 5),
-    ("seconds of a server's reply", SERVER_REPLY_SECONDS, 30),
+    ("seconds to start in", STARTING_SECONDS, 5),
+    ("bytes a second", LEAST_BYTES_A_SECOND, 4_096),
+    ("seconds of a rate", RATE_SECONDS, 30),
+    (
+        "seconds of a server's reply",
+        DEFAULT_TIMEOUT_SECONDS as u64,
+        3,
+    ),
+    ("seconds of a silent server", SILENT_SECONDS, 60),
+    ("seconds between two notices", NOTICE_SECONDS as u64, 60),
+    ("desks of a peer", DESKS_OF_A_PEER as u64, 2),
+    ("connections that wait", WAITING_CONNECTIONS as u64, 64),
+    ("Writes of a dump at once", DUMPED_AT_ONCE as u64, 128),
     ("milliseconds of a round", ROUND_MILLISECONDS, 250),
     ("entries of a state file", MAX_KEPT_ENTRIES, 65_536),
 ];

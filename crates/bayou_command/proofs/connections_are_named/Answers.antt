@@ -34,6 +34,10 @@ pub returns-clause-wait : goal.returns-clause-wait
 unfolding clap_on_literals
 returns-clause-wait c = record { good = refl; entered = refl }
 
+pub returns-clause-timeout : goal.returns-clause-timeout
+unfolding clap_on_literals
+returns-clause-timeout c = record { good = refl; entered = refl }
+
 pub returns-clause-named : goal.returns-clause-named
 unfolding clap_on_literals
 returns-clause-named c = record { good = refl; entered = refl }
@@ -78,9 +82,17 @@ pub returns-clause-wait_below : goal.returns-clause-wait_below
 unfolding clap_on_literals
 returns-clause-wait_below c = refl
 
+pub returns-clause-timeout_below : goal.returns-clause-timeout_below
+unfolding clap_on_literals
+returns-clause-timeout_below c = refl
+
 pub returns-clause-wait_above : goal.returns-clause-wait_above
 unfolding clap_on_literals
 returns-clause-wait_above c = refl
+
+pub returns-clause-timeout_above : goal.returns-clause-timeout_above
+unfolding clap_on_literals
+returns-clause-timeout_above c = refl
 
 pub returns-clause-state_unnamed : goal.returns-clause-state_unnamed
 unfolding clap_on_literals
@@ -109,6 +121,10 @@ returns-clause-book_twice c = refl
 pub returns-clause-wait_twice : goal.returns-clause-wait_twice
 unfolding clap_on_literals
 returns-clause-wait_twice c = refl
+
+pub returns-clause-timeout_twice : goal.returns-clause-timeout_twice
+unfolding clap_on_literals
+returns-clause-timeout_twice c = refl
 
 pub returns-clause-two_files : goal.returns-clause-two_files
 unfolding clap_on_literals

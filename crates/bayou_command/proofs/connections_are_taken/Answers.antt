@@ -26,6 +26,16 @@ returns-clause-wait c = record {
   refused = λ text is. ap (told ValueValidation) is;
 }
 
+pub returns-clause-timeout : goal.returns-clause-timeout
+unfolding clap_on_literals
+returns-clause-timeout c = record {
+  taken = λ text is. record {
+    good = ap (told ValueValidation) is;
+    entered = ap (λ number. a_connect (record plain_connection { timeout_seconds = number })) (number_taken 1 86400 3 text (omega arith) is);
+  };
+  refused = λ text is. ap (told ValueValidation) is;
+}
+
 pub returns-clause-servers : goal.returns-clause-servers
 unfolding clap_on_literals
 returns-clause-servers c first second = record { good = refl; entered = refl }

@@ -1,9 +1,8 @@
-use Rattle.std.proofs.Common.{◌∙◌, ap}
-use Rattle.bayou_connect.specs.Round.{turns}
+use Rattle.std.proofs.Common.{◌∙◌}
 use Rattle.bayou_connect.proofs.Going.{asked_anywhere}
 use Rattle.bayou_connect.proofs.anywhere.anywhere.Goals as goal
 
 pub returns : goal.returns
 returns g c =
-    asked_anywhere c.args.who c.args.attempt.now c.args.first c.args.rounds c.is_read.result c.deref.result.now c.args.store.now c.in_rounds.new.ways c.in_rounds.result c.is_read.ensures
-    (c.deref.ensures.value ∙ c.in_ok-order.ensures ∙ ap (turns c.args.first) c.len-2.ensures) c.in_rounds.ensures
+    asked_anywhere c.args.who c.args.attempt.now c.args.first c.args.rounds c.is_read.result c.deref.result.now c.in_ok-order.ensures.0 c.args.store.now c.in_rounds.new.ways c.in_rounds.result
+    c.is_read.ensures (c.deref.ensures.value ∙ c.in_ok-order.ensures.1) c.in_rounds.ensures

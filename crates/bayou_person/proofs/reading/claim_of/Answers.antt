@@ -21,7 +21,6 @@ returns-in_err-others c =
 pub returns-in_err-value : goal.returns-in_err-value
 returns-in_err-value c =
     let told = err_from_is_err_and c.from_residual-in_err-value.result c.from_residual-in_err-value.ensures.1 in
-    let (is, none) = c.in_err-value.ensures in
-    rw (told.1, told.2, is)
-    (claim_value c.args.key.now (map (λ word. word.now) c.args.others.now) c.args.word.now (omega (arith, length-map c.args.others.now (λ word. word.now), c.requires))
-    c.in_ok-key.ensures.0 (subst (All IsKey) c.in_ok-others.ensures.0 c.in_ok-others.ensures.1) none)
+    rw (told.1, told.2)
+    (claim_value c.args.key.now (map (λ word. word.now) c.args.others.now) c.args.word.now _ (omega (arith, length-map c.args.others.now (λ word. word.now), c.requires))
+    c.in_ok-key.ensures.0 (subst (All IsKey) c.in_ok-others.ensures.0 c.in_ok-others.ensures.1) c.in_err-value.ensures)

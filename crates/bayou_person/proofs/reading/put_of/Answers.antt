@@ -2,7 +2,7 @@ use Rattle.std.proofs.Common.{[], ◌∷◌, codes, refl}
 use Rattle.std.proofs.lemmas.List.Elements.{All-cons, All-nil}
 use Rattle.std.proofs.lemmas.Result.{err_from_is_err_and}
 use Rattle.bayou_lang.specs.Ranges.{IsKey}
-use Rattle.bayou_person.proofs.Telling.{first_key}
+use Rattle.bayou_person.proofs.Telling.{first_key, value_told}
 use Rattle.bayou_person.proofs.reading.put_of.Goals as goal
 
 pub returns-in_err-key : goal.returns-in_err-key
@@ -14,7 +14,5 @@ returns-in_err-key c =
 pub returns-in_err-value : goal.returns-in_err-value
 returns-in_err-value c =
     let told = err_from_is_err_and c.from_residual-in_err-value.result c.from_residual-in_err-value.ensures.1 in
-    let (is, none) = c.in_err-value.ensures in
     let key = c.args.key.now in
-    rw (told.1, told.2, is)
-    (codes "put", key ∷ [], c.args.word.now, record { is = refl; known = refl; fits = refl }, refl, All-cons IsKey key [] c.in_ok-key.ensures.0 (All-nil IsKey), none)
+    rw (told.1, told.2) (value_told (codes "put") (key ∷ []) c.args.word.now _ refl refl refl (All-cons IsKey key [] c.in_ok-key.ensures.0 (All-nil IsKey)) c.in_err-value.ensures)

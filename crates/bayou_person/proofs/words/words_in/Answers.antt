@@ -1,10 +1,13 @@
-use Rattle.std.proofs.Common.{lit<, length, nat_lt, rules, tests}
-use Rattle.std.proofs.lemmas.Iterator.Consumers.{YieldsList-from_filter, map_from_collect}
-use Rattle.std.proofs.lemmas.Iterator.Splits.{YieldsList-from_str_split}
+use Rattle.std.proofs.Common.{◌≡◌, ℕ, List, Some, arith, eqb-true, slice_index, subst, sym}
+use Rattle.std.proofs.lemmas.List.Quantifiers.{position-Some}
+use Rattle.std.specs.List.{position}
+use Rattle.bayou_person.specs.Wishes.{is_quote}
 use Rattle.bayou_person.proofs.words.words_in.Goals as goal
 
-pub returns : goal.returns
-returns c =
-    map_from_collect _ c.collect.ensures.ran
-    (YieldsList-from_filter {s = c.filter.result} _ (λ part. nat_lt 0 (length part)) (YieldsList-from_str_split 32 c.args.text.now (lit< tt) (cc) (cc) (cc))
-    c.filter.ensures.closure (λ x b q k. search (rules, tests)))
+pub split_at-requires : goal.split_at-requires
+split_at-requires c =
+    let text = c.args.text.now in
+    let at = c.in-Some.at in
+    let there = subst (λ (bytes : List ℕ). position is_quote bytes ≡ Some at) c.as_bytes.ensures.value (sym c.in-Some.ensures) in
+    let found = position-Some is_quote text at 0 there in
+    (omega (arith, found.0), λ within high. absurd (omega (arith, high, eqb-true (slice_index text at) 34 found.1)))

@@ -13,8 +13,8 @@ returns g c =
     let after = g.W.Write.contents c.pull_tallied.new.channel.writer.stream in
     let offer = spelling (Offer c.offer-counts.result) in
     let of_channel = subst (λ reader. Consumes (g.R.Read.remaining reader.stream.reader.reader) rest read) c.new-channel.ensures.reader consumes in
-    let of_patient = subst (λ patient. Consumes (g.R.Read.remaining patient.reader.reader) rest read) c.new-reader.ensures of_channel in
-    let of_reader = subst (λ reader. Consumes (g.R.Read.remaining reader) rest read) c.new.ensures.reader.0 of_patient in
+    let of_patient = subst (λ patient. Consumes (g.R.Read.remaining patient.reader.reader) rest read) c.paced-reader.ensures of_channel in
+    let of_reader = subst (λ reader. Consumes (g.R.Read.remaining reader) rest read) c.new-patient.ensures.reader.0 of_patient in
     let by_channel = subst (λ writer. AppendsFront (g.W.Write.contents writer.stream) after offer) c.new-channel.ensures.writer c.pull_tallied.ensures.part in
     let by_writer = subst (λ writer. AppendsFront (g.W.Write.contents writer) after offer) c.new-writer.ensures by_channel in (
       c.offer-counts.result,

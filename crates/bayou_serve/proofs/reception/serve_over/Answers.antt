@@ -7,11 +7,12 @@ use Rattle.bayou_serve.proofs.reception.serve_over.Goals as goal
 
 pub returns : goal.returns
 returns g c =
-    let (read, consumes, ends) = c.serve_until_halted.ensures.serves in
-    let rest = g.R.Read.remaining c.serve_until_halted.new.channel.reader.reader.reader in
-    let after = g.W.Write.contents c.serve_until_halted.new.channel.writer.stream in
-    let of_channel = subst (λ reader. Consumes (g.R.Read.remaining reader.reader.reader) rest read) c.new-channel.ensures.reader consumes in
-    let of_reader = subst (λ reader. Consumes (g.R.Read.remaining reader) rest read) c.new-reader.ensures.reader.0 of_channel in
-    let by_channel = subst (λ writer. ServeEnds (halting (desk_steps g.L.Desks.begun)) c.args.desk c.serve_until_halted.result.1 read (g.W.Write.contents writer.stream) after (IsAtEnd rest) c.serve_until_halted.result.0) c.new-channel.ensures.writer ends in
-    let by_writer = subst (λ writer. ServeEnds (halting (desk_steps g.L.Desks.begun)) c.args.desk c.serve_until_halted.result.1 read (g.W.Write.contents writer) after (IsAtEnd rest) c.serve_until_halted.result.0) c.new-writer.ensures by_channel in
-    (c.serve_until_halted.result.0, rest, after, read, of_reader, by_writer)
+    let (read, consumes, ends) = c.serve_with_leave-answer.ensures.serves in
+    let rest = g.R.Read.remaining c.serve_with_leave-answer.new.channel.reader.reader.reader.reader in
+    let after = g.W.Write.contents c.serve_with_leave-answer.new.channel.writer.writer in
+    let of_channel = subst (λ reader. Consumes (g.R.Read.remaining reader.reader.reader.reader) rest read) c.new-channel.ensures.reader consumes in
+    let of_patient = subst (λ heard. Consumes (g.R.Read.remaining heard.reader) rest read) c.new-reader.ensures.reader.0 of_channel in
+    let of_reader = subst (λ reader. Consumes (g.R.Read.remaining reader) rest read) c.new-heard.ensures of_patient in
+    let by_channel = subst (λ writer. ServeEnds (halting (desk_steps g.L.Desks.begun)) c.args.desk c.serve_with_leave-answer.result.1 read (g.W.Write.contents writer.writer) after (IsAtEnd rest) c.serve_with_leave-answer.result.0) c.new-channel.ensures.writer ends in
+    let by_writer = subst (λ writer. ServeEnds (halting (desk_steps g.L.Desks.begun)) c.args.desk c.serve_with_leave-answer.result.1 read (g.W.Write.contents writer) after (IsAtEnd rest) c.serve_with_leave-answer.result.0) c.new-writer.ensures by_channel in
+    (c.serve_with_leave-answer.result.0, rest, after, read, of_reader, by_writer)

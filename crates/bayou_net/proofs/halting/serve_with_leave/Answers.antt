@@ -3,7 +3,7 @@ use Rattle.std.specs.Io.KnownBytes.{IsAtEnd}
 use Rattle.bayou_net.specs.Halting.{halting}
 use Rattle.bayou_net.specs.Lent.{desk_steps}
 use Rattle.bayou_net.specs.Serving.{ServeEnds}
-use Rattle.bayou_net.proofs.halting.serve_until_halted.Goals as goal
+use Rattle.bayou_net.proofs.halting.serve_with_leave.Goals as goal
 
 pub returns-clause-serves : goal.returns-clause-serves
 returns-clause-serves g c =

@@ -1,6 +1,6 @@
 use Rattle.std.proofs.Common.{◌∙◌}
 use Rattle.bayou_serve.proofs.Gathering.{same_count}
-use Rattle.bayou_serve.proofs.restoring.gather_from.Goals as goal
+use Rattle.bayou_serve.proofs.restoring.gather_over.Goals as goal
 
 pub returns-in-Ok : goal.returns-in-Ok
 returns-in-Ok g c =

@@ -1,0 +1,148 @@
+//! A line, done.
+ghost use Rattle.std.specs.Prelude.{◌≡◌};
+ghost use Rattle.bayou_connect.specs.Speaking.{spoken_of};
+
+use crate::desk::{Desk, OWN, print};
+use crate::fault::ConnectFault;
+use crate::help::HELP;
+use bayou_net::Sockets;
+use bayou_person::{WishFault, wish_in};
+use bayou_script::ScriptFault;
+use bayou_streams::Output;
+use bayou_text::{Line, LineFault, read_line};
+use std::fs::{File, Files};
+use std::io::Write;
+use std::str;
+use std::sync::Wait;
+use std::time::Clock;
+use thiserror::Error;
+
+/// What is wrong with a line.
+#[derive(Clone, Copy, Debug, PartialEq, Eq, Error)]
+pub enum Wrong {
+    /// As a line of a script.
+    #[error("{0}")]
+    Script(ScriptFault),
+    /// As a short line.
+    #[error("{0}")]
+    Wish(WishFault),
+}
+
+/// What became of a line.
+#[derive(Clone, Copy, Debug, PartialEq, Eq)]
+pub(crate) enum Became {
+    /// It was done.
+    Done,
+    /// It can't be done.
+    Wrong(Wrong),
+    /// It was that no more are to be done.
+    Quit,
+    /// There was none: the input has ended.
+    Ended,
+}
+
+/// A line that is said of the lines themselves.
+#[derive(Clone, Copy, Debug, PartialEq, Eq)]
+pub(crate) enum Spoken {
+    /// To ask the last Write again.
+    Again,
+    /// To be told what lines there are.
+    Help,
+    /// To end.
+    Quit,
+}
+
+// What a line of a script that wasn't read is told as.
+fn wrong_of(fault: LineFault) -> Result<Wrong, ConnectFault> {
+    Ok(Wrong::Script(match fault {
+        LineFault::OutOfMemory => return Err(ConnectFault::Memory),
+        LineFault::NotJson => ScriptFault::NotJson,
+        LineFault::BadShape(_) => ScriptFault::BadShape,
+        LineFault::Key(_) => ScriptFault::BadKey,
+        LineFault::Program(_) => ScriptFault::BadProgram,
+    }))
+}
+
+// Does a line of a script, and tells what became of it.
+fn do_script_line<W: Write, T: Files<File = File> + Sockets + Wait + Clock>(
+    rt: &T,
+    desk: &mut Desk,
+    output: &mut Output<W>,
+    line: &[u8],
+) -> Result<Became, ConnectFault> {
+    let command = match read_line(desk.alloc, line) {
+        Ok(Line::Command(command)) => command,
+        Ok(_) => return Ok(Became::Wrong(Wrong::Script(ScriptFault::OutOfPlace))),
+        Err(fault) => return Ok(Became::Wrong(wrong_of(fault)?)),
+    };
+    if desk.command(rt, output, command)? {
+        return Ok(Became::Done);
+    }
+    Ok(Became::Wrong(Wrong::Script(ScriptFault::OutOfPlace)))
+}
+
+// The line that a person says of the lines themselves, if it is one.
+fn spoken_in(line: &[u8]) -> Option<Spoken>
+    ensures { result ≡ spoken_of line.now }
+{
+    match line {
+        b"again" => Some(Spoken::Again),
+        b"help" => Some(Spoken::Help),
+        b"quit" => Some(Spoken::Quit),
+        _ => None,
+    }
+}
+
+// Does a line that is a wish, and tells what became of it.
+fn do_wish<W: Write, T: Files<File = File> + Sockets + Wait + Clock>(
+    rt: &T,
+    desk: &mut Desk,
+    output: &mut Output<W>,
+    line: &[u8],
+) -> Result<Became, ConnectFault> {
+    let Ok(text) = str::from_utf8(line) else {
+        return Ok(Became::Wrong(Wrong::Wish(WishFault::Word)));
+    };
+    match wish_in(desk.alloc, text) {
+        Ok(wish) => {
+            if desk.wish(rt, output, wish)? {
+                return Ok(Became::Done);
+            }
+            Ok(Became::Wrong(Wrong::Script(ScriptFault::OutOfPlace)))
+        }
+        Err(WishFault::OutOfMemory) => Err(ConnectFault::Memory),
+        Err(fault) => Ok(Became::Wrong(Wrong::Wish(fault))),
+    }
+}
+
+// Does a short line, and tells what became of it.
+fn do_short_line<W: Write, T: Files<File = File> + Sockets + Wait + Clock>(
+    rt: &T,
+    desk: &mut Desk,
+    output: &mut Output<W>,
+    line: &[u8],
+) -> Result<Became, ConnectFault> {
+    match spoken_in(line) {
+        None => return do_wish(rt, desk, output, line),
+        Some(Spoken::Again) => {
+            desk.ask_again(rt, output, OWN)?;
+        }
+        Some(Spoken::Help) => print(output, HELP)?,
+        Some(Spoken::Quit) => return Ok(Became::Quit),
+    }
+    Ok(Became::Done)
+}
+
+/// Does a line, and tells what became of it.
+pub(crate) fn do_line<W: Write, T: Files<File = File> + Sockets + Wait + Clock>(
+    rt: &T,
+    desk: &mut Desk,
+    output: &mut Output<W>,
+    line: &[u8],
+) -> Result<Became, ConnectFault> {
+    match line.trim_ascii() {
+        [] => Ok(Became::Done),
+        [b'[', ..] => do_script_line(rt, desk, output, line),
+        short => do_short_line(rt, desk, output, short),
+    }
+}

@@ -1,0 +1,150 @@
+//! Whether the journal of a server that lives is still the file that it has open, and as long as it wrote it.
+ghost use Rattle.std.specs.Prelude.{◌≡◌, None, Some};
+ghost use Rattle.bayou_serve.specs.Straying.{same_file, strays};
+
+use crate::hall::Hall;
+use crate::notice::Notice;
+use crate::peers::rest;
+use crate::teller::Teller;
+use crate::watched::{Bounds, Extent, is_as_written};
+use std::alloc::Global;
+use std::fs::{File, Files, Metadata};
+use std::io::{ErrorKind, Write};
+use std::os::unix::fs::MetadataExt;
+use std::sync::Wait;
+use std::time::Clock;
+use std::{fs, io};
+use thiserror::Error;
+
+/// Which file it is, whatever its name.
+#[derive(Clone, Copy, Debug, PartialEq, Eq)]
+pub struct Identity {
+    pub device: u64,
+    pub node: u64,
+}
+
+impl Identity {
+    /// That of the file that was found. What a file has no clause can say.
+    pub(crate) fn of(found: &Metadata) -> Self {
+        Identity {
+            device: found.dev(),
+            node: found.ino(),
+        }
+    }
+}
+
+/// A file that was found under a name.
+#[derive(Clone, Copy, Debug, PartialEq, Eq)]
+pub struct Sight {
+    pub file: Identity,
+    pub len: u64,
+}
+
+/// What became of a journal's file.
+#[derive(Clone, Copy, Debug, PartialEq, Eq, Error)]
+pub enum Straying {
+    #[error("it was removed")]
+    Removed,
+    #[error("another file was put in its place")]
+    Replaced,
+    #[error("somebody else changed it")]
+    Changed,
+}
+
+// Whether they are one file.
+fn is_same(one: Identity, other: Identity) -> bool
+    ensures { result ≡ same_file one other }
+{
+    one.device == other.device && one.node == other.node
+}
+
+/// What became of the file, of which this was found under its name, if anything did. Before and behind that it was known so far how long it is.
+pub fn straying_of(
+    found: Option<Sight>,
+    own: Identity,
+    before: Bounds,
+    after: Bounds,
+) -> Option<Straying>
+    ensures { result ≡ strays found own before after }
+{
+    let Some(found) = found else {
+        return Some(Straying::Removed);
+    };
+    if !is_same(found.file, own) {
+        return Some(Straying::Replaced);
+    }
+    if is_as_written(found.len, before, after) {
+        return None;
+    }
+    Some(Straying::Changed)
+}
+
+// What stands under a name; an `Err` where that can't be seen.
+fn sight_of(found: io::Result<Metadata>) -> io::Result<Option<Sight>> {
+    match found {
+        Ok(found) => Ok(Some(Sight {
+            file: Identity::of(&found),
+            len: found.len(),
+        })),
+        Err(error) if error.kind() == ErrorKind::NotFound => Ok(None),
+        Err(error) => Err(error),
+    }
+}
+
+/// The journal of a server that lives: its name, which file it is, and how long that is to be.
+#[derive(Clone, Copy)]
+pub(crate) struct Journal<'s> {
+    pub(crate) path: &'s str,
+    pub(crate) file: Identity,
+    pub(crate) extent: &'s Extent,
+}
+
+// What became of the journal, if anything did. What can't be seen is looked at again later.
+fn look<T: Files<File = File>>(rt: &T, journal: Journal<'_>) -> Option<Straying> {
+    let before = journal.extent.bounds();
+    let found = sight_of(fs::metadata(rt, journal.path)).ok()?;
+    straying_of(found, journal.file, before, journal.extent.bounds())
+}
+
+// Tells what became of the journal of this name.
+fn tell_straying<E: Write, T: Wait>(
+    rt: &T,
+    alloc: Global,
+    path: &str,
+    straying: Straying,
+    teller: &Teller<E>,
+) {
+    let line = format!(in alloc;
+        "bayou: {path}: {straying} while it is served; no Write is taken any more\n"
+    );
+    teller.tell_made(rt, line);
+}
+
+/// Looks every so many seconds whether the journal is still what the server wrote, until it ends. Where it isn't, no Write is taken from then on,
+/// and that is told each minute. When it is found no clause can say: what is written until then goes where nobody will find it.
+pub(crate) fn keep_watch<E: Write, T: Wait + Clock + Files<File = File>>(
+    rt: &T,
+    alloc: Global,
+    journal: Journal<'_>,
+    every_seconds: u32,
+    hall: &Hall,
+    teller: &Teller<E>,
+) {
+    let told = Notice::new();
+    let mut known: Option<Straying> = None;
+    for _ in rt.forever() {
+        if hall.is_over() {
+            return;
+        }
+        if known.is_none() {
+            known = look(rt, journal);
+        }
+        if let Some(straying) = known {
+            let _ = hall.stray(rt);
+            if told.is_due(rt) {
+                tell_straying(rt, alloc, journal.path, straying, teller);
+            }
+        }
+        rest(rt, hall, every_seconds);
+    }
+}
