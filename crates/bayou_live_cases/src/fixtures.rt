@@ -154,7 +154,7 @@ pub fn written<D: Device, L: Desks, R: Wait + Abort>(
     program: &Program,
 ) -> Result<u32, WriteFault> {
     let program = program.rest(alloc)?;
-    match node.write(rt, alloc, desk, tag, &Vector::zero(), program)? {
+    match node.write(rt, alloc, desk, tag, &Vector::zero(), &program)? {
         Written::New(accepted) => Ok(accepted.wid.seq),
         Written::Known(_) => rt.abort(),
     }

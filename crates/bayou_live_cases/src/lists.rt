@@ -104,7 +104,7 @@ fn written<L: Desks, R: Wait + Abort>(
     alloc: Global,
     site: &mut Site<Memory, L>,
     (tag, need): (Tag, &Vector),
-    program: RestingProgram,
+    program: &RestingProgram,
 ) -> Result<Written, WriteFault> {
     let desk = site.desks.first_mut().expect(rt, "no desk");
     site.node.write(rt, alloc, desk, tag, need, program)
@@ -124,8 +124,9 @@ fn writes_alike<L: Desks, R: Wait + Abort>(
     asked: &Asked,
 ) -> (bool, u32) {
     let Asked { tag, need, program } = asked;
-    let answer = server.write(alloc, *tag, need, rest(rt, alloc, program));
-    let is_same = answer == written(rt, alloc, site, (*tag, need), rest(rt, alloc, program));
+    let program = rest(rt, alloc, program);
+    let answer = server.write(alloc, *tag, need, &program);
+    let is_same = answer == written(rt, alloc, site, (*tag, need), &program);
     (is_same, u32::from(matches!(answer, Ok(Written::New(_)))))
 }
 

@@ -149,7 +149,7 @@ fn one_of_each<L: Desks, R: Wait + Abort>(
 fn puts(rt: &impl Abort, alloc: Global, server: &mut Served) -> bool {
     let program = resting_put(rt, alloc, 1);
     let tag = values::tag_behind(server.receipts().len()).expect(rt, "no tag");
-    let answer = server.write(alloc, tag, &Vector::zero(), program);
+    let answer = server.write(alloc, tag, &Vector::zero(), &program);
     fuse(server, 4, 0);
     matches!(answer, Ok(Written::New(_)))
 }

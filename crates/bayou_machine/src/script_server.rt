@@ -1,21 +1,13 @@
 //! A server of a script, and what it makes of each command.
 ghost use Rattle.std.specs.Prelude.{◌≡◌, ◌<◌, IfOk, IfErr, IfSome, IsSome, ℕ};
-ghost use Rattle.bayou_base.specs.declared.limits.TheConstants.{MAX_PLACES};
-ghost use Rattle.bayou_device.specs.Memory.{LeadsTo, kept_bytes};
-ghost use Rattle.bayou_device.specs.MemoryDevice.{memory_device};
-ghost use Rattle.bayou_journal.specs.Opening.{KeepsChains};
-ghost use Rattle.bayou_server.specs.Server.{IsSoundServer};
-ghost use Rattle.bayou_server.specs.Stored.{StoresWrite};
-ghost use Rattle.bayou_server.specs.Writes.{Writes};
-ghost use Rattle.bayou_session.specs.Needs.{IsTagOf};
 
 use crate::seat::Seat;
 use bayou_answers::{Answer, BeginFault, Recovery};
-use bayou_base::{Key, ServerId, SessionId, Tag, Vector};
+use bayou_base::{Key, ServerId, SessionId, Tag};
 use bayou_device::{MemoryDevice, OpenGate};
 use bayou_lang::{RestingProgram, RestingWrite};
 use bayou_script::Servers;
-use bayou_server::{NotStarted, Server, StartFault, Stopped, WriteFault, Written};
+use bayou_server::{NotStarted, Server, StartFault, Stopped};
 use bayou_text::PlannedFailure;
 use std::alloc::{AllocError, Global};
 
@@ -26,26 +18,6 @@ pub enum ScriptServer {
     Running(Server<MemoryDevice<OpenGate>>),
     /// Its last start was refused: its device, and what it held before.
     Stopped(Stopped<MemoryDevice<OpenGate>>),
-}
-
-// What the server answers a Write of the program, which is copied for it: what is asked may be asked again.
-fn written(
-    alloc: Global,
-    server: &mut Server<MemoryDevice<OpenGate>>,
-    tag: Tag,
-    need: &Vector,
-    program: &RestingProgram,
-) -> Result<Written, WriteFault>
-    ensures writes { Writes server.old.core tag need.now program.now result server.new.core }
-    ensures stores { StoresWrite memory_device server.old result server.new }
-    ensures sound { IsSoundServer server.old.core × IsSoundServer server.new.core }
-    ensures safe { KeepsChains (kept_bytes server.old.device) (kept_bytes server.new.device) }
-    ensures calls { LeadsTo 2 server.old.device server.new.device }
-{
-    match program.copy(alloc) {
-        Ok(program) => server.write(alloc, tag, need, program),
-        Err(_) => server.answer_without_memory(tag, need, program),
-    }
 }
 
 impl ScriptServer {
@@ -87,7 +59,7 @@ impl ScriptServer {
             return Answer::Lost { session: who };
         };
         let need = seat.session().need_write();
-        let reply = written(alloc, server, tag, &need, seat.program());
+        let reply = server.write(alloc, tag, &need, seat.program());
         seat.hear_write(who, drops, reply)
     }
 

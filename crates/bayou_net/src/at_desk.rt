@@ -41,19 +41,10 @@ impl<D: Device, L: Desks, T: Wait> Served for AtNode<'_, D, L, Desk<L>, T> {
         alloc: Global,
         tag: Tag,
         need: &Vector,
-        program: RestingProgram,
+        program: &RestingProgram,
     ) -> Result<Written, WriteFault> {
         self.node
             .write(self.rt, alloc, &mut self.desk, tag, need, program)
-    }
-
-    fn answer_without_memory(
-        &mut self,
-        tag: Tag,
-        need: &Vector,
-        program: &RestingProgram,
-    ) -> Result<Written, WriteFault> {
-        self.node.answer_without_memory(self.rt, tag, need, program)
     }
 
     fn reopen(&mut self, alloc: Global) -> Result<Reopened, ReopenFault> {

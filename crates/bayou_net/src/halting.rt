@@ -110,24 +110,12 @@ impl<S: Served, H: Leave> Served for Halting<'_, S, H> {
         alloc: Global,
         tag: Tag,
         need: &Vector,
-        program: RestingProgram,
-    ) -> Result<Written, WriteFault> {
-        if !self.leave.is_open() {
-            return Err(WriteFault::Down);
-        }
-        self.served.write(alloc, tag, need, program)
-    }
-
-    fn answer_without_memory(
-        &mut self,
-        tag: Tag,
-        need: &Vector,
         program: &RestingProgram,
     ) -> Result<Written, WriteFault> {
         if !self.leave.is_open() {
             return Err(WriteFault::Down);
         }
-        self.served.answer_without_memory(tag, need, program)
+        self.served.write(alloc, tag, need, program)
     }
 
     fn reopen(&mut self, alloc: Global) -> Result<Reopened, ReopenFault> {

@@ -26,18 +26,9 @@ impl<D: Device> Served for Server<D> {
         alloc: Global,
         tag: Tag,
         need: &Vector,
-        program: RestingProgram,
-    ) -> Result<Written, WriteFault> {
-        Server::write(self, alloc, tag, need, program)
-    }
-
-    fn answer_without_memory(
-        &mut self,
-        tag: Tag,
-        need: &Vector,
         program: &RestingProgram,
     ) -> Result<Written, WriteFault> {
-        Server::answer_without_memory(self, tag, need, program)
+        Server::write(self, alloc, tag, need, program)
     }
 
     fn reopen(&mut self, alloc: Global) -> Result<Reopened, ReopenFault> {

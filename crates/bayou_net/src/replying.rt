@@ -145,22 +145,6 @@ fn of_read<S: Served>(
     encoded(alloc, &frame)
 }
 
-// Has the program made a Write. Where there is no memory for it, no answer that comes before that is passed over.
-fn write_at<S: Served>(
-    alloc: Global,
-    served: &mut S,
-    tag: Tag,
-    need: &Vector,
-    program: &RestingProgram,
-) -> Result<Written, WriteFault>
-    ensures { S.writes served.old tag need.now program.now result served.new }
-{
-    match program.copy(alloc) {
-        Ok(copy) => served.write(alloc, tag, need, copy),
-        Err(_) => served.answer_without_memory(tag, need, program),
-    }
-}
-
 fn of_write<S: Served>(
     alloc: Global,
     served: &mut S,
@@ -171,7 +155,7 @@ fn of_write<S: Served>(
     ensures { (answer : Result WriteMade WriteRefused) × S.writes served.old tag need.now program.now answer served.new
         × IfOk result (λ text. text.items ≡ spelling (write_reply answer)) }
 {
-    let frame = told_write(write_at(alloc, served, tag, need, program));
+    let frame = told_write(served.write(alloc, tag, need, program));
     encoded(alloc, &frame)
 }
 

@@ -34,15 +34,6 @@ pub trait Served: Replica {
         alloc: Global,
         tag: Tag,
         need: &Vector,
-        program: RestingProgram,
-    ) -> Result<Written, WriteFault>
-        ensures { writes self.old tag need.now program result self.new };
-
-    /// What a program is answered for which there is no memory: what is told, or refused, before that is missed, or the want of it.
-    fn answer_without_memory(
-        &mut self,
-        tag: Tag,
-        need: &Vector,
         program: &RestingProgram,
     ) -> Result<Written, WriteFault>
         ensures { writes self.old tag need.now program.now result self.new };

@@ -1,4 +1,4 @@
-ghost use Rattle.std.specs.Prelude.{◌≡◌, ◌≤◌, ◌<◌, ◌+◌, ◌⊎◌, ℕ, [], None, Err, IfOk, MatchResult, drop, length, slice_index, sum, take};
+ghost use Rattle.std.specs.Prelude.{◌≡◌, ◌≤◌, ◌<◌, ◌+◌, ◌^◌, ◌⊎◌, ℕ, [], None, Err, IfOk, MatchResult, drop, length, slice_index, sum, take};
 ghost use Rattle.std.specs.Vec.Iter.{into_iter_items};
 ghost use Rattle.bayou_base.specs.declared.limits.TheConstants.{MAX_WRITES};
 ghost use Rattle.bayou_lang.specs.Writes.{count_of, lacking_of};
@@ -25,6 +25,7 @@ use bayou_server::{
 };
 use std::alloc::{AllocError, Global};
 use std::marker::Model;
+use std::sync::atomic::AtomicUsize;
 use std::sync::ledger::{Blank, Book, Share};
 use std::vec::IntoIter;
 
@@ -141,9 +142,9 @@ impl<D: Device, L: Desks> Held<D, L> {
         desk: &mut Desk<L>,
         tag: Tag,
         need: &Vector,
-        program: RestingProgram,
+        program: &RestingProgram,
     ) -> Result<Written, WriteFault>
-        ensures writes { Writes self.old.server.core tag need.now program result self.new.server.core }
+        ensures writes { Writes self.old.server.core tag need.now program.now result self.new.server.core }
         ensures stores { StoresWrite D.Device self.old.server result self.new.server }
         ensures pays { Pays desk.old result desk.new }
         ensures counts { self.new.accepted ≡ self.old.accepted + own_made result }
@@ -161,20 +162,6 @@ impl<D: Device, L: Desks> Held<D, L> {
         Ok(written)
     }
 
-    /// As [`Server::answer_without_memory`]. No desk is paid.
-    pub fn answer_without_memory(
-        &self,
-        tag: Tag,
-        need: &Vector,
-        program: &RestingProgram,
-    ) -> Result<Written, WriteFault>
-        ensures writes { Writes self.now.server.core tag need.now program.now result self.now.server.core }
-        ensures unpaid { (paid : ℕ) → IfOk result (IsWritten L.begun.server need.now paid) × Pays paid result paid }
-        ensures exact { IsExact L.begun self.now }
-    {
-        self.server.answer_without_memory(tag, need, program)
-    }
-
     /// As [`Server::take`].
     pub fn take(&mut self, alloc: Global, write: RestingWrite) -> Result<Took, TakeFault>
         ensures takes { Takes self.old.server.core write result self.new.server.core }
@@ -186,20 +173,21 @@ impl<D: Device, L: Desks> Held<D, L> {
         self.server.take(alloc, write)
     }
 
-    /// As [`Server::take_next`].
-    pub fn take_next(
+    /// As [`Server::take_meanwhile`].
+    pub fn take_meanwhile(
         &mut self,
         alloc: Global,
         writes: &mut IntoIter<RestingWrite>,
-        most: u32,
+        waiting: &AtomicUsize,
     ) -> TookAll
+        requires few { length (into_iter_items writes.old) < 2 ^ 32 }
         ensures takes { TakesAll (TakesAt D.Device) self.old.server (into_iter_items writes.old) (into_iter_items writes.new) result self.new.server }
-        ensures whole { result.fault ≡ None → (into_iter_items writes.new ≡ []) ⊎ (result.taken + result.had ≡ most) }
+        ensures some { result.fault ≡ None → (into_iter_items writes.new ≡ []) ⊎ (0 < result.taken + result.had) }
         ensures others { (self.new.stored ≡ self.old.stored) × (self.new.accepted ≡ self.old.accepted) × (self.new.adopted ≡ self.old.adopted) }
         ensures keeps { StillHolds self.old.server.core self.new.server.core }
         ensures exact { IsExact L.begun self.old × IsExact L.begun self.new }
     {
-        self.server.take_next(alloc, writes, most)
+        self.server.take_meanwhile(alloc, writes, waiting)
     }
 
     /// As [`Server::reopen`]. A Write of the server's own that is adopted is counted.

@@ -15,7 +15,6 @@ ghost use Rattle.bayou_server.specs.Writes.{Writes};
 use crate::desk::{Desk, Desks};
 use crate::held::Held;
 use crate::node_settled::{DeskMissing, NodeSettled, NotMade};
-use bayou_base::limits::TAKES_AT_ONCE;
 use bayou_base::{Key, Seen, ServerId, Tag, Vector};
 use bayou_device::Device;
 use bayou_lang::{RestingProgram, RestingWrite};
@@ -25,14 +24,17 @@ use bayou_server::{
 };
 use std::alloc::{AllocError, Global};
 use std::marker::Model;
+use std::sync::atomic::{AtomicUsize, Ordering};
 use std::sync::ledger::Blank;
-use std::sync::{Mutex, Wait};
+use std::sync::{Mutex, MutexGuard, Wait};
 
 /// A server behind its lock, which threads share. Each call that takes the lock may wait for it, and holds it for itself alone; those that take it
 /// several times, or never, say so.
 #[derive(Drop)]
 pub struct Node<D, L: Desks> {
     held: Mutex<Held<D, L>>,
+    // How many callers wait for the lock.
+    waiting: AtomicUsize,
     id: ServerId,
 }
 
@@ -66,10 +68,19 @@ impl<D: Device, L: Desks> Node<D, L> {
         Ok((
             Node {
                 held: Mutex::new(held),
+                waiting: AtomicUsize::new(0),
                 id,
             },
             desks,
         ))
+    }
+
+    // The value of the lock, once it is free. Whoever takes Writes meanwhile sees that somebody waits.
+    fn enter<R: Wait>(&self, rt: &R) -> MutexGuard<'_, Held<D, L>> {
+        self.waiting.fetch_add(1, Ordering::Relaxed);
+        let held = self.held.lock(rt);
+        self.waiting.fetch_sub(1, Ordering::Relaxed);
+        held
     }
 
     /// Which server it has. This takes no lock.
@@ -84,7 +95,7 @@ impl<D: Device, L: Desks> Node<D, L> {
         ensures reads { InSome L.begun (λ core. Reads core need.now key.now result) }
         ensures covered { IfOk result (λ seen. Dominates seen.vector need.now) }
     {
-        self.held.lock(rt).read(need, key)
+        self.enter(rt).read(need, key)
     }
 
     /// As [`Held::write`].
@@ -95,34 +106,20 @@ impl<D: Device, L: Desks> Node<D, L> {
         desk: &mut Desk<L>,
         tag: Tag,
         need: &Vector,
-        program: RestingProgram,
+        program: &RestingProgram,
     ) -> Result<Written, WriteFault>
-        ensures writes { BySome L.begun (λ old new. Writes old tag need.now program result new) }
+        ensures writes { BySome L.begun (λ old new. Writes old tag need.now program.now result new) }
         ensures written { IfOk result (IsWritten L.begun.server need.now desk.old) }
         ensures pays { Pays desk.old result desk.new }
     {
-        self.held.lock(rt).write(alloc, desk, tag, need, program)
-    }
-
-    /// As [`Held::answer_without_memory`].
-    pub fn answer_without_memory<R: Wait>(
-        &self,
-        rt: &R,
-        tag: Tag,
-        need: &Vector,
-        program: &RestingProgram,
-    ) -> Result<Written, WriteFault>
-        ensures writes { InSome L.begun (λ core. Writes core tag need.now program.now result core) }
-        ensures unpaid { (paid : ℕ) → IfOk result (IsWritten L.begun.server need.now paid) × Pays paid result paid }
-    {
-        self.held.lock(rt).answer_without_memory(tag, need, program)
+        self.enter(rt).write(alloc, desk, tag, need, program)
     }
 
     /// What its server holds, at some time during the call.
     pub fn offer<R: Wait>(&self, rt: &R) -> Vector
         ensures { InSome L.begun (λ core. result ≡ count_of core.held) }
     {
-        self.held.lock(rt).vector()
+        self.enter(rt).vector()
     }
 
     /// As [`Held::lacking`].
@@ -136,7 +133,7 @@ impl<D: Device, L: Desks> Node<D, L> {
         ensures value { InSome L.begun (λ core. IfOk result (λ writes. writes.items ≡ take max (lacking_of counts.now core.held))) }
         ensures few { IfOk result (λ writes. length writes.items ≤ max) }
     {
-        self.held.lock(rt).lacking(alloc, counts, max)
+        self.enter(rt).lacking(alloc, counts, max)
     }
 
     /// As [`Held::take`].
@@ -148,10 +145,10 @@ impl<D: Device, L: Desks> Node<D, L> {
     ) -> Result<Took, TakeFault>
         ensures { BySome L.begun (λ old new. Takes old write result new) }
     {
-        self.held.lock(rt).take(alloc, write)
+        self.enter(rt).take(alloc, write)
     }
 
-    /// As [`Held::take_next`], a few at a time, between which the lock is free.
+    /// As [`Held::take_meanwhile`], up to the last: the lock is free between a few of them and the next wherever somebody waits for it.
     pub fn take_all<R: Wait>(&self, rt: &R, alloc: Global, writes: Vec<RestingWrite>) -> TookAll
         requires few { length writes.items < 2 ^ 32 }
         ensures { (left : List Write) × TakesAllAtNode L.begun writes.items left result × (result.fault ≡ None → left ≡ []) }
@@ -164,9 +161,8 @@ impl<D: Device, L: Desks> Node<D, L> {
         let mut writes = writes.into_iter();
         while writes.len() > 0 && told.fault.is_none() {
             let more = self
-                .held
-                .lock(rt)
-                .take_next(alloc, &mut writes, TAKES_AT_ONCE);
+                .enter(rt)
+                .take_meanwhile(alloc, &mut writes, &self.waiting);
             told.taken += more.taken;
             told.had += more.had;
             told.fault = more.fault;
@@ -178,14 +174,14 @@ impl<D: Device, L: Desks> Node<D, L> {
     pub fn reopen<R: Wait>(&self, rt: &R, alloc: Global) -> Result<Reopened, ReopenFault>
         ensures { BySome L.begun (λ old new. Reopens old result new) }
     {
-        self.held.lock(rt).reopen(alloc)
+        self.enter(rt).reopen(alloc)
     }
 
     /// As [`Held::listing`].
     pub fn listing<R: Wait>(&self, rt: &R, alloc: Global) -> Result<Vec<Listed>, AllocError>
         ensures { InSome L.begun (λ core. IfOk result (λ list. list.items ≡ listing_of core.held)) }
     {
-        self.held.lock(rt).listing(alloc)
+        self.enter(rt).listing(alloc)
     }
 
     /// As [`Held::dump`].
@@ -193,7 +189,7 @@ impl<D: Device, L: Desks> Node<D, L> {
         ensures value { InSome L.begun (λ core. IfOk result (λ writes. writes.items ≡ core.held)) }
         ensures few { IfOk result (λ writes. length writes.items ≤ MAX_WRITES) }
     {
-        self.held.lock(rt).dump(alloc)
+        self.enter(rt).dump(alloc)
     }
 
     /// As [`Held::dump_part`].
@@ -207,7 +203,7 @@ impl<D: Device, L: Desks> Node<D, L> {
         ensures value { InSome L.begun (λ core. IfOk result (λ writes. writes.items ≡ take most (drop place core.held))) }
         ensures few { IfOk result (λ writes. length writes.items ≤ most) }
     {
-        self.held.lock(rt).dump_part(alloc, place, most)
+        self.enter(rt).dump_part(alloc, place, most)
     }
 
     /// What the books come to, where all desks are back; the server is dropped, and its device with it. Else node and desks come back.
@@ -216,7 +212,7 @@ impl<D: Device, L: Desks> Node<D, L> {
             (IsNodeSettled L.begun L.parts desks.items)
             (λ left. (length desks.items < L.parts) × (left.node ≡ self) × (left.desks.items ≡ desks.items)) }
     {
-        let Node { held, id } = self;
+        let Node { held, id, .. } = self;
         match held.into_inner().settle(desks) {
             Ok(settled) => Ok(settled),
             Err(left) => {
@@ -224,6 +220,7 @@ impl<D: Device, L: Desks> Node<D, L> {
                 Err(DeskMissing {
                     node: Node {
                         held: Mutex::new(node),
+                        waiting: AtomicUsize::new(0),
                         id,
                     },
                     desks,

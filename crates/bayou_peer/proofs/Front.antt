@@ -8,7 +8,7 @@ use Rattle.bayou_frames.specs.Spelled.{items_of}
 use Rattle.bayou_peer.specs.declared.fault.PullFault.TheVariants.{Refused}
 use Rattle.bayou_peer.specs.Pulls.{PullEnds, Received, Ways}
 use Rattle.bayou_peer.specs.Taking.{TakenBy}
-use Rattle.bayou_peer.proofs.Received.{received_refused, received_rest, received_took}
+use Rattle.bayou_peer.proofs.Received.{received_refused, received_rest, received_took, spellings-append}
 use Rattle.bayou_server.specs.Laws.TakesAll.{hads_cons, news_cons}
 use Rattle.bayou_server.specs.TakesAll.{TakesAll, TakesEach, TakingEnds, hads, news}
 use Rattle.bayou_server.specs.declared.answer.Took.{Took}
@@ -26,10 +26,6 @@ frames_front writes rest frames split all = apart writes rest (subst (AllByRecur
     apart : (writes : List Write) (rest : List Frame) → AllByRecursion IsFrame (items_of writes ++ rest) → AllByRecursion IsWrite writes × AllByRecursion IsFrame rest
     apart [] rest all = (tt, all)
     apart (write ∷ writes) rest all = let others = apart writes rest all.1 in ((all.0, others.0), others.1)
-
-pub spellings-append : (xs ys : List Frame) → spellings (xs ++ ys) ≡ spellings xs ++ spellings ys
-spellings-append [] ys = refl
-spellings-append (x ∷ xs) ys = ap (λ l. spelling x ++ l) (spellings-append xs ys) ∙ sym (append_assoc (spelling x) (spellings xs) (spellings ys))
 
 -- the Items that stand next were taken, one after another
 received_front : {S : Type 0} (ways : Ways S) (start old mid : S) (read behind : List ℕ) (front : List Write) (tooks : List Took) (taken had t h : ℕ) → AllByRecursion IsWrite front

@@ -1,10 +1,11 @@
 -- What a pull has received so far, and how it grows by an Item.
 use Rattle.std.proofs.Common.{arith, inr, ◌≡◌, Bool, true, ℕ, ◌+◌, ◌*◌, ◌<◌, ◌≤◌, length, List, [], ◌∷◌, ◌++◌, Option, None, Some, Result, Ok, Err, IfSome, IfOk, IfErr, refl, sym, ap, subst, ◌∙◌, append_assoc}
 use Rattle.std.specs.List.{AllByRecursion}
-use Rattle.std.proofs.lemmas.List.{append-nil, length-append, length-map}
+use Rattle.std.proofs.lemmas.List.{append-nil, length-append}
 use Rattle.bayou_lang.specs.declared.write.Write.{Write}
 use Rattle.bayou_lang.specs.Ranges.{IsWrite}
-use Rattle.bayou_base.specs.declared.limits.TheConstants.{MAX_TURNS, READ_BYTES}
+use Rattle.bayou_base.specs.declared.limits.TheConstants.{MAX_TURNS, SERVERS}
+use Rattle.bayou_peer.specs.declared.pulling.TheConstants.{PULL_TURN_BYTES}
 use Rattle.bayou_frames.specs.declared.fault.ChannelFault.{ChannelFault}
 use Rattle.bayou_frames.specs.declared.fault.ChannelFault.TheVariants as faults
 use Rattle.bayou_frames.specs.declared.fault.ChannelFault.TheVariants.{BadFrame}
@@ -13,7 +14,6 @@ use Rattle.bayou_peer.specs.declared.fault.PullFault.{PullFault}
 use Rattle.bayou_peer.specs.declared.fault.PullFault.TheVariants.{Stream, Refused}
 use Rattle.bayou_peer.specs.declared.pulling.Pulled.{Pulled}
 use Rattle.bayou_peer.specs.Pulls.{HasNoPlace, PullEnds, Received, Stands, Ways}
-use Rattle.bayou_wire.specs.Laws.Frames.{frames_size}
 use Rattle.bayou_frames.specs.Spelled.{items_of}
 use Rattle.bayou_frames.specs.Stopping.{IsSendFault}
 use Rattle.bayou_peer.specs.Inner.Steps.{Goes, Standing}
@@ -25,7 +25,7 @@ use Rattle.bayou_server.specs.declared.answer.Took.TheVariants.{New, Had}
 use Rattle.bayou_server.specs.declared.fault.TakeFault.{TakeFault}
 use Rattle.bayou_wire.specs.declared.frame.Frame.{Frame}
 use Rattle.bayou_wire.specs.declared.frame.Frame.TheVariants.{End, Item}
-use Rattle.bayou_wire.specs.Spelling.{IsFrame}
+use Rattle.bayou_wire.specs.Spelling.{IsFrame, vector_bytes}
 use Rattle.bayou_wire.specs.Stream.{spelling, spellings}
 
 -- ---- one more at the end
@@ -128,16 +128,36 @@ received_more {S} ways start now read held piece taken had r = record {
 
 -- ---- how many
 
--- so many bytes have no more frames than a third
-pub few_frames : (held piece rest : List ℕ) (frames : List Frame) (taken had limit : ℕ) → held ++ piece ≡ spellings frames ++ rest → 3 * (taken + had) + (length held + length piece) ≤ limit
-    → 3 * (taken + had + length frames) ≤ limit
-few_frames held piece rest frames taken had limit whole few =
-    omega (arith, few, frames_size frames, ap length whole, length-append held piece, length-append (spellings frames) rest)
+counts_size : (counts : List ℕ) → length (vector_bytes counts) ≡ SERVERS * 4
+unfolding vector_bytes
+counts_size counts = refl
+
+pub spellings-append : (xs ys : List Frame) → spellings (xs ++ ys) ≡ spellings xs ++ spellings ys
+spellings-append [] ys = refl
+spellings-append (x ∷ xs) ys = ap (λ l. spelling x ++ l) (spellings-append xs ys) ∙ sym (append_assoc (spelling x) (spellings xs) (spellings ys))
+
+-- an Item has sixteen bytes at least, and many more
+item_size : (write : Write) → 16 ≤ length (spelling (Item write))
+unfolding spelling
+item_size write = omega (arith, counts_size write.deps)
+
+items_size : (writes : List Write) → 16 * length writes ≤ length (spellings (items_of writes))
+items_size [] = omega arith
+items_size (write ∷ writes) = omega (arith, item_size write, items_size writes, length-append (spelling (Item write)) (spellings (items_of writes)))
+
+-- so many bytes have no more Items than a sixteenth
+pub few_items : (held piece rest : List ℕ) (frames behind : List Frame) (writes : List Write) (taken had limit : ℕ) → held ++ piece ≡ spellings frames ++ rest → frames ≡ items_of writes ++ behind
+    → 16 * (taken + had) + (length held + length piece) ≤ limit → 16 * (taken + had + length writes) ≤ limit
+few_items held piece rest frames behind writes taken had limit whole split few =
+    omega (
+      arith, few, items_size writes, ap length whole, length-append held piece, length-append (spellings frames) rest, ap (λ (l : List Frame). length (spellings l)) split,
+      ap length (spellings-append (items_of writes) behind), length-append (spellings (items_of writes)) (spellings behind),
+    )
 
 -- what was received has no more bytes than were read
-pub few_received : {S : Type 0} (ways : Ways S) (start now : S) (read held : List ℕ) (taken had : ℕ) → Received ways start now read held taken had → 3 * (taken + had) + length held ≤ length read
+pub few_received : {S : Type 0} (ways : Ways S) (start now : S) (read held : List ℕ) (taken had : ℕ) → Received ways start now read held taken had → 16 * (taken + had) + length held ≤ length read
 few_received {S} ways start now read held taken had r =
-    omega (arith, frames_size (items_of r.writes), ap length r.whole, r.number, length-map r.writes Item, length-append (spellings (items_of r.writes)) held)
+    omega (arith, items_size r.writes, ap length r.whole, r.number, length-append (spellings (items_of r.writes)) held)
 
 -- ---- between two pieces
 
@@ -194,8 +214,8 @@ ends_anywhere {S} ways start now read is_end (Err (Stream faults.OutOfMemory)) e
 
 -- no turn read more than a piece, so that the numbers stay small
 pub standing_room : {S : Type 0} (ways : Ways S) (start now : S) (read : List ℕ) (frames : Option (List ℕ)) (pulled : Pulled) (s : Standing ways start now read frames pulled) (piece : List ℕ)
-    (turns later first : ℕ) → length piece ≤ READ_BYTES → length read + READ_BYTES * turns ≤ READ_BYTES * first → later < turns → first ≤ MAX_TURNS
-    → 3 * (pulled.taken + pulled.had) + (length s.held + length piece) ≤ READ_BYTES * MAX_TURNS
+    (turns later first : ℕ) → length piece ≤ PULL_TURN_BYTES → length read + PULL_TURN_BYTES * turns ≤ PULL_TURN_BYTES * first → later < turns → first ≤ MAX_TURNS
+    → 16 * (pulled.taken + pulled.had) + (length s.held + length piece) ≤ PULL_TURN_BYTES * MAX_TURNS
 standing_room {S} ways start now read frames pulled s piece turns later first short room spent budget =
     let few = few_received ways start now read s.held pulled.taken pulled.had s.received in
     omega (arith, few, short, room, spent, budget)
@@ -211,9 +231,9 @@ ends_sending {S} ways start is_end faults.Cut is = absurd is
 ends_sending {S} ways start is_end faults.BadFrame is = absurd is
 ends_sending {S} ways start is_end faults.OutOfMemory is = ([], 0, 0, received_start ways start 0 0 refl refl)
 
--- a pull that has ended was given no more Writes than a third of the bytes
+-- a pull that has ended was given no more Writes than a sixteenth of the bytes
 pub few_ended : {S : Type 0} (ways : Ways S) (start now : S) (read : List ℕ) (is_end : Type 0) (pulled : Pulled) → PullEnds ways start now read is_end (Ok pulled)
-    → 3 * (pulled.taken + pulled.had) ≤ length read
+    → 16 * (pulled.taken + pulled.had) ≤ length read
 few_ended {S} ways start now read is_end pulled e =
     let few = few_received ways start now read (spelling (End (pulled.taken + pulled.had)) ++ e.0) pulled.taken pulled.had e.1 in
     omega (arith, few)

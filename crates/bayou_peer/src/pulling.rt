@@ -26,6 +26,9 @@ use bayou_wire::{Frame, Frames, encode_frame};
 use std::alloc::{AllocError, Global};
 use std::io::{Read, Write};
 
+/// How many bytes one turn of a pull reads at the most: those of some hundreds of Writes, which are applied once where they come late.
+pub const PULL_TURN_BYTES: usize = 65_536;
+
 /// What a pull did.
 #[derive(Clone, Copy, Debug, PartialEq, Eq)]
 pub struct Pulled {
@@ -167,7 +170,7 @@ fn take_piece<P: Replica>(
     pulled: &mut Pulled,
 ) -> Result<bool, PullFault>
     requires few { (held : List ℕ) × IsPartial held × (frames.old ≡ Some held)
-        × (3 * (pulled.old.taken + pulled.old.had) + (length held + length piece.now) ≤ READ_BYTES * MAX_TURNS) }
+        × (16 * (pulled.old.taken + pulled.old.had) + (length held + length piece.now) ≤ PULL_TURN_BYTES * MAX_TURNS) }
     ensures goes { (start : P) (read held : List ℕ) → IsPartial held → frames.old ≡ Some held
         → Received (record { list = P.list; takes = P.takes }) start replica.old read held pulled.old.taken pulled.old.had
         → GoesOn (record { list = P.list; takes = P.takes }) start replica.new (read ++ piece.now) frames.new pulled.new result }
@@ -183,7 +186,7 @@ fn take_piece<P: Replica>(
     Ok(false)
 }
 
-// Takes what comes, each piece as it comes, up to the End.
+// Takes what comes, each piece as it comes, up to the End. A turn may bring many Writes, which are then taken together.
 fn receive<P: Replica, R: Read, W>(
     alloc: Global,
     replica: &mut P,
@@ -198,7 +201,7 @@ fn receive<P: Replica, R: Read, W>(
 {
     let mut frames = Frames::new(alloc);
     let mut pulled = Pulled { taken: 0, had: 0 };
-    let mut piece = [0; READ_BYTES];
+    let mut piece = [0; PULL_TURN_BYTES];
     loop {
         let count = read_piece(channel, &mut piece)?;
         if count == 0 {

@@ -1,4 +1,4 @@
-ghost use Rattle.std.specs.Prelude.{◌≡◌, ◌≢◌, ◌+◌, ◌<◌, ◌≤◌, ◌↔◌, ◌⊎◌, ℕ, [], None, All, Contains, Err, IfErr, IfOk, IsSome, IsTrue, MatchOption, MatchResult, OnOk, drop, length, take};
+ghost use Rattle.std.specs.Prelude.{◌≡◌, ◌≢◌, ◌+◌, ◌<◌, ◌≤◌, ◌^◌, ◌↔◌, ◌⊎◌, ℕ, [], None, All, Contains, Err, IfErr, IfOk, IsSome, IsTrue, MatchOption, MatchResult, OnOk, drop, length, take};
 ghost use Rattle.std.specs.Borrow.{Lends, sem};
 ghost use Rattle.std.specs.Vec.Iter.{into_iter_items};
 ghost use Rattle.bayou_base.specs.declared.limits.TheConstants.{SERVERS, MAX_WRITES};
@@ -23,7 +23,7 @@ use crate::making::{accepted, answered};
 use crate::reopen::has_doubt;
 use crate::start::holding_of;
 use crate::storing::{Stored, store};
-use crate::taking::{take_one, take_several};
+use crate::taking::{take_meanwhile, take_one, take_several};
 use bayou_base::{Key, Seen, ServerId, Tag, Vector, Wid};
 use bayou_device::Device;
 use bayou_journal::Journal;
@@ -32,6 +32,7 @@ use bayou_lang::{RestingProgram, RestingWrite};
 use bayou_log::Listed;
 use std::alloc::{AllocError, Global};
 use std::marker::Model;
+use std::sync::atomic::AtomicUsize;
 use std::vec::IntoIter;
 
 /// One server of the store, over its device.
@@ -122,16 +123,16 @@ impl<D: Device> Server<D> {
     }
 
     /// Makes the program the server's next Write, stores its entry, and then holds it under the tag. Where a Write is held under it already,
-    /// that is told, also while the server is down. Neither that nor a refusal before `OutOfMemory` takes memory or calls the device.
-    /// Device calls: those of the journal's append alone.
+    /// that is told, also while the server is down. Neither that nor a refusal before `OutOfMemory` takes memory or calls the device: the
+    /// program is copied only where a Write is to be made of it. Device calls: those of the journal's append alone.
     pub fn write(
         &mut self,
         alloc: Global,
         tag: Tag,
         need: &Vector,
-        program: RestingProgram,
+        program: &RestingProgram,
     ) -> Result<Written, WriteFault>
-        ensures writes { Writes self.old.core tag need.now program result self.new.core }
+        ensures writes { Writes self.old.core tag need.now program.now result self.new.core }
         ensures own { own_count self.new.core ≡ own_count self.old.core + own_made result }
         ensures sound { IsSoundServer self.old.core × IsSoundServer self.new.core }
         ensures stores { StoresWrite D.Device self.old result self.new }
@@ -140,9 +141,10 @@ impl<D: Device> Server<D> {
         ensures safe { D.is_modelled → KeepsChains (D.kept self.old.device) (D.kept self.new.device) }
         ensures calls { D.leads_to 2 self.old.device self.new.device }
     {
-        if let Some(answer) = answered(&self.holding, self.id, tag, need, &program) {
+        if let Some(answer) = answered(&self.holding, self.id, tag, need, program) {
             return answer;
         }
+        let program = program.copy(alloc)?;
         let write = self.holding.log.next_write(self.id, program);
         let accepted = accepted(&write);
         let stored = store(
@@ -157,23 +159,6 @@ impl<D: Device> Server<D> {
         match stored? {
             Stored::Held => Ok(Written::New(accepted)),
             Stored::InDoubt => Err(WriteFault::Journal),
-        }
-    }
-
-    /// What a program is answered for which its caller has no memory: what is told, or refused, before that is missed, or the want of it.
-    pub fn answer_without_memory(
-        &self,
-        tag: Tag,
-        need: &Vector,
-        program: &RestingProgram,
-    ) -> Result<Written, WriteFault>
-        ensures writes { Writes self.now.core tag need.now program.now result self.now.core }
-        ensures stores { StoresWrite D.Device self.now result self.now }
-        ensures sound { IsSoundServer self.now.core }
-    {
-        match answered(&self.holding, self.id, tag, need, program) {
-            Some(answer) => answer,
-            None => Err(WriteFault::OutOfMemory),
         }
     }
 
@@ -212,6 +197,31 @@ impl<D: Device> Server<D> {
             self.id,
             writes,
             most,
+        );
+        self.holding.log.catch_up();
+        told
+    }
+
+    /// As [`Server::take_next`], of all the Writes, however many they are: but where `waiting` counts somebody, no more than
+    /// [`TAKES_AT_ONCE`](bayou_base::limits::TAKES_AT_ONCE), so that whoever waits for the server waits for those alone. When somebody waits no
+    /// clause can tell.
+    pub fn take_meanwhile(
+        &mut self,
+        alloc: Global,
+        writes: &mut IntoIter<RestingWrite>,
+        waiting: &AtomicUsize,
+    ) -> TookAll
+        requires few { length (into_iter_items writes.old) < 2 ^ 32 }
+        ensures takes { TakesAll (TakesAt D.Device) self.old (into_iter_items writes.old) (into_iter_items writes.new) result self.new }
+        ensures some { result.fault ≡ None → (into_iter_items writes.new ≡ []) ⊎ (0 < result.taken + result.had) }
+    {
+        let told = take_meanwhile(
+            alloc,
+            &mut self.journal,
+            &mut self.holding,
+            self.id,
+            writes,
+            waiting,
         );
         self.holding.log.catch_up();
         told

@@ -52,7 +52,7 @@ fn writes<L: Desks, R: Wait + Abort>(
         desk,
         next_tag(rt, node),
         &Vector::zero(),
-        program,
+        &program,
     )?;
     Ok(matches!(answer, Written::New(_)))
 }

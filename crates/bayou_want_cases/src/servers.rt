@@ -15,7 +15,7 @@ fn puts(
 ) -> Result<u32, WriteFault> {
     let program = put(rt, number).rest(alloc)?;
     let tag = tag_behind(rt, server.receipts().len());
-    match server.write(alloc, tag, &Vector::zero(), program)? {
+    match server.write(alloc, tag, &Vector::zero(), &program)? {
         Written::New(accepted) => Ok(accepted.wid.seq),
         Written::Known(_) => rt.abort(),
     }

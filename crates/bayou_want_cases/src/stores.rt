@@ -61,7 +61,7 @@ pub fn makes(rt: &impl Abort, alloc: Global, server: &mut Served, number: u32) -
     let session = SessionId::new(3).expect(rt, "no session");
     let tag = Tag::new(session, 1, place).expect(rt, "no tag");
     let program = resting(rt, alloc, &put(rt, i64::from(number)));
-    let answer = server.write(alloc, tag, &Vector::zero(), program);
+    let answer = server.write(alloc, tag, &Vector::zero(), &program);
     matches!(answer, Ok(Written::New(_)))
 }
 

@@ -26,7 +26,7 @@ fn program(rt: &impl Abort, server: u8, number: u32) -> Program {
 fn makes(rt: &impl Abort, alloc: Global, server: &mut Served, program: &Program) -> bool {
     let program = resting(rt, alloc, program);
     let tag = tag_behind(rt, server.receipts().len());
-    let answer = server.write(alloc, tag, &Vector::zero(), program);
+    let answer = server.write(alloc, tag, &Vector::zero(), &program);
     matches!(answer, Ok(Written::New(_)))
 }
 

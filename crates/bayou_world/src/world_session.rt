@@ -175,11 +175,11 @@ impl WorldSession {
         alloc: Global,
         server: &mut Server<MemoryDevice<OpenGate>>,
         tag: Tag,
-        program: RestingProgram,
+        program: &RestingProgram,
     ) -> Result<Written, WriteFault>
         requires { 0 < self.old.session.begun }
         ensures counts { HasCounts self.old.session }
-        ensures answer { Writes server.old.core tag (write_need self.old.session) program result server.new.core }
+        ensures answer { Writes server.old.core tag (write_need self.old.session) program.now result server.new.core }
         ensures answered { IsAnswered self.old server.old.core.id (accepted_as result) (accepted_of result) self.new }
         ensures honest { StaysHonest server.old server.new }
         ensures spends { Spends (has_doubt result) false server.old.device server.new.device }
@@ -213,7 +213,7 @@ impl WorldSession {
         };
         let tag = self.session.ask();
         self.asked = Some(asked);
-        Ok(self.ask(alloc, server, tag, program))
+        Ok(self.ask(alloc, server, tag, &program))
     }
 
     /// It asks the server what it may ask again, at a place that it begins, under the tag that it had. `None`, and nothing is done, where
@@ -235,7 +235,7 @@ impl WorldSession {
         let Some(tag) = self.session.again() else {
             return Ok(None);
         };
-        Ok(Some(self.ask(alloc, server, tag, program)))
+        Ok(Some(self.ask(alloc, server, tag, &program)))
     }
 
     /// It hears the answer on its way, if there is one, whose entry then waits for the book.

@@ -54,6 +54,15 @@ told_few takes old new writes left told all = omega (arith, all.taken, all.had, 
     front_few None ends = omega (arith, ap length ends.0, length-append all.front left)
     front_few (Some fault) ends = omega (arith, ap length ends.1, length-append all.front (ends.0 ∷ left))
 
+-- and how many are left
+pub left_few : {S : Type 0} (takes : S → Write → Result Took TakeFault → S → Type 0) (old new : S) (given left : List Write) (told : TookAll) → TakesAll takes old given left told new
+    → length left ≤ length given
+left_few takes old new given left told all = by told.fault all.ends
+  where
+    by : (fault : Option TakeFault) → TakingEnds takes all.mid given all.front left fault new → length left ≤ length given
+    by None ends = omega (arith, ap length ends.0, length-append all.front left)
+    by (Some fault) ends = omega (arith, ap length ends.1, length-append all.front (ends.0 ∷ left))
+
 -- ---- Writes that are given in two goes
 
 news_append : (xs ys : List Took) → news (xs ++ ys) ≡ news xs + news ys

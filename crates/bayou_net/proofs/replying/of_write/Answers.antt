@@ -5,7 +5,7 @@ use Rattle.bayou_net.proofs.replying.of_write.Goals as goal
 
 pub returns : goal.returns
 returns g c = (
-  c.write_at.result,
-  c.write_at.ensures,
+  c.write.result,
+  c.write.ensures,
   subst (λ (frame : Frame). IfOk c.encoded.result (λ text. text.items ≡ spelling frame)) c.told_write-frame.ensures c.encoded.ensures,
 )

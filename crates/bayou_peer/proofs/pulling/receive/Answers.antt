@@ -2,7 +2,7 @@ use Rattle.std.proofs.Common.{arith, [], Err, ◌≤◌, ◌++◌, length, take,
 use Rattle.std.proofs.KnownBytes.{Consumes-kept, Consumes-nil, Consumes-trans}
 use Rattle.std.specs.Io.KnownBytes.{IsAtEnd}
 use Rattle.std.proofs.lemmas.Result.{err_from_is_err_and}
-use Rattle.bayou_base.specs.declared.limits.TheConstants.{READ_BYTES}
+use Rattle.bayou_peer.specs.declared.pulling.TheConstants.{PULL_TURN_BYTES}
 use Rattle.bayou_frames.specs.Laws.Bytes.{consumes_none}
 use Rattle.bayou_peer.proofs.Received.{few_ended, ends_anywhere, ends_reading, standing_room, standing_start, stands}
 use Rattle.bayou_peer.proofs.pulling.receive.Goals as goal
@@ -18,7 +18,7 @@ loop-frames-init g c = record {
 pub take_piece-requires : goal.take_piece-requires
 take_piece-requires g c =
     let (read, consumed, standing, room) = c.loop-frames.invariant.went in
-    let short : length (take c.in_ok-count.count c.read_piece.new.piece) ≤ READ_BYTES = omega (arith, length-take c.in_ok-count.count c.read_piece.new.piece, c.read_piece.ensures.size, c.loop-frames.invariant.room) in
+    let short : length (take c.in_ok-count.count c.read_piece.new.piece) ≤ PULL_TURN_BYTES = omega (arith, length-take c.in_ok-count.count c.read_piece.new.piece, c.read_piece.ensures.size, c.loop-frames.invariant.room) in
     let few = standing_room _ _ _ _ _ c.loop-frames.pulled standing _ c.loop-frames.channel.turns_left c.read_piece.new.channel.turns_left c.args.channel.now.turns_left short room c.in_ok-count.ensures.spent c.args.channel.now.in_budget in
     record { few = (standing.held, standing.partial, standing.waits, few) }
 

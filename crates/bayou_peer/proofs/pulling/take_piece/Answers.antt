@@ -1,9 +1,6 @@
-use Rattle.std.proofs.Common.{arith, ◌++◌, ap, inl, length, length-append}
+use Rattle.std.proofs.Common.{arith, ◌++◌, inl}
 use Rattle.std.proofs.lemmas.Result.{err_from_is_err_and}
-use Rattle.std.proofs.lemmas.List.{length-map}
-use Rattle.bayou_frames.specs.Spelled.{items_of}
-use Rattle.bayou_wire.specs.declared.frame.Frame.TheVariants.{Item}
-use Rattle.bayou_peer.proofs.Received.{few_frames, received_more, received_rest}
+use Rattle.bayou_peer.proofs.Received.{few_items, received_more, received_rest}
 use Rattle.bayou_peer.proofs.pulling.take_piece.Goals as goal
 
 pub returns-in_err-front-clause-goes : goal.returns-in_err-front-clause-goes
@@ -18,9 +15,9 @@ take_came-requires g c =
     let (held, partial, waits, few) = c.requires.few in
     let items = c.in_ok-front.field-0.front.items.items in
     let gathers = c.in_ok-front.ensures.comes held partial waits in
-    let third = few_frames held c.args.piece.now gathers.comes.rest gathers.came c.args.pulled.now.taken c.args.pulled.now.had _ gathers.comes.whole few in
+    let sixteenth = few_items held c.args.piece.now gathers.comes.rest gathers.came gathers.front.rest items c.args.pulled.now.taken c.args.pulled.now.had _ gathers.comes.whole gathers.front.split few in
     record {
-      few = omega (arith, third, ap length gathers.front.split, length-append (items_of items) gathers.front.rest, length-map items Item);
+      few = omega (arith, sixteenth);
       other = c.in_ok-front.ensures.other;
     }
 

@@ -1,4 +1,6 @@
 use Rattle.std.proofs.Common.{◌≡◌, OnOk, Ok, Err, Some, sym, ap, subst}
+use Rattle.bayou_lang.specs.Writes.{IsNextWrite}
+use Rattle.bayou_lang.specs.declared.program.Program.{Program}
 use Rattle.bayou_log.specs.Log.{Log}
 use Rattle.bayou_server.specs.declared.answer.Written.TheVariants.{New}
 use Rattle.bayou_server.specs.declared.fault.WriteFault.TheVariants as faults
@@ -17,7 +19,8 @@ pub store-stored-requires-clause-may : goal.store-stored-requires-clause-may
 store-stored-requires-clause-may g c =
     let inside = c.self.inside in
     let may = c.in_default.ensures.1 in
-    next_may_be_stored (core_of inside.holding inside.id.index) c.args.program c.next_write-write.result c.self.invariant.0.sound may.0.up may.1 c.next_write-write.ensures
+    next_may_be_stored (core_of inside.holding inside.id.index) c.args.program.now c.next_write-write.result c.self.invariant.0.sound may.0.up may.1
+    (subst (λ (p : Program). IsNextWrite inside.holding.log.receipts inside.id.index p c.next_write-write.result) c.in_ok-program.ensures c.next_write-write.ensures)
 
 pub store-stored-requires-clause-tagged : goal.store-stored-requires-clause-tagged
 store-stored-requires-clause-tagged g c = record {
@@ -34,25 +37,27 @@ returns-clause-writes g c =
     let may = c.in_default.ensures.1 in
     let same : core_of (record c.store-stored.new.holding { log = c.catch_up.new.self }) inside.id.index ≡ new =
     ap (λ (log : Log). core_of (record c.store-stored.new.holding { log = log }) inside.id.index) c.catch_up.ensures in
+    let next : IsNextWrite old.held old.id c.args.program.now made =
+    subst (λ (p : Program). IsNextWrite old.held old.id p made) c.in_ok-program.ensures c.next_write-write.ensures in
     rw (← c.self.view_is)
-    (subst (λ (core : Core). Writes old c.args.tag c.args.need.now c.args.program c.match-branch-2.result core) (sym same)
-    (elim c.match-branch-2.branch [
+    (subst (λ (core : Core). Writes old c.args.tag c.args.need.now c.args.program.now c.match-branch-3.result core) (sym same)
+    (elim c.match-branch-3.branch [
       | in-Held w ↦
           let kept : Keeps old (Some c.args.tag) made Held new = subst (λ (s : Stored). Keeps old (Some c.args.tag) made s new) w.in-Held.is c.in_ok-stored.ensures.keeps in
-          let makes : Makes old c.args.need.now c.args.program made = record { ready = may.0; room = may.1; next = c.next_write-write.ensures; spelled = kept.0 } in
-          let writes : Writes old c.args.tag c.args.need.now c.args.program (Ok (New c.accepted-accepted.result)) new =
+          let makes : Makes old c.args.need.now c.args.program.now made = record { ready = may.0; room = may.1; next = next; spelled = kept.0 } in
+          let writes : Writes old c.args.tag c.args.need.now c.args.program.now (Ok (New c.accepted-accepted.result)) new =
           (c.in_default.ensures.0, record { made = made; makes = makes; tells = c.accepted-accepted.ensures; is = kept.1 }) in
           rw w.result-is writes
       | in-InDoubt w ↦
           let kept : Keeps old (Some c.args.tag) made InDoubt new = subst (λ (s : Stored). Keeps old (Some c.args.tag) made s new) w.in-InDoubt.is c.in_ok-stored.ensures.keeps in
-          let makes : Makes old c.args.need.now c.args.program made = record { ready = may.0; room = may.1; next = c.next_write-write.ensures; spelled = kept.0 } in
-          let writes : Writes old c.args.tag c.args.need.now c.args.program (Err faults.Journal) new =
+          let makes : Makes old c.args.need.now c.args.program.now made = record { ready = may.0; room = may.1; next = next; spelled = kept.0 } in
+          let writes : Writes old c.args.tag c.args.need.now c.args.program.now (Err faults.Journal) new =
           (c.in_default.ensures.0, record { made = made; makes = makes; is = kept.1 }) in
           rw w.result-is writes
     ]))
 
 pub returns-clause-own : goal.returns-clause-own
-returns-clause-own g c = own_of_write c.args.self.now.core c.args.tag c.args.need.now c.args.program c.match-branch-2.result _ (returns-clause-writes g c)
+returns-clause-own g c = own_of_write c.args.self.now.core c.args.tag c.args.need.now c.args.program.now c.match-branch-3.result _ (returns-clause-writes g c)
 
 pub returns-clause-stored : goal.returns-clause-stored
 returns-clause-stored g c = λ modelled.
@@ -62,8 +67,8 @@ returns-clause-stored g c = λ modelled.
     let same : core_of (record c.store-stored.new.holding { log = c.catch_up.new.self }) inside.id.index ≡ new.core =
     ap (λ (log : Log). core_of (record c.store-stored.new.holding { log = log }) inside.id.index) c.catch_up.ensures in
     rw (← c.self.view_is)
-    (subst (λ (core : Core). OnOk c.match-branch-2.result (IsStored g.D.Device old → IsStored g.D.Device (record { core = core; device = new.device; last = new.last }))) (sym same)
-    (elim c.match-branch-2.branch [
+    (subst (λ (core : Core). OnOk c.match-branch-3.result (IsStored g.D.Device old → IsStored g.D.Device (record { core = core; device = new.device; last = new.last }))) (sym same)
+    (elim c.match-branch-3.branch [
       | in-Held w ↦
           let stays : StaysStored g.D.Device old Held new = subst (λ (s : Stored). StaysStored g.D.Device old s new) w.in-Held.is (c.in_ok-stored.ensures.stored modelled) in
           rw w.result-is stays

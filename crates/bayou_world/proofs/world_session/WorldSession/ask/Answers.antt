@@ -6,7 +6,7 @@ use Rattle.bayou_world.proofs.world_session.WorldSession.ask.Goals as goal
 
 pub returns-clause-answer : goal.returns-clause-answer
 returns-clause-answer c =
-    subst (λ need. Writes c.args.server.now.core c.args.tag need c.args.program c.write-answer.result c.write-answer.new.self.core) c.need_write-need.ensures.value c.write-answer.ensures.writes
+    subst (λ need. Writes c.args.server.now.core c.args.tag need c.args.program.now c.write-answer.result c.write-answer.new.self.core) c.need_write-need.ensures.value c.write-answer.ensures.writes
 
 pub returns-clause-answered : goal.returns-clause-answered
 returns-clause-answered c =
