@@ -8,6 +8,7 @@ import threading
 import time
 
 import frames
+import late
 from living import SECONDS, Server
 from meeting import dump_of, ended, free_port, items, soon
 
@@ -130,6 +131,14 @@ class Holding:
                 session.write({"update": [["put", "a", 1]]}, server=0)
                 self.that("a Write reaches the last of %d" % count, soon(lambda: session.read("a", count - 1)), 1)
             self.that("told ends of %d" % count, [server.end()[0] for server in servers], [0] * count)
+
+    def late(self):
+        """Servers that were apart meet in linear time: four times as many Writes cost far less than the sixteen times that they would if those that
+        stand after late ones were applied again for each few; and reads are served meanwhile."""
+        few, many = (late.meet(self.program, self.folder(), number, free_port())[0] for number in (3000, 12000))
+        self.that("12,000 late Writes beside 3,000: %.2f s of processors, and %.2f" % (many, few), many <= 8 * max(few, 0.1))
+        _, took, longest_wait, reads = late.meet(self.program, self.folder(), 4000, free_port(), readers=4)
+        self.that("reads while 4,000 late Writes come: %d, the longest %.0f ms" % (reads, longest_wait * 1000), reads > 4 and longest_wait <= max(1.0, took / 2))
 
     def bad_peers_at_start(self):
         """Peers that are silent, drip, never end or lie hold a start up for five seconds at the most, all together; what they don't say is told."""

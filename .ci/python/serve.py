@@ -618,7 +618,7 @@ def asked_again(session, stop):
     return None
 
 
-GROUPS = ["words", "guards", "clients", "repeats", "patience", "strangers", "short_connections", "crowds", "peers", "hanging", "restores", "full_disk", "dumps", "together", "bad_peers_at_start", "offers_while_starting", "descriptors", "strays", "written_to_steadily", "fair", "killed"]
+GROUPS = ["words", "guards", "clients", "repeats", "patience", "strangers", "short_connections", "crowds", "peers", "hanging", "restores", "full_disk", "dumps", "together", "bad_peers_at_start", "offers_while_starting", "descriptors", "strays", "late", "written_to_steadily", "fair", "killed"]
 
 
 def main():

@@ -6,7 +6,7 @@ use Rattle.bayou_wire.specs.Laws.Frames.{faulty_on}
 use Rattle.bayou_wire.specs.declared.frame.Frame.{Frame}
 use Rattle.bayou_wire.specs.Spelling.{IsFrame}
 use Rattle.bayou_wire.specs.Stream.{IsPartial, spellings}
-use Rattle.bayou_peer.proofs.Front.{spellings-append}
+use Rattle.bayou_peer.proofs.Received.{spellings-append}
 use Rattle.bayou_peer.proofs.Items.{all-append}
 
 -- a piece more, where no fault came
