@@ -25,7 +25,7 @@ use Rattle.bayou_server.specs.declared.answer.Took.TheVariants.{New, Had}
 use Rattle.bayou_server.specs.declared.fault.TakeFault.{TakeFault}
 use Rattle.bayou_wire.specs.declared.frame.Frame.{Frame}
 use Rattle.bayou_wire.specs.declared.frame.Frame.TheVariants.{End, Item}
-use Rattle.bayou_wire.specs.Spelling.{IsFrame, vector_bytes}
+use Rattle.bayou_wire.specs.Spelling.{IsFrame, program_bytes, vector_bytes}
 use Rattle.bayou_wire.specs.Stream.{spelling, spellings}
 
 -- ---- one more at the end
@@ -139,7 +139,7 @@ spellings-append (x ∷ xs) ys = ap (λ l. spelling x ++ l) (spellings-append xs
 -- an Item has sixteen bytes at least, and many more
 item_size : (write : Write) → 16 ≤ length (spelling (Item write))
 unfolding spelling
-item_size write = omega (arith, counts_size write.deps)
+item_size write = omega (arith, counts_size write.deps, length-append (vector_bytes write.deps) (program_bytes write.program))
 
 items_size : (writes : List Write) → 16 * length writes ≤ length (spellings (items_of writes))
 items_size [] = omega arith
