@@ -150,8 +150,15 @@ pub few_items : (held piece rest : List ℕ) (frames behind : List Frame) (write
     → 16 * (taken + had) + (length held + length piece) ≤ limit → 16 * (taken + had + length writes) ≤ limit
 few_items held piece rest frames behind writes taken had limit whole split few =
     omega (
-      arith, few, items_size writes, ap length whole, length-append held piece, length-append (spellings frames) rest, ap (λ (l : List Frame). length (spellings l)) split,
-      ap length (spellings-append (items_of writes) behind), length-append (spellings (items_of writes)) (spellings behind),
+      arith,
+      few,
+      items_size writes,
+      ap length whole,
+      length-append held piece,
+      length-append (spellings frames) rest,
+      ap (λ (l : List Frame). length (spellings l)) split,
+      ap length (spellings-append (items_of writes) behind),
+      length-append (spellings (items_of writes)) (spellings behind),
     )
 
 -- what was received has no more bytes than were read
