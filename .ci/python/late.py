@@ -91,7 +91,7 @@ def meet(program, folder, number, port, readers=0):
     with bayou.Session([later.address()], timeout=SECONDS) as session:
         while held_of_first(session) < number:
             assert time.monotonic() < begun + MEETING_SECONDS, "they don't meet"
-            time.sleep(0.02)
+            time.sleep(0.25)
     clock, used = time.monotonic() - begun, spent(later.process) - start
     longest, reads = reading.end()
     for server in (later, first):
