@@ -3,13 +3,20 @@
 Servers answer reads, Writes, reopenings and dumps with replies at random: right ones, changed, cut, longer and empty ones, and any bytes. What the
 client tells of each is what docs/FORMATS.md says, read by frames.py, which shares nothing with it.
 """
+import importlib.util
+import io
 import os
 import random
+import re
+import shutil
 import socket
 import struct
+import subprocess
 import sys
+import tempfile
 import threading
 import time
+import unittest
 
 import frames
 from checks import Checks
@@ -185,8 +192,37 @@ def words(checks):
             checks.that(name, type(fault).__name__, "BadRequest")
 
 
+def own_tests(checks):
+    """The tests beside the client."""
+    folder = os.path.join("..", "clients", "python")
+    tests = unittest.defaultTestLoader.discover(folder)
+    ended = unittest.TextTestRunner(stream=io.StringIO()).run(tests)
+    checks.that("the tests beside the client", [str(one) for one, _ in ended.failures + ended.errors], [])
+    checks.that("there are tests beside the client", ended.testsRun >= 9, True)
+
+
+def installed(checks):
+    """The client, installed into a folder as its page says, where there is what that takes."""
+    if None in [importlib.util.find_spec(name) for name in ("pip", "setuptools", "wheel")]:
+        print("hostile: there is no pip with setuptools and wheel, so the client wasn't installed")
+        return
+    with tempfile.TemporaryDirectory() as folder:
+        source = os.path.join(folder, "source")
+        shutil.copytree(os.path.join("..", "clients", "python"), source, ignore=shutil.ignore_patterns("__pycache__"))
+        words = [sys.executable, "-m", "pip", "install", "--quiet", "--no-index", "--no-build-isolation", "--no-deps", "--target", os.path.join(folder, "at"), source]
+        done = subprocess.run(words, stdin=subprocess.DEVNULL, capture_output=True, text=True)
+        checks.that("an installation", (done.returncode, done.stderr if done.returncode else ""), (0, ""))
+        with open(os.path.join("..", "man", "bayou.1")) as page:
+            version = re.search(r"bayou ([0-9.]+)", page.readline()).group(1)
+        checks.that("its version is the program's", os.path.isdir(os.path.join(folder, "at", "bayou-%s.dist-info" % version)), True)
+        told = subprocess.run([sys.executable, "-c", "import bayou; print(bayou.Session.__name__)"], cwd=os.path.join(folder, "at"), capture_output=True, text=True)
+        checks.that("what was installed", told.stdout, "Session\n")
+
+
 def main():
     checks = Checks()
+    own_tests(checks)
+    installed(checks)
     rounds(checks, int(sys.argv[2]) if len(sys.argv) > 2 else 4_000, int(sys.argv[3]) if len(sys.argv) > 3 else 1)
     leftovers(checks)
     drips(checks)

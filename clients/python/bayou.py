@@ -14,6 +14,12 @@ import random
 import socket
 import struct
 import time
+from typing import Dict, Iterable, List, Optional, Sequence, Tuple, Union
+
+# What a key has, what is told of a Write, and what a program is written as.
+Value = Union[int, str]
+Vector = Tuple[int, ...]
+Program = Dict[str, list]
 
 SERVERS = 16
 SESSIONS = 32
@@ -61,7 +67,7 @@ class Down(Refused):
 class Behind(Refused):
     """The server doesn't hold all that the session needs. `vector` is what it holds."""
 
-    def __init__(self, vector):
+    def __init__(self, vector: Vector):
         super().__init__("behind at %s" % ",".join(map(str, vector)))
         self.vector = vector
 
@@ -100,7 +106,7 @@ _REFUSALS = {1: Down, 3: Full, 4: JournalFailed, 5: NotDown, 6: BadRecord, 7: Jo
 class Accepted:
     """A Write that was accepted: its name (`origin`, `seq`), its clock, and what its server held before it."""
 
-    def __init__(self, origin, seq, clock, deps):
+    def __init__(self, origin: int, seq: int, clock: int, deps: Vector):
         self.origin, self.seq, self.clock, self.deps = origin, seq, clock, deps
 
     def __repr__(self):
@@ -180,7 +186,7 @@ def _alternative(value):
     return _list(_condition, members.get("when", []), 8) + _list(_op, members.get("ops", []), 8)
 
 
-def program_bytes(program):
+def program_bytes(program: Program) -> bytes:
     """The bytes of a program, which is as in a line of a script: {"check": [..], "update": [..], "merge": [..]} (docs/LANGUAGE.md)."""
     members = _members(program, {"check", "update", "merge"})
     return (_list(_condition, members.get("check", []), 8) + _list(_op, members.get("update", []), 8)
@@ -287,7 +293,7 @@ def _place(address):
 class Link:
     """A connection to one server, which is made when it is needed, and anew where the server closed it."""
 
-    def __init__(self, address, timeout=3.0):
+    def __init__(self, address: str, timeout: float = 3.0):
         self.address, self.timeout = _place(address), timeout
         self.socket = None
         # Until when it is asked after all others: it was silent.
@@ -318,7 +324,7 @@ class Link:
             pass
         return False
 
-    def is_silent(self):
+    def is_silent(self) -> bool:
         """Whether it was silent for its whole time, less than a minute ago."""
         return time.monotonic() < self.silent_until
 
@@ -396,11 +402,11 @@ class Link:
             raise carried
         return kind, carried
 
-    def reopen(self):
+    def reopen(self) -> Optional[Tuple[int, int]]:
         """Has the server open its journal again, and tells the name of the Write that was adopted, if one was."""
         return self.ask(_frame(_REOPEN), _REOPENED)[1]
 
-    def dump(self):
+    def dump(self) -> List[bytes]:
         """All Writes that the server holds, in order of receipt, each as its bytes."""
         writes = []
         kind, carried = self.ask(_frame(_DUMP), _ITEM, _END)
@@ -422,7 +428,7 @@ class Session:
     second more for each 4,096 bytes that came; for a minute it is asked after all others then, where any server may be asked.
     """
 
-    def __init__(self, addresses, asks=(), number=None, run=None, timeout=3.0):
+    def __init__(self, addresses: Sequence[Optional[str]], asks: Iterable[str] = (), number: Optional[int] = None, run: Optional[int] = None, timeout: float = 3.0):
         if isinstance(addresses, str):
             raise BadRequest("%r is no list of addresses" % (addresses,))
         if isinstance(asks, str):
@@ -440,7 +446,7 @@ class Session:
         # The last Write, where it may still be asked again: its server, its request and its need.
         self.pending = None
 
-    def close(self):
+    def close(self) -> None:
         for link in self.links:
             if link is not None:
                 link.close()
@@ -451,7 +457,7 @@ class Session:
     def __exit__(self, *_):
         self.close()
 
-    def need(self, of_reads, of_writes):
+    def need(self, of_reads: str, of_writes: str) -> Vector:
         """What a server has to hold, for these guarantees of what was read and of what was written."""
         read = self.has_read if of_reads in self.asks else _ZERO
         written = self.has_written if of_writes in self.asks else _ZERO
@@ -468,7 +474,7 @@ class Session:
         self.place += 1
         self.pending = None
 
-    def read(self, key, server=0):
+    def read(self, key: str, server: int = 0) -> Optional[Value]:
         """What the key has at that server: an int, a str, or None."""
         need = self.need("mr", "ryw")
         request = _frame(_READ, _vector(need) + _key(key))
@@ -480,7 +486,7 @@ class Session:
         self.has_read, self.seen = tuple(map(max, self.has_read, vector)), vector
         return value
 
-    def write(self, program, server=0):
+    def write(self, program: Program, server: int = 0) -> Accepted:
         """Has the program accepted as a Write at that server. Behind `Lost`, and behind a refusal, `again` asks for the same Write."""
         need = self.need("wfr", "mw")
         body = program_bytes(program)
@@ -490,7 +496,7 @@ class Session:
         self.pending = (server, _frame(_WRITE, tag + _vector(need) + body), need)
         return self.again()
 
-    def again(self):
+    def again(self) -> Accepted:
         """Asks the last Write again, at its server and under its tag: however often it is asked, it is one Write. There must be one that
         wasn't told as accepted, and nothing else asked since."""
         if self.pending is None:
@@ -505,12 +511,12 @@ class Session:
         self.pending = None
         return accepted
 
-    def read_anywhere(self, key):
+    def read_anywhere(self, key: str) -> Optional[Value]:
         """What the key has at the first server that is reached and holds what the session needs. A read changes nothing, so that it goes on to the
         next one also where no reply came."""
         return self._anywhere(lambda server: self.read(key, server), is_read=True)
 
-    def write_anywhere(self, program):
+    def write_anywhere(self, program: Program) -> Accepted:
         """Has the program accepted at the first server that takes it. It goes on to the next one only where nothing can have been done."""
         return self._anywhere(lambda server: self.write(program, server), is_read=False)
 
