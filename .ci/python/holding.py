@@ -9,7 +9,7 @@ import time
 
 import frames
 import late
-from living import SECONDS, Server
+from living import SECONDS, Server, slowness
 from meeting import dump_of, ended, free_port, items, soon
 
 sys.path.insert(0, os.path.join("..", "clients", "python"))
@@ -119,14 +119,16 @@ class Holding:
 
     def together(self):
         """Servers that start at the same moment don't wait for one another."""
-        for count, most in ((3, 1.0), (16, 1.0)):
+        for count in (3, 16):
             folder, ports = self.folder(), [free_port() for _ in range(count)]
             begun = time.monotonic()
             servers = [Server(self.program, folder, index, count, ports[index], [(other, ports[other]) for other in range(count) if other != index], True) for index in range(count)]
             serving = [server.serving() is not None for server in servers]
             took = time.monotonic() - begun
+            slow = slowness()
             self.that("%d servers that start at once serve" % count, serving, [True] * count)
-            self.that("%d serve within a second, at a processor or more for each four: %.2f s" % (count, took), took <= most * max(1, count / (4 * os.cpu_count())) + 0.5)
+            most = (max(1, count / (4 * os.cpu_count())) + 0.5) * slow
+            self.that("%d serve within a second, at a processor or more for each four: %.2f s, %.1f times slower" % (count, took, slow), took <= most)
             with bayou.Session([server.address() for server in servers]) as session:
                 session.write({"update": [["put", "a", 1]]}, server=0)
                 self.that("a Write reaches the last of %d" % count, soon(lambda: session.read("a", count - 1)), 1)
@@ -148,7 +150,7 @@ class Holding:
         server = Server(self.program, self.folder(), 0, 8, peers=[(index + 1, one.port) for index, one in enumerate(bad)], new=True)
         self.that("served beside seven bad peers", server.serving() is not None)
         took = time.monotonic() - begun
-        self.that("within 5 seconds: %.2f s" % took, took <= 8)
+        self.that("within 5 seconds: %.2f s" % took, took <= 8 * slowness())
         away = [server.told.find(r"bayou: peer %d at 127\.0\.0\.1:[0-9]+ away" % (index + 1), 2) is not None for index in range(7)]
         self.that("who didn't answer is told as away", away, [True] * 7)
         with bayou.Session([server.address()]) as session:
@@ -278,14 +280,14 @@ class Holding:
             members = crowd(server, stop)
             time.sleep(2)
             done, longest_wait = operate(server, 10)
-            self.that("operations beside %d that %s: %d, the longest %.2f s" % (READERS, name, done, longest_wait), done > 200 and longest_wait < 4)
+            self.that("operations beside %d that %s: %d, the longest %.2f s" % (READERS, name, done, longest_wait), done > 200 / slowness() and longest_wait < 4 * slowness())
             begun = time.monotonic()
             with socket.create_connection(("127.0.0.1", server.port), SECONDS) as peer:
                 peer.settimeout(SECONDS)
                 peer.sendall(frames.offer_request(frames.counts(1500)))
                 self.that("a peer is answered beside %d that %s" % (READERS, name), peer.recv(100), ended(0))
             took = time.monotonic() - begun
-            self.that("before long: %.2f s" % took, took <= 2)
+            self.that("before long: %.2f s" % took, took <= 2 * slowness())
             stop.set()
             for member in members:
                 member.join(SECONDS)

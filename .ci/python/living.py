@@ -10,6 +10,14 @@ import time
 SECONDS = 30
 
 
+def slowness():
+    """How many times longer than its own processor time the machine takes now: 1 where it does nothing else. What is to end in time gets so much more."""
+    begun, used = time.monotonic(), time.process_time()
+    while time.process_time() - used < 0.1:
+        pass
+    return max(1.0, (time.monotonic() - begun) / 0.1)
+
+
 class Lines:
     """The lines that a stream has given so far."""
 

@@ -15,7 +15,7 @@ import time
 import frames
 from checks import Checks
 from holding import Holding
-from living import SECONDS, Server
+from living import SECONDS, Server, slowness
 from meeting import Fake, count_of, dump_of, ended, free_port, items, soon, struct_of
 
 sys.path.insert(0, os.path.join("..", "clients", "python"))
@@ -198,7 +198,7 @@ class Tries(Holding):
             one.close()
         begun = time.monotonic()
         self.that("a told end beside connections", server.end()[0], 0)
-        self.that("within two seconds", time.monotonic() - begun <= 2)
+        self.that("within two seconds", time.monotonic() - begun <= 2 * slowness())
 
     def strangers(self):
         """Bytes that are no requests end their connection alone."""
