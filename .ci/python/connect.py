@@ -372,7 +372,7 @@ class Tries:
                     if words:
                         expected = expected.replace("1:1 clock 1 deps 0,0", "1:2 clock 2 deps 0,1").replace("at 0,0", "at 0,1")
                     self.that("%s with %s" % (name, words), printed, expected)
-                    self.that("%s with %s takes %.1f s" % (name, words, took), least - 0.1 <= took <= seconds, True)
+                    self.that("%s with %s takes %.1f s" % (name, words, took), least - 0.1 <= took <= seconds * slowness(), True)
                 process.stdin.close()
                 process.stdout.read()
                 process.wait(SECONDS)
