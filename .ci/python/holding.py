@@ -4,6 +4,7 @@ import resource
 import shutil
 import socket
 import sys
+import tempfile
 import threading
 import time
 
@@ -135,12 +136,18 @@ class Holding:
             self.that("told ends of %d" % count, [server.end()[0] for server in servers], [0] * count)
 
     def late(self):
-        """Servers that were apart meet in linear time: four times as many Writes cost far less than the sixteen times that they would if those that
-        stand after late ones were applied again for each few; and reads are served meanwhile."""
-        few, many = (late.meet(self.program, self.folder(), number, free_port())[0] for number in (3000, 12000))
-        self.that("12,000 late Writes beside 3,000: %.2f s of processors, and %.2f" % (many, few), many <= 8 * max(few, 0.1))
-        _, took, longest_wait, reads = late.meet(self.program, self.folder(), 4000, free_port(), readers=4)
-        self.that("reads while 4,000 late Writes come: %d, the longest %.0f ms" % (reads, longest_wait * 1000), reads > 4 and longest_wait <= max(1.0, took / 2))
+        """Servers that were apart meet in linear time: late Writes cost not much more than fresh ones, far from what they would if those that stand
+        after them were applied again for each few; and reads are served meanwhile. In memory, where it can be: there no sync takes the time."""
+        with tempfile.TemporaryDirectory(dir=next(filter(os.path.isdir, ["/dev/shm", self.folder()]))) as folder:
+            folders = [os.path.join(folder, name) for name in ("fresh", "late", "read")]
+            for made in folders:
+                os.mkdir(made)
+            fresh = late.meet(self.program, folders[0], 16000, free_port(), own=0)
+            many = late.meet(self.program, folders[1], 16000, free_port())
+            self.that("16,000 late Writes beside as many fresh: %.2f s of a processor, and %.2f" % (many.user, fresh.user), many.user <= 8 * max(fresh.user, 0.1))
+            met = late.meet(self.program, folders[2], 4000, free_port(), readers=4)
+            self.that("reads while 4,000 late Writes come: %d, the longest %.0f ms" % (met.reads, met.longest * 1000),
+                      met.reads > 4 and met.longest <= max(1.0, met.clock / 2))
 
     def bad_peers_at_start(self):
         """Peers that are silent, drip, never end or lie hold a start up for five seconds at the most, all together; what they don't say is told."""

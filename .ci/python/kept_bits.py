@@ -1,5 +1,5 @@
 """Each bit of what is kept turned, tried from outside: what was told stays, but for the very last, or the fault is named and nothing changes."""
-import concurrent.futures
+import multiprocessing
 import os
 import re
 import shutil
@@ -12,7 +12,9 @@ from meeting import free_port
 # Where not each bit is tried, every so many are, and each of these first bytes of the first and the last entries.
 STEP = 997
 EDGE_BYTES = 3
+# How many processes try them, and how many bits each takes at once.
 AT_ONCE = 8
+BITS_AT_ONCE = 64
 DROPPED = r"bayou: .*: the last entry is damaged: its [0-9]+ bytes from byte [0-9]+ on were dropped\n"
 TORN = r"bayou: dropped [0-9]+ bytes of .*\n"
 DAMAGED = r"bayou: .*: it is whole up to byte [0-9]+, and the [0-9]+ bytes behind that are damaged; nothing was changed\n"
@@ -50,19 +52,27 @@ class Bits:
         with open(path, "rb") as file:
             self.whole = file.read()
         self.starts = entries_of(self.whole)
+        self.copies = {}
         self.most = self.count(self.call(self.whole))
+
+    def copy(self):
+        """A copy of the folder, which is this process's own."""
+        if os.getpid() not in self.copies:
+            self.copies[os.getpid()] = os.path.join(self.tries.folder(), "copy")
+            shutil.copytree(os.path.dirname(self.path), self.copies[os.getpid()])
+        return self.copies[os.getpid()]
 
     def call(self, kept):
         """A call over a copy of the folder whose file has these bytes: its status, what it printed and told, and what the file has then."""
-        folder = os.path.join(self.tries.folder(), "copy")
-        shutil.copytree(os.path.dirname(self.path), folder)
+        folder = self.copy()
         path = os.path.join(folder, os.path.basename(self.path))
         with open(path, "wb") as file:
             file.write(kept)
         done = subprocess.run([self.tries.program] + self.words, input=self.given, stdout=subprocess.PIPE, stderr=subprocess.PIPE, timeout=SECONDS, cwd=folder)
         with open(path, "rb") as file:
             left = file.read()
-        shutil.rmtree(os.path.dirname(folder))
+        for name in set(os.listdir(folder)) - set(os.listdir(os.path.dirname(self.path))):
+            os.remove(os.path.join(folder, name))
         return done.returncode, done.stdout.decode(), done.stderr.decode(), left
 
     def count(self, call):
@@ -79,9 +89,19 @@ class Bits:
 
     def go(self, each, name):
         bits = list(places(self.whole, self.starts, each))
-        with concurrent.futures.ThreadPoolExecutor(AT_ONCE) as pool:
-            wrong = [bit for bit, is_well in zip(bits, pool.map(self.is_well, bits)) if not is_well]
+        with multiprocessing.get_context("fork").Pool(AT_ONCE, take, (self,)) as pool:
+            wrong = [bit for bit, is_well in zip(bits, pool.imap(tries_well, bits, BITS_AT_ONCE)) if not is_well]
         self.tries.that("no bit %s takes a told Write but the last (those that do: %s)" % (name, wrong[:8]), (self.most is None, len(wrong)), (False, 0))
+
+
+def take(bits):
+    """Has this process try bits of this file."""
+    global taken
+    taken = bits
+
+
+def tries_well(bit):
+    return taken.is_well(bit)
 
 
 def write(tries, folder, count):
@@ -95,8 +115,8 @@ def write(tries, folder, count):
     return os.path.join(folder, "server-0.journal")
 
 
-def flipped(tries, each):
-    for count in (1, 60, 200):
+def flipped(tries, each, counts=(1, 60, 200)):
+    for count in counts:
         folder = tries.folder()
         path = write(tries, folder, count)
         serve = ["serve", "--id", "0", "--servers", "1", "--dir", ".", "--listen", "127.0.0.1:0", "--until-input-ends"]

@@ -1,5 +1,6 @@
 """Two servers that wrote many Writes each while they were apart, and meet: what that takes of the one that pulls, and how long reads wait meanwhile.
 Call: late.py PROGRAM WRITES [READERS]. Its line tells the figures."""
+import collections
 import multiprocessing
 import os
 import shutil
@@ -16,6 +17,8 @@ import bayou  # noqa: E402
 TICKS = os.sysconf("SC_CLK_TCK")
 # How long they may take to meet.
 MEETING_SECONDS = 300
+# What a server took to meet another: seconds of a processor for itself and in the system, of the clock, the longest wait of a read there, and the reads.
+Met = collections.namedtuple("Met", "user system clock longest reads")
 
 
 def writes_of(index, number):
@@ -35,10 +38,10 @@ def folder_with(folder, index, number):
 
 
 def spent(process):
-    """How many seconds of processors the process has had."""
+    """How many seconds of processors the process has had, for itself and in the system."""
     with open("/proc/%d/stat" % process.pid) as told:
         user, system = told.read().rsplit(")", 1)[1].split()[11:13]
-    return (int(user) + int(system)) / TICKS
+    return int(user) / TICKS, int(system) / TICKS
 
 
 def read_on(address, begun, stop, waits):
@@ -78,9 +81,10 @@ def held_of_first(session):
     return session.seen[0]
 
 
-def meet(program, folder, number, port, readers=0):
-    """The seconds of processors and of the clock that server 1 takes to hold all Writes of both, the longest wait of a read there, and the reads."""
-    folders = [folder_with(folder, index, number) for index in (0, 1)]
+def meet(program, folder, number, port, own=None, readers=0):
+    """What server 1, which has so many Writes of its own, takes to hold so many of server 0, which are late if it has any: as many as those, where it
+    isn't said."""
+    folders = [folder_with(folder, index, count) for index, count in enumerate((number, number if own is None else own))]
     words = ["--limit", "65536"]
     later = Server(program, folders[1], 1, servers=2, words=words, peers=[(0, port)])
     assert later.serving() is not None, "the server that pulls doesn't serve"
@@ -92,11 +96,11 @@ def meet(program, folder, number, port, readers=0):
         while held_of_first(session) < number:
             assert time.monotonic() < begun + MEETING_SECONDS, "they don't meet"
             time.sleep(0.25)
-    clock, used = time.monotonic() - begun, spent(later.process) - start
-    longest, reads = reading.end()
+    clock, used = time.monotonic() - begun, [after - before for before, after in zip(start, spent(later.process))]
+    met = Met(*used, clock, *reading.end())
     for server in (later, first):
         server.end()
-    return used, clock, longest, reads
+    return met
 
 
 def main():
@@ -104,8 +108,9 @@ def main():
     program, number, readers = sys.argv[1], int(sys.argv[2]), int(sys.argv[3]) if len(sys.argv) > 3 else 0
     room = tempfile.mkdtemp()
     try:
-        used, clock, longest, reads = meet(program, room, number, free_port(), readers)
-        print("%d Writes apart: %.2f s of processors, %.2f s; %d clients read %d times, at the longest %.1f ms" % (number, used, clock, readers, reads, longest * 1000))
+        met = meet(program, room, number, free_port(), readers=readers)
+        print("%d Writes apart: %.2f s of a processor and %.2f in the system, %.2f s by the clock; %d clients read %d times, at the longest %.1f ms"
+              % (number, met.user, met.system, met.clock, readers, met.reads, met.longest * 1000))
     finally:
         shutil.rmtree(room, ignore_errors=True)
 

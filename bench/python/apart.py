@@ -5,4 +5,4 @@ from pathlib import Path
 ROOT = Path(__file__).resolve().parent.parent.parent
 sys.path[:0] = [str(ROOT / ".ci" / "python"), str(ROOT / "clients" / "python")]
 
-from late import folder_with, spent  # noqa: E402, F401
+from late import folder_with, meet, spent  # noqa: E402, F401
