@@ -414,7 +414,7 @@ class Tries:
         begun = time.monotonic()
         self.row("a list of a server that never ends", [(0, endless.address)], ["list"], ["list lost"], 1)
         self.that("it is left behind as many Writes as a server holds: %d Items" % endless.sent, 65536 <= endless.sent <= 65537 + slack)
-        self.that("and that takes some seconds", time.monotonic() - begun < 20 * slowness())
+        self.that("and that takes some seconds", time.monotonic() - begun < 20)
         self.row("the next one is listed", [(0, endless.address), (1, server.address())], ["list"],
                  ['%s text "%s"' % (key, text) for _, key, text in ops] + ["list 1 keys 8"])
         book = os.path.join(self.room, "endless.book")
