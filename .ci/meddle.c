@@ -2,11 +2,12 @@
    says how, in words by threes: a call, the number of it, counted from 1 on, and what becomes of it. Calls of journals are `read`, `append`, `sync`
    and `cut`, and `folder` is the sync of another file: each may `fail`, or `wait` until the pipe GATE was opened and closed. So may a `tell`, a write
    to the standard output, of which `tell 0 short` has each take one byte. A `reply` accepts a Write, and may come `ahead`, as if of the Write
-   behind that, or `bad`, as no frame. A `connect` may `fail`, as if nobody listened there. */
+   behind that, or `bad`, as no frame. A `connect` may `fail`, as if nobody listened there, and so may a `start`, of a thread. */
 #define _GNU_SOURCE
 #include <dlfcn.h>
 #include <errno.h>
 #include <fcntl.h>
+#include <pthread.h>
 #include <stdarg.h>
 #include <stdatomic.h>
 #include <stdio.h>
@@ -27,7 +28,7 @@
 static int calls = -1;
 static const char *meddle = "", *gate = "";
 static char is_journal[FILES];
-static atomic_int reads, appends, syncs, cuts, folders, replies, tells, connects;
+static atomic_int reads, appends, syncs, cuts, folders, replies, tells, connects, starts;
 
 #define REAL(name) ((__typeof__(&name))dlsym(RTLD_NEXT, #name))
 
@@ -153,6 +154,10 @@ int connect(int file, const struct sockaddr *address, socklen_t size) {
         return -1;
     }
     return REAL(connect)(file, address, size);
+}
+
+int pthread_create(pthread_t *thread, const pthread_attr_t *about, void *(*body)(void *), void *given) {
+    return fails("start", &starts) ? EAGAIN : REAL(pthread_create)(thread, about, body, given);
 }
 
 ssize_t send(int file, const void *bytes, size_t size, int flags) {

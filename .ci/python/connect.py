@@ -17,6 +17,7 @@ import threading
 import time
 
 import alone
+import kept_bits
 from checks import Checks
 from living import SECONDS, Server, slowness
 
@@ -744,6 +745,28 @@ class Tries:
                  ["bayou: %s: it can't be opened, another process has it, or it is of other servers" % book], ["--book", book, "--servers", "3"])
         self.stop_all()
 
+    def drawn(self):
+        """Each call that keeps nothing draws its sessions' numbers in tags and in its book; what it prints stays, and so does what is kept."""
+        folder = self.folder()
+        at = [(0, self.start(folder).address())]
+        numbers = []
+        for turn in range(12):
+            book = os.path.join(self.room, "drawn.%d" % turn)
+            self.row("a call that keeps nothing", at, ["put a %d" % turn, '["session",1,[]]', '["read",1,0,"a"]'],
+                     ["0 wrote 0:%d clock %d deps %d" % (turn + 1, turn + 1, turn), "1 read a num %d at %d" % (turn, turn + 1)], words=["--book", book])
+            with open(book) as file:
+                entries = [entry[1] for entry in map(json.loads, file) if entry[0] == "entry"]
+            self.that("its second session has the next number", entries[1:], [(entries[0] + 1) % bayou.SESSIONS])
+            numbers.append(entries[0])
+        self.that("its number is drawn", len(set(numbers)) > 1, True)
+        self.row("a call that keeps its session", at, ["put a 12"], ["0 wrote 0:13 clock 13 deps 12"], words=["--state", os.path.join(self.room, "drawn")])
+        self.stop_all()
+        with open(os.path.join(folder, "server-0.journal"), "rb") as file:
+            whole = file.read()
+        # A record of an own Write: its length, a byte, and its tag, which begins with the session's number.
+        tags = [whole[start + 3] for start in kept_bits.entries_of(whole)[:-1]]
+        self.that("the tags have these numbers", tags, numbers + [0])
+
     def calendar(self):
         """The day of examples/calendar: three servers, each apart in turn, and what a person prints at each."""
         folder = self.folder()
@@ -790,7 +813,7 @@ class Tries:
         self.that("server %d is apart again" % to, again.serving() is not None)
 
 
-GROUPS = ["words", "lines", "values", "claims", "additions", "words_of_lines", "silent", "dripped", "unbelievable", "late", "turns", "lost", "asks", "lists", "guarantees_alone", "kept", "grown", "killed", "guarantees", "calendar"]
+GROUPS = ["words", "lines", "values", "claims", "additions", "words_of_lines", "silent", "dripped", "unbelievable", "late", "turns", "lost", "asks", "lists", "guarantees_alone", "kept", "grown", "killed", "guarantees", "drawn", "calendar"]
 
 
 def main():

@@ -19,6 +19,7 @@ import net_memory
 import net_output
 import net_runs
 import net_script
+import net_threads
 import net_told
 import net_verdicts
 import net_waits
@@ -175,7 +176,7 @@ def groups_of(folder, number):
     groups += [net_verdicts.of_journals, net_verdicts.of_replies, net_verdicts.surveys, net_waits.phases, net_waits.short, net_waits.down]
     groups += [net_again.lost_replies, net_again.failed_journals, net_again.many_agains, net_again.no_connection]
     groups += [net_output.bytes_told, net_calls.connections, net_calls.batches, net_calls.all_sessions]
-    groups += [net_device.reads, net_device.starts, net_device.writes, net_device.power, net_memory.memory, net_long.long_phase]
+    groups += [net_threads.threads, net_device.reads, net_device.starts, net_device.writes, net_device.power, net_memory.memory, net_long.long_phase]
     by_name = {group.__name__: group for group in groups}
     by_name["examples"] = lambda *given: examples(*given, folder)
     by_name["random"] = lambda *given: at_random(*given, False)

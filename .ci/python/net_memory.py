@@ -20,10 +20,15 @@ PULLS = script(["servers", 2, 100], ["session", 0, []], ["write", 0, 0, put("a",
 PULLED = r"(pulled [012] had [012]|pull (fault|refused) (memory|cut|lost))"
 PULL_LINES = [LINES[0], r"0 (wrote 0:2 clock 2 deps 1,0|refused memory|lost)", PULLED, PULLED, r"0 (read b num 2 at 2,0|read b none at [12],0|refused memory|lost)",
               r"totals reads [01] writes [12] refusals [01] slips 0", r"settled 0 accepted [12] adopted 0", "settled 1 accepted 0 adopted 0", "clean"]
+# Three servers that only start.
+STARTS = script(["servers", 3, 100], ["phase"])
+START_LINES = [r"totals reads 0 writes 0 refusals 0 slips 0", *["settled %d accepted 0 adopted 0" % server for server in range(3)], "clean"]
 # Such a run counts as hanging after so many seconds. A session's connections must be closed, and those to a server that can't listen, whatever
 # lacks memory: else a server, or the session, waits for ever.
 SECONDS = 5
 REOPENS = [at for at, line in enumerate(LINES) if line.startswith("reopen")]
+# Before which lines the servers copy what they hold: a verdict's, a survey's, and, for the last verdict, those of the end.
+COPIES = [LINES.index("clean"), next(at for at, line in enumerate(LINES) if line.startswith("survey")), REOPENS[-1] + 1]
 
 
 class Wanting:
@@ -85,10 +90,21 @@ def memory(checks, program, room):
     checks.that("a run whose other threads lack memory: each line, or a fault", wrong_in(told, [MEMORY, NETWORK]), None)
     once = [number for number, run in enumerate(told, 1) if run[0] != 0 or sum(line.startswith("0 wrote 0:2 ") for line in run[1]) == 1]
     checks.that("that the Write which is asked again is told once", once, list(range(1, len(told) + 1)))
-    checks.that("a session that lacks memory ends the run", lengths(told, MEMORY), [1])
+    # (before the second phase's lines, or those of what the servers' threads copy their Writes for: two verdicts and a survey)
+    checks.that("a session or a server that lacks memory ends the run", lengths(told, MEMORY), [1] + COPIES)
     checks.that("the lines before a fault of the network", lengths(told, NETWORK), REOPENS)
     print("net: %d allocations of its other threads, each refused in turn" % len(told))
+    starts(checks, program, fresh(room, "starts"))
     pulls(checks, program, fresh(room, "pulls"))
+
+
+def starts(checks, program, room):
+    """The same of whichever thread asks, so of those of the servers too as they start."""
+    _, told = Wanting(program, room, "any", STARTS).all()
+    checks.that("that no run hangs of which a thread lacks memory", [number for number, run in enumerate(told, 1) if run[0] == "hangs"], [])
+    checks.that("a run of which a thread lacks memory: each line, or a fault", wrong_in(told, [MEMORY], START_LINES), None)
+    checks.that("that servers which lack memory as they start end the run", 0 in lengths(told, MEMORY), True)
+    print("net: %d allocations of all threads of a short run, each refused in turn" % len(told))
 
 
 def is_read(lines):

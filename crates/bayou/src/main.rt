@@ -1,18 +1,13 @@
 //! The program `bayou`: its real words and streams, and nothing else.
 #![tactic(auto)]
 
-ghost use Rattle.std.specs.Prelude.{◌≡◌, ℕ, IfSome, List};
+ghost use Rattle.std.specs.Prelude.{◌≡◌, IfSome};
 ghost use Rattle.std.specs.Thread.{IsSend};
 
 mod progress;
 
-use bayou_command::{Connecting, Serving};
 use bayou_connect::Input;
-use bayou_print::{Ended, RunFault};
-use bayou_script::NetworkScript;
-use bayou_shell::{
-    Call, Files, Networks, Service, refuse_words, run_connected, run_main, run_served, run_taken,
-};
+use bayou_shell::{Errand, Files, refuse_words, run_connected, run_main, run_net, run_served};
 use bayou_streams::{CountedChannel, Output};
 use progress::{Counted, Screen, tell_progress};
 use std::alloc::Global;
@@ -32,30 +27,15 @@ const STREAMS: usize = 3;
 /// Which gives nothing and takes all.
 const NULL_DEVICE: &str = "/dev/null";
 
-/// What is still to be done once the words were read.
+/// The files of this machine, of whose content nothing is known.
 #[derive(Drop)]
-enum Taken {
-    /// A script over sockets is to be run, with its servers' journals in this folder.
-    Net {
-        folder: String,
-        script: NetworkScript,
-    },
-    /// A server is to live.
-    Serve(Service),
-    /// Servers are to be asked what lines say.
-    Connect(Call),
-}
-
-/// The files of this machine, of whose content nothing is known, and the script that its sockets are wanted for.
-#[derive(Drop)]
-struct Host<'a, T> {
+struct NamedFiles<'a, T> {
     rt: &'a T,
     /// The file that was read.
     file: Option<CountedChannel<File, ()>>,
-    taken: Option<Taken>,
 }
 
-impl<T: fs::Files<File = File>> Files for Host<'_, T> {
+impl<T: fs::Files<File = File>> Files for NamedFiles<'_, T> {
     type Reader = File;
 
     ghost opens = { λ name reader. Unit {0} };
@@ -66,42 +46,12 @@ impl<T: fs::Files<File = File>> Files for Host<'_, T> {
         File::open(self.rt, name)
     }
 
-    ghost kept = { λ host has_failed turns_left. IfSome host.file (λ file. (has_failed ≡ file.read_failed) × (turns_left ≡ file.turns_left)) };
+    ghost kept = { λ files has_failed turns_left. IfSome files.file (λ file. (has_failed ≡ file.read_failed) × (turns_left ≡ file.turns_left)) };
 
     fn keep(&mut self, file: CountedChannel<File, ()>)
         ensures { IfSome self.new.file (λ kept. (file.read_failed ≡ kept.read_failed) × (file.turns_left ≡ kept.turns_left)) }
     {
         self.file = Some(file);
-    }
-}
-
-impl<T> Networks for Host<'_, T> {
-    ghost runs = { λ folder plan ended. Unit {0} };
-
-    fn run<W: Write>(
-        &mut self,
-        alloc: Global,
-        folder: &str,
-        script: NetworkScript,
-        _output: &mut Output<W>,
-    ) -> Result<Ended, RunFault> {
-        let folder = folder.to_string(alloc)?;
-        self.taken = Some(Taken::Net { folder, script });
-        Ok(Ended::Clean)
-    }
-
-    ghost serves = { λ service ended. Unit {0} };
-
-    fn serve(&mut self, alloc: Global, serving: &Serving<'_>) -> Result<Ended, RunFault> {
-        self.taken = Some(Taken::Serve(Service::of(alloc, serving)?));
-        Ok(Ended::Clean)
-    }
-
-    ghost connects = { λ connection ended. Unit {0} };
-
-    fn connect(&mut self, alloc: Global, connecting: &Connecting<'_>) -> Result<Ended, RunFault> {
-        self.taken = Some(Taken::Connect(Call::of(alloc, connecting)?));
-        Ok(Ended::Clean)
     }
 }
 
@@ -152,30 +102,21 @@ fn run<
         errors,
         told,
     } = streams;
-    let mut host = Host {
-        rt,
-        file: None,
-        taken: None,
-    };
+    let mut files = NamedFiles { rt, file: None };
     let mut output = Output::new(Counted::new(output, rt, screen));
     let mut errors = Output::new(Counted::new(errors, rt, screen));
     let mut input = CountedChannel::new(input, ());
-    let status = run_main(
+    let errand = run_main(
         alloc,
         words,
-        &mut host,
+        &mut files,
         &mut input,
         &mut output,
         &mut errors,
     );
-    let Host {
-        rt: _,
-        file: _,
-        taken,
-    } = host;
-    match taken {
-        None => status,
-        Some(Taken::Net { folder, script }) => run_taken(
+    match errand {
+        Errand::Done(status) => status,
+        Errand::Net { folder, script } => run_net(
             rt,
             alloc,
             folder.as_str(),
@@ -184,13 +125,13 @@ fn run<
             &mut errors,
             &mut Output::new(Counted::new(told, rt, screen)),
         ),
-        Some(Taken::Serve(service)) => {
+        Errand::Serve(service) => {
             // A server that lives is at work for as long as it does, which is no news.
             screen.lock(rt).end();
             let (input, ()) = input.into_parts();
             run_served(rt, alloc, service, input, &mut output, told)
         }
-        Some(Taken::Connect(call)) => {
+        Errand::Connect(call) => {
             // So is a person.
             screen.lock(rt).end();
             let (reader, ()) = input.into_parts();

@@ -2,7 +2,7 @@ use bayou_audit::Totals;
 use bayou_base::{Accepted, Key, Seen, ServerId, SessionId, Vector, Wid};
 use bayou_judge::{BadEvidence, Surveyed, Verdict};
 use bayou_log::Listed;
-use bayou_peer::{PullFault, Pulled};
+use bayou_peer::{PullStopped, Pulled};
 use bayou_script::AuditFile;
 use bayou_server::{ReopenFault, StartFault, WriteFault};
 
@@ -66,7 +66,7 @@ pub enum Transfer {
     /// One of the two is stopped.
     NotRunning,
     /// It took what came, up to the End or to what ended it before.
-    Ended(Result<Pulled, PullFault>),
+    Ended(Result<Pulled, PullStopped>),
 }
 
 /// What became of a server that was to be reopened or restarted.

@@ -1,10 +1,12 @@
 -- How a request over a link ends.
 use Rattle.std.proofs.Common.{inl, inr, ◌≡◌, ◌≢◌, Bool, true, false, ℕ, List, [], Option, Result, Ok, Err, refl, not}
 use Rattle.std.specs.Io.KnownBytes.{Appends}
+use Rattle.std.specs.Prelude.{replicate}
+use Rattle.bayou_base.specs.declared.limits.TheConstants.{SERVERS}
 use Rattle.bayou_client.specs.declared.fault.LinkFault.{LinkFault}
 use Rattle.bayou_client.specs.declared.fault.LinkFault.TheVariants.{Lost, BadFrame, Refused, OutOfMemory}
 use Rattle.bayou_client.specs.declared.reading.Reply.{Reply}
-use Rattle.bayou_client.specs.Exchange.{Asks, IsGone, Judges, LinkEnds}
+use Rattle.bayou_client.specs.Exchange.{Asks, IsGone, Judges, LinkEnds, asks_read, asks_vector}
 use Rattle.bayou_client.specs.Inner.Exchanging.{Exchanges, Opens}
 use Rattle.bayou_client.specs.Inner.Faults.{told_fault}
 use Rattle.bayou_client.specs.Inner.Taking.{ReplyRead}
@@ -55,3 +57,19 @@ judged asks request before after read was mid is opened gone reply (Err BadFrame
     (h.0, rw (closed, opens) refl, h.1, inr (reply.writes.items, reply.last, h.2, judges))
 judged asks request before after read was mid is opened gone reply (Err Lost) h judges opens closed = absurd judges
 judged asks request before after read was mid is opened gone reply (Err OutOfMemory) h judges opens closed = absurd judges
+
+-- a read that needs nothing, whose vector alone is told, where there is no answer
+pub tells_no_vector : (request : List ℕ) (before after : Option (List ℕ)) (read : List ℕ) (was is : Bool) (gone : Type 0) (fault : LinkFault)
+    → LinkEnds (asks_read (replicate SERVERS 0)) request before after read was is gone (Err fault) → LinkEnds asks_vector request before after read was is gone (Err fault)
+tells_no_vector request before after read was is gone Lost h = h
+tells_no_vector request before after read was is gone (Refused refusal) h = h
+tells_no_vector request before after read was is gone OutOfMemory h = h
+tells_no_vector request before after read was is gone BadFrame h = (
+  h.0,
+  h.1,
+  h.2,
+  elim h.3 [
+    | inl none ↦ inl none
+    | inr replied ↦ inr (replied.0, replied.1, replied.2, (λ vector answers. replied.3.0 answers.0 answers.1, replied.3.1))
+  ],
+)

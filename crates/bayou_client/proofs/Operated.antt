@@ -1,17 +1,21 @@
 -- What becomes of a session and its share.
-use Rattle.std.proofs.Common.{arith, ◌≡◌, Bool, true, false, ℕ, ◌+◌, ◌-◌, List, Option, Some, None, IsSome, Result, Ok, Err, refl, ap, subst, ◌∙◌}
+use Rattle.std.proofs.Common.{arith, ◌≡◌, Bool, true, false, ℕ, ◌+◌, ◌-◌, List, Option, Some, None, IsSome, Result, Ok, Err, refl, ap, subst, sym, ◌∙◌}
+use Rattle.std.proofs.lemmas.Option.{same_Some}
 use Rattle.bayou_audit.specs.declared.totals.Totals.{Totals}
-use Rattle.bayou_audit.specs.Totals.{Shared, counted, with_filed, with_slip, with_slip_out, with_slip_spent, without_slip}
+use Rattle.bayou_audit.specs.Totals.{Shared, counted, with_slip, with_slip_out, without_slip}
+use Rattle.bayou_base.specs.declared.answer.Accepted.{Accepted}
 use Rattle.bayou_base.specs.declared.entry.Entry.{Entry}
 use Rattle.bayou_base.specs.declared.entry.What.{What}
-use Rattle.bayou_base.specs.declared.entry.What.TheVariants as whats
-use Rattle.bayou_client.specs.declared.client.Asked.{Asked}
-use Rattle.bayou_client.specs.declared.fault.ClientFault.TheVariants.{Link}
+use Rattle.bayou_base.specs.declared.server.ServerId.{ServerId}
+use Rattle.bayou_client.specs.declared.asker.Asked.{Asked}
+use Rattle.bayou_client.specs.declared.asker.Heard.{Heard}
 use Rattle.bayou_client.specs.declared.fault.LinkFault.{LinkFault}
-use Rattle.bayou_client.specs.declared.fault.LinkFault.TheVariants.{Lost, BadFrame, Refused, OutOfMemory}
-use Rattle.bayou_client.specs.Inner.Spending.{Spends, is_told}
-use Rattle.bayou_client.specs.Operating.{Ends, Operates, Operation, Sharing, with_entered}
-use Rattle.bayou_session.specs.Needs.{Told}
+use Rattle.bayou_client.specs.Inner.Spending.{Spends, as_told}
+use Rattle.bayou_client.specs.Operating.{Asking, Ends, Hears, IsEntered, Operates, Operation, Sharing, after_hearing, after_told, asking_again, asks_at, asks_once_more, entered_of, sending, with_entered, without_share, writing}
+use Rattle.bayou_lang.specs.declared.program.Program.{Program}
+use Rattle.bayou_session.specs.Needs.{Told, asks_first}
+
+-- ---- the share
 
 slip_same : (totals : Totals) → without_slip (with_slip totals) ≡ totals
 slip_same totals = ap (λ (n : ℕ). record totals { slips = n }) (one_less totals.slips)
@@ -19,50 +23,76 @@ slip_same totals = ap (λ (n : ℕ). record totals { slips = n }) (one_less tota
     one_less : (n : ℕ) → n + 1 - 1 ≡ n
     one_less n = omega arith
 
-voided : (share : Shared) → with_slip_spent (with_slip_out share) ≡ share
-voided share = ap (λ (totals : Totals). record share { totals = totals }) (slip_same share.totals)
+-- a slip that was handed out was spent on what was entered
+entered : (session : Told) (server : ServerId) (what : Option What) (entry : Option Entry) (share new : Shared) → IsEntered session server what entry → Spends entry (with_slip_out share) new
+    → new ≡ with_entered what share
+entered session server None None share new is spent = spent ∙ ap (λ (totals : Totals). record share { totals = totals }) (slip_same share.totals)
+entered session server None (Some entry) share new is spent = absurd (let none : ◌≡◌ {A = Option Entry} (Some entry) None = is in cc)
+entered session server (Some what) None share new is spent = absurd is
+entered session server (Some what) (Some entry) share new is spent =
+    spent ∙ ap (λ (w : What). record share { totals = counted w (without_slip (with_slip share.totals)) }) is.what_is
+    ∙ ap (λ (totals : Totals). record share { totals = counted what totals }) (slip_same share.totals)
 
-entered : (sharing : Sharing) (share : Shared) (entry : Entry) (what : What) → entry.what ≡ what → share ≡ with_filed (with_slip_out sharing.share) entry
-    → record sharing { share = share } ≡ with_entered what sharing
-entered sharing share entry what is filed =
-    ap (λ (s : Shared). record sharing { share = s }) (filed
-    ∙ ap (λ (w : What). record sharing.share { totals = counted w (without_slip (with_slip sharing.share.totals)) }) is
-    ∙ ap (λ (totals : Totals). record sharing.share { totals = counted what totals }) (slip_same sharing.share.totals))
+-- ---- the session
 
--- all but the share is so
-pub but_share : (is so : Sharing) → is.session ≡ so.session → is.asked ≡ so.asked → is ≡ record so { share = is.share }
-but_share is so session asked =
-    ap (λ (s : Told). record is { session = s }) session ∙ ap (λ (a : Option Asked). record so { share = is.share; asked = a }) asked
+-- what was said of it is told
+pub hears_of : {A : Type 0} (operation : Operation A) (server : ServerId) (old new : Asking) (before after : Option (List ℕ)) (read : List ℕ) (was is : Bool) (gone : Type 0) (said told : Result A LinkFault) (entry : Option Entry)
+    → said ≡ told → Ends operation before after read was is gone said → new ≡ after_told operation old told → IsEntered (operation.begins old).session server (entered_of operation.what said) entry
+    → Hears operation server old new before after read was is gone (record { told = told; entry = entry })
+hears_of {A} operation server old new before after read was is gone said told entry same ends becomes entered = record {
+  ends = subst (λ (r : Result A LinkFault). Ends operation before after read was is gone r) same ends;
+  becomes = becomes;
+  entered = subst (λ (r : Result A LinkFault). IsEntered (operation.begins old).session server (entered_of operation.what r) entry) same entered;
+}
 
-pub fails_operating : {A : Type 0} (operation : Operation A) (old new : Sharing) (mid : Shared) (before after : Option (List ℕ)) (read : List ℕ) (was is : Bool) (gone : Type 0) (told : Result A LinkFault) (fault : LinkFault)
-    → told ≡ Err fault → Ends operation before after read was is gone told → new ≡ record (operation.begins old) { share = new.share } → mid ≡ with_slip_out (operation.begins old).share
-    → Spends (is_told operation.what told) mid new.share → Operates operation old new before after read was is gone (Err (Link fault))
-fails_operating {A} operation old new mid before after read was is gone told fault same ends but out spends =
-    let ended = subst (λ (r : Result A LinkFault). Ends operation before after read was is gone r) same ends in
-    let spent = subst (λ (s : Shared). Spends (is_told operation.what (Err fault)) s new.share) out (subst (λ (r : Result A LinkFault). Spends (is_told operation.what r) mid new.share) same spends) in
-    by_fault fault ended spent
+-- a Write that was begun is sent
+pub hears_writing : (old : Asking) (server : ServerId) (program : Program) (begun : Asking) (asked : Asked) (new : Asking) (before after : Option (List ℕ)) (read : List ℕ) (was is : Bool) (gone : Type 0) (heard : Heard Accepted)
+    → begun ≡ asks_at old server program → begun.asked ≡ Some asked → Hears (sending begun.session asked) asked.server begun new before after read was is gone heard
+    → Hears (writing old.session server program) server old new before after read was is gone heard
+hears_writing old server program begun asked new before after read was is gone heard begins same hears =
+    let sent = subst (λ (b : Asking). (b.asked ≡ Some asked) × Hears (sending b.session asked) asked.server b new before after read was is gone heard) begins (same, hears) in
+    of (subst (λ (a : Asked). Hears (sending (asks_first old.session) a) a.server (asks_at old server program) new before after read was is gone heard) (sym (same_Some first asked sent.0)) sent.1)
   where
-    begun : Sharing
-    begun = operation.begins old
+    first : Asked
+    first = record { server = server; program = program }
 
-    with_void : new.share ≡ with_slip_spent (with_slip_out begun.share) → new ≡ begun
-    with_void spent = but ∙ ap (λ (s : Shared). record begun { share = s }) (spent ∙ voided begun.share)
+    of : Hears (sending (asks_first old.session) first) server (asks_at old server program) new before after read was is gone heard
+        → Hears (writing old.session server program) server old new before after read was is gone heard
+    of h =
+        let (request, asks, ends) = h.ends in
+        let (number, tag, at, tagged, spelled) = asks in
+        record {
+          ends = (request, (tag, (tagged.0, tagged.1, tagged.2 ∙ sym (same_Some (old.session.begun + 1) number at)), spelled), ends);
+          becomes = h.becomes;
+          entered = h.entered;
+        }
 
-    by_fault : (fault : LinkFault) → Ends operation before after read was is gone (Err fault) → Spends (is_told operation.what (Err fault)) (with_slip_out (operation.begins old).share) new.share
-        → Operates operation old new before after read was is gone (Err (Link fault))
-    by_fault Lost ended spent = (ended, with_void spent)
-    by_fault BadFrame ended spent = (ended, with_void spent)
-    by_fault (Refused refusal) ended spent = (ended, but ∙ entered begun new.share spent.0 whats.Refused spent.1 spent.2)
-    by_fault OutOfMemory ended spent = (ended, with_void spent)
+-- the Write that was asked last is sent once more
+pub hears_again : (old begun : Asking) (asked : Asked) (new : Asking) (before after : Option (List ℕ)) (read : List ℕ) (was is : Bool) (gone : Type 0) (heard : Heard Accepted)
+    → begun ≡ asks_once_more old → begun.asked ≡ Some asked → Hears (sending begun.session asked) asked.server begun new before after read was is gone heard
+    → (old.asked ≡ Some asked) × Hears (asking_again old.session asked) asked.server old new before after read was is gone heard
+hears_again old begun asked new before after read was is gone heard begins same hears =
+    let sent = subst (λ (b : Asking). (b.asked ≡ Some asked) × Hears (sending b.session asked) asked.server b new before after read was is gone heard) begins (same, hears) in
+    (sent.0, record { ends = sent.1.ends; becomes = sent.1.becomes; entered = sent.1.entered })
 
-pub serves_operating : {A : Type 0} (operation : Operation A) (old new : Sharing) (mid : Shared) (before after : Option (List ℕ)) (read : List ℕ) (was is : Bool) (gone : Type 0) (told : Result A LinkFault) (answer : A)
-    → told ≡ Ok answer → Ends operation before after read was is gone told → new ≡ record (operation.tells (operation.begins old) answer) { share = new.share }
-    → mid ≡ with_slip_out (operation.tells (operation.begins old) answer).share
-    → Spends (is_told operation.what told) mid new.share → Operates operation old new before after read was is gone (Ok answer)
-serves_operating {A} operation old new mid before after read was is gone told answer same ends but out spends =
-    let ended = subst (λ (r : Result A LinkFault). Ends operation before after read was is gone r) same ends in
-    let spent = subst (λ (s : Shared). Spends (is_told operation.what (Ok answer)) s new.share) out (subst (λ (r : Result A LinkFault). Spends (is_told operation.what r) mid new.share) same spends) in
-    (ended, but ∙ entered (operation.tells (operation.begins old) answer) new.share spent.0 (operation.what answer) spent.1 spent.2)
+-- ---- both
+
+-- what was heard was entered
+pub operates : {A : Type 0} (operation : Operation A) (server : ServerId) (old : Sharing) (new : Asking) (share : Shared) (before after : Option (List ℕ)) (read : List ℕ) (was is : Bool) (gone : Type 0) (heard : Heard A)
+    → Hears operation server (without_share old) new before after read was is gone heard → Spends heard.entry (with_slip_out old.share) share
+    → Operates operation old (record { session = new.session; share = share; asked = new.asked }) before after read was is gone (as_told heard.told)
+operates {A} operation server old new share before after read was is gone heard hears spent = of heard.told (hears.ends, same)
+  where
+    same : ◌≡◌ {A = Sharing} (record { session = new.session; share = share; asked = new.asked }) (after_hearing operation old heard.told)
+    same =
+        ap (λ (a : Asking). record { session = a.session; share = share; asked = a.asked }) hears.becomes
+        ∙ ap (λ (s : Shared). record { session = (after_told operation (without_share old) heard.told).session; share = s; asked = (after_told operation (without_share old) heard.told).asked })
+        (entered (operation.begins (without_share old)).session server (entered_of operation.what heard.told) heard.entry old.share share hears.entered spent)
+
+    of : (told : Result A LinkFault) → Ends operation before after read was is gone told × ◌≡◌ {A = Sharing} (record { session = new.session; share = share; asked = new.asked }) (after_hearing operation old told)
+        → Operates operation old (record { session = new.session; share = share; asked = new.asked }) before after read was is gone (as_told told)
+    of (Ok answer) ends = ends
+    of (Err fault) ends = ends
 
 -- there is one
 pub some_of : {A : Type 0} (o : Option A) → IsSome o → (a : A) × (o ≡ Some a)

@@ -1,9 +1,10 @@
 -- How one request over a link ends (Terry et al. 1994, in this project's own frames).
-use Rattle.std.specs.Prelude.{◌≡◌, ◌⊎◌, ℕ, Bool, true, false, List, [], Option, Result, Ok, Err, length}
+use Rattle.std.specs.Prelude.{◌≡◌, ◌⊎◌, ℕ, Bool, true, false, List, [], Option, Result, Ok, Err, length, replicate}
 use Rattle.std.specs.Io.KnownBytes.{Appends}
 use Rattle.bayou_base.specs.declared.answer.Accepted.{Accepted}
 use Rattle.bayou_base.specs.declared.answer.Seen.{Seen}
 use Rattle.bayou_base.specs.declared.server.ServerId.{ServerId}
+use Rattle.bayou_base.specs.declared.limits.TheConstants.{SERVERS}
 use Rattle.bayou_base.specs.declared.wid.Wid.{Wid}
 use Rattle.bayou_base.specs.Vector.{Dominates}
 use Rattle.bayou_client.specs.declared.fault.LinkFault.{LinkFault}
@@ -30,6 +31,13 @@ abbrev pub asks_write : (need : List ℕ) → ServerId → Asks Accepted
 asks_write need server = record {
   many = false;
   answers = λ writes last accepted. (last ≡ frames.Accepted accepted) × Dominates accepted.deps need × (accepted.wid.origin.index ≡ server.index);
+}
+
+-- what its server held is the vector of a Seen, to a read that needs nothing
+abbrev pub asks_vector : Asks (List ℕ)
+asks_vector = record {
+  many = false;
+  answers = λ writes last vector. (seen : Seen) × (asks_read (replicate SERVERS 0)).answers writes last seen × (vector ≡ seen.vector);
 }
 
 abbrev pub asks_reopening : Asks (Option Wid)

@@ -1,8 +1,8 @@
 //! A connection to one server.
-ghost use Rattle.std.specs.Prelude.{◌≡◌, ◌≢◌, ◌≤◌, ℕ, Bool, false, true, List, Err, Option, Result};
+ghost use Rattle.std.specs.Prelude.{◌≡◌, ◌≢◌, ◌≤◌, ℕ, Bool, false, true, List, Err, Option, Result, codes, replicate};
 ghost use Rattle.std.specs.Io.KnownBytes.{Consumes, IsAtEnd};
-ghost use Rattle.bayou_base.specs.declared.limits.TheConstants.{MAX_TURNS};
-ghost use Rattle.bayou_client.specs.Exchange.{IsGone, LinkEnds, asks_dump, asks_read, asks_reopening, asks_write};
+ghost use Rattle.bayou_base.specs.declared.limits.TheConstants.{MAX_TURNS, SERVERS};
+ghost use Rattle.bayou_client.specs.Exchange.{IsGone, LinkEnds, asks_dump, asks_read, asks_reopening, asks_vector, asks_write};
 ghost use Rattle.bayou_client.specs.Inner.Exchanging.{Exchanges, Opens};
 ghost use Rattle.bayou_wire.specs.declared.frame.Frame.TheVariants.{Dump, Read as ReadFrame, Reopen};
 ghost use Rattle.bayou_wire.specs.Stream.{spelling};
@@ -17,6 +17,9 @@ use bayou_streams::CountedChannel;
 use bayou_wire::{Frame, encode_frame};
 use std::alloc::Global;
 use std::io::{Read, Write};
+
+// What a read reads that asks for a vector alone.
+const ANY_KEY: &str = "a";
 
 /// A connection to one server, open until no whole reply came to a request. All its requests together have the turns of one channel.
 #[derive(Drop)]
@@ -119,6 +122,34 @@ impl<R: Read, W: Write> Link<R, W> {
         let told = accepted_of(reply, need, server);
         self.is_closed = !is_answered(&told);
         told
+    }
+
+    /// What the server tells of the key: to a read that needs nothing, of no session.
+    pub fn look(&mut self, alloc: Global, key: &Key) -> Result<Seen, LinkFault>
+        ensures ends { (read : List ℕ) × Consumes (R.remaining self.old.channel.reader) (R.remaining self.new.channel.reader) read
+            × LinkEnds (asks_read (replicate SERVERS 0)) (spelling (ReadFrame (replicate SERVERS 0) key.now)) (W.contents self.old.channel.writer) (W.contents self.new.channel.writer) read self.old.is_closed self.new.is_closed
+            (IsGone self.new.channel.read_failed self.new.channel.write_failed self.new.channel.turns_left (IsAtEnd (R.remaining self.new.channel.reader))) result }
+        ensures closed { self.old.is_closed ≡ true → self.new ≡ self.old }
+        ensures turns { self.new.channel.turns_left ≤ self.old.channel.turns_left }
+    {
+        self.read(alloc, &Vector::zero(), key)
+    }
+
+    /// What the server tells that it holds: to a read that needs nothing, of no session.
+    pub fn vector(&mut self, alloc: Global) -> Result<Vector, LinkFault>
+        ensures ends { (read : List ℕ) × Consumes (R.remaining self.old.channel.reader) (R.remaining self.new.channel.reader) read
+            × LinkEnds asks_vector (spelling (ReadFrame (replicate SERVERS 0) (codes "a"))) (W.contents self.old.channel.writer) (W.contents self.new.channel.writer) read self.old.is_closed self.new.is_closed
+            (IsGone self.new.channel.read_failed self.new.channel.write_failed self.new.channel.turns_left (IsAtEnd (R.remaining self.new.channel.reader))) result }
+        ensures closed { self.old.is_closed ≡ true → self.new ≡ self.old }
+        ensures turns { self.new.channel.turns_left ≤ self.old.channel.turns_left }
+    {
+        let Ok(key) = Key::new(ANY_KEY) else {
+            unreachable!();
+        };
+        match self.look(alloc, &key) {
+            Ok(seen) => Ok(seen.vector),
+            Err(fault) => Err(fault),
+        }
     }
 
     /// Has the server open its journal again, and tells which Write it adopted, if any.

@@ -7,7 +7,6 @@ pub mod Picking
 pub mod Rounding
 pub mod Rows
 pub mod Serving
-pub mod Shares
 pub mod Telling
 pub mod Turns
 pub mod Written

@@ -1,14 +1,13 @@
 -- What becomes of a session at one server, by what it is told: this project's own (sessions by Terry et al. 1994).
-use Rattle.std.specs.Prelude.{◌≡◌, ◌≢◌, ◌⊎◌, Bool, true, false, Option, None, Some}
+use Rattle.std.specs.Prelude.{◌≡◌, ◌≢◌, Bool, true, false, Option, None, Some}
 use Rattle.bayou_base.specs.declared.server.ServerId.{ServerId}
 use Rattle.bayou_base.specs.declared.value.Value.{Value}
-use Rattle.bayou_client.specs.declared.client.Asked.{Asked}
+use Rattle.bayou_client.specs.declared.asker.Asked.{Asked}
+use Rattle.bayou_client.specs.Operating.{Asking, asks_at, asks_once_more, begins_read, told_accepted, told_seen}
 use Rattle.bayou_connect.specs.declared.asking.Attempt.{Attempt}
 use Rattle.bayou_connect.specs.declared.asking.Attempt.TheVariants as attempts
 use Rattle.bayou_connect.specs.declared.told.Told.{Told}
 use Rattle.bayou_connect.specs.declared.told.Told.TheVariants as told
-use Rattle.bayou_remember.specs.Spelling.{Keeping}
-use Rattle.bayou_session.specs.Needs.{after_read, after_write, asks_again, asks_first, one_place_more}
 
 -- it is a read, which changes nothing
 abbrev pub is_read : Attempt → Bool
@@ -16,30 +15,32 @@ is_read (attempts.Read key) = true
 is_read (attempts.Write program) = false
 is_read attempts.Again = false
 
--- As it is sent: one place more is begun, and a Write may be asked again from then on. There is nothing to ask again where nothing was asked.
-abbrev pub sent_again : Keeping → Option Asked → Keeping
-sent_again kept None = kept
-sent_again kept (Some asked) = record kept { session = asks_again kept.session }
+-- as what it asked is sent once more: there is nothing to ask again where nothing was asked
+abbrev pub sent_again : Asking → Option Asked → Asking
+sent_again old None = old
+sent_again old (Some asked) = asks_once_more old
 
-abbrev pub sent : Attempt → ServerId → Keeping → Keeping
-sent (attempts.Read key) server kept = record { session = one_place_more kept.session; asked = None }
-sent (attempts.Write program) server kept = record { session = asks_first kept.session; asked = Some (record { server = server; program = program }) }
-sent attempts.Again server kept = sent_again kept kept.asked
+-- what a session is behind each answer: a read saw what the server held, and of no other answer it is told
+abbrev pub TellsRead : (sent new : Asking) → Told → Type 0
+TellsRead sent new told.Away = ⊥
+TellsRead sent new (told.Seen seen) = new ≡ told_seen sent seen
+TellsRead sent new (told.Accepted accepted) = ⊥
+TellsRead sent new (told.Refused fault) = new ≡ sent
+TellsRead sent new told.Lost = new ≡ sent
 
--- what it is behind each answer: a read saw what the server holds, a Write that was accepted is asked no more, and of no other answer it is told
-abbrev pub Tells : Attempt → (old sent new : Keeping) → Told → Type 0
-Tells attempt old sent new told.Away = ⊥
-Tells (attempts.Read key) old sent new (told.Seen seen) = new ≡ record sent { session = after_read sent.session seen }
-Tells (attempts.Write program) old sent new (told.Seen seen) = ⊥
-Tells attempts.Again old sent new (told.Seen seen) = ⊥
-Tells (attempts.Read key) old sent new (told.Accepted accepted) = ⊥
-Tells (attempts.Write program) old sent new (told.Accepted accepted) = new ≡ record { session = after_write sent.session accepted; asked = None }
-Tells attempts.Again old sent new (told.Accepted accepted) = new ≡ record { session = after_write sent.session accepted; asked = None }
-Tells attempt old sent new (told.Refused fault) = new ≡ sent
-Tells attempt old sent new told.Lost = (new ≡ sent) ⊎ (new ≡ old)
+-- a Write that was accepted is asked no more
+abbrev pub TellsWrite : (sent new : Asking) → Told → Type 0
+TellsWrite sent new told.Away = ⊥
+TellsWrite sent new (told.Seen seen) = ⊥
+TellsWrite sent new (told.Accepted accepted) = new ≡ told_accepted sent accepted
+TellsWrite sent new (told.Refused fault) = new ≡ sent
+TellsWrite sent new told.Lost = new ≡ sent
 
-abbrev pub HasDone : Attempt → ServerId → (old new : Keeping) → Told → Type 0
-HasDone attempt server old new told = Tells attempt old (sent attempt server old) new told
+-- the same behind what was attempted at this server: as it is sent one place more is begun, and a Write may be asked again from then on
+abbrev pub HasDone : Attempt → ServerId → (old new : Asking) → Told → Type 0
+HasDone (attempts.Read key) server old new told = TellsRead (begins_read old) new told
+HasDone (attempts.Write program) server old new told = TellsWrite (asks_at old server program) new told
+HasDone attempts.Again server old new told = TellsWrite (sent_again old old.asked) new told
 
 -- no answer that serves it
 abbrev pub IsNoService : Told → Type 0

@@ -2,10 +2,10 @@
 ghost use Rattle.std.specs.Prelude.{◌≡◌, ◌*◌, ◌<◌, ◌≤◌, false, IfOk, MatchOption, length, option_map, replicate, true, vec_len};
 ghost use Rattle.bayou_base.specs.declared.limits.TheConstants.{SERVERS as SERVERS_NUMBER, SESSIONS as NUMBER};
 ghost use Rattle.bayou_connect.specs.Plans.{AsksBoth, Differ};
-ghost use Rattle.bayou_connect.specs.Sessions.{IsOpened, kept_of};
+ghost use Rattle.bayou_connect.specs.Sessions.{IsOpenedFrom, kept_of};
 
 use crate::audit_file::AuditFile;
-use crate::desk::{Desk, OWN};
+use crate::desk::{Desk, OWN, numbered};
 use crate::doing::{Became, Wrong, do_line};
 use crate::fault::ConnectFault;
 use crate::lines::{Lines, Next};
@@ -14,9 +14,10 @@ use crate::remembering::{Remembered, StateFile, remember};
 use crate::round::ROUNDS_PER_SECOND;
 use crate::store::Store;
 use bayou_base::{Asks, SESSIONS, SessionId};
+use bayou_client::Asker;
 use bayou_journal::DamagedEntry;
 use bayou_net::Sockets;
-use bayou_remember::{Kept, nothing_kept};
+use bayou_remember::nothing_kept;
 use bayou_script::ScriptFault;
 use bayou_streams::Output;
 use std::alloc::Global;
@@ -154,11 +155,28 @@ fn drawn_run<T: RandomSource>(rt: &T) -> Result<u32, ConnectFault>
     Ok(u32::from_be_bytes(bytes).max(1))
 }
 
+// The number that session 0 has in tags and in a book: its own where it is kept, else one that is drawn, so that it is less likely that another program
+// has it in the same run.
+fn first_number<T: RandomSource>(rt: &T, is_kept: bool) -> Result<SessionId, ConnectFault>
+    ensures { is_kept ≡ true → IfOk result (λ first. first.index ≡ 0) }
+{
+    if is_kept {
+        return Ok(OWN);
+    }
+    let mut bytes = [0; 1];
+    if rt.fill_bytes(&mut bytes).is_err() {
+        return Err(ConnectFault::Random);
+    }
+    Ok(SessionId {
+        index: bytes[0] % SESSIONS as u8,
+    })
+}
+
 // What is kept of each session, by its number, and the file that keeps it, if one does.
 #[derive(Drop)]
 struct Found {
     state: Option<StateFile>,
-    sessions: Vec<Option<Kept>>,
+    sessions: Vec<Option<Asker>>,
     ghost one_each: { vec_len sessions ≡ NUMBER },
 }
 
@@ -217,7 +235,7 @@ fn book_in<T: Files<File = File>>(
 }
 
 // What the session asked for when it was kept, if it was.
-fn asks_kept(sessions: &[Option<Kept>], who: SessionId) -> Option<Asks>
+fn asks_kept(sessions: &[Option<Asker>], who: SessionId) -> Option<Asks>
     requires { length sessions.now ≡ NUMBER }
     ensures { result ≡ option_map (λ kept. kept.session.asks) (kept_of sessions.now who) }
 {
@@ -228,7 +246,7 @@ fn asks_kept(sessions: &[Option<Kept>], who: SessionId) -> Option<Asks>
 }
 
 // What the session asks for that the words speak of: what they say and what it asked for when it was kept, or nothing. `None` where these are two.
-fn own_asks(plan: &Plan, sessions: &[Option<Kept>], who: SessionId) -> Option<Asks>
+fn own_asks(plan: &Plan, sessions: &[Option<Asker>], who: SessionId) -> Option<Asks>
     requires { length sessions.now ≡ NUMBER }
     ensures { let kept = option_map (λ kept. kept.session.asks) (kept_of sessions.now who) in MatchOption result (Differ plan.now.asks kept) (AsksBoth plan.now.asks kept) }
 {
@@ -251,20 +269,29 @@ fn tell_other_asks<E: Write>(
     Ok(())
 }
 
-// A desk for the plan, at which the session is open and asks for this.
-fn desk_of(alloc: Global, plan: &Plan, store: Store, run: u32, who: SessionId, asks: Asks) -> Desk
+// A desk for the plan, at which session 0 has this number in tags and in the book, and the session is open and asks for this.
+fn desk_of(
+    alloc: Global,
+    plan: &Plan,
+    store: Store,
+    run: u32,
+    first_number: SessionId,
+    who: SessionId,
+    asks: Asks,
+) -> Desk
     requires { 0 < run }
-    ensures session { IsOpened who run asks store.sessions.items result.store.sessions.items }
+    ensures session { IsOpenedFrom first_number who run asks store.sessions.items result.store.sessions.items }
     ensures plan { (result.servers ≡ plan.now.servers) × (result.rounds ≡ plan.now.wait_seconds * ROUNDS_PER_SECOND) }
-    ensures new { (result.run ≡ run) × (result.first ≡ 0) × (result.is_served ≡ true) × (result.opened ≡ replicate NUMBER false) }
+    ensures new { (result.run ≡ run) × (result.first_number ≡ first_number) × (result.first ≡ 0) × (result.is_served ≡ true) × (result.opened ≡ replicate NUMBER false) }
 {
     let mut store = store;
-    store.open(who, run, asks);
+    store.open(who, numbered(first_number, who), run, asks);
     Desk {
         alloc,
         store,
         servers: plan.servers,
         run,
+        first_number,
         first: 0,
         rounds: u64::from(plan.wait_seconds) * ROUNDS_PER_SECOND,
         opened: [false; SESSIONS],
@@ -291,6 +318,7 @@ where
     T: Files<File = File> + Sockets + Wait + Clock + RandomSource,
 {
     let run = drawn_run(rt)?;
+    let first_number = first_number(rt, names.state.is_some())?;
     let Found { state, sessions } = found_in(rt, alloc, names.state, run, errors)?;
     let Some(asks) = own_asks(plan, &sessions, OWN) else {
         if let (Some(path), Some(said), Some(kept)) = (
@@ -311,6 +339,6 @@ where
         book,
         plan.timeout_seconds,
     )?;
-    let mut desk = desk_of(alloc, plan, store, run, OWN, asks);
+    let mut desk = desk_of(alloc, plan, store, run, first_number, OWN, asks);
     do_lines(rt, &mut desk, input, output, errors)
 }

@@ -4,7 +4,7 @@ ghost use Rattle.std.specs.Bool.{OnFalse, OnTrue};
 ghost use Rattle.bayou_base.specs.declared.limits.TheConstants.{SERVERS as NUMBER};
 ghost use Rattle.bayou_connect.specs.Anywhere.{AsksAnywhere, AsksServer};
 ghost use Rattle.bayou_connect.specs.Printing.{is_service, nothing_text, told_text};
-ghost use Rattle.bayou_connect.specs.Sessions.{IsOpened};
+ghost use Rattle.bayou_connect.specs.Sessions.{IsNumbered, IsOpenedFrom};
 ghost use Rattle.bayou_connect.specs.declared.asking.Attempt.TheVariants as attempts;
 ghost use Rattle.bayou_connect.specs.declared.told.Told.{Told as Answered};
 ghost use Rattle.bayou_streams.specs.Account.{TakesBytes, account};
@@ -40,6 +40,8 @@ pub(crate) struct Desk {
     pub(crate) servers: u8,
     /// The run of a session that is opened.
     pub(crate) run: u32,
+    /// The number that session 0 has in tags and in the book. The others' follow.
+    pub(crate) first_number: SessionId,
     /// The server that short lines ask first, by its place in the list.
     pub(crate) first: usize,
     /// How often a short line goes round once more, each time behind a rest.
@@ -50,6 +52,20 @@ pub(crate) struct Desk {
     pub(crate) is_served: bool,
     pub(crate) ghost number: { servers ≤ NUMBER },
     pub(crate) ghost runs: { 0 < run },
+}
+
+/// The number that a session has in tags and in the book, where session 0 has this one first: it is so many further on, and 0 comes after the last.
+pub(crate) fn numbered(first: SessionId, who: SessionId) -> SessionId
+    ensures { IsNumbered first who result }
+{
+    let further = who.index + first.index;
+    let is_beyond = usize::from(further) >= SESSIONS;
+    let index = if is_beyond {
+        further - SESSIONS as u8
+    } else {
+        further
+    };
+    SessionId { index }
 }
 
 /// Puts a line to the output at once.
@@ -168,7 +184,7 @@ impl Desk {
     // Opens the session, unless a line did so before.
     fn open(&mut self, who: SessionId, asks: Asks) -> bool
         ensures first { IsTrue result ↔ (slice_get self.old.opened who.index ≡ Some false) }
-        ensures opened { OnTrue result (IsOpened who self.old.run asks self.old.store.sessions.items self.new.store.sessions.items) }
+        ensures opened { OnTrue result (IsOpenedFrom self.old.first_number who self.old.run asks self.old.store.sessions.items self.new.store.sessions.items) }
         ensures noted { OnTrue result (self.new.opened ≡ slice_set self.old.opened who.index true) }
         ensures same { OnFalse result (self.new ≡ self.old) }
     {
@@ -177,7 +193,8 @@ impl Desk {
             return false;
         }
         self.opened[at] = true;
-        self.store.open(who, self.run, asks);
+        self.store
+            .open(who, numbered(self.first_number, who), self.run, asks);
         true
     }
 

@@ -4,13 +4,14 @@ ghost use Rattle.bayou_base.specs.declared.limits.TheConstants.{MAX_KEPT_ENTRIES
 ghost use Rattle.bayou_connect.specs.Anew.{entries_behind, those};
 ghost use Rattle.bayou_base.specs.declared.limits.TheConstants.{SESSIONS as NUMBER};
 ghost use Rattle.bayou_remember.specs.Memory.{EndsWith, HasAll};
-ghost use Rattle.bayou_remember.specs.Spelling.{Keeping};
+ghost use Rattle.bayou_client.specs.Operating.{Asking};
 
 use crate::fault::ConnectFault;
 use bayou_base::limits::MAX_KEPT_ENTRIES;
+use bayou_client::Asker;
 use bayou_device::{Device, FileDevice};
 use bayou_journal::{CarefulDevice, DamagedEntry, OpenFault};
-use bayou_remember::{KeepFault, Kept, Memory, RememberFault};
+use bayou_remember::{KeepFault, Memory, RememberFault};
 use bayou_session::FIRST_RUN;
 use std::alloc::Global;
 use std::fs;
@@ -23,7 +24,7 @@ pub(crate) type StateDevice = CarefulDevice<FileDevice<File>>;
 #[derive(Drop)]
 pub(crate) struct Remembered {
     pub(crate) memory: Memory<StateDevice>,
-    pub(crate) all: Vec<Option<Kept>>,
+    pub(crate) all: Vec<Option<Asker>>,
     /// The last entry, which was dropped as it was opened, though all its bytes were there.
     pub(crate) entry: Option<DamagedEntry>,
     pub(crate) ghost one_each: { vec_len all ≡ NUMBER },
@@ -88,9 +89,9 @@ fn open_at<T: Files<File = File>>(
 fn keep_each<D: Device>(
     alloc: Global,
     memory: &mut Memory<D>,
-    all: &[Option<Kept>],
+    all: &[Option<Asker>],
 ) -> Result<(), ConnectFault>
-    ensures kept { D.is_modelled → OnOk result ((had : List Keeping) → HasAll D.Device memory.old had → HasAll D.Device memory.new (had ++ those all.now)) }
+    ensures kept { D.is_modelled → OnOk result ((had : List Asking) → HasAll D.Device memory.old had → HasAll D.Device memory.new (had ++ those all.now)) }
     ensures entries { OnOk result (memory.new.entries ≡ entries_behind memory.old.entries (those all.now)) }
 {
     for kept in all {
@@ -108,7 +109,7 @@ fn write_part<T: Files<File = File>>(
     rt: &T,
     alloc: Global,
     part: &str,
-    all: &[Option<Kept>],
+    all: &[Option<Asker>],
 ) -> Result<Memory<StateDevice>, ConnectFault>
     ensures { IfOk result (λ memory. memory.entries ≡ entries_behind 0 (those all.now)) }
 {
@@ -128,7 +129,7 @@ fn write_anew<T: Files<File = File>>(
     alloc: Global,
     path: &str,
     run: u32,
-    all: &[Option<Kept>],
+    all: &[Option<Asker>],
 ) -> Result<Remembered, ConnectFault>
     requires { 0 < run }
 {
@@ -175,7 +176,7 @@ impl StateFile {
     }
 
     /// Keeps the session, last.
-    pub(crate) fn keep(&mut self, alloc: Global, kept: &Kept) -> Result<(), ConnectFault>
+    pub(crate) fn keep(&mut self, alloc: Global, kept: &Asker) -> Result<(), ConnectFault>
         ensures { OnOk result (EndsWith self.new.memory kept.now) }
     {
         match self.memory.keep(alloc, kept) {

@@ -1,12 +1,12 @@
 //! The servers of a store and the sessions of a person there: each operation, with what is kept of it.
-ghost use Rattle.std.specs.Prelude.{◌≡◌, ◌≢◌, ◌<◌, ◌↔◌, All, false, IfOk, IsSomeAnd, IsTrue, MatchOption, OnOk, is_some, map, option_map, slice_get, vec_len, Bool, List};
+ghost use Rattle.std.specs.Prelude.{◌≡◌, ◌≢◌, ◌<◌, All, IfOk, IsErr, IsSomeAnd, MatchOption, Ok, OnOk, is_some, map, option_map, slice_get, vec_len, Bool, List};
 ghost use Rattle.std.specs.Option.{option_copied};
-ghost use Rattle.bayou_base.specs.declared.limits.TheConstants.{MAX_PLACES, SESSIONS as NUMBER};
-ghost use Rattle.bayou_connect.specs.Keeping.{HasAsked, IsReady, begun_of};
+ghost use Rattle.bayou_base.specs.declared.limits.TheConstants.{SESSIONS as NUMBER};
+ghost use Rattle.bayou_connect.specs.Keeping.{HasAsked};
 ghost use Rattle.bayou_connect.specs.Round.{turns_but_last};
 ghost use Rattle.bayou_connect.specs.Sessions.{IsOpened, kept_of, opened};
 
-use crate::asking::{Attempt, Done, keep, operate};
+use crate::asking::{Attempt, operate};
 use crate::audit_file::AuditFile;
 use crate::deadline::milliseconds;
 use crate::fault::ConnectFault;
@@ -16,21 +16,13 @@ use crate::remembering::StateFile;
 use crate::round::{but_last, in_turn};
 use crate::told::Told;
 use bayou_base::{Asks, Entry, Key, Seen, ServerId, SessionId, Vector, Wid};
-use bayou_client::{Asked, LinkFault};
+use bayou_client::{Asker, LinkFault};
 use bayou_lang::RestingWrite;
 use bayou_net::Sockets;
-use bayou_remember::Kept;
-use bayou_session::{FIRST_RUN, Session};
+use bayou_session::Session;
 use std::alloc::{AllocError, Global};
 use std::fs::{File, Files};
-use std::sync::Wait;
 use std::time::Clock;
-
-/// Whose read asks what a server holds: it is of no session that is kept.
-const NOBODY: SessionId = SessionId { index: 0 };
-
-/// What such a read reads.
-const ANY_KEY: &str = "a";
 
 /// What a person has at hand.
 #[derive(Drop)]
@@ -38,71 +30,12 @@ pub(crate) struct Store {
     alloc: Global,
     accesses: Vec<Access>,
     /// What each session is, by its number, where it was opened or kept.
-    sessions: Vec<Option<Kept>>,
+    sessions: Vec<Option<Asker>>,
     state: Option<StateFile>,
     book: Option<AuditFile>,
     /// How long a server has for its connection and its whole reply.
     timeout_seconds: u32,
     ghost one_each: { vec_len sessions ≡ NUMBER },
-}
-
-// Whether there is a session, with a place left.
-fn may_ask(kept: &Option<Kept>) -> bool
-    ensures { MatchOption kept.now (result ≡ false) (λ kept. IsTrue result ↔ (kept.session.begun < MAX_PLACES)) }
-{
-    match kept {
-        None => false,
-        Some(kept) => kept.session().left() > 0,
-    }
-}
-
-// What is kept of the session before this is asked of the server: the Write under way, if it is one.
-fn under_way(
-    alloc: Global,
-    kept: &Kept,
-    server: ServerId,
-    attempt: &Attempt,
-) -> Result<Option<Kept>, ConnectFault>
-    requires { kept.now.session.begun < MAX_PLACES }
-    ensures { IfOk result (λ begun. begun ≡ begun_of kept.now server attempt.now) }
-{
-    let mut session = *kept.session();
-    match (attempt, kept.asked()) {
-        (Attempt::Read(_), _) | (Attempt::Again, None) => Ok(None),
-        (Attempt::Write(program), _) => {
-            session.ask();
-            let program = program.copy(alloc)?;
-            Ok(Some(Kept::new(session, Some(Asked { server, program }))))
-        }
-        (Attempt::Again, Some(asked)) => {
-            session.again();
-            let program = asked.program.copy(alloc)?;
-            Ok(Some(Kept::new(
-                session,
-                Some(Asked {
-                    server: asked.server,
-                    program,
-                }),
-            )))
-        }
-    }
-}
-
-// Keeps the Write that is about to be asked of the server, where it is one.
-fn begin(
-    alloc: Global,
-    state: &mut Option<StateFile>,
-    kept: &Kept,
-    server: ServerId,
-    attempt: &Attempt,
-) -> Result<(), ConnectFault>
-    requires { kept.now.session.begun < MAX_PLACES }
-    ensures { OnOk result (IsReady state.new kept.now server attempt.now) }
-{
-    match under_way(alloc, kept, server, attempt)? {
-        None => Ok(()),
-        Some(begun) => keep(alloc, state, &begun),
-    }
 }
 
 // Enters what was served or refused, where there is a book.
@@ -114,6 +47,17 @@ fn enter(
     match (book, entry) {
         (Some(book), Some(entry)) => book.enter(alloc, entry),
         _ => Ok(()),
+    }
+}
+
+// What was answered, unless the server didn't answer.
+fn answered<A>(told: Result<A, LinkFault>) -> Result<Option<A>, ConnectFault>
+    ensures { IfOk result (λ answer. MatchOption answer (IsErr told) (λ answer. told ≡ Ok answer)) }
+{
+    match told {
+        Ok(answer) => Ok(Some(answer)),
+        Err(LinkFault::OutOfMemory) => Err(ConnectFault::Memory),
+        Err(LinkFault::Lost | LinkFault::BadFrame | LinkFault::Refused(_)) => Ok(None),
     }
 }
 
@@ -129,15 +73,15 @@ fn accesses_to(alloc: Global, places: &[Place]) -> Result<Vec<Access>, AllocErro
 }
 
 // What a session becomes as it is opened: it begins anew, or goes on from where it was kept.
-fn opened_from(kept: Option<Kept>, who: SessionId, run: u32, asks: Asks) -> Kept
+fn opened_from(kept: Option<Asker>, number: SessionId, run: u32, asks: Asks) -> Asker
     requires { 0 < run }
-    ensures { result ≡ opened who run asks kept }
+    ensures { result ≡ opened number run asks kept }
 {
     match kept {
-        None => Kept::new(Session::new(who, run, asks), None),
+        None => Asker::new(Session::new(number, run, asks), None),
         Some(kept) => {
             let (session, asked) = kept.into_parts();
-            Kept::new(Session::resume(who, asks, session.past()), asked)
+            Asker::new(Session::resume(number, asks, session.past()), asked)
         }
     }
 }
@@ -147,7 +91,7 @@ impl Store {
     pub(crate) fn new(
         alloc: Global,
         places: &[Place],
-        sessions: Vec<Option<Kept>>,
+        sessions: Vec<Option<Asker>>,
         state: Option<StateFile>,
         book: Option<AuditFile>,
         timeout_seconds: u32,
@@ -208,21 +152,21 @@ impl Store {
     }
 
     /// What is kept of a session that is open.
-    pub(crate) fn session(&self, who: SessionId) -> Option<&Kept>
+    pub(crate) fn session(&self, who: SessionId) -> Option<&Asker>
         ensures { option_copied result ≡ kept_of self.now.sessions.items who }
     {
         self.sessions[usize::from(who.index)].as_ref()
     }
 
-    /// Opens the session, which asks for this from then on: anew, or from where it was kept.
-    pub(crate) fn open(&mut self, who: SessionId, run: u32, asks: Asks)
+    /// Opens the session, which has this number in tags and in the book, and asks for this from then on: anew, or from where it was kept.
+    pub(crate) fn open(&mut self, who: SessionId, number: SessionId, run: u32, asks: Asks)
         requires { 0 < run }
-        ensures opened { IsOpened who run asks self.old.sessions.items self.new.sessions.items }
+        ensures opened { IsOpened who number run asks self.old.sessions.items self.new.sessions.items }
         ensures others { (self.new.accesses ≡ self.old.accesses) × (self.new.state ≡ self.old.state) × (self.new.book ≡ self.old.book) }
     {
         let at = usize::from(who.index);
         let kept = self.sessions[at].take();
-        self.sessions[at] = Some(opened_from(kept, who, run, asks));
+        self.sessions[at] = Some(opened_from(kept, number, run, asks));
     }
 
     // Writes the state file anew, where it has grown long.
@@ -237,7 +181,7 @@ impl Store {
 
     /// Has the session do this at a server, by its place in the list. A Write is kept before it is sent, and what was told before anybody
     /// is told of it.
-    pub(crate) fn ask_at<T: Files<File = File> + Sockets + Wait + Clock>(
+    pub(crate) fn ask_at<T: Files<File = File> + Sockets + Clock>(
         &mut self,
         rt: &T,
         who: SessionId,
@@ -255,18 +199,15 @@ impl Store {
         let Some(mut link) = access.link(rt, self.timeout_seconds) else {
             return Ok(Told::Away);
         };
-        let place = usize::from(who.index);
-        if !may_ask(&self.sessions[place]) {
+        let Some(asker) = &mut self.sessions[usize::from(who.index)] else {
+            return Ok(Told::Lost);
+        };
+        if asker.session().left() == 0 {
             return Ok(Told::Lost);
         }
-        let Some(kept) = self.sessions[place].take() else {
-            unreachable!();
-        };
-        begin(alloc, &mut self.state, &kept, server, &attempt)?;
-        let done = operate(rt, alloc, &mut self.state, kept, &mut link, server, attempt)?;
+        let done = operate(alloc, &mut self.state, asker, &mut link, server, attempt)?;
         access.settle(rt, &link);
         enter(alloc, &mut self.book, &done.entry)?;
-        self.sessions[place] = Some(done.kept);
         Ok(done.told)
     }
 
@@ -280,8 +221,8 @@ impl Store {
         }
     }
 
-    /// What the server of this place in the list tells of a key, if it tells it: to a read that needs nothing, of a session that nobody keeps.
-    pub(crate) fn look_at<T: Sockets + Wait + Clock>(
+    /// What the server of this place in the list tells of a key, if it tells it: to a read of no session.
+    pub(crate) fn look_at<T: Sockets + Clock>(
         &mut self,
         rt: &T,
         at: usize,
@@ -293,36 +234,32 @@ impl Store {
         let Some(access) = self.accesses.get_mut(at) else {
             return Ok(None);
         };
-        let server = access.place.id;
         let Some(mut link) = access.link(rt, self.timeout_seconds) else {
             return Ok(None);
         };
-        let nobody = Kept::new(Session::new(NOBODY, FIRST_RUN, Asks::default()), None);
-        let attempt = Attempt::Read(key.copy());
-        let done = operate(rt, alloc, &mut None, nobody, &mut link, server, attempt)?;
+        let told = link.look(alloc, key);
         access.settle(rt, &link);
-        let Done { told, .. } = done;
-        match told {
-            Told::Seen(seen) => Ok(Some(seen)),
-            Told::Away | Told::Accepted(_) | Told::Refused(_) | Told::Lost => Ok(None),
-        }
+        answered(told)
     }
 
     /// What the server of this place in the list holds, if it tells that.
-    pub(crate) fn held_at<T: Sockets + Wait + Clock>(
+    pub(crate) fn held_at<T: Sockets + Clock>(
         &mut self,
         rt: &T,
         at: usize,
     ) -> Result<Option<Vector>, ConnectFault>
         ensures { (self.new.sessions ≡ self.old.sessions) × (self.new.state ≡ self.old.state) × (self.new.book ≡ self.old.book) }
     {
-        let Ok(key) = Key::new(ANY_KEY) else {
+        let alloc = self.alloc;
+        let Some(access) = self.accesses.get_mut(at) else {
             return Ok(None);
         };
-        match self.look_at(rt, at, &key)? {
-            Some(seen) => Ok(Some(seen.vector)),
-            None => Ok(None),
-        }
+        let Some(mut link) = access.link(rt, self.timeout_seconds) else {
+            return Ok(None);
+        };
+        let told = link.vector(alloc);
+        access.settle(rt, &link);
+        answered(told)
     }
 
     /// What the server of this place in the list tells as it is to open its journal again, if it is reached.
@@ -358,11 +295,7 @@ impl Store {
         };
         let told = link.dump(alloc);
         access.settle(rt, &link);
-        match told {
-            Ok(writes) => Ok(Some(writes)),
-            Err(LinkFault::OutOfMemory) => Err(ConnectFault::Memory),
-            Err(_) => Ok(None),
-        }
+        answered(told)
     }
 
     /// Whether there is a book.

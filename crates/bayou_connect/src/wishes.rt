@@ -18,10 +18,9 @@ impl Desk {
         output: &mut Output<W>,
         wish: &Wish,
     ) -> Result<(), ConnectFault> {
-        let Some(program) = wish.program() else {
+        let Some(program) = wish.program(self.alloc)? else {
             return Ok(());
         };
-        let program = program.rest(self.alloc)?;
         match wish {
             Wish::Claim { key, others, value } => {
                 let others = others.as_slice();

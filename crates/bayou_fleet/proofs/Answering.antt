@@ -8,7 +8,7 @@ use Rattle.bayou_client.specs.Operating.{Sharing}
 use Rattle.bayou_fleet.specs.Operating.{AnswersAttempt, IsAnswerTo}
 use Rattle.bayou_text.specs.declared.command.Operation.{Operation}
 
-AllZip-push : {A B : Type 0} (R : A → B → Type 0) (xs : List A) (ys : List B) (x : A) (y : B) → AllZip R xs ys → R x y → AllZip R (xs ++ x ∷ []) (ys ++ y ∷ [])
+pub AllZip-push : {A B : Type 0} (R : A → B → Type 0) (xs : List A) (ys : List B) (x : A) (y : B) → AllZip R xs ys → R x y → AllZip R (xs ++ x ∷ []) (ys ++ y ∷ [])
 AllZip-push R [] [] x y all one = (one, tt)
 AllZip-push R [] (b ∷ ys) x y all one = absurd all
 AllZip-push R (a ∷ xs) [] x y all one = absurd all

@@ -6,7 +6,7 @@ use Rattle.bayou_answers.specs.declared.answer.Answer.{Answer}
 use Rattle.bayou_answers.specs.declared.answer.Answer.TheVariants.{Done, Wrote, Read, Refused, Lost, NotAgain, Logged, Stopped, Recovered, Exchanged, Counted, Judged, Surveyed, Booked}
 use Rattle.bayou_base.specs.declared.server.ServerId.{ServerId}
 use Rattle.bayou_base.specs.declared.session.SessionId.{SessionId}
-use Rattle.bayou_client.specs.declared.client.Asked.{Asked}
+use Rattle.bayou_client.specs.declared.asker.Asked.{Asked}
 use Rattle.bayou_fleet.specs.Operating.{AnswersAgain, AnswersWrite, IsUnserved, KeepsOthers}
 use Rattle.bayou_session.specs.Needs.{Told}
 

@@ -1,5 +1,5 @@
 mod Arranging
 mod Asking
-mod Leading
-pub mod Putting
 pub mod Answering
+pub mod Putting
+pub mod Told

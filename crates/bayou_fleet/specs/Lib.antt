@@ -1,6 +1,6 @@
 pub mod Closings
 pub mod Opening
-pub mod Seats
+pub mod Operating
 pub mod Phases
 pub mod Refusals
-pub mod Operating
+pub mod Servers

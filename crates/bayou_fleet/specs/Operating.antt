@@ -7,7 +7,7 @@ use Rattle.bayou_answers.specs.declared.answer.Answer.TheVariants.{Done, Wrote, 
 use Rattle.bayou_base.specs.declared.server.ServerId.{ServerId}
 use Rattle.bayou_base.specs.declared.session.SessionId.{SessionId}
 use Rattle.bayou_base.specs.Vector.{Dominates}
-use Rattle.bayou_client.specs.declared.client.Asked.{Asked}
+use Rattle.bayou_client.specs.declared.asker.Asked.{Asked}
 use Rattle.bayou_session.specs.Needs.{Told, read_need, write_need}
 use Rattle.bayou_text.specs.declared.command.Attempt.{Attempt}
 use Rattle.bayou_text.specs.declared.command.Attempt.TheVariants as attempt

@@ -6,26 +6,30 @@ ghost use Rattle.bayou_answers.specs.declared.answer.Answer.TheVariants.{Booked,
 ghost use Rattle.bayou_answers.specs.declared.answer.Recovery.{Recovery as Recovering};
 ghost use Rattle.bayou_fleet.specs.Closings.{AnswersClosing, AnswersQuestion, IsLogged, IsReopening};
 ghost use Rattle.bayou_fleet.specs.Refusals.{NotReopenedAs};
+ghost use Rattle.bayou_fleet.specs.Servers.{InOne};
+ghost use Rattle.bayou_lang.specs.Writes.{count_of};
+ghost use Rattle.bayou_log.specs.Listing.{listing_of};
 ghost use Rattle.bayou_lang.specs.declared.write.Write.{Write as Held};
 ghost use Rattle.bayou_script.specs.declared.audit.AuditFile.{AuditFile as Filing};
 ghost use Rattle.bayou_answers.specs.Verdicts.{IsSurveyOn, IsVerdictOn};
 
 use crate::fault::FleetFault;
-use crate::fleet::Fleet;
 use crate::links::{SocketLink, links_to};
+use crate::mailbox::Mailbox;
 use crate::network::Network;
 use crate::phase::Closing;
 use bayou_answers::{Answer, Recovery, judged, surveyed};
 use bayou_audit::Ledgers;
-use bayou_base::{Entry, ServerId};
+use bayou_base::{Entry, ServerId, Vector};
 use bayou_client::LinkFault;
 use bayou_judge::lend_dumps;
 use bayou_lang::RestingWrite;
+use bayou_log::Listed;
 use bayou_net::{Sockets, reopen_fault_of};
 use bayou_script::AuditFile;
 use bayou_text::Question;
 use bayou_wire::Refusal;
-use std::alloc::{AllocError, Global};
+use std::alloc::Global;
 use std::sync::Wait;
 
 /// Whoever asks what closes the phases of a run, with a link to each server.
@@ -60,10 +64,10 @@ fn sent_over(alloc: Global, link: &mut SocketLink) -> Result<Vec<RestingWrite>, 
 
 impl Inquiry {
     /// A link to each server.
-    pub fn new<F: Fleet, K: Ledgers, T: Sockets>(
+    pub fn new<K: Ledgers, T: Sockets>(
         rt: &T,
         alloc: Global,
-        network: &Network<F, K>,
+        network: &Network<K>,
     ) -> Result<Self, FleetFault>
         ensures { IfOk result (λ inquiry. inquiry.count ≡ network.now.count) }
     {
@@ -107,11 +111,11 @@ impl Inquiry {
     }
 
     // The audit file of what was filed so far, and of what the servers send.
-    fn book<F: Fleet, K: Ledgers, T: Wait>(
+    fn book<K: Ledgers, T: Wait>(
         &mut self,
         rt: &T,
         alloc: Global,
-        network: &Network<F, K>,
+        network: &Network<K>,
     ) -> Result<Answer, FleetFault>
         ensures answered { IfOk result (λ answer. (file : Filing) × (answer ≡ Booked file) × (file.count ≡ self.old.count)) }
         ensures same { self.new.count ≡ self.old.count }
@@ -126,34 +130,34 @@ impl Inquiry {
     }
 
     // Answers a question.
-    fn ask<F: Fleet, K: Ledgers, T: Wait>(
+    fn ask<K: Ledgers, T: Wait>(
         &mut self,
         rt: &T,
         alloc: Global,
-        network: &Network<F, K>,
+        network: &Network<K>,
         question: Question,
     ) -> Result<Answer, FleetFault>
-        ensures answered { IfOk result (AnswersQuestion (F.seats network.now.fleet) self.old.count question) }
+        ensures answered { IfOk result (AnswersQuestion network.now.mailboxes.items self.old.count question) }
         ensures same { self.new.count ≡ self.old.count }
     {
         match question {
-            Question::Log(server) => Ok(logged(rt, alloc, &network.fleet, server)?),
+            Question::Log(server) => logged(rt, alloc, &network.mailboxes, server),
             Question::Totals => Ok(Answer::Counted(network.book.totals(rt))),
-            Question::Judge => Ok(verdict(rt, alloc, network, self.count)?),
-            Question::Survey => Ok(survey(rt, alloc, network, self.count)?),
+            Question::Judge => verdict(rt, alloc, network, self.count),
+            Question::Survey => survey(rt, alloc, network, self.count),
             Question::Book => self.book(rt, alloc, network),
         }
     }
 
     /// Does what closes a phase, and tells what it is answered.
-    pub fn answer<F: Fleet, K: Ledgers, T: Wait>(
+    pub fn answer<K: Ledgers, T: Wait>(
         &mut self,
         rt: &T,
         alloc: Global,
-        network: &Network<F, K>,
+        network: &Network<K>,
         closing: Closing,
     ) -> Result<Answer, FleetFault>
-        ensures answered { IfOk result (AnswersClosing (F.seats network.now.fleet) self.old.count closing) }
+        ensures answered { IfOk result (AnswersClosing network.now.mailboxes.items self.old.count closing) }
         ensures same { self.new.count ≡ self.old.count }
     {
         match closing {
@@ -164,18 +168,33 @@ impl Inquiry {
     }
 }
 
-// What the server holds.
-fn logged<F: Fleet, T: Wait>(
+// The log of the server of this index, and its vector. Where there is no such server, it holds nothing.
+fn log_at<T: Wait>(
     rt: &T,
     alloc: Global,
-    fleet: &F,
+    mailboxes: &[Mailbox],
+    at: usize,
+) -> Result<(Vec<Listed>, Vector), FleetFault>
+    ensures lists { IfOk result (λ log. InOne mailboxes.now at (λ core. log.0.items ≡ listing_of core.held)) }
+    ensures counts { IfOk result (λ log. InOne mailboxes.now at (λ core. log.1 ≡ count_of core.held)) }
+{
+    match mailboxes.get(at) {
+        Some(mailbox) => mailbox.log(rt),
+        None => Ok((Vec::new(alloc), Vector::zero())),
+    }
+}
+
+// What the server holds.
+fn logged<T: Wait>(
+    rt: &T,
+    alloc: Global,
+    mailboxes: &[Mailbox],
     server: ServerId,
-) -> Result<Answer, AllocError>
-    ensures { IfOk result (IsLogged (F.seats fleet.now) server) }
+) -> Result<Answer, FleetFault>
+    ensures { IfOk result (IsLogged mailboxes.now server) }
 {
     let at = usize::from(server.index);
-    let listing = fleet.listing(rt, alloc, at)?;
-    let vector = fleet.vector(rt, at);
+    let (listing, vector) = log_at(rt, alloc, mailboxes, at)?;
     Ok(Answer::Logged {
         server,
         listing,
@@ -184,47 +203,51 @@ fn logged<F: Fleet, T: Wait>(
 }
 
 // What each of so many servers holds, in order of receipt.
-fn dumps<F: Fleet, T: Wait>(
+fn dumps<T: Wait>(
     rt: &T,
     alloc: Global,
-    fleet: &F,
+    mailboxes: &[Mailbox],
     count: u8,
-) -> Result<Vec<Vec<RestingWrite>>, AllocError>
+) -> Result<Vec<Vec<RestingWrite>>, FleetFault>
     ensures { IfOk result (λ dumps. vec_len dumps ≡ count) }
 {
     let mut dumps = Vec::new(alloc);
     for at in 0..count {
-        dumps.push(fleet.dump(rt, alloc, usize::from(at))?)?;
+        let dump = match mailboxes.get(usize::from(at)) {
+            Some(mailbox) => mailbox.dump(rt)?,
+            None => Vec::new(alloc),
+        };
+        dumps.push(dump)?;
     }
     Ok(dumps)
 }
 
 // The verdict on what was filed so far and what each of so many servers holds.
-fn verdict<F: Fleet, K: Ledgers, T: Wait>(
+fn verdict<K: Ledgers, T: Wait>(
     rt: &T,
     alloc: Global,
-    network: &Network<F, K>,
+    network: &Network<K>,
     count: u8,
-) -> Result<Answer, AllocError>
+) -> Result<Answer, FleetFault>
     requires { (0 < count) × (count ≤ SERVERS) }
     ensures { IfOk result (λ answer. (entries : List Filed) × (dumps : List (List Held)) × IsVerdictOn count entries dumps answer) }
 {
     let entries = network.book.entries(rt, alloc)?;
-    let dumps = dumps(rt, alloc, &network.fleet, count)?;
-    judged(alloc, count, &entries, &lend_dumps(&dumps))
+    let dumps = dumps(rt, alloc, &network.mailboxes, count)?;
+    Ok(judged(alloc, count, &entries, &lend_dumps(&dumps))?)
 }
 
 // The survey of that.
-fn survey<F: Fleet, K: Ledgers, T: Wait>(
+fn survey<K: Ledgers, T: Wait>(
     rt: &T,
     alloc: Global,
-    network: &Network<F, K>,
+    network: &Network<K>,
     count: u8,
-) -> Result<Answer, AllocError>
+) -> Result<Answer, FleetFault>
     requires { (0 < count) × (count ≤ SERVERS) }
     ensures { IfOk result (λ answer. (entries : List Filed) × (dumps : List (List Held)) × IsSurveyOn count entries dumps answer) }
 {
     let entries = network.book.entries(rt, alloc)?;
-    let dumps = dumps(rt, alloc, &network.fleet, count)?;
-    surveyed(alloc, count, &entries, &lend_dumps(&dumps))
+    let dumps = dumps(rt, alloc, &network.mailboxes, count)?;
+    Ok(surveyed(alloc, count, &entries, &lend_dumps(&dumps))?)
 }

@@ -1,22 +1,34 @@
-//! A fleet at its sockets.
-ghost use Rattle.std.specs.Prelude.{◌≡◌, ◌<◌, ◌≤◌, IfOk, length, vec_len};
+//! The servers of a run at their sockets.
+ghost use Rattle.std.specs.Prelude.{◌≡◌, ◌<◌, ◌≤◌, IfOk, length, map, vec_len};
+ghost use Rattle.std.specs.Thread.{IsSend};
 ghost use Rattle.bayou_base.specs.declared.limits.TheConstants.{SERVERS};
+ghost use Rattle.bayou_fleet.specs.Servers.{IsFleetSettled};
+ghost use Rattle.bayou_judge.specs.History.{lists_of};
+ghost use Rattle.bayou_node.specs.Books.{begun_of};
 
+use crate::begun::Begun;
 use crate::fault::FleetFault;
-use crate::fleet::Fleet;
+use crate::keeping::{Kept, Post, keep_named};
 use crate::links::reach;
+use crate::mailbox::{Mailbox, Order};
 use bayou_audit::{AuditBook, Ledgers};
-use bayou_net::{Host, Sockets, listen_on};
+use bayou_device::Device;
+use bayou_lang::RestingWrite;
+use bayou_net::Sockets;
+use bayou_node::NodeSettled;
+use bayou_server::Server;
 use std::alloc::Global;
-use std::net::{SocketAddr, TcpListener, TcpStream};
+use std::collections::VecDeque;
+use std::net::{SocketAddr, TcpListener};
 use std::sync::Wait;
 use std::sync::atomic::{AtomicBool, Ordering};
 use std::thread::{JoinHandle, Scope, Threads};
 
-/// A fleet with its sockets, and the book of what its sessions are served. Threads share it.
+/// The servers of a run, each at its socket and with a mailbox, and the book of what its sessions are served. Threads share it.
 #[derive(Drop)]
-pub struct Network<F: Fleet, K: Ledgers> {
-    pub fleet: F,
+pub struct Network<K: Ledgers> {
+    /// Of each server, from server 0 on.
+    pub mailboxes: Vec<Mailbox>,
     pub book: AuditBook<K>,
     pub(crate) count: u8,
     /// The run of the program that its sessions belong to.
@@ -27,48 +39,49 @@ pub struct Network<F: Fleet, K: Ledgers> {
     pub ghost count_in_range: { (0 < count) × (count ≤ SERVERS) },
     pub ghost run_in_range: { 0 < run },
     ghost one_each: { vec_len addresses ≡ count },
+    pub ghost each: { vec_len mailboxes ≡ count },
 }
 
-/// One server of a fleet.
+/// A server that lives in a thread of its own.
+pub type Keeping = JoinHandle<Result<Kept, FleetFault>>;
+
+/// What the servers of a run come to.
 #[derive(Drop)]
-struct At<'a, F> {
-    fleet: &'a F,
-    at: usize,
+pub struct FleetSettled {
+    /// What each holds, in order of receipt, from server 0 on.
+    pub dumps: Vec<Vec<RestingWrite>>,
+    /// What the books of each come to.
+    pub nodes: Vec<NodeSettled>,
 }
 
-impl<F: Fleet> Host for At<'_, F> {
-    // A seat has its desks itself: a listener counts the connections that may be.
-    type Desk = ();
-
-    fn serve<T: Wait>(&self, rt: &T, alloc: Global, _desk: (), stream: TcpStream) {
-        self.fleet.serve(rt, alloc, self.at, &stream);
-    }
-}
-
-impl<F: Fleet, K: Ledgers> Network<F, K> {
-    /// The fleet of so many servers, each with a socket of the loopback address, at a port that the system picks. Its sessions belong to this run of
-    /// the program, of which no server holds a tag yet.
-    pub fn bind<T: Sockets>(
+impl<K: Ledgers> Network<K> {
+    /// So many servers, each with a socket of the loopback address, at a port that the system picks. Their sessions belong to this run of the
+    /// program, of which no server holds a tag yet.
+    pub fn bind<D: Device, T: Sockets>(
         rt: &T,
         alloc: Global,
-        fleet: F,
+        servers: &VecDeque<Box<Server<D>>>,
         count: u8,
         run: u32,
         book: AuditBook<K>,
     ) -> Result<Self, FleetFault>
         requires count { (0 < count) × (count ≤ SERVERS) }
+        requires number { length servers.now.items ≡ count }
         requires run { 0 < run }
-        ensures { IfOk result (λ network. (network.count ≡ count) × (network.run ≡ run) × (network.fleet ≡ fleet) × (network.book ≡ book)) }
+        ensures { IfOk result (λ network. (network.count ≡ count) × (network.run ≡ run) × (network.book ≡ book)
+            × (network.mailboxes.items ≡ map (λ server. begun_of server.value.core) servers.now.items)) }
     {
         let mut listeners = Vec::new(alloc);
         let mut addresses = Vec::new(alloc);
-        for _ in 0..count {
+        let mut mailboxes = Vec::new(alloc);
+        for at in 0..servers.len() {
             let (listener, address) = bound(rt)?;
             listeners.push(listener)?;
             addresses.push(address)?;
+            mailboxes.push(Mailbox::new(Begun::of(&servers[at])))?;
         }
         Ok(Network {
-            fleet,
+            mailboxes,
             book,
             count,
             run,
@@ -78,19 +91,20 @@ impl<F: Fleet, K: Ledgers> Network<F, K> {
         })
     }
 
-    /// Has each listener end at its next connection, and connects to each.
-    pub fn stop<T: Sockets>(&self, rt: &T) {
+    /// Has each server end, and its listener at its next connection, and connects to each.
+    pub fn stop<T: Sockets + Wait>(&self, rt: &T) {
         self.stop.store(true, Ordering::SeqCst);
+        end_each(rt, &self.mailboxes);
         for address in &self.addresses {
             let _ = reach(rt, *address);
         }
     }
 
-    /// The fleet and the book, once nobody is served any more.
-    pub fn parts(self) -> (F, AuditBook<K>)
-        ensures { (result.0 ≡ self.fleet) × (result.1 ≡ self.book) }
+    /// The book, once nobody is served any more.
+    pub fn into_book(self) -> AuditBook<K>
+        ensures { result ≡ self.book }
     {
-        (self.fleet, self.book)
+        self.book
     }
 }
 
@@ -105,91 +119,97 @@ fn bound<T: Sockets>(rt: &T) -> Result<(TcpListener, SocketAddr), FleetFault> {
     Ok((listener, address))
 }
 
-// One for each connection that may be served.
-fn turns(alloc: Global, connections: usize) -> Result<Vec<()>, FleetFault>
-    ensures { IfOk result (λ turns. vec_len turns ≡ connections) }
-{
-    let mut turns = Vec::new(alloc);
-    turns.resize(connections, ())?;
-    Ok(turns)
+// Tells each server to end.
+fn end_each<T: Wait>(rt: &T, mailboxes: &[Mailbox]) {
+    for mailbox in mailboxes {
+        mailbox.leave(rt, Order::End);
+    }
 }
 
-// Has a thread listen for so many connections at the server. Whether it listened to its end is what the thread tells.
-fn start_listener<'s, E, F, K, T>(
+// Whether each server serves, once it does or can't.
+fn are_opened<T: Wait>(rt: &T, mailboxes: &[Mailbox]) -> bool {
+    let mut are_opened = true;
+    for mailbox in mailboxes {
+        are_opened &= mailbox.is_opened(rt);
+    }
+    are_opened
+}
+
+// Has a thread keep the server at this place.
+fn start_server<'s, E, D, K, T>(
     scope: &'s Scope<'s, E>,
     rt: &'s T,
     alloc: Global,
-    network: &'s Network<F, K>,
+    network: &'s Network<K>,
     at: usize,
-    connections: usize,
-) -> Result<JoinHandle<bool>, FleetFault>
+    server: Box<Server<D>>,
+    desks: u32,
+) -> Result<Keeping, FleetFault>
 where
-    F: Fleet + Send + Sync,
+    D: Device + Send + Sync + 's,
     K: Ledgers + Send + Sync,
     T: Threads + Wait + Sockets + Send + Sync,
 {
-    let turns = turns(alloc, connections)?;
-    let told = scope.spawn(move || listens(rt, alloc, network, at, turns));
-    match told {
+    let (Some(listener), Some(mailbox)) = (network.listeners.get(at), network.mailboxes.get(at))
+    else {
+        return Err(FleetFault::Network);
+    };
+    let post = Post {
+        listener,
+        mailbox,
+        stop: &network.stop,
+    };
+    match scope.spawn(move || keep_named(rt, alloc, Box::into_inner(server), desks, post)) {
         Ok(thread) => Ok(thread),
         Err(_) => Err(FleetFault::Memory),
     }
 }
 
-// Listens at the server, until it is told to stop.
-fn listens<F, K, T>(
-    rt: &T,
-    alloc: Global,
-    network: &Network<F, K>,
-    at: usize,
-    turns: Vec<()>,
-) -> bool
-where
-    F: Fleet + Send + Sync,
-    K: Ledgers,
-    T: Threads + Wait + Send + Sync,
-{
-    if at >= network.listeners.len() {
-        return false;
-    }
-    let host = At {
-        fleet: &network.fleet,
-        at,
-    };
-    let listener = &network.listeners[at];
-    let is_whole = listen_on(rt, alloc, &host, listener, turns, &network.stop).is_ok();
-    if !is_whole {
-        turn_away(rt, listener, &network.stop);
-    }
-    is_whole
-}
-
-// Closes each connection that comes to a server that couldn't go on listening, so that nobody waits for a reply, until it is told to stop.
-fn turn_away<T: Wait>(rt: &T, listener: &TcpListener, stop: &AtomicBool) {
-    for _ in rt.forever() {
-        let came = listener.accept();
-        if came.is_err() || stop.load(Ordering::SeqCst) {
-            return;
-        }
-    }
-}
-
-/// Has a thread listen for so many connections at each server.
-pub fn start_listeners<'s, E, F, K, T>(
+/// Has each of the servers live in a thread of its own, with so many desks, and waits until each serves. Where one can't, the network is to be
+/// stopped, so that the others end.
+pub fn start_servers<'s, E, D, K, T>(
     scope: &'s Scope<'s, E>,
     rt: &'s T,
     alloc: Global,
-    network: &'s Network<F, K>,
-    connections: usize,
-) -> Result<Vec<JoinHandle<bool>>, FleetFault>
+    network: &'s Network<K>,
+    servers: VecDeque<Box<Server<D>>>,
+    desks: u32,
+) -> Result<VecDeque<Keeping>, FleetFault>
 where
-    F: Fleet + Send + Sync,
+    D: Device + Send + Sync + 's,
     K: Ledgers + Send + Sync,
     T: Threads + Wait + Sockets + Send + Sync,
 {
-    let mut threads = Vec::new(alloc);
-    for at in 0..network.listeners.len() {
-        threads.push(start_listener(scope, rt, alloc, network, at, connections)?)?;
+    let mut threads = VecDeque::new(alloc);
+    for server in servers {
+        let at = threads.len();
+        threads.push_back(start_server(scope, rt, alloc, network, at, server, desks)?)?;
+    }
+    if !are_opened(rt, &network.mailboxes) {
+        return Err(FleetFault::Memory);
     }
     Ok(threads)
+}
+
+/// Waits for each of the servers whose mailboxes these are, once the network was stopped, and tells what they come to.
+pub fn join_servers<T: Threads>(
+    rt: &T,
+    alloc: Global,
+    mailboxes: &[Mailbox],
+    threads: VecDeque<Keeping>,
+) -> Result<FleetSettled, FleetFault>
+    ensures { IfOk result (λ fleet. IsFleetSettled mailboxes.now (lists_of fleet.dumps.items) fleet.nodes.items) }
+{
+    let mut threads = threads;
+    let mut dumps = Vec::new(alloc);
+    let mut nodes = Vec::new(alloc);
+    for mailbox in mailboxes {
+        let Some(thread) = threads.pop_front() else {
+            return Err(FleetFault::Network);
+        };
+        let Kept { dump, books } = thread.join(rt)?;
+        dumps.push(dump.at(mailbox.begun())?)?;
+        nodes.push(books.at(mailbox.begun())?)?;
+    }
+    Ok(FleetSettled { dumps, nodes })
 }

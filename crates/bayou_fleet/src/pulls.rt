@@ -3,20 +3,21 @@ ghost use Rattle.std.specs.Prelude.{◌≡◌, ◌+◌, ◌≤◌, All, IfOk, le
 ghost use Rattle.bayou_answers.specs.declared.answer.Answer.TheVariants.{Exchanged};
 ghost use Rattle.bayou_answers.specs.declared.answer.Transfer.{Transfer as Told};
 
-use crate::fleet::Fleet;
 use crate::links::reach;
+use crate::mailbox::Mailbox;
 use crate::phase::Pull;
 use bayou_answers::{Answer, Transfer};
+use bayou_frames::ChannelFault;
 use bayou_net::Sockets;
+use bayou_peer::PullStopped;
 use std::alloc::{AllocError, Global};
 use std::net::SocketAddr;
 use std::sync::Wait;
 
 /// Has one server take from another, over a connection of its own. One that isn't reached is told as stopped.
-fn pull_one<F: Fleet, T: Sockets + Wait>(
+fn pull_one<T: Sockets + Wait>(
     rt: &T,
-    alloc: Global,
-    fleet: &F,
+    mailboxes: &[Mailbox],
     addresses: &[SocketAddr],
     pull: Pull,
 ) -> Transfer {
@@ -24,17 +25,21 @@ fn pull_one<F: Fleet, T: Sockets + Wait>(
     if at >= addresses.len() {
         return Transfer::NotRunning;
     }
-    match reach(rt, addresses[at]) {
-        Some(stream) => Transfer::Ended(fleet.pull(rt, alloc, usize::from(pull.to.index), &stream)),
-        None => Transfer::NotRunning,
+    let Some(stream) = reach(rt, addresses[at]) else {
+        return Transfer::NotRunning;
+    };
+    match mailboxes.get(usize::from(pull.to.index)) {
+        Some(mailbox) => Transfer::Ended(mailbox.pull(rt, stream)),
+        // Where there is no such server, no answer comes.
+        None => Transfer::Ended(Err(PullStopped::at_once(ChannelFault::Cut))),
     }
 }
 
 /// Does these pulls in order, and tells what each is answered.
-pub(crate) fn pull_each<F: Fleet, T: Sockets + Wait>(
+pub(crate) fn pull_each<T: Sockets + Wait>(
     rt: &T,
     alloc: Global,
-    fleet: &F,
+    mailboxes: &[Mailbox],
     addresses: &[SocketAddr],
     pulls: Vec<Pull>,
 ) -> Result<Vec<Answer>, AllocError>
@@ -43,7 +48,7 @@ pub(crate) fn pull_each<F: Fleet, T: Sockets + Wait>(
 {
     let mut answers = Vec::with_capacity(alloc, pulls.len())?;
     for pull in pulls {
-        let transfer = pull_one(rt, alloc, fleet, addresses, pull);
+        let transfer = pull_one(rt, mailboxes, addresses, pull);
         answers.push_reserved(Answer::Exchanged(transfer));
     }
     Ok(answers)

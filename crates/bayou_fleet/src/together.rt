@@ -4,7 +4,6 @@ ghost use Rattle.std.specs.Thread.{IsSend};
 ghost use Rattle.bayou_fleet.specs.Opening.{OpensEach, OpensOne};
 
 use crate::fault::FleetFault;
-use crate::fleet::Fleet;
 use crate::network::Network;
 use crate::phase::{Opening, Phase, Pull};
 use crate::pulls::pull_each;
@@ -38,10 +37,10 @@ enum Going<K: Ledgers> {
 type Pulling = JoinHandle<Result<Vec<Answer>, AllocError>>;
 
 // The session does its operations.
-fn operated<F: Fleet, K: Ledgers, T: Sockets + Wait>(
+fn operated<K: Ledgers, T: Sockets + Wait>(
     rt: &T,
     alloc: Global,
-    network: &Network<F, K>,
+    network: &Network<K>,
     session: OpenSession<K>,
     operations: Vec<Operation>,
 ) -> Done<K> {
@@ -52,16 +51,15 @@ fn operated<F: Fleet, K: Ledgers, T: Sockets + Wait>(
 }
 
 // Begins what the session does in this phase.
-fn begin<'s, E, F, K, T>(
+fn begin<'s, E, K, T>(
     scope: &'s Scope<'s, E>,
     rt: &'s T,
     alloc: Global,
-    network: &'s Network<F, K>,
+    network: &'s Network<K>,
     session: RunSession<K>,
     operations: Vec<Operation>,
 ) -> Result<Going<K>, FleetFault>
 where
-    F: Fleet + Send + Sync,
     K: Ledgers + Send + Sync,
     T: Threads + Wait + Sockets + Send + Sync,
 {
@@ -94,16 +92,15 @@ fn join_all<K: Ledgers + Send + Sync, T: Threads>(rt: &T, going: Vec<Going<K>>) 
 }
 
 // Begins what each session does.
-fn begin_all<'s, E, F, K, T>(
+fn begin_all<'s, E, K, T>(
     scope: &'s Scope<'s, E>,
     rt: &'s T,
     alloc: Global,
-    network: &'s Network<F, K>,
+    network: &'s Network<K>,
     sessions: Vec<RunSession<K>>,
     operations: VecDeque<Vec<Operation>>,
 ) -> Result<Vec<Going<K>>, FleetFault>
 where
-    F: Fleet + Send + Sync,
     K: Ledgers + Send + Sync,
     T: Threads + Wait + Sockets + Send + Sync,
     ensures { IfOk result (λ going. vec_len going ≡ vec_len sessions) }
@@ -124,22 +121,21 @@ where
 }
 
 // Begins the pulls, in one thread.
-fn begin_pulls<'s, E, F, K, T>(
+fn begin_pulls<'s, E, K, T>(
     scope: &'s Scope<'s, E>,
     rt: &'s T,
     alloc: Global,
-    network: &'s Network<F, K>,
+    network: &'s Network<K>,
     pulls: Vec<Pull>,
 ) -> Result<Pulling, FleetFault>
 where
-    F: Fleet + Send + Sync,
     K: Ledgers + Send + Sync,
     T: Threads + Wait + Sockets + Send + Sync,
 {
     match scope.spawn(move || pull_each(
         rt,
         alloc,
-        &network.fleet,
+        network.mailboxes.as_slice(),
         network.addresses.as_slice(),
         pulls,
     )) {
@@ -203,10 +199,10 @@ fn end_all<K: Ledgers + Send + Sync, T: Threads>(
 }
 
 // Opens a session that a phase opens.
-fn open_one<F: Fleet, K: Ledgers, T: Sockets>(
+fn open_one<K: Ledgers, T: Sockets>(
     rt: &T,
     alloc: Global,
-    network: &Network<F, K>,
+    network: &Network<K>,
     sessions: Vec<RunSession<K>>,
     opening: Opening,
 ) -> Result<Vec<RunSession<K>>, FleetFault>
@@ -231,10 +227,10 @@ fn open_one<F: Fleet, K: Ledgers, T: Sockets>(
 }
 
 // Opens the sessions that a phase opens, in order.
-fn open_all<F: Fleet, K: Ledgers, T: Sockets>(
+fn open_all<K: Ledgers, T: Sockets>(
     rt: &T,
     alloc: Global,
-    network: &Network<F, K>,
+    network: &Network<K>,
     sessions: Vec<RunSession<K>>,
     openings: &[Opening],
 ) -> Result<Vec<RunSession<K>>, FleetFault>
@@ -275,17 +271,16 @@ fn end<K: Ledgers + Send + Sync, T: Threads>(
 }
 
 // The sessions and the pulls, side by side.
-fn go<'s, E, F, K, T>(
+fn go<'s, E, K, T>(
     scope: &'s Scope<'s, E>,
     rt: &'s T,
     alloc: Global,
-    network: &'s Network<F, K>,
+    network: &'s Network<K>,
     sessions: Vec<RunSession<K>>,
     operations: VecDeque<Vec<Operation>>,
     pulls: Vec<Pull>,
 ) -> Result<Together<K>, FleetFault>
 where
-    F: Fleet + Send + Sync,
     K: Ledgers + Send + Sync,
     T: Threads + Wait + Sockets + Send + Sync,
     ensures { IfOk result (λ together. vec_len together.sessions ≡ vec_len sessions) }
@@ -302,17 +297,16 @@ where
 
 /// Opens the sessions of a phase; then each session does its operations in order, in a thread of its own, and the pulls are done in order in
 /// another beside them. It ends when all have.
-pub fn run_together<F, K, T>(
+pub fn run_together<K, T>(
     rt: &T,
     alloc: Global,
-    network: &Network<F, K>,
+    network: &Network<K>,
     sessions: Vec<RunSession<K>>,
     openings: Vec<Opening>,
     operations: VecDeque<Vec<Operation>>,
     pulls: Vec<Pull>,
 ) -> Result<Together<K>, FleetFault>
 where
-    F: Fleet + Send + Sync,
     K: Ledgers + Send + Sync,
     T: Threads + Wait + Sockets + Send + Sync,
     ensures { IfOk result (λ together. vec_len together.sessions ≡ vec_len sessions) }
@@ -322,7 +316,7 @@ where
         thread::scope_env(),
         rt,
         move |scope| -> Result<Together<K>, FleetFault>
-            requires { IsSend F.row × IsSend K.row × IsSend T.row × IsSend K.Slips.row × IsSend K.Reads.row × IsSend K.Writes.row × IsSend K.Refusals.row }
+            requires { IsSend K.row × IsSend T.row × IsSend K.Slips.row × IsSend K.Reads.row × IsSend K.Writes.row × IsSend K.Refusals.row }
             ensures { IfOk result (λ together. vec_len together.sessions ≡ vec_len sessions) }
         { go(scope, rt, alloc, network, sessions, operations, pulls) },
     )

@@ -68,7 +68,7 @@ pub fn parts(row: &str) -> Option<(&str, &str, &str)> {
 }
 
 /// A session that asks for everything and has read from the first server's first Write.
-fn reader_before(rt: &impl Abort, id: SessionId) -> Session
+pub fn reader_before(rt: &impl Abort, id: SessionId) -> Session
     ensures { result.id ≡ id }
 {
     let mut counts = [0; SERVERS];

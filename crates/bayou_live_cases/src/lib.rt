@@ -6,6 +6,8 @@
 #[cfg(test)]
 mod agains;
 #[cfg(test)]
+mod askers;
+#[cfg(test)]
 mod attending;
 #[cfg(test)]
 mod audit_books;

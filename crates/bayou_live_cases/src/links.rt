@@ -40,7 +40,8 @@ const REOPENED: &str = "0007 14 01 00 00000001";
 /// A reply of an Item and an End, in 67 bytes.
 const DUMPED: &str = "005a 15 00 00000001 00000001 <none> <put-1> 0005 16 00000001";
 
-fn fault_word(fault: LinkFault) -> &'static str {
+/// The word for why there is no answer.
+pub fn fault_word(fault: LinkFault) -> &'static str {
     match fault {
         LinkFault::Lost => "Lost",
         LinkFault::BadFrame => "BadFrame",

@@ -38,9 +38,9 @@ pub fn meets<L: Desks, M: Desks, R: Wait>(
     let mut channel = CountedChannel::new(answer.as_slice(), io::sink());
     match pull_from(rt, alloc, to, &counts, &mut channel) {
         Ok(_) => true,
-        Err(fault) => {
-            fault == PullFault::Refused(TakeFault::Down)
-                || fault == PullFault::Refused(TakeFault::Journal)
-        }
+        Err(stopped) => matches!(
+            stopped.fault,
+            PullFault::Refused(TakeFault::Down | TakeFault::Journal)
+        ),
     }
 }

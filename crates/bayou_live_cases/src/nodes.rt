@@ -10,7 +10,7 @@ use bayou_fakes::words::is_said;
 use bayou_frames::ChannelFault;
 use bayou_net::{answer_offer, pull, pull_from, serve_offer};
 use bayou_node::{Desks, Node};
-use bayou_peer::{PullFault, Pulled};
+use bayou_peer::{PullFault, PullStopped, Pulled};
 use bayou_streams::CountedChannel;
 use std::alloc::Global;
 use std::cell::Cell;
@@ -77,7 +77,7 @@ fn takes_again<L: Desks, R: Wait + Abort>(rt: &R, alloc: Global, node: &Kept<L>)
 fn pulls<L: Desks, R: Wait + Abort>(rt: &R, alloc: Global, node: &Kept<L>) -> bool {
     let mut channel = between(alloc, &[]);
     let answer = pull(rt, alloc, node, &mut channel);
-    let is_cut = answer == Err(PullFault::Stream(ChannelFault::Cut));
+    let is_cut = answer == Err(PullStopped::at_once(ChannelFault::Cut));
     ends(
         alloc,
         &channel.into_parts().1,
@@ -165,7 +165,8 @@ fn is_free_between_items<L: Desks, R: Wait + Abort>(
     let mut channel = CountedChannel::new(reader, io::sink());
     let answer = pull(rt, alloc, node, &mut channel);
     let (reader, _) = channel.into_parts();
-    answer == Err(PullFault::Stream(ChannelFault::Cut)) && reader.is_so && reader.given == 3
+    let is_cut = answer.is_err_and(|stopped| stopped.fault == PullFault::Stream(ChannelFault::Cut));
+    is_cut && reader.is_so && reader.given == 3
 }
 
 #[test]

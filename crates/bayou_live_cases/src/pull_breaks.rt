@@ -12,7 +12,9 @@ use bayou_frames::ChannelFault;
 use bayou_lang::RestingWrite;
 use bayou_net::{answer_offer, pull, pull_from, serve_offer};
 use bayou_node::{Desks, Node, NodeSettled};
-use bayou_peer::{PullFault, Pulled, answer_offer_on, pull_from_on, pull_on, serve_offer_on};
+use bayou_peer::{
+    PullFault, PullStopped, Pulled, answer_offer_on, pull_from_on, pull_on, serve_offer_on,
+};
 use std::alloc::Global;
 use std::marker::Brand;
 use std::process::Abort;
@@ -95,6 +97,14 @@ fn sending(told: Result<u32, ChannelFault>) -> Told {
     })
 }
 
+// The same of a pull: what came before it ended early isn't looked at.
+fn pulling(told: Result<Pulled, PullStopped>) -> Told {
+    match told {
+        Ok(pulled) => Ok(pulled),
+        Err(stopped) => Err(stopped.fault),
+    }
+}
+
 /// What a run comes to.
 #[derive(Drop)]
 struct Ran {
@@ -112,8 +122,8 @@ fn lent(alloc: Global, server: &mut Served, engine: Engine, streams: &mut Stream
     match engine {
         Engine::Answer => sending(answer_offer_on(alloc, server, &Vector::zero(), streams)),
         Engine::Serve => sending(serve_offer_on(alloc, server, streams)),
-        Engine::Pull => pull_on(alloc, server, streams),
-        Engine::PullFromZero => pull_from_on(alloc, server, &Vector::zero(), streams),
+        Engine::Pull => pulling(pull_on(alloc, server, streams)),
+        Engine::PullFromZero => { pulling(pull_from_on(alloc, server, &Vector::zero(), streams)) }
     }
 }
 
@@ -127,8 +137,8 @@ fn at_node<L: Desks, R: Wait>(
     match engine {
         Engine::Answer => sending(answer_offer(rt, alloc, node, &Vector::zero(), streams)),
         Engine::Serve => sending(serve_offer(rt, alloc, node, streams)),
-        Engine::Pull => pull(rt, alloc, node, streams),
-        Engine::PullFromZero => pull_from(rt, alloc, node, &Vector::zero(), streams),
+        Engine::Pull => pulling(pull(rt, alloc, node, streams)),
+        Engine::PullFromZero => { pulling(pull_from(rt, alloc, node, &Vector::zero(), streams)) }
     }
 }
 

@@ -4,7 +4,7 @@ use bayou_fakes::items::{THREE, item};
 use bayou_frames::ChannelFault;
 use bayou_lang::RestingWrite;
 use bayou_peer::{PullFault, Replica, pull_from_on};
-use bayou_server::{TakeFault, Took, TookAll};
+use bayou_server::TookAll;
 use bayou_streams::CountedChannel;
 use std::alloc::{AllocError, Global};
 use std::cell::Cell;
@@ -37,18 +37,13 @@ impl Replica for Counting<'_> {
         Ok(Vec::new(alloc))
     }
 
-    fn take(&mut self, _alloc: Global, _write: RestingWrite) -> Result<Took, TakeFault> {
-        self.taken.set(self.taken.get().saturating_add(1));
-        Ok(Took::New)
-    }
-
     fn take_all(&mut self, _alloc: Global, writes: Vec<RestingWrite>) -> TookAll {
         let count = writes.len() as u32;
         self.taken.set(self.taken.get().saturating_add(count));
         TookAll {
             taken: count,
             had: 0,
-            fault: None,
+            refused: None,
         }
     }
 }
@@ -91,6 +86,6 @@ fn each_item_is_taken_before_the_next_is_read(rt: HostRuntime) {
     let mut channel = CountedChannel::new(reader, io::sink());
     let answer = pull_from_on(alloc, &mut replica, &Vector::zero(), &mut channel);
     let (reader, _) = channel.into_parts();
-    let is_cut = answer == Err(PullFault::Stream(ChannelFault::Cut));
+    let is_cut = answer.is_err_and(|stopped| stopped.fault == PullFault::Stream(ChannelFault::Cut));
     assert!(rt; is_cut && reader.is_so && taken.get() == 4);
 }

@@ -4,7 +4,8 @@ use Rattle.bayou_lang.specs.declared.write.Write.{Write}
 use Rattle.bayou_lang.specs.Writes.{lacking_of}
 use Rattle.bayou_frames.specs.declared.fault.ChannelFault.TheVariants.{OutOfMemory}
 use Rattle.bayou_peer.specs.declared.fault.PullFault.TheVariants.{Stream}
-use Rattle.bayou_peer.specs.Meeting.{Meets, coming}
+use Rattle.bayou_peer.specs.Meeting.{Meets, MeetsStopped, coming}
+use Rattle.bayou_peer.specs.Pulls.{nothing_pulled}
 use Rattle.bayou_answers.specs.declared.answer.Transfer.{Transfer}
 use Rattle.bayou_answers.specs.declared.answer.Transfer.TheVariants.{NotRunning, Ended}
 use Rattle.bayou_machine.specs.declared.script_server.ScriptServer.{ScriptServer}
@@ -13,8 +14,8 @@ use Rattle.bayou_machine.specs.Exchange.{IsExchanged, serving_ways}
 use Rattle.bayou_machine.specs.Inner.Sent.{IsGiven, IsNoAnswer}
 use Rattle.bayou_machine.specs.ScriptServer.{Serving}
 
-none_for_memory : (sent : List Write) (cut : Option ℕ) (server : Serving) → Meets serving_ways sent cut server (Err (Stream OutOfMemory)) server
-none_for_memory sent cut server = (coming cut sent, 0, 0, record { given = []; tooks = []; split = refl; took = refl; new = refl; held = refl })
+none_for_memory : (sent : List Write) (cut : Option ℕ) (server : Serving) → MeetsStopped serving_ways sent cut server nothing_pulled (Stream OutOfMemory) server
+none_for_memory sent cut server = (coming cut sent, record { given = []; tooks = []; split = refl; took = refl; new = refl; held = refl })
 
 -- where there is no answer nothing was taken
 pub no_answer : (counts : List ℕ) (cut : Option ℕ) (before sender : ScriptServer) (exchange : Transfer) (server : Serving) → before ≡ Running server → IsNoAnswer sender exchange

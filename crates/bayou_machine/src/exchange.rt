@@ -14,7 +14,7 @@ use bayou_base::Vector;
 use bayou_device::{MemoryDevice, OpenGate};
 use bayou_frames::ChannelFault;
 use bayou_peer::meeting::a_pull_takes_what_is_sent;
-use bayou_peer::{PullFault, Pulled, answer_offer_on, take_answer};
+use bayou_peer::{PullStopped, Pulled, answer_offer_on, take_answer};
 use bayou_server::Server;
 use bayou_streams::CountedChannel;
 use std::alloc::{AllocError, Global};
@@ -37,7 +37,7 @@ fn answer_of(alloc: Global, server: &mut Serving, counts: &Vector) -> Result<Vec
 }
 
 /// What the server makes of an input.
-fn take_from(alloc: Global, server: &mut Serving, input: &[u8]) -> Result<Pulled, PullFault>
+fn take_from(alloc: Global, server: &mut Serving, input: &[u8]) -> Result<Pulled, PullStopped>
     requires { length input.now ≤ READ_BYTES * MAX_TURNS }
     ensures { (sent : List Write) (cut : Option ℕ) → All IsWrite sent → length sent ≤ MAX_WRITES → input.now ≡ cut_answer cut sent
         → Meets serving_ways sent cut server.old result server.new }
@@ -68,7 +68,7 @@ impl ScriptServer {
         };
         match answer_of(alloc, server, counts) {
             Ok(answer) => Ok(answer),
-            Err(_) => Err(Transfer::Ended(Err(PullFault::Stream(ChannelFault::OutOfMemory)))),
+            Err(_) => Err(Transfer::Ended(Err(PullStopped::at_once(ChannelFault::OutOfMemory)))),
         }
     }
 

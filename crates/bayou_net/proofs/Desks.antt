@@ -6,8 +6,8 @@ use Rattle.bayou_node.specs.Books.{Begun}
 use Rattle.bayou_peer.specs.Taking.{TakenBy}
 use Rattle.bayou_server.specs.TakesAll.{TakesAll, TakesEach, TakingEnds}
 use Rattle.bayou_server.specs.declared.answer.Took.{Took}
+use Rattle.bayou_server.specs.declared.answer.RefusedWrite.{RefusedWrite}
 use Rattle.bayou_server.specs.declared.answer.TookAll.{TookAll}
-use Rattle.bayou_server.specs.declared.fault.TakeFault.{TakeFault}
 
 module _ {K : Type 0} (begun : Begun) (desk : K) where
   each_beside : (start end : Unit {0}) (front : List Write) (tooks : List Took) → TakesEach {S = Unit {0}} (TakesAtNode begun) start front tooks end
@@ -17,10 +17,10 @@ module _ {K : Type 0} (begun : Begun) (desk : K) where
   each_beside start end (write ∷ front) [] none = absurd none
   each_beside start end (write ∷ front) (took ∷ tooks) each = (desk, ((each.1.0, refl), tt), each_beside each.0 end front tooks each.2)
 
-  end_beside : (mid end : Unit {0}) (given front left : List Write) (fault : Option TakeFault) → TakingEnds {S = Unit {0}} (TakesAtNode begun) mid given front left fault end
-      → TakingEnds {S = K} (TakenBy (λ _. None) (TakesAtNode begun)) desk given front left fault desk
+  end_beside : (mid end : Unit {0}) (given front left : List Write) (refused : Option RefusedWrite) → TakingEnds {S = Unit {0}} (TakesAtNode begun) mid given front left refused end
+      → TakingEnds {S = K} (TakenBy (λ _. None) (TakesAtNode begun)) desk given front left refused desk
   end_beside mid end given front left None ends = (ends.0, refl)
-  end_beside mid end given front left (Some fault) ends = (ends.0, ends.1, ((ends.2.0, refl), tt))
+  end_beside mid end given front left (Some refused) ends = (ends.0, ends.1, ((ends.2.0, refl), tt), ends.3)
 
   pub all_beside : (given left : List Write) (told : TookAll) → TakesAllAtNode begun given left told → TakesAll {S = K} (TakenBy (λ _. None) (TakesAtNode begun)) desk given left told desk
   all_beside given left told all = record {
@@ -30,5 +30,5 @@ module _ {K : Type 0} (begun : Begun) (desk : K) where
     each = each_beside tt all.mid all.front all.tooks all.each;
     taken = all.taken;
     had = all.had;
-    ends = end_beside all.mid tt given all.front left told.fault all.ends;
+    ends = end_beside all.mid tt given all.front left told.refused all.ends;
   }

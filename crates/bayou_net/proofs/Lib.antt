@@ -1,5 +1,3 @@
 pub mod Desks
 mod Done
 mod Dumped
-mod Loss
-mod Tally

@@ -3,4 +3,3 @@ pub mod Inner
 pub mod Lent
 pub mod Replies
 pub mod Serving
-pub mod Tallied

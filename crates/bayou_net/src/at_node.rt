@@ -8,7 +8,7 @@ use bayou_device::Device;
 use bayou_lang::RestingWrite;
 use bayou_node::{Desks, Node};
 use bayou_peer::Replica;
-use bayou_server::{TakeFault, Took, TookAll};
+use bayou_server::TookAll;
 use std::alloc::{AllocError, Global};
 use std::marker::Model;
 use std::sync::Wait;
@@ -53,10 +53,6 @@ impl<D: Device, L: Desks, K, T: Wait> Replica for AtNode<'_, D, L, K, T> {
         ensures held { InSome L.begun (λ core. IfOk result (λ writes. writes.items ≡ take most (lacking_of counts.now core.held))) }
     {
         self.node.lacking(self.rt, alloc, counts, most)
-    }
-
-    fn take(&mut self, alloc: Global, write: RestingWrite) -> Result<Took, TakeFault> {
-        self.node.take(self.rt, alloc, write)
     }
 
     fn take_all(&mut self, alloc: Global, writes: Vec<RestingWrite>) -> TookAll {

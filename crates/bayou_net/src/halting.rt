@@ -16,7 +16,7 @@ use bayou_frames::ChannelFault;
 use bayou_lang::{RestingProgram, RestingWrite};
 use bayou_node::{Desk, Desks, Node};
 use bayou_peer::Replica;
-use bayou_server::{Behind, ReopenFault, Reopened, TakeFault, Took, TookAll, WriteFault, Written};
+use bayou_server::{Behind, ReopenFault, Reopened, TookAll, WriteFault, Written};
 use bayou_streams::CountedChannel;
 use std::alloc::{AllocError, Global};
 use std::io::{Read, Write};
@@ -81,10 +81,6 @@ impl<S: Replica, H> Replica for Halting<'_, S, H> {
         most: usize,
     ) -> Result<Vec<RestingWrite>, AllocError> {
         self.served.lacking(alloc, counts, most)
-    }
-
-    fn take(&mut self, alloc: Global, write: RestingWrite) -> Result<Took, TakeFault> {
-        self.served.take(alloc, write)
     }
 
     fn take_all(&mut self, alloc: Global, writes: Vec<RestingWrite>) -> TookAll {

@@ -26,7 +26,6 @@ pub mod replying;
 pub mod served;
 pub mod serving;
 pub mod sockets;
-pub mod tallying;
 
 pub use at_desk::serve;
 pub use attending::{Attendant, Door, attend, shut};
@@ -39,4 +38,3 @@ pub use replying::{reopen_fault_of, write_fault_of};
 pub use served::Served;
 pub use serving::serve_on;
 pub use sockets::Sockets;
-pub use tallying::{PullStopped, pull_tallied};

@@ -19,7 +19,7 @@ use bayou_base::Vector;
 use bayou_device::Device;
 use bayou_frames::ChannelFault;
 use bayou_node::{Desks, Node};
-use bayou_peer::{PullFault, Pulled, answer_offer_on, pull_from_on, serve_offer_on};
+use bayou_peer::{PullStopped, Pulled, answer_offer_on, pull_from_on, serve_offer_on};
 use bayou_streams::CountedChannel;
 use std::alloc::Global;
 use std::io::{Read, Write};
@@ -64,12 +64,12 @@ pub fn pull_from<D: Device, L: Desks, R: Read, W: Write, T: Wait>(
     node: &Node<D, L>,
     counts: &Vector,
     channel: &mut CountedChannel<R, W>,
-) -> Result<Pulled, PullFault>
+) -> Result<Pulled, PullStopped>
     ensures offered { OnOk result (Appends (W.contents channel.old.writer) (W.contents channel.new.writer) (spelling (Offer counts.now))) }
     ensures part { AppendsFront (W.contents channel.old.writer) (W.contents channel.new.writer) (spelling (Offer counts.now)) }
     ensures ends { (read : List ℕ) × Consumes (R.remaining channel.old.reader) (R.remaining channel.new.reader) read
         × PullEnds (node_ways L.begun) tt tt read (IsAtEnd (R.remaining channel.new.reader)) result }
-    ensures stopped { IfErr result (StopsPull channel.new.read_failed channel.new.write_failed channel.new.turns_left) }
+    ensures stopped { IfErr result (λ stopped. StopsPull channel.new.read_failed channel.new.write_failed channel.new.turns_left stopped.fault) }
     ensures few { IfOk result (λ pulled. pulled.taken + pulled.had < 2 ^ 32) }
     ensures turns { channel.new.turns_left ≤ channel.old.turns_left }
 {
@@ -82,13 +82,13 @@ pub fn pull<D: Device, L: Desks, R: Read, W: Write, T: Wait>(
     alloc: Global,
     node: &Node<D, L>,
     channel: &mut CountedChannel<R, W>,
-) -> Result<Pulled, PullFault>
+) -> Result<Pulled, PullStopped>
     ensures offered { (counts : List ℕ) × InSome L.begun (λ core. counts ≡ count_of core.held)
         × AppendsFront (W.contents channel.old.writer) (W.contents channel.new.writer) (spelling (Offer counts))
         × OnOk result (Appends (W.contents channel.old.writer) (W.contents channel.new.writer) (spelling (Offer counts))) }
     ensures ends { (read : List ℕ) × Consumes (R.remaining channel.old.reader) (R.remaining channel.new.reader) read
         × PullEnds (node_ways L.begun) tt tt read (IsAtEnd (R.remaining channel.new.reader)) result }
-    ensures stopped { IfErr result (StopsPull channel.new.read_failed channel.new.write_failed channel.new.turns_left) }
+    ensures stopped { IfErr result (λ stopped. StopsPull channel.new.read_failed channel.new.write_failed channel.new.turns_left stopped.fault) }
     ensures few { IfOk result (λ pulled. pulled.taken + pulled.had < 2 ^ 32) }
     ensures turns { channel.new.turns_left ≤ channel.old.turns_left }
 {

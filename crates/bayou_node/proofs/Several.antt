@@ -11,6 +11,7 @@ use Rattle.bayou_server.specs.Takes.{Takes}
 use Rattle.bayou_server.specs.TakesAll.{TakesAll, TakesAt, TakesEach, TakingEnds}
 use Rattle.bayou_server.specs.declared.answer.Took.{Took}
 use Rattle.bayou_server.specs.declared.answer.Took.TheVariants.{New, Had}
+use Rattle.bayou_server.specs.declared.answer.RefusedWrite.{RefusedWrite}
 use Rattle.bayou_server.specs.declared.answer.TookAll.{TookAll}
 use Rattle.bayou_server.specs.declared.fault.TakeFault.{TakeFault}
 use Rattle.bayou_server.specs.declared.fault.TakeFault.TheVariants.{Conflict, Down, OwnLost, Gap, BadStamp, LogFull, OutOfMemory, Journal}
@@ -61,18 +62,18 @@ module _ {D : Type 0} (d : Ghosts D) (begun : Begun) where
       let rest = each_kept each.0 mid front tooks each.2 next in
       ((tt, ((old.core, each.0.core, before, next, each.1.takes), refl), rest.0), rest.1)
 
-  end_kept : (mid new : ServerState D) (given front left : List Write) (fault : Option TakeFault) → TakingEnds (TakesAt d) mid given front left fault new → MayBeKept begun mid.core
-      → TakingEnds {S = Unit {0}} (TakesAtNode begun) tt given front left fault tt × MayBeKept begun new.core
+  end_kept : (mid new : ServerState D) (given front left : List Write) (refused : Option RefusedWrite) → TakingEnds (TakesAt d) mid given front left refused new → MayBeKept begun mid.core
+      → TakingEnds {S = Unit {0}} (TakesAtNode begun) tt given front left refused tt × MayBeKept begun new.core
   end_kept mid new given front left None ends before = ((ends.0, refl), subst (λ (s : ServerState D). MayBeKept begun s.core) (sym ends.1) before)
-  end_kept mid new given front left (Some fault) ends before =
-      let next = kept mid ends.0 (Err fault) new ends.2 before in
-      ((ends.0, ends.1, ((mid.core, new.core, before, next, ends.2.takes), refl)), next)
+  end_kept mid new given front left (Some refused) ends before =
+      let next = kept mid ends.0 (Err refused.fault) new ends.2 before in
+      ((ends.0, ends.1, ((mid.core, new.core, before, next, ends.2.takes), refl), ends.3), next)
 
   pub all_kept : (old new : ServerState D) (given left : List Write) (told : TookAll) → TakesAll (TakesAt d) old given left told new → MayBeKept begun old.core
       → TakesAll {S = Unit {0}} (TakesAtNode begun) tt given left told tt × MayBeKept begun new.core
   all_kept old new given left told all before =
       let each = each_kept old all.mid all.front all.tooks all.each before in
-      let ends = end_kept all.mid new given all.front left told.fault all.ends each.1 in
+      let ends = end_kept all.mid new given all.front left told.refused all.ends each.1 in
       (record { front = all.front; tooks = all.tooks; mid = tt; each = each.0; taken = all.taken; had = all.had; ends = ends.0 }, ends.1)
 
   each_holds : (old mid : ServerState D) (front : List Write) (tooks : List Took) → TakesEach (TakesAt d) old front tooks mid
@@ -84,18 +85,18 @@ module _ {D : Type 0} (d : Ghosts D) (begun : Begun) where
       let rest = each_holds each.0 mid front tooks each.2 in
       (still_holds old.core each.0.core mid.core (taking_keeps old.core write (Ok took) each.0.core each.1.takes) rest.0, rest.1 ∙ each.1.own)
 
-  end_holds : (mid new : ServerState D) (given front left : List Write) (fault : Option TakeFault) → TakingEnds (TakesAt d) mid given front left fault new
+  end_holds : (mid new : ServerState D) (given front left : List Write) (refused : Option RefusedWrite) → TakingEnds (TakesAt d) mid given front left refused new
       → StillHolds mid.core new.core × (own_count new.core ≡ own_count mid.core)
   end_holds mid new given front left None ends =
       (([], ap (λ (s : ServerState D). s.core.held) ends.1 ∙ sym (append-nil mid.core.held)), ap (λ (s : ServerState D). own_count s.core) ends.1)
-  end_holds mid new given front left (Some fault) ends = (taking_keeps mid.core ends.0 (Err fault) new.core ends.2.takes, ends.2.own)
+  end_holds mid new given front left (Some refused) ends = (taking_keeps mid.core ends.0 (Err refused.fault) new.core ends.2.takes, ends.2.own)
 
   -- none is taken away, and none of its own is added
   pub all_holds : (old new : ServerState D) (given left : List Write) (told : TookAll) → TakesAll (TakesAt d) old given left told new
       → StillHolds old.core new.core × (own_count new.core ≡ own_count old.core)
   all_holds old new given left told all =
       let each = each_holds old all.mid all.front all.tooks all.each in
-      let ends = end_holds all.mid new given all.front left told.fault all.ends in
+      let ends = end_holds all.mid new given all.front left told.refused all.ends in
       (still_holds old.core all.mid.core new.core each.0 ends.0, ends.1 ∙ each.1)
 
   -- the books stay exact

@@ -182,7 +182,7 @@ impl<D: Device, L: Desks> Held<D, L> {
     ) -> TookAll
         requires few { length (into_iter_items writes.old) < 2 ^ 32 }
         ensures takes { TakesAll (TakesAt D.Device) self.old.server (into_iter_items writes.old) (into_iter_items writes.new) result self.new.server }
-        ensures some { result.fault ≡ None → (into_iter_items writes.new ≡ []) ⊎ (0 < result.taken + result.had) }
+        ensures some { result.refused ≡ None → (into_iter_items writes.new ≡ []) ⊎ (0 < result.taken + result.had) }
         ensures others { (self.new.stored ≡ self.old.stored) × (self.new.accepted ≡ self.old.accepted) × (self.new.adopted ≡ self.old.adopted) }
         ensures keeps { StillHolds self.old.server.core self.new.server.core }
         ensures exact { IsExact L.begun self.old × IsExact L.begun self.new }

@@ -151,21 +151,21 @@ impl<D: Device, L: Desks> Node<D, L> {
     /// As [`Held::take_meanwhile`], up to the last: the lock is free between a few of them and the next wherever somebody waits for it.
     pub fn take_all<R: Wait>(&self, rt: &R, alloc: Global, writes: Vec<RestingWrite>) -> TookAll
         requires few { length writes.items < 2 ^ 32 }
-        ensures { (left : List Write) × TakesAllAtNode L.begun writes.items left result × (result.fault ≡ None → left ≡ []) }
+        ensures { (left : List Write) × TakesAllAtNode L.begun writes.items left result × (result.refused ≡ None → left ≡ []) }
     {
         let mut told = TookAll {
             taken: 0,
             had: 0,
-            fault: None,
+            refused: None,
         };
         let mut writes = writes.into_iter();
-        while writes.len() > 0 && told.fault.is_none() {
+        while writes.len() > 0 && told.refused.is_none() {
             let more = self
                 .enter(rt)
                 .take_meanwhile(alloc, &mut writes, &self.waiting);
             told.taken += more.taken;
             told.had += more.had;
-            told.fault = more.fault;
+            told.refused = more.refused;
         }
         told
     }

@@ -6,14 +6,14 @@ use Rattle.bayou_lang.specs.declared.write.Write.{Write}
 use Rattle.bayou_lang.specs.Ranges.{IsWrite}
 use Rattle.bayou_frames.specs.Spelled.{items_of}
 use Rattle.bayou_peer.specs.declared.fault.PullFault.TheVariants.{Refused}
-use Rattle.bayou_peer.specs.Pulls.{PullEnds, Received, Ways}
+use Rattle.bayou_peer.specs.Pulls.{PullStops, Received, Ways}
 use Rattle.bayou_peer.specs.Taking.{TakenBy}
 use Rattle.bayou_peer.proofs.Received.{received_refused, received_rest, received_took, spellings-append}
 use Rattle.bayou_server.specs.Laws.TakesAll.{hads_cons, news_cons}
 use Rattle.bayou_server.specs.TakesAll.{TakesAll, TakesEach, TakingEnds, hads, news}
 use Rattle.bayou_server.specs.declared.answer.Took.{Took}
+use Rattle.bayou_server.specs.declared.answer.RefusedWrite.{RefusedWrite}
 use Rattle.bayou_server.specs.declared.answer.TookAll.{TookAll}
-use Rattle.bayou_server.specs.declared.fault.TakeFault.{TakeFault}
 use Rattle.bayou_wire.specs.declared.frame.Frame.{Frame}
 use Rattle.bayou_wire.specs.declared.frame.Frame.TheVariants.{Item}
 use Rattle.bayou_wire.specs.Spelling.{IsFrame}
@@ -53,7 +53,7 @@ module _ {S : Type 0} (ways : Ways S) (start old new : S) (read behind : List �
       (ap (λ l. l ++ behind) (spellings-append (items_of writes) rest) ∙ append_assoc (spellings (items_of writes)) (spellings rest) behind) r
 
   -- all of them were taken
-  pub received_all : told.fault ≡ None → left ≡ [] → Received ways start new read (spellings rest ++ behind) (taken + told.taken) (had + told.had)
+  pub received_all : told.refused ≡ None → left ≡ [] → Received ways start new read (spellings rest ++ behind) (taken + told.taken) (had + told.had)
   received_all none nothing =
       let ends : TakingEnds (TakenBy ways.list ways.takes) takes.mid writes takes.front left None new =
       subst (λ fault. TakingEnds (TakenBy ways.list ways.takes) takes.mid writes takes.front left fault new) none takes.ends in
@@ -64,9 +64,10 @@ module _ {S : Type 0} (ways : Ways S) (start old new : S) (read behind : List �
       (subst (λ (l : List Write). Received ways start old read (spellings (items_of l) ++ (spellings rest ++ behind)) taken had) whole stands_next))
 
   -- the next of them was refused
-  pub received_up_to : (fault : TakeFault) → told.fault ≡ Some fault → PullEnds ways start new read ⊥ (Err (Refused fault))
-  received_up_to fault some =
-      let ends : TakingEnds (TakenBy ways.list ways.takes) takes.mid writes takes.front left (Some fault) new =
+  pub received_up_to : (told_of : RefusedWrite) → told.refused ≡ Some told_of
+      → PullStops ways start new read ⊥ (record { taken = taken + told.taken; had = had + told.had }) (Some told_of.wid) (Refused told_of.fault)
+  received_up_to told_of some =
+      let ends : TakingEnds (TakenBy ways.list ways.takes) takes.mid writes takes.front left (Some told_of) new =
       subst (λ f. TakingEnds (TakenBy ways.list ways.takes) takes.mid writes takes.front left f new) some takes.ends in
       let refused = ends.0 in
       let valid = split_all takes.front (refused ∷ left) (subst (AllByRecursion IsWrite) ends.1 all) in
@@ -74,7 +75,8 @@ module _ {S : Type 0} (ways : Ways S) (start old new : S) (read behind : List �
       (ap (λ l. spellings (items_of l) ++ (spellings rest ++ behind)) ends.1 ∙ items_apart takes.front (refused ∷ left) (spellings rest ++ behind)) stands_next in
       let front = received_front ways start old takes.mid read (spellings (items_of (refused ∷ left)) ++ (spellings rest ++ behind)) takes.front takes.tooks taken had
       (taken + told.taken) (had + told.had) valid.0 takes.each (ap (λ n. taken + n) takes.taken) (ap (λ n. had + n) takes.had) next in
-      received_refused ways start takes.mid new read (spellings (items_of left) ++ (spellings rest ++ behind)) refused refused fault (taken + told.taken) (had + told.had) refl valid.1.0 ends.2.0 ends.2.1
+      received_refused ways start takes.mid new read (spellings (items_of left) ++ (spellings rest ++ behind)) refused told_of.fault (record { taken = taken + told.taken; had = had + told.had }) (Some told_of.wid) valid.1.0
+      ends.2.0 ends.2.1 (ap Some ends.3)
       (received_rest ways start takes.mid read _ _ (taken + told.taken) (had + told.had) (append_assoc (spelling (Item refused)) (spellings (items_of left)) (spellings rest ++ behind)) front)
     where
       split_all : (xs ys : List Write) → AllByRecursion IsWrite (xs ++ ys) → AllByRecursion IsWrite xs × AllByRecursion IsWrite ys

@@ -9,6 +9,7 @@ use Rattle.bayou_server.specs.Takes.{Takes}
 use Rattle.bayou_server.specs.TakesAll.{TakesAll, TakesAt, TakesEach, TakingEnds}
 use Rattle.bayou_server.specs.declared.answer.Took.{Took}
 use Rattle.bayou_server.specs.declared.answer.Took.TheVariants.{New, Had}
+use Rattle.bayou_server.specs.declared.answer.RefusedWrite.{RefusedWrite}
 use Rattle.bayou_server.specs.declared.answer.TookAll.{TookAll}
 use Rattle.bayou_server.specs.declared.fault.TakeFault.{TakeFault}
 use Rattle.bayou_server.specs.declared.fault.TakeFault.TheVariants.{Conflict, Down, OwnLost, Gap, BadStamp, LogFull, OutOfMemory, Journal}
@@ -35,10 +36,10 @@ module _ {D : Type 0} (d : Ghosts D) where
   each_taken old new (write ∷ writes) (took ∷ tooks) each =
       (each.0, (each.1, lists_taken old.core write (Ok took) each.0.core each.1.takes), each_taken each.0 new writes tooks each.2)
 
-  end_taken : (mid new : ServerState D) (given front left : List Write) (fault : Option TakeFault) → TakingEnds (TakesAt d) mid given front left fault new
-      → TakingEnds (TakenBy (λ server. Some server.core.held) (TakesAt d)) mid given front left fault new
+  end_taken : (mid new : ServerState D) (given front left : List Write) (refused : Option RefusedWrite) → TakingEnds (TakesAt d) mid given front left refused new
+      → TakingEnds (TakenBy (λ server. Some server.core.held) (TakesAt d)) mid given front left refused new
   end_taken mid new given front left None ends = ends
-  end_taken mid new given front left (Some fault) ends = (ends.0, ends.1, (ends.2, lists_taken mid.core ends.0 (Err fault) new.core ends.2.takes))
+  end_taken mid new given front left (Some refused) ends = (ends.0, ends.1, (ends.2, lists_taken mid.core ends.0 (Err refused.fault) new.core ends.2.takes), ends.3)
 
   pub all_listed : (old new : ServerState D) (given left : List Write) (told : TookAll) → TakesAll (TakesAt d) old given left told new
       → TakesAll (TakenBy (λ server. Some server.core.held) (TakesAt d)) old given left told new
@@ -49,12 +50,12 @@ module _ {D : Type 0} (d : Ghosts D) where
     each = each_taken old all.mid all.front all.tooks all.each;
     taken = all.taken;
     had = all.had;
-    ends = end_taken all.mid new given all.front left told.fault all.ends;
+    ends = end_taken all.mid new given all.front left told.refused all.ends;
   }
 
 -- nothing is left where as many were taken as there were
 pub none_left : {S : Type 0} (takes : S → Write → Result Took TakeFault → S → Type 0) (old new : S) (given left : List Write) (told : TookAll) → TakesAll takes old given left told new
-    → told.fault ≡ None → (left ≡ []) ⊎ (told.taken + told.had ≡ length given) → left ≡ []
+    → told.refused ≡ None → (left ≡ []) ⊎ (told.taken + told.had ≡ length given) → left ≡ []
 none_left takes old new given left told all none (inl nothing) = nothing
 none_left {S} takes old new given left told all none (inr whole) =
     let ends : TakingEnds takes all.mid given all.front left None new = subst (λ fault. TakingEnds takes all.mid given all.front left fault new) none all.ends in

@@ -5,9 +5,11 @@ use Rattle.std.specs.List.{AllByRecursion}
 use Rattle.bayou_lang.specs.declared.write.Write.{Write}
 use Rattle.bayou_lang.specs.Ranges.{IsWrite}
 use Rattle.bayou_frames.specs.declared.fault.ChannelFault.TheVariants.{BadFrame, Cut}
+use Rattle.bayou_peer.specs.declared.fault.PullFault.{PullFault}
 use Rattle.bayou_peer.specs.declared.fault.PullFault.TheVariants.{Stream}
+use Rattle.bayou_peer.specs.declared.pulling.PullStopped.{PullStopped}
 use Rattle.bayou_peer.specs.declared.pulling.Pulled.{Pulled}
-use Rattle.bayou_peer.specs.Pulls.{EndsOf, HasNoPlace, IsBad, Received, Ways}
+use Rattle.bayou_peer.specs.Pulls.{EndsOf, HasNoPlace, IsBad, PullStops, Received, Ways}
 use Rattle.bayou_wire.specs.Laws.Frames.{begins_one, faulty_on, not_faulty, not_partial, partial_not_faulty}
 use Rattle.bayou_frames.specs.Spelled.{items_of}
 use Rattle.bayou_wire.specs.declared.frame.Frame.TheVariants.{End, Item}
@@ -81,25 +83,34 @@ one_end {S} {U} ways others start now other after input first second a b =
     let (again, over, same, (more, t)) = b in
     (one_input ways others start now other after input read left _ again over _ _ _ _ _ r t whole same (no_item_end _ behind left) (no_item_end _ more over)).0
 
-pub end_not_cut : {S U : Type 0} (ways : Ways S) (others : Ways U) (start now : S) (other after : U) (input : List ℕ) (pulled : Pulled) → EndsOf ways start now input (Ok pulled)
-    → EndsOf others other after input (Err (Stream Cut)) → ⊥
-end_not_cut {S} {U} ways others start now other after input pulled a b =
+-- how a pull stops whose input is this: it read a front of it
+abbrev StopsOf : {S : Type 0} → Ways S → (start now : S) → (input : List ℕ) → PullStopped → PullFault → Type 0
+StopsOf ways start now input stopped fault =
+    (read left : List ℕ) × (input ≡ read ++ left) × PullStops ways start now read (left ≡ []) stopped.before stopped.refused fault
+
+stops_so : {S : Type 0} (ways : Ways S) (start now : S) (input : List ℕ) (stopped : PullStopped) (fault : PullFault) → stopped.fault ≡ fault → EndsOf ways start now input (Err stopped)
+    → StopsOf ways start now input stopped fault
+stops_so {S} ways start now input stopped fault is ends = subst (λ (f : PullFault). StopsOf ways start now input stopped f) is ends
+
+pub end_not_cut : {S U : Type 0} (ways : Ways S) (others : Ways U) (start now : S) (other after : U) (input : List ℕ) (pulled : Pulled) (stopped : PullStopped) → stopped.fault ≡ Stream Cut
+    → EndsOf ways start now input (Ok pulled) → EndsOf others other after input (Err stopped) → ⊥
+end_not_cut {S} {U} ways others start now other after input pulled stopped cut a b =
     let (read, left, whole, (behind, r)) = a in
-    let (again, over, same, (nothing, (more, new, old, partial, t))) = b in
+    let (again, over, same, (nothing, (more, partial, t), unnamed)) = stops_so others other after input stopped (Stream Cut) cut b in
     let number = pulled.taken + pulled.had in
-    let one = one_input ways others start now other after input read left _ again over more _ _ new old r t whole same (no_item_end _ behind left) (no_item_partial more over partial nothing) in
+    let one = one_input ways others start now other after input read left _ again over more _ _ stopped.before.taken stopped.before.had r t whole same (no_item_end _ behind left) (no_item_partial more over partial nothing) in
     let e : more ≡ spelling (End number) ++ (behind ++ left) = sym (ap (λ s. more ++ s) nothing ∙ append-nil more) ∙ sym one.1 ∙ append_assoc (spelling (End number)) behind left in
     end_not_partial number (behind ++ left) (subst IsPartial e partial)
 
-pub end_not_bad : {S U : Type 0} (ways : Ways S) (others : Ways U) (start now : S) (other after : U) (input : List ℕ) (pulled : Pulled) → pulled.taken + pulled.had < 2 ^ 32
-    → EndsOf ways start now input (Ok pulled) → EndsOf others other after input (Err (Stream BadFrame)) → ⊥
-end_not_bad {S} {U} ways others start now other after input pulled few a b =
+pub end_not_bad : {S U : Type 0} (ways : Ways S) (others : Ways U) (start now : S) (other after : U) (input : List ℕ) (pulled : Pulled) (stopped : PullStopped) → stopped.fault ≡ Stream BadFrame
+    → pulled.taken + pulled.had < 2 ^ 32 → EndsOf ways start now input (Ok pulled) → EndsOf others other after input (Err stopped) → ⊥
+end_not_bad {S} {U} ways others start now other after input pulled stopped fault few a b =
     let (read, left, whole, (behind, r)) = a in
-    let (again, over, same, (more, new, old, bad, t)) = b in
+    let (again, over, same, (more, bad, t, unnamed)) = stops_so others other after input stopped (Stream BadFrame) fault b in
     let number = pulled.taken + pulled.had in
-    let one = one_input ways others start now other after input read left _ again over more _ _ new old r t whole same (no_item_end _ behind left) (no_item_bad _ more over bad) in
+    let one = one_input ways others start now other after input read left _ again over more _ _ stopped.before.taken stopped.before.had r t whole same (no_item_end _ behind left) (no_item_bad _ more over bad) in
     let e : more ++ over ≡ spelling (End number) ++ (behind ++ left) = sym one.1 ∙ append_assoc (spelling (End number)) behind left in
-    no_end number (new + old) more over (behind ++ left) few one.0 e bad
+    no_end number (stopped.before.taken + stopped.before.had) more over (behind ++ left) few one.0 e bad
   where
     no_end : (number other : ℕ) (more over x : List ℕ) → number < 2 ^ 32 → number ≡ other → more ++ over ≡ spelling (End number) ++ x → IsBad other more → ⊥
     no_end number other more over x few same e (inl bad) = not_faulty (more ++ over) (End number) x bad.0 few e (faulty_on more over bad.0 bad.1)
@@ -109,14 +120,14 @@ end_not_bad {S} {U} ways others start now other after input pulled few a b =
         let one = begins_one frame (End number) (behind ++ over) x framed few next in
         (subst (HasNoPlace other) one.0 place) same
 
-pub cut_not_bad : {S U : Type 0} (ways : Ways S) (others : Ways U) (start now : S) (other after : U) (input : List ℕ) → EndsOf ways start now input (Err (Stream Cut))
-    → EndsOf others other after input (Err (Stream BadFrame)) → ⊥
-cut_not_bad {S} {U} ways others start now other after input a b =
-    let (read, left, whole, (nothing, (rest, taken, had, partial, r))) = a in
-    let (again, over, same, (more, new, old, bad, t)) = b in
-    let one = one_input ways others start now other after input read left rest again over more taken had new old r t whole same (no_item_partial rest left partial nothing) (no_item_bad _ more over bad) in
+pub cut_not_bad : {S U : Type 0} (ways : Ways S) (others : Ways U) (start now : S) (other after : U) (input : List ℕ) (cut stopped : PullStopped) → cut.fault ≡ Stream Cut → stopped.fault ≡ Stream BadFrame
+    → EndsOf ways start now input (Err cut) → EndsOf others other after input (Err stopped) → ⊥
+cut_not_bad {S} {U} ways others start now other after input cut stopped is_cut is_bad a b =
+    let (read, left, whole, (nothing, (rest, partial, r), unnamed)) = stops_so ways start now input cut (Stream Cut) is_cut a in
+    let (again, over, same, (more, bad, t, no_name)) = stops_so others other after input stopped (Stream BadFrame) is_bad b in
+    let one = one_input ways others start now other after input read left rest again over more cut.before.taken cut.before.had stopped.before.taken stopped.before.had r t whole same (no_item_partial rest left partial nothing) (no_item_bad _ more over bad) in
     let e : more ++ over ≡ rest = sym one.1 ∙ ap (λ s. rest ++ s) nothing ∙ append-nil rest in
-    no_bad (new + old) more over rest partial e bad
+    no_bad (stopped.before.taken + stopped.before.had) more over rest partial e bad
   where
     no_bad : (number : ℕ) (more over rest : List ℕ) → IsPartial rest → more ++ over ≡ rest → IsBad number more → ⊥
     no_bad number more over rest partial e (inl bad) = partial_not_faulty rest bad.0 partial (subst (λ (s : List ℕ). IsFaulty s bad.0) e (faulty_on more over bad.0 bad.1))

@@ -6,6 +6,7 @@ use Rattle.bayou_lang.specs.declared.write.Write.{Write}
 use Rattle.bayou_lang.specs.Ranges.{IsWrite}
 use Rattle.bayou_base.specs.declared.limits.TheConstants.{MAX_TURNS, SERVERS}
 use Rattle.bayou_peer.specs.declared.pulling.TheConstants.{PULL_TURN_BYTES}
+use Rattle.bayou_base.specs.declared.wid.Wid.{Wid}
 use Rattle.bayou_frames.specs.declared.fault.ChannelFault.{ChannelFault}
 use Rattle.bayou_frames.specs.declared.fault.ChannelFault.TheVariants as faults
 use Rattle.bayou_frames.specs.declared.fault.ChannelFault.TheVariants.{BadFrame}
@@ -13,7 +14,8 @@ use Rattle.bayou_frames.specs.Framing.{IsReadFault}
 use Rattle.bayou_peer.specs.declared.fault.PullFault.{PullFault}
 use Rattle.bayou_peer.specs.declared.fault.PullFault.TheVariants.{Stream, Refused}
 use Rattle.bayou_peer.specs.declared.pulling.Pulled.{Pulled}
-use Rattle.bayou_peer.specs.Pulls.{HasNoPlace, PullEnds, Received, Stands, Ways}
+use Rattle.bayou_peer.specs.declared.pulling.Stop.{Stop}
+use Rattle.bayou_peer.specs.Pulls.{HasNoPlace, PullEnds, PullStops, Received, Stands, Ways, nothing_pulled}
 use Rattle.bayou_frames.specs.Spelled.{items_of}
 use Rattle.bayou_frames.specs.Stopping.{IsSendFault}
 use Rattle.bayou_peer.specs.Inner.Steps.{Goes, Standing}
@@ -90,22 +92,23 @@ received_took {S} ways start mid new read behind write given took taken had t h 
     }
 
 -- The Item that stands next was refused.
-pub received_refused : {S : Type 0} (ways : Ways S) (start mid new : S) (read behind : List ℕ) (write given : Write) (fault : TakeFault) (taken had : ℕ) → given ≡ write → IsWrite write
-    → ways.takes mid given (Err fault) new → Lists (ways.list mid) given (Err fault) (ways.list new)
-    → Received ways start mid read (spelling (Item write) ++ behind) taken had → PullEnds ways start new read ⊥ (Err (Refused fault))
-received_refused {S} ways start mid new read behind write given fault taken had same is takes lists r =
-    (mid, write, behind, taken, had, is, r, subst (λ (w : Write). ways.takes mid w (Err fault) new) same takes, lists_same (ways.list mid) (ways.list new) given fault lists)
+pub received_refused : {S : Type 0} (ways : Ways S) (start mid new : S) (read behind : List ℕ) (write : Write) (fault : TakeFault) (before : Pulled) (refused : Option Wid) → IsWrite write
+    → ways.takes mid write (Err fault) new → Lists (ways.list mid) write (Err fault) (ways.list new) → refused ≡ Some write.wid
+    → Received ways start mid read (spelling (Item write) ++ behind) before.taken before.had → PullStops ways start new read ⊥ before refused (Refused fault)
+received_refused {S} ways start mid new read behind write fault before refused is takes lists named r =
+    (mid, write, behind, is, r, takes, lists_same (ways.list mid) (ways.list new) write fault lists, named)
 
 -- ---- an End
 
 -- Another frame stands next: an End of their number ends the pull, and any other has no place there.
-pub received_other : {S : Type 0} (ways : Ways S) (start now : S) (read behind rest : List ℕ) (frame : Frame) (pulled : Pulled) (result : Result Bool PullFault) → IsFrame frame
-    → IfOk result (λ ended. (ended ≡ true) × (frame ≡ End (pulled.taken + pulled.had))) → IfErr result (λ fault. (fault ≡ Stream BadFrame) × HasNoPlace (pulled.taken + pulled.had) frame)
-    → Received ways start now read (spelling frame ++ behind) pulled.taken pulled.had → Goes ways start now read rest pulled result
-received_other {S} ways start now read behind rest frame pulled (Ok ended) is at bad r =
-    rw at.0 (behind, subst (λ (f : Frame). Received ways start now read (spelling f ++ behind) pulled.taken pulled.had) at.1 r)
-received_other {S} ways start now read behind rest frame pulled (Err fault) is at bad r =
-    rw bad.0 (spelling frame ++ behind, pulled.taken, pulled.had, inr (frame, behind, is, refl, bad.1), r)
+pub received_end : {S : Type 0} (ways : Ways S) (start now : S) (read behind rest : List ℕ) (frame : Frame) (pulled : Pulled) (ended : Bool) → ended ≡ true → frame ≡ End (pulled.taken + pulled.had)
+    → Received ways start now read (spelling frame ++ behind) pulled.taken pulled.had → Goes ways start now read rest pulled (Ok ended)
+received_end {S} ways start now read behind rest frame pulled ended whole is r =
+    rw whole (behind, subst (λ (f : Frame). Received ways start now read (spelling f ++ behind) pulled.taken pulled.had) is r)
+
+pub received_other : {S : Type 0} (ways : Ways S) (start now : S) (read behind : List ℕ) (frame : Frame) (pulled : Pulled) → IsFrame frame → HasNoPlace (pulled.taken + pulled.had) frame
+    → Received ways start now read (spelling frame ++ behind) pulled.taken pulled.had → PullStops ways start now read ⊥ pulled None (Stream BadFrame)
+received_other {S} ways start now read behind frame pulled is none r = (spelling frame ++ behind, inr (frame, behind, is, refl, none), r, refl)
 
 -- the rest in another way
 pub received_rest : {S : Type 0} (ways : Ways S) (start now : S) (read rest left : List ℕ) (taken had : ℕ) → rest ≡ left → Received ways start now read rest taken had → Received ways start now read left taken had
@@ -194,30 +197,29 @@ standing_start {S} ways start frames pulled waits taken had = record {
   received = received_start ways start pulled.taken pulled.had taken had;
 }
 
-pub stands : {S : Type 0} (ways : Ways S) (start now : S) (read : List ℕ) (frames : Option (List ℕ)) (pulled : Pulled) → Standing ways start now read frames pulled → Stands ways start now read
-stands {S} ways start now read frames pulled s = (s.held, pulled.taken, pulled.had, s.partial, s.received)
+pub stands : {S : Type 0} (ways : Ways S) (start now : S) (read : List ℕ) (frames : Option (List ℕ)) (pulled : Pulled) → Standing ways start now read frames pulled → Stands ways start now read pulled
+stands {S} ways start now read frames pulled s = (s.held, s.partial, s.received)
 
 -- what may end a read ends the pull between two pieces
-pub ends_reading : {S : Type 0} (ways : Ways S) (start now : S) (read : List ℕ) (is_end : Type 0) (fault : ChannelFault) → IsReadFault fault → Stands ways start now read
-    → PullEnds ways start now read is_end (Err (Stream fault))
-ends_reading {S} ways start now read is_end faults.Read is s = s
-ends_reading {S} ways start now read is_end faults.TooManyTurns is s = s
-ends_reading {S} ways start now read is_end faults.Write is s = absurd is
-ends_reading {S} ways start now read is_end faults.Cut is s = absurd is
-ends_reading {S} ways start now read is_end faults.BadFrame is s = absurd is
-ends_reading {S} ways start now read is_end faults.OutOfMemory is s = absurd is
+pub ends_reading : {S : Type 0} (ways : Ways S) (start now : S) (read : List ℕ) (is_end : Type 0) (before : Pulled) (fault : ChannelFault) → IsReadFault fault → Stands ways start now read before
+    → PullStops ways start now read is_end before None (Stream fault)
+ends_reading {S} ways start now read is_end before faults.Read is s = (s, refl)
+ends_reading {S} ways start now read is_end before faults.TooManyTurns is s = (s, refl)
+ends_reading {S} ways start now read is_end before faults.Write is s = absurd is
+ends_reading {S} ways start now read is_end before faults.Cut is s = absurd is
+ends_reading {S} ways start now read is_end before faults.BadFrame is s = absurd is
+ends_reading {S} ways start now read is_end before faults.OutOfMemory is s = absurd is
 
 -- what ended the pull at a frame ended it, whether the input has ended or not
-pub ends_anywhere : {S : Type 0} (ways : Ways S) (start now : S) (read : List ℕ) (is_end : Type 0) (result : Result Pulled PullFault) → PullEnds ways start now read ⊥ result
-    → PullEnds ways start now read is_end result
-ends_anywhere {S} ways start now read is_end (Ok pulled) e = e
-ends_anywhere {S} ways start now read is_end (Err (Refused fault)) e = e
-ends_anywhere {S} ways start now read is_end (Err (Stream faults.Read)) e = e
-ends_anywhere {S} ways start now read is_end (Err (Stream faults.TooManyTurns)) e = e
-ends_anywhere {S} ways start now read is_end (Err (Stream faults.Write)) e = e
-ends_anywhere {S} ways start now read is_end (Err (Stream faults.Cut)) e = absurd e.0
-ends_anywhere {S} ways start now read is_end (Err (Stream faults.BadFrame)) e = e
-ends_anywhere {S} ways start now read is_end (Err (Stream faults.OutOfMemory)) e = e
+pub ends_anywhere : {S : Type 0} (ways : Ways S) (start now : S) (read : List ℕ) (is_end : Type 0) (before : Pulled) (refused : Option Wid) (fault : PullFault)
+    → PullStops ways start now read ⊥ before refused fault → PullStops ways start now read is_end before refused fault
+ends_anywhere {S} ways start now read is_end before refused (Refused fault) e = e
+ends_anywhere {S} ways start now read is_end before refused (Stream faults.Read) e = e
+ends_anywhere {S} ways start now read is_end before refused (Stream faults.TooManyTurns) e = e
+ends_anywhere {S} ways start now read is_end before refused (Stream faults.Write) e = e
+ends_anywhere {S} ways start now read is_end before refused (Stream faults.Cut) e = absurd e.0
+ends_anywhere {S} ways start now read is_end before refused (Stream faults.BadFrame) e = e
+ends_anywhere {S} ways start now read is_end before refused (Stream faults.OutOfMemory) e = e
 
 -- no turn read more than a piece, so that the numbers stay small
 pub standing_room : {S : Type 0} (ways : Ways S) (start now : S) (read : List ℕ) (frames : Option (List ℕ)) (pulled : Pulled) (s : Standing ways start now read frames pulled) (piece : List ℕ)
@@ -230,13 +232,13 @@ standing_room {S} ways start now read frames pulled s piece turns later first sh
 -- ---- before anything was read
 
 -- what may end the Offer's sending ends the pull before anything is read
-pub ends_sending : {S : Type 0} (ways : Ways S) (start : S) (is_end : Type 0) (fault : ChannelFault) → IsSendFault fault → PullEnds ways start start [] is_end (Err (Stream fault))
+pub ends_sending : {S : Type 0} (ways : Ways S) (start : S) (is_end : Type 0) (fault : ChannelFault) → IsSendFault fault → PullStops ways start start [] is_end nothing_pulled None (Stream fault)
 ends_sending {S} ways start is_end faults.Read is = absurd is
-ends_sending {S} ways start is_end faults.TooManyTurns is = ([], 0, 0, tt, received_start ways start 0 0 refl refl)
-ends_sending {S} ways start is_end faults.Write is = (refl, refl)
+ends_sending {S} ways start is_end faults.TooManyTurns is = (([], tt, received_start ways start 0 0 refl refl), refl)
+ends_sending {S} ways start is_end faults.Write is = (refl, refl, refl, refl)
 ends_sending {S} ways start is_end faults.Cut is = absurd is
 ends_sending {S} ways start is_end faults.BadFrame is = absurd is
-ends_sending {S} ways start is_end faults.OutOfMemory is = ([], 0, 0, received_start ways start 0 0 refl refl)
+ends_sending {S} ways start is_end faults.OutOfMemory is = ([], received_start ways start 0 0 refl refl, refl)
 
 -- a pull that has ended was given no more Writes than a sixteenth of the bytes
 pub few_ended : {S : Type 0} (ways : Ways S) (start now : S) (read : List ℕ) (is_end : Type 0) (pulled : Pulled) → PullEnds ways start now read is_end (Ok pulled)

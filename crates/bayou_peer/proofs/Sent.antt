@@ -3,14 +3,16 @@ use Rattle.std.proofs.Common.{◌≡◌, ◌≢◌, ◌⊎◌, inl, inr, ℕ, �
 use Rattle.std.proofs.lemmas.Bool.Decides.{nat_tests}
 use Rattle.std.proofs.lemmas.List.{length-take, take_all}
 use Rattle.std.specs.List.{AllByRecursion}
+use Rattle.bayou_base.specs.declared.wid.Wid.{Wid}
 use Rattle.bayou_lang.specs.declared.write.Write.{Write}
 use Rattle.bayou_lang.specs.Ranges.{IsWrite}
 use Rattle.bayou_frames.specs.declared.fault.ChannelFault.TheVariants as faults
 use Rattle.bayou_peer.specs.declared.fault.PullFault.{PullFault}
 use Rattle.bayou_peer.specs.declared.fault.PullFault.TheVariants.{Stream, Refused}
+use Rattle.bayou_peer.specs.declared.pulling.PullStopped.{PullStopped}
 use Rattle.bayou_peer.specs.declared.pulling.Pulled.{Pulled}
-use Rattle.bayou_peer.specs.Meeting.{IsCutOff, Meets, TakesFirst, coming, cut_answer}
-use Rattle.bayou_peer.specs.Pulls.{EndsInMemory, EndsOf, HasNoPlace, PullEnds, Received, Ways}
+use Rattle.bayou_peer.specs.Meeting.{IsCutOff, Meets, MeetsStopped, TakesFirst, coming, cut_answer}
+use Rattle.bayou_peer.specs.Pulls.{EndsInMemory, EndsOf, HasNoPlace, PullEnds, PullStops, Received, Ways}
 use Rattle.bayou_wire.specs.Laws.Frames.{begins_one, faulty_on, not_faulty, not_partial, partial_not_faulty}
 use Rattle.bayou_frames.specs.Spelled.{answer_bytes, items_of}
 use Rattle.bayou_wire.specs.declared.fault.DecodeFault.{DecodeFault}
@@ -230,40 +232,45 @@ module _ {S : Type 0} (ways : Ways S) (cut : Option ℕ) (sent : List Write) (fe
         subst (HasNoPlace (taken + had)) apart.0 none
   ] refl
 
+  -- how a pull of it ends early
+  stops_now : (now : S) (read after : List ℕ) (before : Pulled) (name : Option Wid) (fault : PullFault) → cut_answer cut sent ≡ read ++ after → PullStops ways start now read (after ≡ []) before name fault
+      → EndsInMemory fault → MeetsStopped ways sent cut start before fault now
+  stops_now now read after before name (Refused refusal) whole (mid, write, behind, is, r, refused, same, named) in_memory =
+      let f = front mid read _ after before.taken before.had whole r in
+      let item = an_item mid write (behind ++ after) before.taken before.had is
+      (subst (λ (l : List ℕ). Front mid l before.taken before.had) (append_assoc (spelling (Item write)) behind after) f) in
+      (mid, write, item.0, item.1, refused)
+  stops_now now read after before name (Stream faults.Cut) whole (ended, (rest, partial, r), unnamed) in_memory =
+      let f = front now read rest after before.taken before.had whole r in
+      let at_end : rest ++ after ≡ rest = ap (λ (l : List ℕ). rest ++ l) ended ∙ append-nil rest in
+      let less = less_than_a_frame now rest before.taken before.had partial (subst (λ (l : List ℕ). Front now l before.taken before.had) at_end f) in
+      (less.0, less.1)
+  stops_now now read after before name (Stream faults.Read) whole ends in_memory = absurd in_memory
+  stops_now now read after before name (Stream faults.TooManyTurns) whole ends in_memory = absurd in_memory
+  stops_now now read after before name (Stream faults.OutOfMemory) whole (rest, r, unnamed) in_memory =
+      let f = front now read rest after before.taken before.had whole r in (f.left, f.first)
+  stops_now now read after before name (Stream faults.Write) whole ends in_memory = absurd in_memory
+  stops_now now read after before name (Stream faults.BadFrame) whole (rest, inl bad, r, unnamed) in_memory =
+      let f = front now read rest after before.taken before.had whole r in
+      no_fault now (rest ++ after) bad.0 before.taken before.had (faulty_on rest after bad.0 bad.1) f
+  stops_now now read after before name (Stream faults.BadFrame) whole (rest, inr bad, r, unnamed) in_memory =
+      let f = front now read rest after before.taken before.had whole r in
+      let same : rest ++ after ≡ spelling bad.0 ++ (bad.1 ++ after) = ap (λ l. l ++ after) bad.3 ∙ append_assoc (spelling bad.0) bad.1 after in
+      has_place now bad.0 (bad.1 ++ after) before.taken before.had bad.2 bad.4 (subst (λ (l : List ℕ). Front now l before.taken before.had) same f)
+
   -- how a pull of it ends
-  meets_now : (now : S) (read after : List ℕ) (result : Result Pulled PullFault) → cut_answer cut sent ≡ read ++ after → PullEnds ways start now read (after ≡ []) result
-      → IfErr result EndsInMemory → Meets ways sent cut start result now
+  meets_now : (now : S) (read after : List ℕ) (result : Result Pulled PullStopped) → cut_answer cut sent ≡ read ++ after → PullEnds ways start now read (after ≡ []) result
+      → IfErr result (λ stopped. EndsInMemory stopped.fault) → Meets ways sent cut start result now
   meets_now now read after (Ok pulled) whole (behind, r) in_memory =
       let f = front now read _ after pulled.taken pulled.had whole r in
       let few_taken : pulled.taken + pulled.had < 2 ^ 32 = omega (arith, few, f.number, length-coming cut sent) in
       (an_end now (pulled.taken + pulled.had) (behind ++ after) pulled.taken pulled.had few_taken
       (subst (λ (l : List ℕ). Front now l pulled.taken pulled.had) (append_assoc (spelling (End (pulled.taken + pulled.had))) behind after) f)).0
-  meets_now now read after (Err (Refused refusal)) whole (mid, write, behind, taken, had, is, r, refused, same) in_memory =
-      let f = front mid read _ after taken had whole r in
-      let item = an_item mid write (behind ++ after) taken had is
-      (subst (λ (l : List ℕ). Front mid l taken had) (append_assoc (spelling (Item write)) behind after) f) in
-      (mid, write, item.0, taken, had, item.1, refused)
-  meets_now now read after (Err (Stream faults.Cut)) whole (ended, (rest, taken, had, partial, r)) in_memory =
-      let f = front now read rest after taken had whole r in
-      let at_end : rest ++ after ≡ rest = ap (λ (l : List ℕ). rest ++ l) ended ∙ append-nil rest in
-      let less = less_than_a_frame now rest taken had partial (subst (λ (l : List ℕ). Front now l taken had) at_end f) in
-      (less.0, (taken, had, less.1))
-  meets_now now read after (Err (Stream faults.Read)) whole ends in_memory = absurd in_memory
-  meets_now now read after (Err (Stream faults.TooManyTurns)) whole ends in_memory = absurd in_memory
-  meets_now now read after (Err (Stream faults.OutOfMemory)) whole (rest, taken, had, r) in_memory =
-      let f = front now read rest after taken had whole r in (f.left, taken, had, f.first)
-  meets_now now read after (Err (Stream faults.Write)) whole ends in_memory = absurd in_memory
-  meets_now now read after (Err (Stream faults.BadFrame)) whole (rest, taken, had, inl bad, r) in_memory =
-      let f = front now read rest after taken had whole r in
-      no_fault now (rest ++ after) bad.0 taken had (faulty_on rest after bad.0 bad.1) f
-  meets_now now read after (Err (Stream faults.BadFrame)) whole (rest, taken, had, inr bad, r) in_memory =
-      let f = front now read rest after taken had whole r in
-      let same : rest ++ after ≡ spelling bad.0 ++ (bad.1 ++ after) = ap (λ l. l ++ after) bad.3 ∙ append_assoc (spelling bad.0) bad.1 after in
-      has_place now bad.0 (bad.1 ++ after) taken had bad.2 bad.4 (subst (λ (l : List ℕ). Front now l taken had) same f)
+  meets_now now read after (Err stopped) whole ends in_memory = stops_now now read after stopped.before stopped.refused stopped.fault whole ends in_memory
 
 -- How a pull ends whose input is the answer of these Writes, cut or not.
-pub meets : {S : Type 0} (ways : Ways S) (sent : List Write) (cut : Option ℕ) (start now : S) (result : Result Pulled PullFault)
-    → AllByRecursion IsWrite sent → length sent < 2 ^ 32 → EndsOf ways start now (cut_answer cut sent) result → IfErr result EndsInMemory
+pub meets : {S : Type 0} (ways : Ways S) (sent : List Write) (cut : Option ℕ) (start now : S) (result : Result Pulled PullStopped)
+    → AllByRecursion IsWrite sent → length sent < 2 ^ 32 → EndsOf ways start now (cut_answer cut sent) result → IfErr result (λ stopped. EndsInMemory stopped.fault)
     → Meets ways sent cut start result now
 meets ways sent cut start now result each few (read, after, whole, ends) in_memory =
     let (tail, t) = tails cut sent in

@@ -4,6 +4,7 @@ use Rattle.bayou_lang.specs.declared.write.Write.{Write}
 use Rattle.bayou_frames.specs.declared.fault.ChannelFault.TheVariants as faults
 use Rattle.bayou_peer.specs.declared.fault.PullFault.{PullFault}
 use Rattle.bayou_peer.specs.declared.fault.PullFault.TheVariants.{Stream, Refused}
+use Rattle.bayou_peer.specs.declared.pulling.PullStopped.{PullStopped}
 use Rattle.bayou_peer.specs.declared.pulling.Pulled.{Pulled}
 use Rattle.bayou_peer.specs.Pulls.{Ways}
 use Rattle.bayou_frames.specs.Spelled.{answer_bytes, items_of}
@@ -35,17 +36,20 @@ pub record TakesFirst {S : Type 0} (ways : Ways S) (writes : List Write) (start 
   pub new : taken ≡ news tooks
   pub held : had ≡ hads tooks
 
--- How a pull ends that is sent these Writes in memory, one after another, and what it leaves: all that came were taken, and an End of their
--- number came or was cut off; or one of them was refused; or memory ended it behind some that were taken.
-abbrev pub Meets : {S : Type 0} → Ways S → (sent : List Write) → (cut : Option ℕ) → (start : S) → Result Pulled PullFault → (now : S) → Type 0
+-- How a pull ends early that is sent these Writes in memory, one after another, and what it leaves: all that came were taken, and their End was cut
+-- off; or one of them was refused; or memory ended it behind some that were taken.
+abbrev pub MeetsStopped : {S : Type 0} → Ways S → (sent : List Write) → (cut : Option ℕ) → (start : S) → (before : Pulled) → PullFault → (now : S) → Type 0
+MeetsStopped {S} ways sent cut start before (Refused refusal) now =
+    (mid : S) × (write : Write) × (left : List Write)
+    × TakesFirst ways (coming cut sent) start mid before.taken before.had (write ∷ left) × ways.takes mid write (Err refusal) now
+MeetsStopped ways sent cut start before (Stream faults.Cut) now = IsCutOff cut sent × TakesFirst ways (coming cut sent) start now before.taken before.had []
+MeetsStopped ways sent cut start before (Stream faults.BadFrame) now = ⊥
+MeetsStopped ways sent cut start before (Stream faults.Write) now = ⊥
+MeetsStopped ways sent cut start before (Stream faults.Read) now = ⊥
+MeetsStopped ways sent cut start before (Stream faults.TooManyTurns) now = ⊥
+MeetsStopped ways sent cut start before (Stream faults.OutOfMemory) now = (left : List Write) × TakesFirst ways (coming cut sent) start now before.taken before.had left
+
+-- How a pull ends that is sent these Writes in memory: an End of their number came, and all of them were taken; or it ended early.
+abbrev pub Meets : {S : Type 0} → Ways S → (sent : List Write) → (cut : Option ℕ) → (start : S) → Result Pulled PullStopped → (now : S) → Type 0
 Meets ways sent cut start (Ok pulled) now = ¬ (IsCutOff cut sent) × TakesFirst ways (coming cut sent) start now pulled.taken pulled.had []
-Meets {S} ways sent cut start (Err (Refused refusal)) now =
-    (mid : S) × (write : Write) × (left : List Write) × (taken had : ℕ)
-    × TakesFirst ways (coming cut sent) start mid taken had (write ∷ left) × ways.takes mid write (Err refusal) now
-Meets ways sent cut start (Err (Stream faults.Cut)) now = IsCutOff cut sent × ((taken had : ℕ) × TakesFirst ways (coming cut sent) start now taken had [])
-Meets ways sent cut start (Err (Stream faults.BadFrame)) now = ⊥
-Meets ways sent cut start (Err (Stream faults.Write)) now = ⊥
-Meets ways sent cut start (Err (Stream faults.Read)) now = ⊥
-Meets ways sent cut start (Err (Stream faults.TooManyTurns)) now = ⊥
-Meets ways sent cut start (Err (Stream faults.OutOfMemory)) now =
-    (left : List Write) × (taken had : ℕ) × TakesFirst ways (coming cut sent) start now taken had left
+Meets ways sent cut start (Err stopped) now = MeetsStopped ways sent cut start stopped.before stopped.fault now

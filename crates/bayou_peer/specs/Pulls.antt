@@ -1,11 +1,13 @@
 -- What a pull makes of the bytes that it reads (anti-entropy, Petersen et al. 1997).
-use Rattle.std.specs.Prelude.{◌≡◌, ◌≢◌, ◌⊎◌, ℕ, ◌+◌, List, [], ◌++◌, Option, Some, Result, Ok, Err, IfSome, length}
+use Rattle.std.specs.Prelude.{◌≡◌, ◌≢◌, ◌⊎◌, ℕ, ◌+◌, List, [], ◌++◌, Option, None, Some, Result, Ok, Err, IfSome, length}
 use Rattle.std.specs.List.{AllByRecursion}
+use Rattle.bayou_base.specs.declared.wid.Wid.{Wid}
 use Rattle.bayou_lang.specs.declared.write.Write.{Write}
 use Rattle.bayou_lang.specs.Ranges.{IsWrite}
 use Rattle.bayou_frames.specs.declared.fault.ChannelFault.TheVariants as faults
 use Rattle.bayou_peer.specs.declared.fault.PullFault.{PullFault}
 use Rattle.bayou_peer.specs.declared.fault.PullFault.TheVariants.{Stream, Refused}
+use Rattle.bayou_peer.specs.declared.pulling.PullStopped.{PullStopped}
 use Rattle.bayou_peer.specs.declared.pulling.Pulled.{Pulled}
 use Rattle.bayou_frames.specs.Spelled.{items_of}
 use Rattle.bayou_peer.specs.Taking.{new_ones}
@@ -56,31 +58,40 @@ IsBad number bytes =
     ((fault : DecodeFault) × IsFaulty bytes fault)
     ⊎ ((frame : Frame) × (behind : List ℕ) × IsFrame frame × (bytes ≡ spelling frame ++ behind) × HasNoPlace number frame)
 
--- each whole Item that was read was taken, and less than a frame is behind them
-abbrev pub Stands : {S : Type 0} → Ways S → S → S → List ℕ → Type 0
-Stands ways start now read = (rest : List ℕ) × (taken had : ℕ) × IsPartial rest × Received ways start now read rest taken had
+-- nothing came
+abbrev pub nothing_pulled : Pulled
+nothing_pulled = record { taken = 0; had = 0 }
 
--- How a pull ends that reads these bytes, and where this says whether the input has ended.
-abbrev pub PullEnds : {S : Type 0} → Ways S → (start now : S) → (read : List ℕ) → (is_end : Type 0) → Result Pulled PullFault → Type 0
+-- each whole Item that was read was taken, and less than a frame is behind them
+abbrev pub Stands : {S : Type 0} → Ways S → S → S → List ℕ → Pulled → Type 0
+Stands ways start now read before = (rest : List ℕ) × IsPartial rest × Received ways start now read rest before.taken before.had
+
+-- How a pull ends early that reads these bytes, behind so many Writes that came, with a Write of this name refused, or none; and where this says whether
+-- the input has ended.
+abbrev pub PullStops : {S : Type 0} → Ways S → (start now : S) → (read : List ℕ) → (is_end : Type 0) → (before : Pulled) → (refused : Option Wid) → PullFault → Type 0
+PullStops {S} ways start now read is_end before refused (Refused fault) =
+    (mid : S) × (write : Write) × (behind : List ℕ) × IsWrite write
+    × Received ways start mid read (spelling (Item write) ++ behind) before.taken before.had
+    × ways.takes mid write (Err fault) now × IfSome (ways.list mid) (λ held. ways.list now ≡ Some held) × (refused ≡ Some write.wid)
+PullStops ways start now read is_end before refused (Stream faults.Cut) = is_end × Stands ways start now read before × (refused ≡ None)
+PullStops ways start now read is_end before refused (Stream faults.Read) = Stands ways start now read before × (refused ≡ None)
+PullStops ways start now read is_end before refused (Stream faults.TooManyTurns) = Stands ways start now read before × (refused ≡ None)
+PullStops ways start now read is_end before refused (Stream faults.BadFrame) =
+    (rest : List ℕ) × IsBad (before.taken + before.had) rest × Received ways start now read rest before.taken before.had × (refused ≡ None)
+PullStops ways start now read is_end before refused (Stream faults.OutOfMemory) =
+    (rest : List ℕ) × Received ways start now read rest before.taken before.had × (refused ≡ None)
+-- the Offer wasn't sent
+PullStops ways start now read is_end before refused (Stream faults.Write) = (read ≡ []) × (now ≡ start) × (before ≡ nothing_pulled) × (refused ≡ None)
+
+-- How a pull ends that reads these bytes.
+abbrev pub PullEnds : {S : Type 0} → Ways S → (start now : S) → (read : List ℕ) → (is_end : Type 0) → Result Pulled PullStopped → Type 0
 -- what was read behind the End is dropped
 PullEnds ways start now read is_end (Ok pulled) =
     (behind : List ℕ) × Received ways start now read (spelling (End (pulled.taken + pulled.had)) ++ behind) pulled.taken pulled.had
-PullEnds {S} ways start now read is_end (Err (Refused fault)) =
-    (mid : S) × (write : Write) × (behind : List ℕ) × (taken had : ℕ) × IsWrite write
-    × Received ways start mid read (spelling (Item write) ++ behind) taken had
-    × ways.takes mid write (Err fault) now × IfSome (ways.list mid) (λ held. ways.list now ≡ Some held)
-PullEnds ways start now read is_end (Err (Stream faults.Cut)) = is_end × Stands ways start now read
-PullEnds ways start now read is_end (Err (Stream faults.Read)) = Stands ways start now read
-PullEnds ways start now read is_end (Err (Stream faults.TooManyTurns)) = Stands ways start now read
-PullEnds ways start now read is_end (Err (Stream faults.BadFrame)) =
-    (rest : List ℕ) × (taken had : ℕ) × IsBad (taken + had) rest × Received ways start now read rest taken had
-PullEnds ways start now read is_end (Err (Stream faults.OutOfMemory)) =
-    (rest : List ℕ) × (taken had : ℕ) × Received ways start now read rest taken had
--- the Offer wasn't sent
-PullEnds ways start now read is_end (Err (Stream faults.Write)) = (read ≡ []) × (now ≡ start)
+PullEnds ways start now read is_end (Err stopped) = PullStops ways start now read is_end stopped.before stopped.refused stopped.fault
 
 -- how a pull of known input ends: it read a front of it
-abbrev pub EndsOf : {S : Type 0} → Ways S → (start now : S) → (input : List ℕ) → Result Pulled PullFault → Type 0
+abbrev pub EndsOf : {S : Type 0} → Ways S → (start now : S) → (input : List ℕ) → Result Pulled PullStopped → Type 0
 EndsOf ways start now input result = (read left : List ℕ) × (input ≡ read ++ left) × PullEnds ways start now read (left ≡ []) result
 
 -- what may end a pull whose input is bytes in memory: no stream fails, and no turn is missed

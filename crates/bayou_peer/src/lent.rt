@@ -5,7 +5,7 @@ use crate::replica::Replica;
 use bayou_base::Vector;
 use bayou_device::Device;
 use bayou_lang::RestingWrite;
-use bayou_server::{Server, TakeFault, Took, TookAll};
+use bayou_server::{Server, TookAll};
 use std::alloc::{AllocError, Global};
 
 impl<D: Device> Replica for Server<D> {
@@ -28,10 +28,6 @@ impl<D: Device> Replica for Server<D> {
         // The vector has a count for each server.
         let _each = counts.counts();
         Server::lacking(self, alloc, counts, most)
-    }
-
-    fn take(&mut self, alloc: Global, write: RestingWrite) -> Result<Took, TakeFault> {
-        Server::take(self, alloc, write)
     }
 
     fn take_all(&mut self, alloc: Global, writes: Vec<RestingWrite>) -> TookAll {

@@ -24,6 +24,6 @@ pub use answering::{answer_offer_on, serve_offer_on};
 pub use fault::PullFault;
 pub use losing::{all_but_own, has_lost};
 pub use meeting::cut_after;
-pub use pulling::{PULL_TURN_BYTES, Pulled, pull_from_on, pull_on, take_answer};
+pub use pulling::{PullStopped, Pulled, pull_from_on, pull_on, take_answer};
 pub use replica::Replica;
 pub use sending::gather;

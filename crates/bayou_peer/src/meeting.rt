@@ -5,7 +5,7 @@ ghost use Rattle.bayou_lang.specs.declared.write.Write.{Write};
 ghost use Rattle.bayou_lang.specs.Ranges.{IsWrite};
 ghost use Rattle.bayou_peer.specs.Meeting.{Meets, cut_answer};
 ghost use Rattle.bayou_peer.specs.Pulls.{EndsInMemory, EndsOf};
-ghost use Rattle.bayou_peer.specs.declared.fault.PullFault.{PullFault};
+ghost use Rattle.bayou_peer.specs.declared.pulling.PullStopped.{PullStopped};
 ghost use Rattle.bayou_peer.specs.declared.pulling.Pulled.{Pulled};
 ghost use Rattle.bayou_frames.specs.Spelled.{answer_bytes};
 
@@ -29,9 +29,9 @@ pub fn cut_after(answer: &[u8], items: u32) -> &[u8]
 
 /// How a pull ends, and what it leaves, whose input is in memory, and is what another server answers, cut or not.
 pub fn a_pull_takes_what_is_sent<P: Replica>()
-    ensures { (sent : List Write) (cut : Option ℕ) (start now : P) (result : Result Pulled PullFault)
+    ensures { (sent : List Write) (cut : Option ℕ) (start now : P) (result : Result Pulled PullStopped)
         → All IsWrite sent → length sent < 2 ^ 32
-        → EndsOf (record { list = P.list; takes = P.takes }) start now (cut_answer cut sent) result → IfErr result EndsInMemory
+        → EndsOf (record { list = P.list; takes = P.takes }) start now (cut_answer cut sent) result → IfErr result (λ stopped. EndsInMemory stopped.fault)
         → Meets (record { list = P.list; takes = P.takes }) sent cut start result now }
 {}
 

@@ -1,14 +1,14 @@
 ghost use Rattle.std.specs.Prelude.{◌≡◌, ◌<◌, ◌≤◌, ◌^◌, List, [], None, Option, Result, IfOk, IfSome, drop, length, take};
 ghost use Rattle.bayou_lang.specs.declared.write.Write.{Write as Written};
 ghost use Rattle.bayou_lang.specs.Writes.{count_of, lacking_of, raised_by};
-ghost use Rattle.bayou_peer.specs.Taking.{Lists, TakenBy};
+ghost use Rattle.bayou_peer.specs.Taking.{TakenBy};
 ghost use Rattle.bayou_server.specs.TakesAll.{TakesAll};
 ghost use Rattle.bayou_server.specs.declared.answer.Took.{Took as Taken};
 ghost use Rattle.bayou_server.specs.declared.fault.TakeFault.{TakeFault as Refusal};
 
 use bayou_base::Vector;
 use bayou_lang::RestingWrite;
-use bayou_server::{TakeFault, Took, TookAll};
+use bayou_server::TookAll;
 use std::alloc::{AllocError, Global};
 
 /// What takes part in anti-entropy (Petersen et al. 1997): something that holds Writes, says which, and takes others.
@@ -39,14 +39,9 @@ pub trait Replica {
         ensures goes_on { IfSome (list self.old) (λ held. IfOk result (λ writes.
             lacking_of (raised_by counts.now writes.items) held ≡ drop most (lacking_of counts.now held))) };
 
-    /// Takes a Write that another server accepted. A refusal leaves the Writes held as they were.
-    fn take(&mut self, alloc: Global, write: RestingWrite) -> Result<Took, TakeFault>
-        ensures took { takes self.old write result self.new }
-        ensures listed { Lists (list self.old) write result (list self.new) };
-
-    /// Takes the Writes, one after another, as [`Replica::take`] does, up to one that is refused.
+    /// Takes the Writes, which other servers accepted, one after another, up to one that is refused. A refusal leaves the Writes held as they were.
     fn take_all(&mut self, alloc: Global, writes: Vec<RestingWrite>) -> TookAll
         requires few { length writes.items < 2 ^ 32 }
         ensures took { (left : List Written) × TakesAll (TakenBy list takes) self.old writes.items left result self.new
-            × (result.fault ≡ None → left ≡ []) };
+            × (result.refused ≡ None → left ≡ []) };
 }

@@ -1,14 +1,21 @@
 -- What a claim does.
-use Rattle.std.proofs.Common.{◌≡◌, ◌∙◌, ◌+◌, ℕ, false, List, [], ◌∷◌, ◌++◌, Option, None, Some, IsSome, All, ap, arith, is_none, length, refl}
+use Rattle.std.proofs.Common.{◌≡◌, ◌∙◌, ◌+◌, ℕ, false, List, [], ◌∷◌, ◌++◌, Option, None, Some, IfOk, IsSome, Result, Ok, Err, All, ap, arith, is_none, length, refl, subst, sym}
 use Rattle.std.proofs.lemmas.List.Elements.{All-head, All-tail}
 use Rattle.std.specs.List.{AllZip}
 use Rattle.std.specs.Option.{option_map_or}
+use Rattle.std.specs.declared.alloc.AllocError.{AllocError}
 use Rattle.bayou_base.specs.declared.value.Value.{Value}
 use Rattle.bayou_lang.specs.declared.eval.Outcome.TheVariants.{Merged, Nothing}
 use Rattle.bayou_lang.specs.declared.program.Alt.{Alt}
+use Rattle.bayou_lang.specs.declared.program.Cond.{Cond}
+use Rattle.bayou_lang.specs.declared.program.Cond.TheVariants.{Absent}
+use Rattle.bayou_lang.specs.declared.program.Op.{Op}
+use Rattle.bayou_lang.specs.declared.program.Op.TheVariants.{Put}
+use Rattle.bayou_lang.specs.declared.program.Program.{Program}
+use Rattle.bayou_lang.specs.declared.program.Term.TheVariants.{Lit}
 use Rattle.bayou_lang.specs.Database.{Database, changed, value_at}
 use Rattle.bayou_lang.specs.Meaning.{Effect, after_alternative, merged}
-use Rattle.bayou_person.specs.Doing.{IsTaken}
+use Rattle.bayou_person.specs.Doing.{Claims, IsTaken}
 use Rattle.bayou_person.specs.Inner.Alternatives.{IsFallback}
 
 pub present : (o : Option Value) → IsSome o → is_none o ≡ false
@@ -49,3 +56,21 @@ merged_at value database (alt ∷ alts) (other ∷ before) key after number (is,
     ap (chosen number (merged (number + 1) alts database)) (fails value alt other database is (All-head (IsTaken database) other before all))
     ∙ merged_at value database alts before key after (number + 1) zip (All-tail (IsTaken database) other before all) none
     ∙ ap (λ (at : ℕ). (Merged at, changed key (Some value) database)) (omega arith)
+
+-- so the program with this check, this update and these alternatives claims the keys
+pub claims : (key : List ℕ) (others : List (List ℕ)) (value : Value) (check : List Cond) (update : List Op) (alts : List Alt) (made : Result Program AllocError)
+    → check ≡ Absent key ∷ [] → update ≡ Put key (Lit value) ∷ [] → AllZip (IsFallback value) alts others
+    → IfOk made (λ program. (program.check.items ≡ check) × (program.update.items ≡ update) × (program.merge.items ≡ alts)) → IfOk made (Claims key others value)
+claims key others value check update alts (Err fault) is_check is_update zip is = tt
+claims key others value check update alts (Ok program) is_check is_update zip is =
+    let checks : program.check.items ≡ Absent key ∷ [] = is.0 ∙ is_check in
+    let updates : program.update.items ≡ Put key (Lit value) ∷ [] = is.1 ∙ is_update in
+    let merges : AllZip (IsFallback value) program.merge.items others = subst (λ (l : List Alt). AllZip (IsFallback value) l others) (sym is.2) zip in
+    record {
+      first = λ database none. rw (checks, updates, none) refl;
+      later = λ database before other after split taken all none.
+          let here = subst (AllZip (IsFallback value) program.merge.items) split merges in
+          rw (checks, present (value_at database key) taken)
+          (merged_at value database program.merge.items before other after 0 here all none ∙ ap (λ (at : ℕ). (Merged at, changed other (Some value) database)) (omega arith));
+      none = λ database taken all. rw (checks, present (value_at database key) taken) (merged_none value database program.merge.items others 0 merges all);
+    }

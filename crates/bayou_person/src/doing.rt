@@ -1,5 +1,5 @@
 //! What the Writes of a person do.
-ghost use Rattle.std.specs.Prelude.{◌≡◌, ◌≤◌, ◌∷◌, [], MatchOption, length, false};
+ghost use Rattle.std.specs.Prelude.{◌≡◌, ◌≤◌, ◌∷◌, [], IfOk, MatchOption, length, false};
 ghost use Rattle.std.specs.List.{AllZip};
 ghost use Rattle.bayou_base.specs.declared.limits.TheConstants.{MAX_ALTERNATIVES};
 ghost use Rattle.bayou_lang.specs.declared.program.Cond.TheVariants.{Absent};
@@ -9,116 +9,114 @@ ghost use Rattle.bayou_person.specs.Doing.{Adds, Claims, Does, Puts, Removes, is
 ghost use Rattle.bayou_person.specs.Inner.Alternatives.{IsFallback};
 
 use crate::wish::Wish;
-use arrayvec::ArrayVec;
-use bayou_base::{Key, MAX_ALTERNATIVES, MAX_CONDITIONS, MAX_OPS, Value};
-use bayou_lang::{Alt, Cond, Op, Program, Term};
+use bayou_base::{Key, Value};
+use bayou_lang::{Cond, Op, RestingAlt, RestingProgram, Term};
+use std::alloc::{AllocError, Global};
 
-fn one_op(op: Op) -> ArrayVec<Op, MAX_OPS>
-    ensures { result.items ≡ op ∷ [] }
+// A list of one.
+fn one<T: Drop>(alloc: Global, item: T) -> Result<Vec<T>, AllocError>
+    ensures { IfOk result (λ list. list.items ≡ item ∷ []) }
 {
-    let mut ops = ArrayVec::new();
-    ops.push(op);
-    ops
+    let mut list = Vec::with_capacity(alloc, 1)?;
+    list.push_reserved(item);
+    Ok(list)
 }
 
-fn absent(key: &Key) -> ArrayVec<Cond, MAX_CONDITIONS>
-    ensures { result.items ≡ Absent key.now ∷ [] }
+// That the key is absent.
+fn absent(alloc: Global, key: &Key) -> Result<Vec<Cond>, AllocError>
+    ensures { IfOk result (λ conditions. conditions.items ≡ Absent key.now ∷ []) }
 {
-    let mut conditions = ArrayVec::new();
-    conditions.push(Cond::Absent(key.copy()));
-    conditions
+    one(alloc, Cond::Absent(key.copy()))
 }
 
 // To set the key to the value.
-fn setting(key: &Key, value: &Value) -> Op
-    ensures { result ≡ Put key.now (Lit value.now) }
+fn setting(alloc: Global, key: &Key, value: &Value) -> Result<Vec<Op>, AllocError>
+    ensures { IfOk result (λ ops. ops.items ≡ Put key.now (Lit value.now) ∷ []) }
 {
-    Op::Put(key.copy(), Term::Lit(value.copy()))
+    one(alloc, Op::Put(key.copy(), Term::Lit(value.copy())))
 }
 
 // To set the key to the value, where it is absent.
-fn fallback(key: &Key, value: &Value) -> Alt
-    ensures { IsFallback value.now result key.now }
+fn fallback(alloc: Global, key: &Key, value: &Value) -> Result<RestingAlt, AllocError>
+    ensures { IfOk result (λ alternative. IsFallback value.now alternative key.now) }
 {
-    Alt {
-        when: absent(key),
-        ops: one_op(setting(key, value)),
-    }
+    let when = absent(alloc, key)?;
+    let ops = setting(alloc, key, value)?;
+    Ok(RestingAlt::new(when, ops))
 }
 
-fn fallbacks(keys: &[Key], value: &Value) -> ArrayVec<Alt, MAX_ALTERNATIVES>
+fn fallbacks(alloc: Global, keys: &[Key], value: &Value) -> Result<Vec<RestingAlt>, AllocError>
     requires { length keys.now ≤ MAX_ALTERNATIVES }
-    ensures { AllZip (IsFallback value.now) result.items keys.now }
+    ensures { IfOk result (λ alternatives. AllZip (IsFallback value.now) alternatives.items keys.now) }
 {
-    let mut alternatives = ArrayVec::new();
+    let mut alternatives = Vec::with_capacity(alloc, keys.len())?;
     for key in keys {
-        alternatives.push(fallback(key, value));
+        let alternative = fallback(alloc, key, value)?;
+        alternatives.push(alternative)?;
     }
-    alternatives
+    Ok(alternatives)
 }
 
 /// The program that sets the key to the value.
-pub fn put(key: &Key, value: &Value) -> Program
-    ensures { Puts key.now value.now result }
+pub fn put(alloc: Global, key: &Key, value: &Value) -> Result<RestingProgram, AllocError>
+    ensures { IfOk result (Puts key.now value.now) }
 {
-    Program {
-        check: ArrayVec::new(),
-        update: one_op(setting(key, value)),
-        merge: ArrayVec::new(),
-    }
+    let update = setting(alloc, key, value)?;
+    RestingProgram::new(alloc, Vec::new(alloc), update, Vec::new(alloc))
 }
 
 /// The program that removes the key.
-pub fn remove(key: &Key) -> Program
-    ensures { Removes key.now result }
+pub fn remove(alloc: Global, key: &Key) -> Result<RestingProgram, AllocError>
+    ensures { IfOk result (Removes key.now) }
 {
-    Program {
-        check: ArrayVec::new(),
-        update: one_op(Op::Del(key.copy())),
-        merge: ArrayVec::new(),
-    }
+    let update = one(alloc, Op::Del(key.copy()))?;
+    RestingProgram::new(alloc, Vec::new(alloc), update, Vec::new(alloc))
 }
 
 /// The program that adds the number to the key's, which an absent key has as 0.
-pub fn add(key: &Key, number: i64) -> Program
-    ensures { Adds key.now number result }
+pub fn add(alloc: Global, key: &Key, number: i64) -> Result<RestingProgram, AllocError>
+    ensures { IfOk result (Adds key.now number) }
 {
-    let mut merge = ArrayVec::new();
-    merge.push(Alt {
-        when: ArrayVec::new(),
-        ops: one_op(Op::Put(key.copy(), Term::Plus(key.copy(), number))),
-    });
-    Program {
-        check: absent(key),
-        update: one_op(setting(key, &Value::Num(number))),
-        merge,
-    }
+    let check = absent(alloc, key)?;
+    let update = setting(alloc, key, &Value::Num(number))?;
+    let ops = one(alloc, Op::Put(key.copy(), Term::Plus(key.copy(), number)))?;
+    let merge = one(alloc, RestingAlt::new(Vec::new(alloc), ops))?;
+    RestingProgram::new(alloc, check, update, merge)
 }
 
 /// The program that sets the first of the keys that is absent to the value: the first is `key`, and the others stand behind it.
-pub fn claim(key: &Key, others: &[Key], value: &Value) -> Program
+pub fn claim(
+    alloc: Global,
+    key: &Key,
+    others: &[Key],
+    value: &Value,
+) -> Result<RestingProgram, AllocError>
     requires { length others.now ≤ MAX_ALTERNATIVES }
-    ensures { Claims key.now others.now value.now result }
+    ensures { IfOk result (Claims key.now others.now value.now) }
 {
-    Program {
-        check: absent(key),
-        update: one_op(setting(key, value)),
-        merge: fallbacks(others, value),
-    }
+    let check = absent(alloc, key)?;
+    let update = setting(alloc, key, value)?;
+    let merge = fallbacks(alloc, others, value)?;
+    RestingProgram::new(alloc, check, update, merge)
 }
 
 impl Wish {
     /// The program of the Write that the wish is, or `None` where it is none.
-    pub fn program(&self) -> Option<Program>
-        ensures { MatchOption result (is_write self.now ≡ false) (Does self.now) }
+    pub fn program(&self, alloc: Global) -> Result<Option<RestingProgram>, AllocError>
+        ensures { IfOk result (λ program. MatchOption program (is_write self.now ≡ false) (Does self.now)) }
     {
-        match self {
-            Wish::Put { key, value } => Some(put(key, value)),
-            Wish::Add { key, number } => Some(add(key, *number)),
-            Wish::Del { key } => Some(remove(key)),
-            Wish::Claim { key, others, value } => Some(claim(key, others, value)),
-            Wish::Get { .. } | Wish::At(_) => None,
-            Wish::List | Wish::Servers | Wish::Session | Wish::Dump => None,
-        }
+        let program = match self {
+            Wish::Put { key, value } => put(alloc, key, value)?,
+            Wish::Add { key, number } => add(alloc, key, *number)?,
+            Wish::Del { key } => remove(alloc, key)?,
+            Wish::Claim { key, others, value } => claim(alloc, key, others, value)?,
+            Wish::Get { .. }
+            | Wish::At(_)
+            | Wish::List
+            | Wish::Servers
+            | Wish::Session
+            | Wish::Dump => return Ok(None),
+        };
+        Ok(Some(program))
     }
 }

@@ -4,7 +4,8 @@
 //! which wish, a row for each form, and `Faults` why words are none. Of a wish that is a Write [`Wish::program`] is what the Write does; what
 //! that means for a database stands in `specs/Doing`, in the words of the merge language.
 //!
-//! Nothing here knows of servers, sessions or connections, or takes memory but for the list of a line's words and a text in double quotes.
+//! Nothing here knows of servers, sessions or connections. Memory is taken for the list of a line's words, a text in double quotes and the lists of a
+//! program.
 #![tactic(auto)]
 
 pub mod doing;

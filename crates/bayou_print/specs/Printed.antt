@@ -147,7 +147,7 @@ pulling_text (pulling.Stream streams.OutOfMemory) = codes "memory"
 abbrev pub transfer_text : Transfer → List ℕ
 transfer_text NothingRuns = codes "pull fault lost\n"
 transfer_text (Ended (Ok pulled)) = codes "pulled " ++ (decimal pulled.taken ++ (codes " had " ++ (decimal pulled.had ++ codes "\n")))
-transfer_text (Ended (Err fault)) = codes "pull fault " ++ (pulling_text fault ++ codes "\n")
+transfer_text (Ended (Err stopped)) = codes "pull fault " ++ (pulling_text stopped.fault ++ codes "\n")
 
 -- how many reads, Writes and refusals were filed, and how many slips are out
 abbrev pub totals_text : Totals → List ℕ

@@ -277,8 +277,8 @@ fn transfer_line(alloc: Global, transfer: &Transfer) -> Result<String, AllocErro
         Transfer::Ended(Ok(Pulled { taken, had })) => format!(in alloc;
             "pulled {taken} had {had}\n"
         ),
-        Transfer::Ended(Err(fault)) => {
-            let why = pulling_word(fault);
+        Transfer::Ended(Err(stopped)) => {
+            let why = pulling_word(&stopped.fault);
             format!(in alloc; "pull fault {why}\n")
         }
     }

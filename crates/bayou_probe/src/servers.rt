@@ -86,7 +86,10 @@ pub(crate) fn serve(alloc: Global, place: Place, bytes: &[u8]) -> Result<String,
 pub(crate) fn pull(alloc: Global, place: Place, bytes: &[u8]) -> Result<String, AllocError> {
     let mut server = started(alloc, place)?;
     let mut channel = CountedChannel::new(bytes, io::sink());
-    let ended = pull_on(alloc, server.as_mut(), &mut channel);
+    let ended = match pull_on(alloc, server.as_mut(), &mut channel) {
+        Ok(pulled) => Ok(pulled),
+        Err(stopped) => Err(stopped.fault),
+    };
     let vector = server.vector();
     let [held, ..] = vector.counts();
     format!(in alloc; "{held} {ended:?}")

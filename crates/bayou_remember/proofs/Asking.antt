@@ -3,7 +3,7 @@ use Rattle.std.proofs.Common.{◌≡◌, ℕ, refl, sym, ap, ◌∙◌, List, []
 use Rattle.std.specs.Prelude.{MatchOption, replicate}
 use Rattle.bayou_base.specs.declared.limits.TheConstants.{SERVERS}
 use Rattle.bayou_base.specs.declared.tag.Tag.{Tag}
-use Rattle.bayou_client.specs.declared.client.Asked.{Asked}
+use Rattle.bayou_client.specs.declared.asker.Asked.{Asked}
 use Rattle.bayou_remember.specs.Spelling.{AreAskedFrames}
 use Rattle.bayou_session.specs.Needs.{IsTagOf, Told}
 use Rattle.bayou_wire.specs.declared.frame.Frame.{Frame}

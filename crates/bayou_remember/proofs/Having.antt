@@ -1,4 +1,5 @@
 -- What a device has of sessions, behind entries that were added, and that could not be.
+use Rattle.bayou_client.specs.Operating.{Asking}
 use Rattle.std.proofs.Common.{◌≡◌, ℕ, true, false, List, [], ◌∷◌, ◌++◌, Option, None, Some, refl, sym, subst, inl, inr}
 use Rattle.std.specs.Prelude.{◌⊎◌, map}
 use Rattle.bayou_device.specs.declared.device.Device.{Ghosts}
@@ -9,7 +10,7 @@ use Rattle.bayou_journal.specs.Opening.{FailsToAdd, HasOpened, KeepsChains}
 use Rattle.bayou_journal.specs.Versions.{Body}
 use Rattle.bayou_remember.specs.Inner.Reading.{CantTell}
 use Rattle.bayou_remember.specs.Memory.{AreLast, AreSpelled, HasAll, HasFailedToKeep, HasNotRemembered, HasRemembered, MemoryState, OpensTo}
-use Rattle.bayou_remember.specs.Spelling.{Keeping, SpellsKept, in_run}
+use Rattle.bayou_remember.specs.Spelling.{SpellsKept, in_run}
 use Rattle.bayou_remember.specs.declared.memory.RememberFault.{RememberFault}
 use Rattle.bayou_remember.specs.declared.memory.RememberFault.TheVariants.{Journal, NotKept, OutOfMemory}
 use Rattle.bayou_remember.specs.declared.memory.TheConstants.{KEEPER}
@@ -38,9 +39,9 @@ OpensWhole {D} d = (server : ℕ) (old new : D) (found : Found) (last : List ℕ
 -- ---- an entry
 
 -- a device that had these and nothing else has this one too
-pub adds_one : {D : Type 0} (d : Ghosts D) → AddsWhole d → (old new : MemoryState D) (kept : Keeping) (body : List ℕ) → IsBody body → SpellsKept body kept
+pub adds_one : {D : Type 0} (d : Ghosts D) → AddsWhole d → (old new : MemoryState D) (kept : Asking) (body : List ℕ) → IsBody body → SpellsKept body kept
     → d.content new.device ≡ d.content old.device ++ entry old.last body → d.kept new.device ≡ d.content new.device → new.last ≡ link old.last body
-    → (all : List Keeping) → HasAll d old all → HasAll d new (all ++ kept ∷ [])
+    → (all : List Asking) → HasAll d old all → HasAll d new (all ++ kept ∷ [])
 adds_one d law old new kept body is_body spelled added synced lasts all has = (
   has.0 ++ added_body body ∷ [],
   zip_more (λ body one. SpellsKept body.bytes one) has.0 all (added_body body) kept has.1 spelled,
@@ -58,7 +59,7 @@ not_told d old new bodies OutOfMemory opens cant = (bodies, opens)
 -- ---- an opening
 
 -- the bodies found are these
-found_these : {D : Type 0} (d : Ghosts D) → KeepOne → OpensWhole d → (run : ℕ) (bodies : List Body) (all : List Keeping) (old : D) (new : MemoryState D) (told : List (Option Keeping)) → d.is_modelled
+found_these : {D : Type 0} (d : Ghosts D) → KeepOne → OpensWhole d → (run : ℕ) (bodies : List Body) (all : List Asking) (old : D) (new : MemoryState D) (told : List (Option Asking)) → d.is_modelled
     → AreSpelled bodies all → (remembered : HasRemembered d run old new told) → remembered.found.bodies ≡ bodies → AreLast (map (in_run run) all) told × HasAll d new all
 found_these d one law run bodies all old new told modelled spelled remembered is =
     let here = subst (λ b. AreSpelled b all) (sym is) spelled in (
@@ -66,7 +67,7 @@ found_these d one law run bodies all old new told modelled spelled remembered is
       (remembered.found.bodies, here, law KEEPER old new.device remembered.found new.last modelled remembered.opened),
     )
 
-pub opened : {D : Type 0} (d : Ghosts D) → KeepOne → WholeIsHonest d → OpensHonestly d → OpensWhole d → (run : ℕ) (all : List Keeping) (old new : MemoryState D) (told : List (Option Keeping)) → d.is_modelled
+pub opened : {D : Type 0} (d : Ghosts D) → KeepOne → WholeIsHonest d → OpensHonestly d → OpensWhole d → (run : ℕ) (all : List Asking) (old new : MemoryState D) (told : List (Option Asking)) → d.is_modelled
     → HasAll d old all → HasRemembered d run old.device new told → AreLast (map (in_run run) all) told × HasAll d new all
 opened d one honest finds whole run all old new told modelled has remembered =
     found_these d one whole run has.0 all old.device new told modelled has.1 remembered
@@ -74,11 +75,11 @@ opened d one honest finds whole run all old new told modelled has remembered =
 
 -- ---- an entry that could not be added
 
-abbrev pub Told : {D : Type 0} → Ghosts D → ℕ → List Keeping → Keeping → MemoryState D → List (Option Keeping) → Type 0
+abbrev pub Told : {D : Type 0} → Ghosts D → ℕ → List Asking → Asking → MemoryState D → List (Option Asking) → Type 0
 Told d run all kept new told = (AreLast (map (in_run run) all) told × HasAll d new all) ⊎ (AreLast (map (in_run run) (all ++ kept ∷ [])) told × HasAll d new (all ++ kept ∷ []))
 
-pub failed : {D : Type 0} (d : Ghosts D) → KeepOne → WholeIsHonest d → OpensHonestly d → OpensWhole d → FailsHonestly d → (run : ℕ) (all : List Keeping) (kept : Keeping) (old down new : MemoryState D)
-    (told : List (Option Keeping)) → OnlyTears d → HasAll d old all → HasFailedToKeep d old kept down → KeepsChains (d.kept old.device) (d.kept down.device) → HasRemembered d run down.device new told
+pub failed : {D : Type 0} (d : Ghosts D) → KeepOne → WholeIsHonest d → OpensHonestly d → OpensWhole d → FailsHonestly d → (run : ℕ) (all : List Asking) (kept : Asking) (old down new : MemoryState D)
+    (told : List (Option Asking)) → OnlyTears d → HasAll d old all → HasFailedToKeep d old kept down → KeepsChains (d.kept old.device) (d.kept down.device) → HasRemembered d run down.device new told
     → Told d run all kept new told
 failed {D} d one honest finds whole fails run all kept old down new told tears has failing safe remembered =
     elim old.is_down as (λ t. old.is_down ≡ t → Told d run all kept new told) [

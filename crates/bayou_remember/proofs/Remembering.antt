@@ -1,4 +1,5 @@
 -- The last of each session, one entry behind another.
+use Rattle.bayou_client.specs.Operating.{Asking}
 use Rattle.std.proofs.Common.{arith, ◌≡◌, ◌≢◌, ℕ, ◌<◌, true, false, eqb, List, [], ◌∷◌, ◌++◌, Option, None, Some, zero, suc, ◌+◌, length, get_or, set, take, append_assoc, refl, sym, ap, subst, ◌∙◌}
 use Rattle.std.specs.List.{AllByRecursion, AllZip, slice_get}
 use Rattle.std.specs.Prelude.{IfSome, map, replicate}
@@ -8,7 +9,7 @@ use Rattle.std.proofs.lemmas.Option.{get_or_from_slice_get, same_Some, slice_get
 use Rattle.bayou_base.specs.declared.limits.TheConstants.{SESSIONS}
 use Rattle.bayou_journal.specs.Versions.{Body}
 use Rattle.bayou_remember.specs.Memory.{AreLast, AreSpelled, IsKeptIn, IsLastOf, KeepsNothing, Remembers}
-use Rattle.bayou_remember.specs.Spelling.{Keeping, SpellsKept, in_run}
+use Rattle.bayou_remember.specs.Spelling.{SpellsKept, in_run}
 
 -- ---- lists
 
@@ -25,7 +26,7 @@ all_more P (a ∷ xs) x (first, all) one = (first, all_more P xs x all one)
 -- ---- the last
 
 -- where no more is known of another session, its last is as before
-last_before : (session : ℕ) (all : List Keeping) (kept : Keeping) (last : Option Keeping) → kept.session.id.index ≢ session → IsLastOf session all last → IsLastOf session (all ++ kept ∷ []) last
+last_before : (session : ℕ) (all : List Asking) (kept : Asking) (last : Option Asking) → kept.session.id.index ≢ session → IsLastOf session all last → IsLastOf session (all ++ kept ∷ []) last
 last_before session all kept None another none = all_more (λ other. other.session.id.index ≢ session) all kept none another
 last_before session all kept (Some last) another is = (
   is.0,
@@ -50,7 +51,7 @@ elsewhere xs at other x another within =
     ∙ ap (λ a. Some a) (get_or-set_other xs at other x x another) ∙ sym (slice_get-get_or xs other x within)
 
 -- one more is kept: it is the last of its session, and those of others stay
-pub one_more_last : (all : List Keeping) (kept : Keeping) (before : List (Option Keeping)) → AreLast all before → kept.session.id.index < SESSIONS
+pub one_more_last : (all : List Asking) (kept : Asking) (before : List (Option Asking)) → AreLast all before → kept.session.id.index < SESSIONS
     → AreLast (all ++ kept ∷ []) (set before kept.session.id.index (Some kept))
 one_more_last all kept before last within = record {
   one_each = length-set before kept.session.id.index (Some kept) ∙ last.one_each;
@@ -83,7 +84,7 @@ none_last = record {
 }
 
 -- what one body more keeps
-pub one_more_remembered : (run : ℕ) (bodies : List Body) (body : Body) (kept : Keeping) (before : List (Option Keeping)) → Remembers run bodies before → IsKeptIn run body kept
+pub one_more_remembered : (run : ℕ) (bodies : List Body) (body : Body) (kept : Asking) (before : List (Option Asking)) → Remembers run bodies before → IsKeptIn run body kept
     → kept.session.id.index < SESSIONS → Remembers run (bodies ++ body ∷ []) (set before kept.session.id.index (Some kept))
 one_more_remembered run bodies body kept before so_far is within = record {
   all = so_far.all ++ kept ∷ [];
@@ -104,15 +105,15 @@ body_at (body ∷ bodies) (suc at) bytes within is =
     let next = body_at bodies at bytes (omega arith) is in
     record { body = next.body; at_is = next.at_is; bytes_are = next.bytes_are }
 
-pub keeps_nothing : (bodies : List Body) (at : ℕ) (bytes : List ℕ) → at < length bodies → IfSome (slice_get bodies at) (λ body. bytes ≡ body.bytes) → ((kept : Keeping) → SpellsKept bytes kept → ⊥)
+pub keeps_nothing : (bodies : List Body) (at : ℕ) (bytes : List ℕ) → at < length bodies → IfSome (slice_get bodies at) (λ body. bytes ≡ body.bytes) → ((kept : Asking) → SpellsKept bytes kept → ⊥)
     → KeepsNothing bodies at
 keeps_nothing bodies at bytes within is none =
     let it = body_at bodies at bytes within is in
     (it.body, it.at_is, λ kept spells. none kept (subst (λ bs. SpellsKept bs kept) (sym it.bytes_are) spells))
 
-pub one_body_more : (run : ℕ) (bodies : List Body) (at : ℕ) (bytes : List ℕ) (kept : Keeping) (before : List (Option Keeping)) (place : ℕ) → at < length bodies
+pub one_body_more : (run : ℕ) (bodies : List Body) (at : ℕ) (bytes : List ℕ) (kept : Asking) (before : List (Option Asking)) (place : ℕ) → at < length bodies
     → IfSome (slice_get bodies at) (λ body. bytes ≡ body.bytes) → Remembers run (take at bodies) before → SpellsKept bytes kept
-    → ((other : Keeping) → SpellsKept bytes other → Some kept ≡ Some (in_run run other)) → place ≡ kept.session.id.index → Remembers run (take (at + 1) bodies) (set before place (Some kept))
+    → ((other : Asking) → SpellsKept bytes other → Some kept ≡ Some (in_run run other)) → place ≡ kept.session.id.index → Remembers run (take (at + 1) bodies) (set before place (Some kept))
 one_body_more run bodies at bytes kept before place within is so_far spells again here =
     let it = body_at bodies at bytes within is in
     let kept_in : IsKeptIn run it.body kept = record { spelled = subst (λ bs. SpellsKept bs kept) it.bytes_are spells; goes_on = sym (same_Some kept (in_run run kept) (again kept spells)) } in
@@ -123,10 +124,10 @@ one_body_more run bodies at bytes kept before place within is so_far spells agai
 -- ---- bodies that keep these
 
 abbrev pub KeepOne : Type 0
-KeepOne = (run : ℕ) (bytes : List ℕ) (one other : Keeping) → SpellsKept bytes one → SpellsKept bytes other → in_run run one ≡ in_run run other
+KeepOne = (run : ℕ) (bytes : List ℕ) (one other : Asking) → SpellsKept bytes one → SpellsKept bytes other → in_run run one ≡ in_run run other
 
 -- what bodies keep in a run is one
-pub one_in_run : KeepOne → (run : ℕ) (bodies : List Body) (told all : List Keeping) → AllZip (IsKeptIn run) bodies told → AreSpelled bodies all → told ≡ map (in_run run) all
+pub one_in_run : KeepOne → (run : ℕ) (bodies : List Body) (told all : List Asking) → AllZip (IsKeptIn run) bodies told → AreSpelled bodies all → told ≡ map (in_run run) all
 one_in_run law run [] [] [] each spelled = refl
 one_in_run law run [] [] (kept ∷ all) each spelled = absurd spelled
 one_in_run law run [] (one ∷ told) all each spelled = absurd each
@@ -138,5 +139,5 @@ one_in_run law run (body ∷ bodies) (one ∷ told) (kept ∷ all) each spelled 
     ap (λ k. k ∷ told) first ∙ ap (λ l. in_run run kept ∷ l) rest
 
 -- so of each session the last of them is told
-pub last_in_run : KeepOne → (run : ℕ) (bodies : List Body) (told : List (Option Keeping)) (all : List Keeping) → Remembers run bodies told → AreSpelled bodies all → AreLast (map (in_run run) all) told
+pub last_in_run : KeepOne → (run : ℕ) (bodies : List Body) (told : List (Option Asking)) (all : List Asking) → Remembers run bodies told → AreSpelled bodies all → AreLast (map (in_run run) all) told
 last_in_run law run bodies told all remembers spelled = subst (λ l. AreLast l told) (one_in_run law run bodies remembers.all all remembers.each spelled) remembers.last

@@ -1,11 +1,12 @@
 -- Bytes keep one session at the most, but for its run, where it has nothing to ask again.
+use Rattle.bayou_client.specs.Operating.{Asking}
 use Rattle.std.proofs.Common.{arith, ◌≡◌, ℕ, List, [], ◌∷◌, length, Option, None, Some, refl, sym, ap, ◌∙◌}
 use Rattle.std.specs.List.{AllByRecursion}
 use Rattle.bayou_base.specs.declared.asks.Asks.{Asks}
 use Rattle.bayou_base.specs.declared.session.SessionId.{SessionId}
 use Rattle.bayou_base.specs.declared.tag.Tag.{Tag}
-use Rattle.bayou_client.specs.declared.client.Asked.{Asked}
-use Rattle.bayou_remember.specs.Spelling.{AreAskedFrames, Keeping, SpellsKept, frames_of, in_run, run_in, server_of}
+use Rattle.bayou_client.specs.declared.asker.Asked.{Asked}
+use Rattle.bayou_remember.specs.Spelling.{AreAskedFrames, SpellsKept, frames_of, in_run, run_in, server_of}
 use Rattle.bayou_remember.proofs.Heads.{one_head, session_ext}
 use Rattle.bayou_session.specs.Needs.{Told}
 use Rattle.bayou_wire.specs.Laws.Frames.{begins_one, frames_size}
@@ -60,13 +61,13 @@ one_asked one other (Some asked) (Some what) xs ys a b same at =
     }
 
 -- of the same parts one is kept
-of_the_same : (made : SessionId → Asks → ℕ → ℕ → Option ℕ → List ℕ → List ℕ → Option Asked → Keeping) (id who : SessionId) → id ≡ who → (asks more : Asks) → asks ≡ more → (run go : ℕ) → run ≡ go
+of_the_same : (made : SessionId → Asks → ℕ → ℕ → Option ℕ → List ℕ → List ℕ → Option Asked → Asking) (id who : SessionId) → id ≡ who → (asks more : Asks) → asks ≡ more → (run go : ℕ) → run ≡ go
     → (begun place : ℕ) → begun ≡ place → (asked number : Option ℕ) → asked ≡ number → (reads seen : List ℕ) → reads ≡ seen → (writes wrote : List ℕ) → writes ≡ wrote → (what again : Option Asked) → what ≡ again
     → made id asks run begun asked reads writes what ≡ made who more go place number seen wrote again
 of_the_same made id who ids asks more asking run go runs begun place places asked number numbers reads seen read writes wrote written what again is = cc
 
 -- what bytes keep is one, in a run
-pub one_kept : (run : ℕ) (bytes : List ℕ) (one other : Keeping) → SpellsKept bytes one → SpellsKept bytes other → in_run run one ≡ in_run run other
+pub one_kept : (run : ℕ) (bytes : List ℕ) (one other : Asking) → SpellsKept bytes one → SpellsKept bytes other → in_run run one ≡ in_run run other
 one_kept run bytes one other spells tells =
     let head = one_head one.session.id.index other.session.id.index one.session.asks other.session.asks one.session.begun other.session.begun (server_of one.asked) (server_of other.asked)
     (spellings (frames_of one spells.asking)) (spellings (frames_of other tells.asking)) spells.begun tells.begun (sym spells.spelled ∙ tells.spelled) in

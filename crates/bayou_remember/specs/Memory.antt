@@ -1,4 +1,5 @@
 -- What a device remembers of sessions: this project's own.
+use Rattle.bayou_client.specs.Operating.{Asking}
 use Rattle.std.specs.Prelude.{◌≡◌, ◌≢◌, ◌<◌, ℕ, Bool, true, false, List, ◌∷◌, ◌++◌, Option, None, Some, IfSome, Result, Ok, Err, length, slice_get}
 use Rattle.std.specs.List.{AllByRecursion, AllZip}
 use Rattle.bayou_base.specs.declared.limits.TheConstants.{MAX_BODY_BYTES, SESSIONS}
@@ -9,7 +10,7 @@ use Rattle.bayou_journal.specs.Honest.{IsWhole}
 use Rattle.bayou_journal.specs.Opened.{Found}
 use Rattle.bayou_journal.specs.Opening.{FailsToAdd, HasOpened, HasRefused}
 use Rattle.bayou_journal.specs.Versions.{Body}
-use Rattle.bayou_remember.specs.Spelling.{Keeping, SpellsKept, in_run}
+use Rattle.bayou_remember.specs.Spelling.{SpellsKept, in_run}
 use Rattle.bayou_remember.specs.declared.memory.KeepFault.{KeepFault}
 use Rattle.bayou_remember.specs.declared.memory.KeepFault.TheVariants as keeping
 use Rattle.bayou_remember.specs.declared.memory.RememberFault.{RememberFault}
@@ -25,32 +26,32 @@ pub record MemoryState (D : Type 0) : Type 0 where
   pub entries : ℕ
 
 -- the last of them that is of this session, if one is
-abbrev pub IsLastOf : (session : ℕ) → List Keeping → Option Keeping → Type 0
+abbrev pub IsLastOf : (session : ℕ) → List Asking → Option Asking → Type 0
 IsLastOf session all None = AllByRecursion (λ kept. kept.session.id.index ≢ session) all
 IsLastOf session all (Some last) =
-    (before : List Keeping) × (after : List Keeping) × (all ≡ before ++ last ∷ after) × (last.session.id.index ≡ session)
+    (before : List Asking) × (after : List Asking) × (all ≡ before ++ last ∷ after) × (last.session.id.index ≡ session)
     × AllByRecursion (λ kept. kept.session.id.index ≢ session) after
 
 -- the body is what is kept, in this run where that has nothing to ask again
-pub record IsKeptIn (run : ℕ) (body : Body) (kept : Keeping) : Type 0 where
+pub record IsKeptIn (run : ℕ) (body : Body) (kept : Asking) : Type 0 where
   pub spelled : SpellsKept body.bytes kept
   pub goes_on : in_run run kept ≡ kept
 
 -- of each session, by its number, the last of them
-pub record AreLast (all : List Keeping) (last : List (Option Keeping)) : Type 0 where
+pub record AreLast (all : List Asking) (last : List (Option Asking)) : Type 0 where
   pub one_each : length last ≡ SESSIONS
   pub is_last : (session : ℕ) → session < SESSIONS → IfSome (slice_get last session) (IsLastOf session all)
 
 -- what these bodies keep, each in its place, and of each session the last of that
-pub record Remembers (run : ℕ) (bodies : List Body) (told : List (Option Keeping)) : Type 0 where
-  pub all : List Keeping
+pub record Remembers (run : ℕ) (bodies : List Body) (told : List (Option Asking)) : Type 0 where
+  pub all : List Asking
   pub each : AllZip (IsKeptIn run) bodies all
   pub last : AreLast all told
 
 -- ---- an opening
 
 -- The journal was opened: of each session the last that its bodies keep is told, and each body is an entry.
-pub record HasRemembered {D : Type 0} (d : Ghosts D) (run : ℕ) (old : D) (new : MemoryState D) (told : List (Option Keeping)) : Type 0 where
+pub record HasRemembered {D : Type 0} (d : Ghosts D) (run : ℕ) (old : D) (new : MemoryState D) (told : List (Option Asking)) : Type 0 where
   pub found : Found
   pub opened : HasOpened d KEEPER old new.device found new.last
   pub remembers : Remembers run found.bodies told
@@ -59,7 +60,7 @@ pub record HasRemembered {D : Type 0} (d : Ghosts D) (run : ℕ) (old : D) (new 
 
 -- the body at this place keeps nothing
 abbrev pub KeepsNothing : List Body → ℕ → Type 0
-KeepsNothing bodies at = (body : Body) × (slice_get bodies at ≡ Some body) × ((kept : Keeping) → ¬ SpellsKept body.bytes kept)
+KeepsNothing bodies at = (body : Body) × (slice_get bodies at ≡ Some body) × ((kept : Asking) → ¬ SpellsKept body.bytes kept)
 
 -- a journal was opened that has these bodies
 abbrev pub OpensTo : {D : Type 0} → Ghosts D → (old new : D) → List Body → Type 0
@@ -75,7 +76,7 @@ HasNotRemembered d old new remembering.OutOfMemory = (bodies : List Body) × Ope
 -- ---- an entry
 
 -- the entry of what is kept stands behind all else, and all of it is synced
-pub record HasKept {D : Type 0} (d : Ghosts D) (old : MemoryState D) (kept : Keeping) (new : MemoryState D) : Type 0 where
+pub record HasKept {D : Type 0} (d : Ghosts D) (old : MemoryState D) (kept : Asking) (new : MemoryState D) : Type 0 where
   pub was_up : old.is_down ≡ false
   pub body : List ℕ
   pub is_body : IsBody body
@@ -85,7 +86,7 @@ pub record HasKept {D : Type 0} (d : Ghosts D) (old : MemoryState D) (kept : Kee
   pub others : new ≡ record old { device = new.device; last = link old.last body; entries = one_more old.entries }
 
 -- what stands last in the journal is this
-pub record EndsWith {D : Type 0} (memory : MemoryState D) (kept : Keeping) : Type 0 where
+pub record EndsWith {D : Type 0} (memory : MemoryState D) (kept : Asking) : Type 0 where
   pub before : List ℕ
   pub body : List ℕ
   pub spelled : SpellsKept body kept
@@ -93,7 +94,7 @@ pub record EndsWith {D : Type 0} (memory : MemoryState D) (kept : Keeping) : Typ
   pub up : memory.is_down ≡ false
 
 -- A call of the device failed before, and nothing was done; or one failed as the entry was to be added.
-pub record HasFailedToKeep {D : Type 0} (d : Ghosts D) (old : MemoryState D) (kept : Keeping) (new : MemoryState D) : Type 0 where
+pub record HasFailedToKeep {D : Type 0} (d : Ghosts D) (old : MemoryState D) (kept : Asking) (new : MemoryState D) : Type 0 where
   pub before : old.is_down ≡ true → new ≡ old
   pub others : new ≡ record old { device = new.device; is_down = true }
   pub body : List ℕ
@@ -102,7 +103,7 @@ pub record HasFailedToKeep {D : Type 0} (d : Ghosts D) (old : MemoryState D) (ke
   pub left : d.is_modelled → old.is_down ≡ false → FailsToAdd d.may_leave (entry old.last body) (d.content old.device) (d.content new.device)
 
 -- how a memory stands behind what was to be kept
-abbrev pub Keeps : {D : Type 0} → Ghosts D → (old : MemoryState D) → Keeping → Result (Unit {0}) KeepFault → (new : MemoryState D) → Type 0
+abbrev pub Keeps : {D : Type 0} → Ghosts D → (old : MemoryState D) → Asking → Result (Unit {0}) KeepFault → (new : MemoryState D) → Type 0
 Keeps d old kept (Ok done) new = HasKept d old kept new
 Keeps d old kept (Err keeping.Device) new = HasFailedToKeep d old kept new
 Keeps d old kept (Err keeping.TooLong) new = (new ≡ old) × (bytes : List ℕ) × SpellsKept bytes kept × (MAX_BODY_BYTES < length bytes)
@@ -111,9 +112,9 @@ Keeps d old kept (Err keeping.OutOfMemory) new = new ≡ old
 -- ---- what is kept
 
 -- the bodies keep these, each the one at its place
-abbrev pub AreSpelled : List Body → List Keeping → Type 0
+abbrev pub AreSpelled : List Body → List Asking → Type 0
 AreSpelled bodies all = AllZip (λ body kept. SpellsKept body.bytes kept) bodies all
 
 -- the device has these and nothing else, one behind another, and all of it is synced
-abbrev pub HasAll : {D : Type 0} → Ghosts D → MemoryState D → List Keeping → Type 0
+abbrev pub HasAll : {D : Type 0} → Ghosts D → MemoryState D → List Asking → Type 0
 HasAll d memory all = (bodies : List Body) × AreSpelled bodies all × IsWhole d KEEPER bodies memory.last memory.device

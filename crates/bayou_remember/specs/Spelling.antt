@@ -5,18 +5,14 @@ use Rattle.bayou_base.specs.declared.asks.Asks.{Asks}
 use Rattle.bayou_base.specs.declared.limits.TheConstants.{MAX_PLACES}
 use Rattle.bayou_base.specs.declared.server.ServerId.{ServerId}
 use Rattle.bayou_base.specs.declared.tag.Tag.{Tag}
-use Rattle.bayou_client.specs.declared.client.Asked.{Asked}
+use Rattle.bayou_client.specs.declared.asker.Asked.{Asked}
+use Rattle.bayou_client.specs.Operating.{Asking}
 use Rattle.bayou_remember.specs.declared.layout.TheConstants as layout
 use Rattle.bayou_session.specs.Needs.{IsTagOf, Told}
 use Rattle.bayou_wire.specs.declared.frame.Frame.{Frame}
 use Rattle.bayou_wire.specs.declared.frame.Frame.TheVariants as frames
 use Rattle.bayou_wire.specs.Spelling.{IsFrame, u32_bytes}
 use Rattle.bayou_wire.specs.Stream.{spellings}
-
--- a session, and the Write that it may ask again, if there is one
-pub record Keeping : Type 0 where
-  pub session : Told
-  pub asked : Option Asked
 
 -- whether a guarantee is asked for
 abbrev pub flag_byte : Bool → ℕ
@@ -49,12 +45,12 @@ AreAskedFrames session (Some asked) asking =
     × (asking ≡ frames.Write tag need asked.program ∷ [])
 
 -- The frames that tell it: what it read and what it wrote, each as an Offer, and the request for the Write that may be asked again.
-abbrev pub frames_of : Keeping → (asking : List Frame) → List Frame
+abbrev pub frames_of : Asking → (asking : List Frame) → List Frame
 frames_of kept asking = frames.Offer kept.session.reads ∷ frames.Offer kept.session.writes ∷ asking
 
 -- The bytes are what is kept: the head, and the frames, each of which has a spelling. A Write may be asked again that was asked at one of the
 -- places which were begun.
-pub record SpellsKept (bytes : List ℕ) (kept : Keeping) : Type 0 where
+pub record SpellsKept (bytes : List ℕ) (kept : Asking) : Type 0 where
   pub begun : kept.session.begun ≤ MAX_PLACES
   pub asked : IfSome kept.session.asked (λ number. number ≤ kept.session.begun)
   pub asking : List Frame
@@ -68,5 +64,5 @@ run_in run None own = run
 run_in run (Some number) own = own
 
 -- The same in that run. Where nothing may be asked again no spelling tells the run.
-abbrev pub in_run : ℕ → Keeping → Keeping
+abbrev pub in_run : ℕ → Asking → Asking
 in_run run kept = record kept { session = record kept.session { run = run_in run kept.session.asked kept.session.run } }

@@ -1,17 +1,17 @@
 //! What is kept, from its bytes.
+ghost use Rattle.bayou_client.specs.Operating.{Asking};
 ghost use Rattle.std.specs.Prelude.{◌≡◌, ◌≢◌, ◌<◌, ◌≤◌, ◌↔◌, ◌∷◌, ◌++◌, [], ℕ, IfOk, IsTrue, List, MatchOption, None, Some};
 ghost use Rattle.bayou_base.specs.declared.tag.Tag.{Tag as TagSaid};
 ghost use Rattle.bayou_lang.specs.declared.program.Program.{Program};
 ghost use Rattle.bayou_remember.specs.Inner.Reading.{AreFrames, IsKeptBy};
-ghost use Rattle.bayou_remember.specs.Spelling.{Keeping, SpellsKept, in_run};
+ghost use Rattle.bayou_remember.specs.Spelling.{SpellsKept, in_run};
 ghost use Rattle.bayou_wire.specs.declared.frame.Frame.{Frame as FrameSaid};
 ghost use Rattle.bayou_wire.specs.declared.frame.Frame.TheVariants.{Offer, Write as WriteFrame};
 
 use crate::head::{Head, head_of};
-use crate::kept::Kept;
 use crate::laws::bytes_keep_one_session;
 use bayou_base::{ServerId, Tag, Vector};
-use bayou_client::Asked;
+use bayou_client::{Asked, Asker};
 use bayou_lang::RestingProgram;
 use bayou_session::{Past, Session};
 use bayou_wire::laws::one_reading;
@@ -47,10 +47,10 @@ fn vectors_of(frames: &[Frame]) -> Option<(Vector, Vector)>
 }
 
 // A session that has nothing to ask again, in this run.
-fn without_asking(run: u32, head: Head, frames: &[Frame]) -> Option<Kept>
+fn without_asking(run: u32, head: Head, frames: &[Frame]) -> Option<Asker>
     requires run { 0 < run }
     requires none { head.server ≡ None }
-    ensures { MatchOption result ((kept : Keeping) → ¬ IsKeptBy head frames.now kept) (λ kept. IsKeptBy head frames.now kept × (in_run run kept ≡ kept)) }
+    ensures { MatchOption result ((kept : Asking) → ¬ IsKeptBy head frames.now kept) (λ kept. IsKeptBy head frames.now kept × (in_run run kept ≡ kept)) }
 {
     let (reads, writes) = vectors_of(frames)?;
     let past = Past {
@@ -61,7 +61,7 @@ fn without_asking(run: u32, head: Head, frames: &[Frame]) -> Option<Kept>
         writes,
     };
     let session = Session::resume(head.session, head.asks, past);
-    Some(Kept::new(session, None))
+    Some(Asker::new(session, None))
 }
 
 // Whether the tag is of the session that the head is of, and of a place that this has begun.
@@ -72,11 +72,11 @@ fn is_tag_of(head: &Head, tag: Tag) -> bool
 }
 
 // A session that may ask this Write again.
-fn asking(head: Head, tag: Tag, asked: Asked, frames: &[Frame]) -> Option<Kept>
+fn asking(head: Head, tag: Tag, asked: Asked, frames: &[Frame]) -> Option<Asker>
     requires begun { tag.number ≤ head.begun }
     requires whose { tag.session.index ≡ head.session.index }
     requires at { head.server ≡ Some asked.server }
-    ensures { (need : List ℕ) → MatchOption result ((kept : Keeping) → ¬ IsKeptBy head (frames.now ++ WriteFrame tag need asked.program ∷ []) kept)
+    ensures { (need : List ℕ) → MatchOption result ((kept : Asking) → ¬ IsKeptBy head (frames.now ++ WriteFrame tag need asked.program ∷ []) kept)
         (λ kept. IsKeptBy head (frames.now ++ WriteFrame tag need asked.program ∷ []) kept × ((run : ℕ) → in_run run kept ≡ kept)) }
 {
     let (reads, writes) = vectors_of(frames)?;
@@ -88,7 +88,7 @@ fn asking(head: Head, tag: Tag, asked: Asked, frames: &[Frame]) -> Option<Kept>
         writes,
     };
     let session = Session::resume(tag.session, head.asks, past);
-    Some(Kept::new(session, Some(asked)))
+    Some(Asker::new(session, Some(asked)))
 }
 
 // What a request for a Write asks for: under which tag, and of which program.
@@ -102,9 +102,9 @@ fn request_in(frame: Frame) -> Option<(Tag, RestingProgram)>
 }
 
 // A session that may ask a Write again at this server.
-fn with_asking(head: Head, server: ServerId, frames: Vec<Frame>) -> Option<Kept>
+fn with_asking(head: Head, server: ServerId, frames: Vec<Frame>) -> Option<Asker>
     requires { head.server ≡ Some server }
-    ensures { MatchOption result ((kept : Keeping) → ¬ IsKeptBy head frames.items kept) (λ kept. IsKeptBy head frames.items kept × ((run : ℕ) → in_run run kept ≡ kept)) }
+    ensures { MatchOption result ((kept : Asking) → ¬ IsKeptBy head frames.items kept) (λ kept. IsKeptBy head frames.items kept × ((run : ℕ) → in_run run kept ≡ kept)) }
 {
     let mut frames = frames;
     let last = frames.pop()?;
@@ -117,10 +117,10 @@ fn with_asking(head: Head, server: ServerId, frames: Vec<Frame>) -> Option<Kept>
 
 /// What the bytes keep, all of them, if they do. A session that has nothing to ask again goes on in this run. What [`encode_kept`](crate::encode_kept)
 /// gave is read as it was.
-pub fn decode_kept(alloc: Global, run: u32, bytes: &[u8]) -> Result<Option<Kept>, AllocError>
+pub fn decode_kept(alloc: Global, run: u32, bytes: &[u8]) -> Result<Option<Asker>, AllocError>
     requires { 0 < run }
-    ensures told { IfOk result (λ given. MatchOption given ((kept : Keeping) → ¬ SpellsKept bytes.now kept) (λ kept. SpellsKept bytes.now kept)) }
-    ensures again { IfOk result (λ given. (kept : Keeping) → SpellsKept bytes.now kept → given ≡ Some (in_run run kept)) }
+    ensures told { IfOk result (λ given. MatchOption given ((kept : Asking) → ¬ SpellsKept bytes.now kept) (λ kept. SpellsKept bytes.now kept)) }
+    ensures again { IfOk result (λ given. (kept : Asking) → SpellsKept bytes.now kept → given ≡ Some (in_run run kept)) }
 {
     bytes_keep_one_session();
     let Some((head, rest)) = head_of(bytes) else {

@@ -8,10 +8,9 @@ ghost use Rattle.bayou_wire.specs.declared.frame.Frame.TheVariants.{Write as Wri
 ghost use Rattle.bayou_wire.specs.Spelling.{IsFrame};
 ghost use Rattle.bayou_wire.specs.Stream.{spelling, spellings};
 
-use crate::kept::Kept;
 use crate::layout::{A_WRITE, ASKED, KEPT_VERSION, NOT_ASKED, NOTHING};
 use bayou_base::{Asks, Tag, Vector};
-use bayou_client::Asked;
+use bayou_client::{Asked, Asker};
 use bayou_session::Session;
 use bayou_wire::{Frame, encode_frame};
 use std::alloc::{AllocError, Global};
@@ -97,7 +96,7 @@ fn put_asking(
 }
 
 /// A spelling of what is kept, with no need in its request. Want of memory is the only refusal, and leaves nothing behind.
-pub fn encode_kept(alloc: Global, kept: &Kept) -> Result<Vec<u8>, AllocError>
+pub fn encode_kept(alloc: Global, kept: &Asker) -> Result<Vec<u8>, AllocError>
     ensures { IfOk result (λ bytes. SpellsKept bytes.items kept.now) }
 {
     let (session, asked) = (kept.session(), kept.asked());

@@ -1,15 +1,15 @@
 //! What is kept, on a device.
+ghost use Rattle.bayou_client.specs.Operating.{Asking};
 ghost use Rattle.std.specs.Prelude.{◌≡◌, ◌<◌, ◌++◌, ◌∷◌, [], IfErr, IfOk, List, OnOk};
 ghost use Rattle.bayou_journal.specs.Opening.{KeepsChains};
 ghost use Rattle.bayou_remember.specs.Memory.{AreLast, EndsWith, HasAll, HasNotRemembered, HasRemembered, Keeps, Remembers};
 ghost use Rattle.bayou_remember.specs.Inner.Reading.{CantTell};
-ghost use Rattle.bayou_remember.specs.Spelling.{Keeping};
 
 use crate::decode::decode_kept;
 use crate::encode::encode_kept;
-use crate::kept::Kept;
 use bayou_base::limits::MAX_BODY_BYTES;
 use bayou_base::{SESSIONS, ServerId};
+use bayou_client::Asker;
 use bayou_device::Device;
 use bayou_journal::laws::an_append_leaves_an_honest_device;
 use bayou_journal::{AppendFault, Journal, OpenFault, Opened};
@@ -79,7 +79,7 @@ impl<D> Model for Memory<D> {
 }
 
 /// Nothing of each session.
-pub fn nothing_kept(alloc: Global) -> Result<Vec<Option<Kept>>, AllocError>
+pub fn nothing_kept(alloc: Global) -> Result<Vec<Option<Asker>>, AllocError>
     ensures { IfOk result (λ all. AreLast [] all.items) }
 {
     let mut all = Vec::with_capacity(alloc, SESSIONS)?;
@@ -90,7 +90,7 @@ pub fn nothing_kept(alloc: Global) -> Result<Vec<Option<Kept>>, AllocError>
 }
 
 // What the bodies keep of each session at last.
-fn kept_in(alloc: Global, run: u32, opened: &Opened) -> Result<Vec<Option<Kept>>, RememberFault>
+fn kept_in(alloc: Global, run: u32, opened: &Opened) -> Result<Vec<Option<Asker>>, RememberFault>
     requires { 0 < run }
     ensures told { IfOk result (λ all. Remembers run opened.now.bodies all.items) }
     ensures refused { IfErr result (CantTell opened.now.bodies) }
@@ -118,7 +118,7 @@ impl<D: Device + Drop> Memory<D> {
         alloc: Global,
         device: D,
         run: u32,
-    ) -> Result<(Memory<D>, Vec<Option<Kept>>), NotRemembered<D>>
+    ) -> Result<(Memory<D>, Vec<Option<Asker>>), NotRemembered<D>>
         requires { 0 < run }
         ensures opened { IfOk result (λ opened. HasRemembered D.Device run device opened.0 opened.1.items) }
         ensures refused { IfErr result (λ refused. HasNotRemembered D.Device device refused.device refused.fault) }
@@ -168,11 +168,11 @@ impl<D: Device + Drop> Memory<D> {
     }
 
     /// Keeps it, behind all else and synced. Behind a call of the device that failed nothing more is kept.
-    pub fn keep(&mut self, alloc: Global, kept: &Kept) -> Result<(), KeepFault>
+    pub fn keep(&mut self, alloc: Global, kept: &Asker) -> Result<(), KeepFault>
         ensures keeps { Keeps D.Device self.old kept.now result self.new }
         ensures ends { OnOk result (EndsWith self.new kept.now) }
         // A device that had these and nothing else has this one too, last.
-        ensures all { D.is_modelled → OnOk result ((all : List Keeping) → HasAll D.Device self.old all → HasAll D.Device self.new (all ++ kept.now ∷ [])) }
+        ensures all { D.is_modelled → OnOk result ((all : List Asking) → HasAll D.Device self.old all → HasAll D.Device self.new (all ++ kept.now ∷ [])) }
         ensures safe { D.is_modelled → KeepsChains (D.kept self.old.device) (D.kept self.new.device) }
         ensures calls { D.leads_to 2 self.old.device self.new.device }
     {

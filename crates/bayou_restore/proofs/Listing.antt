@@ -6,6 +6,7 @@ use Rattle.bayou_restore.specs.Gathering.{Gathering, Gathers}
 use Rattle.bayou_server.specs.TakesAll.{TakesAll, TakesEach, TakingEnds}
 use Rattle.bayou_server.specs.declared.answer.Took.{Took}
 use Rattle.bayou_server.specs.declared.answer.Took.TheVariants.{New, Had}
+use Rattle.bayou_server.specs.declared.answer.RefusedWrite.{RefusedWrite}
 use Rattle.bayou_server.specs.declared.answer.TookAll.{TookAll}
 use Rattle.bayou_server.specs.declared.fault.TakeFault.{TakeFault}
 use Rattle.bayou_server.specs.declared.fault.TakeFault.TheVariants.{Conflict, Down, OwnLost, Gap, BadStamp, LogFull, OutOfMemory, Journal}
@@ -33,9 +34,9 @@ each_listed old new (write ∷ writes) [] none = absurd none
 each_listed old new (write ∷ writes) (took ∷ tooks) each =
     (each.0, (each.1, lists_gathered old write (Ok took) each.0 each.1), each_listed each.0 new writes tooks each.2)
 
-end_listed : (mid new : Gathering) (given front left : List Write) (fault : Option TakeFault) → TakingEnds Gathers mid given front left fault new → TakingEnds Listed mid given front left fault new
+end_listed : (mid new : Gathering) (given front left : List Write) (refused : Option RefusedWrite) → TakingEnds Gathers mid given front left refused new → TakingEnds Listed mid given front left refused new
 end_listed mid new given front left None ends = ends
-end_listed mid new given front left (Some fault) ends = (ends.0, ends.1, (ends.2, lists_gathered mid ends.0 (Err fault) new ends.2))
+end_listed mid new given front left (Some refused) ends = (ends.0, ends.1, (ends.2, lists_gathered mid ends.0 (Err refused.fault) new ends.2), ends.3)
 
 pub all_listed : (old new : Gathering) (given left : List Write) (told : TookAll) → TakesAll Gathers old given left told new → TakesAll Listed old given left told new
 all_listed old new given left told all = record {
@@ -45,5 +46,5 @@ all_listed old new given left told all = record {
   each = each_listed old all.mid all.front all.tooks all.each;
   taken = all.taken;
   had = all.had;
-  ends = end_listed all.mid new given all.front left told.fault all.ends;
+  ends = end_listed all.mid new given all.front left told.refused all.ends;
 }

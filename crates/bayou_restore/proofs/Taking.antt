@@ -27,6 +27,7 @@ use Rattle.bayou_server.specs.Takes.{Takes}
 use Rattle.bayou_server.specs.TakesAll.{TakesAll, TakesAt, TakesEach, TakingEnds}
 use Rattle.bayou_server.specs.declared.answer.Took.{Took}
 use Rattle.bayou_server.specs.declared.answer.Took.TheVariants.{New, Had}
+use Rattle.bayou_server.specs.declared.answer.RefusedWrite.{RefusedWrite}
 use Rattle.bayou_server.specs.declared.answer.TookAll.{TookAll}
 use Rattle.bayou_server.specs.declared.fault.TakeFault.{TakeFault}
 use Rattle.bayou_server.specs.declared.fault.TakeFault.TheVariants.{Conflict, Down, OwnLost, Gap, BadStamp, LogFull, OutOfMemory, Journal}
@@ -200,7 +201,7 @@ all_told gathering own behind fitting among each told_each below none =
 
 -- nothing is left where as many were taken as there were
 pub none_left : {S : Type 0} (takes : S → Write → Result Took TakeFault → S → Type 0) (old new : S) (given left : List Write) (told : TookAll) → TakesAll takes old given left told new
-    → told.fault ≡ None → (left ≡ []) ⊎ (told.taken + told.had ≡ length given) → left ≡ []
+    → told.refused ≡ None → (left ≡ []) ⊎ (told.taken + told.had ≡ length given) → left ≡ []
 none_left takes old new given left told all none (inl nothing) = nothing
 none_left {S} takes old new given left told all none (inr whole) =
     let ends : TakingEnds takes all.mid given all.front left None new = subst (λ fault. TakingEnds takes all.mid given all.front left fault new) none all.ends in
@@ -226,7 +227,7 @@ refused_same old given Journal new takes =
 module _ {D : Type 0} (d : Ghosts D) (gathering : Gathering) (old : ServerState D) (own : Write) (due : List Write) (stands : Stands gathering old.core)
     (all_due : AreAllDue own.deps gathering.writes (count_of old.core.held) due) where
   -- all were taken
-  pub taken_all : (new : ServerState D) (told : TookAll) → length own.deps ≡ SERVERS → TakesAll (TakesAt d) old due [] told new → told.fault ≡ None
+  pub taken_all : (new : ServerState D) (told : TookAll) → length own.deps ≡ SERVERS → TakesAll (TakesAt d) old due [] told new → told.refused ≡ None
       → TakesBefore gathering old.core own (Ok tt) new.core × IsSameServer old.core new.core × (d.is_modelled → IsStored d old → IsStored d new)
   taken_all new told each all none =
       let ends : TakingEnds (TakesAt d) all.mid due all.front [] None new = subst (λ fault. TakingEnds (TakesAt d) all.mid due all.front [] fault new) none all.ends in
@@ -275,10 +276,10 @@ module _ {D : Type 0} (d : Ghosts D) (gathering : Gathering) (old : ServerState 
     refused_due OutOfMemory number takes = tt
     refused_due Journal number takes = subst IsSome (sym (ap (λ (c : Core). c.doubt) takes.takes.2)) refl
 
-  pub taken_some : (new : ServerState D) (left : List Write) (told : TookAll) (fault : TakeFault) (number : ℕ) → TakesAll (TakesAt d) old due left told new → told.fault ≡ Some fault
-      → TakesBefore gathering old.core own (Err (untaken_as fault number)) new.core × IsSameServer old.core new.core
-  taken_some new left told fault number all some =
-      let ends : TakingEnds (TakesAt d) all.mid due all.front left (Some fault) new = subst (λ f. TakingEnds (TakesAt d) all.mid due all.front left f new) some all.ends in
+  pub taken_some : (new : ServerState D) (left : List Write) (told : TookAll) (told_of : RefusedWrite) (number : ℕ) → TakesAll (TakesAt d) old due left told new → told.refused ≡ Some told_of
+      → TakesBefore gathering old.core own (Err (untaken_as told_of.fault number)) new.core × IsSameServer old.core new.core
+  taken_some new left told told_of number all some =
+      let ends : TakingEnds (TakesAt d) all.mid due all.front left (Some told_of) new = subst (λ f. TakingEnds (TakesAt d) all.mid due all.front left f new) some all.ends in
       let refused = ends.0 in
       let behind = all_due.0 in
       let IsAmong : Write → Type 0 = λ w. Contains gathering.writes w in
@@ -286,7 +287,7 @@ module _ {D : Type 0} (d : Ghosts D) (gathering : Gathering) (old : ServerState 
       let goes = each_goes d gathering old all.mid all.front all.tooks stands (All-front IsAmong all.front (refused ∷ left) inside) all.each in
       let front_due = subst (λ (l : List Write). AreDue own.deps gathering.writes (count_of old.core.held) l behind) ends.1 all_due.1 in
       let rest = each_due d gathering own.deps behind old all.mid all.front (refused ∷ left) all.tooks front_due all.each in
-      let after = refused_same all.mid.core refused fault new.core ends.2.takes in (
-        refused_due all.mid new refused behind left goes rest fault number ends.2,
+      let after = refused_same all.mid.core refused told_of.fault new.core ends.2.takes in (
+        refused_due all.mid new refused behind left goes rest told_of.fault number ends.2,
         record { id = after.id ∙ goes.same.id; count = after.count ∙ goes.same.count; limit = after.limit ∙ goes.same.limit },
       )

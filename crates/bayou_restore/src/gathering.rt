@@ -11,7 +11,7 @@ use bayou_base::{Vector, Wid};
 use bayou_lang::RestingWrite;
 use bayou_log::{Misfit, WriteLog};
 use bayou_peer::Replica;
-use bayou_server::{TakeFault, Took, TookAll};
+use bayou_server::{RefusedWrite, TakeFault, Took, TookAll};
 use std::alloc::{AllocError, Global};
 use std::marker::Model;
 use std::vec::IntoIter;
@@ -64,19 +64,20 @@ fn gather(log: &mut WriteLog, write: RestingWrite) -> Result<Took, TakeFault>
 fn gather_all(log: &mut WriteLog, writes: &mut IntoIter<RestingWrite>) -> TookAll
     requires few { length (into_iter_items writes.old) < 2 ^ 32 }
     ensures gathers { TakesAll Gathers (gathering_of log.old) (into_iter_items writes.old) (into_iter_items writes.new) result (gathering_of log.new) }
-    ensures whole { result.fault ≡ None → into_iter_items writes.new ≡ [] }
+    ensures whole { result.refused ≡ None → into_iter_items writes.new ≡ [] }
 {
     let mut told = TookAll {
         taken: 0,
         had: 0,
-        fault: None,
+        refused: None,
     };
     while let Some(write) = writes.next() {
+        let wid = write.wid();
         match gather(log, write) {
             Ok(Took::New) => told.taken += 1,
             Ok(Took::Had) => told.had += 1,
             Err(fault) => {
-                told.fault = Some(fault);
+                told.refused = Some(RefusedWrite { wid, fault });
                 return told;
             }
         }
@@ -149,10 +150,6 @@ impl Replica for Gathered {
         let _fitting = self.log.receipts();
         let _each = counts.counts();
         self.log.lacking(alloc, counts, most)
-    }
-
-    fn take(&mut self, _alloc: Global, write: RestingWrite) -> Result<Took, TakeFault> {
-        gather(&mut self.log, write)
     }
 
     fn take_all(&mut self, _alloc: Global, writes: Vec<RestingWrite>) -> TookAll {

@@ -1,11 +1,11 @@
 -- What a visit came to, by how its pull ended.
-use Rattle.std.proofs.Common.{◌≡◌, ◌⊎◌, inl, inr, ℕ, zero, suc, ◌<◌, Bool, false, List, Result, Ok, Err, IfErr, IfOk, MatchResult, arith, refl, subst, sym}
-use Rattle.bayou_net.specs.Tallied.{Came, IsLossOf, nothing_came, tallied_ways}
-use Rattle.bayou_net.specs.declared.tallying.PullStopped.{PullStopped}
+use Rattle.std.proofs.Common.{◌≡◌, ◌⊎◌, inl, inr, ℕ, zero, suc, ◌<◌, Bool, false, List, Result, Ok, Err, IfErr, IfOk, arith, refl, subst, sym}
+use Rattle.bayou_net.specs.Lent.{node_ways}
 use Rattle.bayou_node.specs.Books.{Begun}
 use Rattle.bayou_peer.specs.Pulls.{PullEnds}
+use Rattle.bayou_peer.specs.declared.pulling.PullStopped.{PullStopped}
 use Rattle.bayou_peer.specs.declared.pulling.Pulled.{Pulled as Counts}
-use Rattle.bayou_serve.specs.Visits.{EndsEarly, EndsWell, VisitEnds}
+use Rattle.bayou_serve.specs.Visits.{VisitEnds, tells_loss}
 use Rattle.bayou_serve.specs.declared.visit.Outcome.{Outcome}
 use Rattle.bayou_serve.specs.declared.visit.Visit.{Visit}
 use Rattle.bayou_serve.specs.declared.visit.Visit.TheVariants.{Pulled, Failed}
@@ -15,23 +15,19 @@ none_or_some zero = inl refl
 none_or_some (suc count) = inr (omega arith)
 
 -- by what the outcome is to be
-ends_so : (begun : Begun) (read : List ℕ) (is_end : Type 0) (outcome : Outcome) (visit : Visit) (has_lost : Bool) → outcome.visit ≡ visit → outcome.has_lost ≡ has_lost
-    → VisitEnds begun read is_end visit has_lost → VisitEnds begun read is_end outcome.visit outcome.has_lost
-ends_so begun read is_end outcome visit has_lost is lost ends =
-    subst (λ (v : Visit). VisitEnds begun read is_end v outcome.has_lost) (sym is) (subst (λ (b : Bool). VisitEnds begun read is_end visit b) (sym lost) ends)
+ends_so : (begun : Begun) (read : List ℕ) (is_end : Type 0) (outcome : Outcome) (visit : Visit) → outcome.visit ≡ visit → VisitEnds begun read is_end visit outcome.has_lost
+    → VisitEnds begun read is_end outcome.visit outcome.has_lost
+ends_so begun read is_end outcome visit is ends = subst (λ (v : Visit). VisitEnds begun read is_end v outcome.has_lost) (sym is) ends
 
-pub visit_ends : (begun : Begun) (read : List ℕ) (is_end : Type 0) (ended : Result Counts PullStopped) (outcome : Outcome)
-    → MatchResult ended (λ pulled. EndsWell begun read is_end pulled)
-    (λ stopped. PullEnds (tallied_ways begun) nothing_came (record { tally = stopped.before; has_lost = stopped.has_lost }) read is_end (Err stopped.fault))
-    → IfErr ended (λ stopped. IsLossOf stopped.fault stopped.has_lost)
+pub visit_ends : (begun : Begun) (read : List ℕ) (is_end : Type 0) (ended : Result Counts PullStopped) (outcome : Outcome) → PullEnds (node_ways begun) tt tt read is_end ended
     → IfOk ended (λ pulled. (outcome.visit ≡ Pulled pulled) × (outcome.has_lost ≡ false))
     → IfErr ended (λ stopped. 0 < stopped.before.taken → outcome.visit ≡ Pulled stopped.before)
     → IfErr ended (λ stopped. stopped.before.taken ≡ 0 → outcome.visit ≡ Failed stopped.fault)
-    → IfErr ended (λ stopped. outcome.has_lost ≡ stopped.has_lost)
+    → IfErr ended (λ stopped. outcome.has_lost ≡ tells_loss begun.server stopped)
     → VisitEnds begun read is_end outcome.visit outcome.has_lost
-visit_ends begun read is_end (Ok pulled) outcome ends told whole some none lost = ends_so begun read is_end outcome (Pulled pulled) false whole.0 whole.1 (inl (ends, refl))
-visit_ends begun read is_end (Err stopped) outcome ends told whole some none lost = by (none_or_some stopped.before.taken)
+visit_ends begun read is_end (Ok pulled) outcome ends whole some none lost = ends_so begun read is_end outcome (Pulled pulled) whole.0 (inl (ends, whole.1))
+visit_ends begun read is_end (Err stopped) outcome ends whole some none lost = by (none_or_some stopped.before.taken)
   where
     by : (stopped.before.taken ≡ 0) ⊎ (0 < stopped.before.taken) → VisitEnds begun read is_end outcome.visit outcome.has_lost
-    by (inl is) = ends_so begun read is_end outcome (Failed stopped.fault) stopped.has_lost (none is) lost (stopped.before, is, (ends, told))
-    by (inr above) = ends_so begun read is_end outcome (Pulled stopped.before) stopped.has_lost (some above) lost (inr (stopped.fault, above, (ends, told)))
+    by (inl is) = ends_so begun read is_end outcome (Failed stopped.fault) (none is) (stopped, refl, is, ends, lost)
+    by (inr above) = ends_so begun read is_end outcome (Pulled stopped.before) (some above) (inr (stopped, refl, above, ends, lost))

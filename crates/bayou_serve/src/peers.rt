@@ -13,7 +13,7 @@ use crate::visit::{Acquaintance, Outcome, Visit, outcome_of};
 use crate::waiting::{Most, Renewing, Since, Waiting};
 use bayou_base::limits::{PEER_ANSWER_MILLISECONDS, PEER_REACH_SECONDS, TICK_MILLISECONDS};
 use bayou_device::Device;
-use bayou_net::{Sockets, pull_tallied};
+use bayou_net::{Sockets, pull_from};
 use bayou_node::{Desks, Node};
 use bayou_streams::{CountedChannel, Patient};
 use std::alloc::Global;
@@ -84,7 +84,7 @@ fn visit_over<'x, D: Device, L: Desks, R: Read + Drop, W: Write + Drop, T: Wait 
     let writer = Renewing::new(writer, rt, since);
     let mut channel = CountedChannel::new(reader, writer);
     let counts = node.offer(rt);
-    outcome_of(pull_tallied(rt, alloc, node, &counts, &mut channel))
+    outcome_of(node.id(), pull_from(rt, alloc, node, &counts, &mut channel))
 }
 
 // Takes once what this peer has and the server lacks.

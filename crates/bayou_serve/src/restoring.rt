@@ -61,7 +61,7 @@ fn gather_over<'x, R: Read + Drop, W: Write + Drop, T: Clock>(
     let mut gathered = Gathered::new(alloc, plan.servers, MAX_WRITES);
     match pull_from_on(alloc, &mut gathered, &Vector::zero(), &mut channel) {
         Ok(_) => Ok(gathered),
-        Err(fault) => Err(fault),
+        Err(stopped) => Err(stopped.fault),
     }
 }
 

@@ -1,10 +1,12 @@
 //! What became of visits to a peer, and what of it is news.
 ghost use Rattle.std.specs.Prelude.{◌≡◌, ◌≢◌, ◌<◌, ◌↔◌, IfErr, IfOk, IfSome, None, Some, false};
 ghost use Rattle.bayou_serve.specs.News.{IsNoNews, Tells};
+ghost use Rattle.bayou_serve.specs.Visits.{tells_loss};
 ghost use Rattle.bayou_serve.specs.declared.visit.Visit.TheVariants.{Failed, Pulled as Came};
 
-use bayou_net::PullStopped;
-use bayou_peer::{PullFault, Pulled};
+use bayou_base::ServerId;
+use bayou_peer::{PullFault, PullStopped, Pulled};
+use bayou_server::TakeFault;
 
 /// What a visit to a peer came to.
 #[derive(Clone, Copy, Debug, PartialEq, Eq)]
@@ -50,16 +52,28 @@ fn visit_of(ended: Result<Pulled, PullStopped>) -> Visit
     }
 }
 
-/// What is known behind a visit whose pull ended so.
-pub fn outcome_of(ended: Result<Pulled, PullStopped>) -> Outcome
+// Whether the pull stopped at a Write that tells that the server lost Writes of its own: one that it made itself and lacks, or another one under a name
+// of its own than the one that it holds.
+fn is_loss(server: ServerId, stopped: &PullStopped) -> bool
+    ensures { result ≡ tells_loss server.index stopped.now }
+{
+    match (stopped.fault, stopped.refused) {
+        (PullFault::Refused(TakeFault::OwnLost), _) => true,
+        (PullFault::Refused(TakeFault::Conflict), Some(wid)) => wid.origin == server,
+        _ => false,
+    }
+}
+
+/// What is known behind a visit of this server whose pull ended so.
+pub fn outcome_of(server: ServerId, ended: Result<Pulled, PullStopped>) -> Outcome
     ensures whole { IfOk ended (λ pulled. (result.visit ≡ Came pulled) × (result.has_lost ≡ false)) }
     ensures some { IfErr ended (λ stopped. 0 < stopped.before.taken → result.visit ≡ Came stopped.before) }
     ensures none { IfErr ended (λ stopped. stopped.before.taken ≡ 0 → result.visit ≡ Failed stopped.fault) }
-    ensures lost { IfErr ended (λ stopped. result.has_lost ≡ stopped.has_lost) }
+    ensures lost { IfErr ended (λ stopped. result.has_lost ≡ tells_loss server.index stopped) }
 {
-    let has_lost = match ended {
+    let has_lost = match &ended {
         Ok(_) => false,
-        Err(stopped) => stopped.has_lost,
+        Err(stopped) => is_loss(server, stopped),
     };
     Outcome {
         visit: visit_of(ended),

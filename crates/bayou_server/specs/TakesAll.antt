@@ -5,6 +5,7 @@ use Rattle.bayou_journal.specs.Opening.{KeepsChains}
 use Rattle.bayou_lang.specs.declared.write.Write.{Write}
 use Rattle.bayou_server.specs.declared.answer.Took.{Took}
 use Rattle.bayou_server.specs.declared.answer.Took.TheVariants.{New, Had}
+use Rattle.bayou_server.specs.declared.answer.RefusedWrite.{RefusedWrite}
 use Rattle.bayou_server.specs.declared.answer.TookAll.{TookAll}
 use Rattle.bayou_server.specs.declared.fault.TakeFault.{TakeFault}
 use Rattle.bayou_server.specs.Server.{IsSoundServer, ServerState, own_count}
@@ -41,9 +42,9 @@ TakesEach {S} takes old [] (took ∷ tooks) new = ⊥
 TakesEach {S} takes old (write ∷ writes) [] new = ⊥
 
 -- behind the Writes that were taken nothing more was given, and these are left; or one more was given, and refused
-abbrev pub TakingEnds : {S : Type 0} → (S → Write → Result Took TakeFault → S → Type 0) → (mid : S) → (given front left : List Write) → Option TakeFault → (new : S) → Type 0
+abbrev pub TakingEnds : {S : Type 0} → (S → Write → Result Took TakeFault → S → Type 0) → (mid : S) → (given front left : List Write) → Option RefusedWrite → (new : S) → Type 0
 TakingEnds takes mid given front left None new = (given ≡ front ++ left) × (new ≡ mid)
-TakingEnds takes mid given front left (Some fault) new = (refused : Write) × (given ≡ front ++ refused ∷ left) × takes mid refused (Err fault) new
+TakingEnds takes mid given front left (Some refused) new = (write : Write) × (given ≡ front ++ write ∷ left) × takes mid write (Err refused.fault) new × (refused.wid ≡ write.wid)
 
 -- The first of the Writes were given one after another, each was taken, and is counted; it ended so, and these are left.
 pub record TakesAll {S : Type 0} (takes : S → Write → Result Took TakeFault → S → Type 0) (old : S) (given left : List Write) (told : TookAll) (new : S) : Type 0 where
@@ -53,4 +54,4 @@ pub record TakesAll {S : Type 0} (takes : S → Write → Result Took TakeFault 
   pub each : TakesEach takes old front tooks mid
   pub taken : told.taken ≡ news tooks
   pub had : told.had ≡ hads tooks
-  pub ends : TakingEnds takes mid given front left told.fault new
+  pub ends : TakingEnds takes mid given front left told.refused new

@@ -27,6 +27,13 @@ pub enum Took {
     Had,
 }
 
+/// A Write that a server was given and refused, by its name, and why.
+#[derive(Clone, Copy, Debug, PartialEq, Eq)]
+pub struct RefusedWrite {
+    pub wid: Wid,
+    pub fault: TakeFault,
+}
+
 /// What a server did with Writes that it was given, one after another.
 #[derive(Clone, Copy, Debug, PartialEq, Eq)]
 pub struct TookAll {
@@ -34,8 +41,8 @@ pub struct TookAll {
     pub taken: u32,
     /// How many it held already.
     pub had: u32,
-    /// Why the next one was refused, where one was.
-    pub fault: Option<TakeFault>,
+    /// The next one, where it was refused.
+    pub refused: Option<RefusedWrite>,
 }
 
 /// A server that is up again.

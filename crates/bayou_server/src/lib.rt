@@ -46,6 +46,6 @@ mod start;
 mod storing;
 mod taking;
 
-pub use answer::{LastHeld, Reopened, Stopped, Took, TookAll, Written};
+pub use answer::{LastHeld, RefusedWrite, Reopened, Stopped, Took, TookAll, Written};
 pub use fault::{Behind, JournalFault, NotStarted, ReopenFault, StartFault, TakeFault, WriteFault};
 pub use server::Server;

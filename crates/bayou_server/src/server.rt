@@ -188,7 +188,7 @@ impl<D: Device> Server<D> {
         most: u32,
     ) -> TookAll
         ensures takes { TakesAll (TakesAt D.Device) self.old (into_iter_items writes.old) (into_iter_items writes.new) result self.new }
-        ensures whole { result.fault ≡ None → (into_iter_items writes.new ≡ []) ⊎ (result.taken + result.had ≡ most) }
+        ensures whole { result.refused ≡ None → (into_iter_items writes.new ≡ []) ⊎ (result.taken + result.had ≡ most) }
     {
         let told = take_several(
             alloc,
@@ -213,7 +213,7 @@ impl<D: Device> Server<D> {
     ) -> TookAll
         requires few { length (into_iter_items writes.old) < 2 ^ 32 }
         ensures takes { TakesAll (TakesAt D.Device) self.old (into_iter_items writes.old) (into_iter_items writes.new) result self.new }
-        ensures some { result.fault ≡ None → (into_iter_items writes.new ≡ []) ⊎ (0 < result.taken + result.had) }
+        ensures some { result.refused ≡ None → (into_iter_items writes.new ≡ []) ⊎ (0 < result.taken + result.had) }
     {
         let told = take_meanwhile(
             alloc,

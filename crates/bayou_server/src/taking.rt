@@ -6,7 +6,7 @@ ghost use Rattle.bayou_server.specs.Inner.Taking.{IsDecided, IsRefused};
 ghost use Rattle.bayou_server.specs.Takes.{IsMissing};
 ghost use Rattle.bayou_server.specs.TakesAll.{TakesAll, TakesAt};
 
-use crate::answer::{Took, TookAll};
+use crate::answer::{RefusedWrite, Took, TookAll};
 use crate::fault::TakeFault;
 use crate::holding::Holding;
 use crate::storing::{Stored, store};
@@ -88,22 +88,23 @@ pub fn take_several<D: Device>(
     requires { BelongTogether journal.old holding.old id.index }
     ensures together { BelongTogether journal.new holding.new id.index }
     ensures takes { TakesAll (TakesAt D.Device) (server_of journal.old holding.old id.index) (into_iter_items writes.old) (into_iter_items writes.new) result (server_of journal.new holding.new id.index) }
-    ensures whole { result.fault ≡ None → (into_iter_items writes.new ≡ []) ⊎ (result.taken + result.had ≡ most) }
+    ensures whole { result.refused ≡ None → (into_iter_items writes.new ≡ []) ⊎ (result.taken + result.had ≡ most) }
 {
     let mut told = TookAll {
         taken: 0,
         had: 0,
-        fault: None,
+        refused: None,
     };
     while told.taken + told.had < most {
         let Some(write) = writes.next() else {
             return told;
         };
+        let wid = write.wid();
         match take_one(alloc, journal, holding, id, write) {
             Ok(Took::New) => told.taken += 1,
             Ok(Took::Had) => told.had += 1,
             Err(fault) => {
-                told.fault = Some(fault);
+                told.refused = Some(RefusedWrite { wid, fault });
                 return told;
             }
         }
@@ -124,14 +125,14 @@ pub fn take_meanwhile<D: Device>(
     requires few { length (into_iter_items writes.old) < 2 ^ 32 }
     ensures together { BelongTogether journal.new holding.new id.index }
     ensures takes { TakesAll (TakesAt D.Device) (server_of journal.old holding.old id.index) (into_iter_items writes.old) (into_iter_items writes.new) result (server_of journal.new holding.new id.index) }
-    ensures some { result.fault ≡ None → (into_iter_items writes.new ≡ []) ⊎ (0 < result.taken + result.had) }
+    ensures some { result.refused ≡ None → (into_iter_items writes.new ≡ []) ⊎ (0 < result.taken + result.had) }
 {
     let mut told = take_several(alloc, journal, holding, id, writes, TAKES_AT_ONCE);
-    while told.fault.is_none() && writes.len() > 0 && waiting.load(Ordering::Relaxed) == 0 {
+    while told.refused.is_none() && writes.len() > 0 && waiting.load(Ordering::Relaxed) == 0 {
         let more = take_several(alloc, journal, holding, id, writes, TAKES_AT_ONCE);
         told.taken += more.taken;
         told.had += more.had;
-        told.fault = more.fault;
+        told.refused = more.refused;
     }
     told
 }

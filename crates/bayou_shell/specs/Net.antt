@@ -1,29 +1,27 @@
--- What is read and printed of a run over a network.
-use Rattle.std.specs.Prelude.{ℕ, ◌⊎◌, List, Option, Result, Ok, Err}
-use Rattle.std.specs.Io.KnownBytes.{Appends, Keeps}
+-- What is read of a run over sockets, and what is left to be done of it: this project's own.
+use Rattle.std.specs.Prelude.{◌≡◌, ℕ, List, Option, Result, Ok, Err, string_bytes}
+use Rattle.std.specs.Io.KnownBytes.{Keeps}
 use Rattle.bayou_script.specs.Network.{IsNetworkRefused, IsNetworkScript}
-use Rattle.bayou_script.specs.Script.{Plan, lines_of}
-use Rattle.bayou_print.specs.declared.ended.Ended.{Ended}
+use Rattle.bayou_script.specs.Plan.{network_plan_of}
+use Rattle.bayou_script.specs.Script.{lines_of}
 use Rattle.bayou_print.specs.declared.fault.RunFault.{RunFault}
 use Rattle.bayou_print.specs.declared.fault.RunFault.TheVariants.{Line, Memory, Device, Network, Input, Output}
+use Rattle.bayou_shell.specs.declared.errand.Errand.{Errand}
+use Rattle.bayou_shell.specs.declared.errand.Errand.TheVariants.{Connect, Done, Net, Serve}
 
--- how running a script, by what it says, may end
-abbrev pub Runs : Type 1
-Runs = Plan → Result Ended RunFault → Type 0
+-- why an input is not taken as a script over sockets: its least line with a fault, or that it, or memory, is wanting
+abbrev pub RefusesNet : List ℕ → RunFault → Type 0
+RefusesNet input (Line number fault) = IsNetworkRefused (lines_of input) number fault
+RefusesNet input Memory = Unit {0}
+RefusesNet input Input = Unit {0}
+RefusesNet input Device = ⊥
+RefusesNet input Network = ⊥
+RefusesNet input Output = ⊥
 
--- the input is a script over a network, which was run and ended so, and something was printed behind what was there
-abbrev pub PrintsSome : Runs → List ℕ → Result Ended RunFault → Option (List ℕ) → Option (List ℕ) → Type 0
-PrintsSome runs input result old new =
-    (plan : Plan) × IsNetworkScript (lines_of input) plan × runs plan result × (text : List ℕ) × Appends old new text
-
--- What is read and written of an input. A script over a network is run, and lines are put behind what the output holds; another input is
--- refused for its least line with a fault, with nothing printed. Want of memory and of the input may come before anything is printed, and
--- so does a server that doesn't start.
-abbrev pub NetsAs : Runs → List ℕ → Result Ended RunFault → Option (List ℕ) → Option (List ℕ) → Type 0
-NetsAs runs input (Ok ended) old new = PrintsSome runs input (Ok ended) old new
-NetsAs runs input (Err (Line number fault)) old new = IsNetworkRefused (lines_of input) number fault × Keeps old new
-NetsAs runs input (Err Memory) old new = Keeps old new ⊎ PrintsSome runs input (Err Memory) old new
-NetsAs runs input (Err Device) old new = (plan : Plan) × IsNetworkScript (lines_of input) plan × runs plan (Err Device) × Keeps old new
-NetsAs runs input (Err Network) old new = PrintsSome runs input (Err Network) old new
-NetsAs runs input (Err Input) old new = Keeps old new
-NetsAs runs input (Err Output) old new = PrintsSome runs input (Err Output) old new
+-- The input is a script over sockets, and it is left to be run with its servers' journals in this folder; or it is refused. Nothing is printed yet.
+abbrev pub NetsAs : (folder : List ℕ) → List ℕ → Result Errand RunFault → (old new : Option (List ℕ)) → Type 0
+NetsAs folder input (Ok (Net at script)) old new = (string_bytes at ≡ folder) × IsNetworkScript (lines_of input) (network_plan_of script) × Keeps old new
+NetsAs folder input (Ok (Done status)) old new = ⊥
+NetsAs folder input (Ok (Serve service)) old new = ⊥
+NetsAs folder input (Ok (Connect call)) old new = ⊥
+NetsAs folder input (Err fault) old new = RefusesNet input fault × Keeps old new

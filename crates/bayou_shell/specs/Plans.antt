@@ -1,5 +1,5 @@
 -- The plans that are made of the words that ask for a server, or for a session at servers: this project's own.
-use Rattle.std.specs.Prelude.{◌≡◌, ℕ, List, MatchOption, Option, None, Some}
+use Rattle.std.specs.Prelude.{◌≡◌, ℕ, List, MatchOption, MatchResult, Option, None, Some, option_map, string_bytes}
 use Rattle.std.specs.List.{AllZip}
 use Rattle.bayou_command.specs.Connect.{Connection}
 use Rattle.bayou_command.specs.Options.{Input, file, standard}
@@ -11,6 +11,9 @@ use Rattle.bayou_serve.specs.Beginnings.{beginning_of}
 use Rattle.bayou_serve.specs.Words.{Refuses, SaysListen, SaysPeer}
 use Rattle.bayou_serve.specs.declared.plan.Plan.{Plan}
 use Rattle.bayou_serve.specs.declared.plan.PlanFault.{PlanFault}
+use Rattle.bayou_shell.specs.declared.connected.Call.{Call}
+use Rattle.bayou_shell.specs.declared.served.Service.{Service as Living}
+use Rattle.bayou_socket_run.specs.Damage.{journal_name}
 use Rattle.bayou_serve.specs.declared.plan.PlanFault.TheVariants.{NoServer, NoAddress, OpenToAnyone, NoPeer, SamePeer, TwoBeginnings, OutOfMemory}
 
 -- the plan is the server that the words ask for, and all that they say of it
@@ -53,3 +56,16 @@ RefusesConnection connection wrong = IsWrong connection.servers connection.count
 abbrev pub input_name : Input → Option (List ℕ)
 input_name standard = None
 input_name (file name) = Some name
+
+-- The server that is to live is the one that is asked for: its journal is the file of its number in the folder, and its plan is made of the words, or
+-- refused for one of them.
+pub record IsServiceOf (asked : Service) (service : Living) : Type 0 where
+  pub path : string_bytes service.path ≡ journal_name asked.folder asked.id
+  pub plan : MatchResult service.plan (IsPlanOf asked) (RefusesService asked)
+
+-- A person's session is the one that is asked for: its plan is made of the words, or refused for one of them, and its files are those that are named.
+pub record IsCallOf (asked : Connection) (call : Call) : Type 0 where
+  pub plan : MatchResult call.plan (IsPlanOfPlaces asked) (RefusesConnection asked)
+  pub state : option_map (λ name. string_bytes name) call.state ≡ asked.state
+  pub book : option_map (λ name. string_bytes name) call.book ≡ asked.book
+  pub input : option_map (λ name. string_bytes name) call.input ≡ input_name asked.input

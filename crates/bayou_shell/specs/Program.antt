@@ -1,5 +1,5 @@
 -- What the program does with the words that it is called with.
-use Rattle.std.specs.Prelude.{◌≡◌, ℕ, Bool, List, Option, IfErr, IfSome, Result, Ok, Err}
+use Rattle.std.specs.Prelude.{◌≡◌, ◌<◌, ℕ, Bool, List, Option, IfErr, IfSome, Result, Ok, Err}
 use Rattle.std.specs.Io.KnownBytes.{Appends, Keeps}
 use Rattle.bayou_command.specs.Connect.{Connection}
 use Rattle.bayou_command.specs.Serve.{Service}
@@ -8,23 +8,17 @@ use Rattle.bayou_print.specs.declared.ended.Ended.{Ended}
 use Rattle.bayou_print.specs.declared.fault.RunFault.{RunFault}
 use Rattle.bayou_print.specs.declared.fault.RunFault.TheVariants.{Line, Memory, Device, Network, Output}
 use Rattle.bayou_print.specs.declared.fault.RunFault.TheVariants.{Input as InputFault}
-use Rattle.bayou_print.specs.Fault.{status_of}
+use Rattle.bayou_print.specs.Fault.{ended_status, status_of}
 use Rattle.bayou_print.specs.Telling.{IsPut, TellsEnd, TellsFault}
 use Rattle.bayou_print.specs.Turns.{EndsReading}
 use Rattle.bayou_shell.specs.Audit.{AuditsAs}
-use Rattle.bayou_shell.specs.Net.{NetsAs, Runs}
+use Rattle.bayou_shell.specs.Net.{NetsAs}
+use Rattle.bayou_shell.specs.Plans.{IsCallOf, IsServiceOf}
 use Rattle.bayou_shell.specs.Run.{RunsAs}
-use Rattle.bayou_script.specs.Script.{Plan}
+use Rattle.bayou_shell.specs.declared.errand.Errand.{Errand}
+use Rattle.bayou_shell.specs.declared.errand.Errand.TheVariants.{Connect, Done, Net, Serve}
 use Rattle.bayou_streams.specs.Account.{Account}
 use Rattle.bayou_streams.specs.Written.{AppendsFront}
-
--- whether a server that is asked for may be served so
-abbrev pub Serves : Type 1
-Serves = Service → Ended → Type 0
-
--- whether servers that are to be asked what lines say may be asked so
-abbrev pub Connects : Type 1
-Connects = Connection → Ended → Type 0
 
 -- the exit status of a command line that is refused
 abbrev pub refused_status : ℕ
@@ -53,23 +47,50 @@ pub data TellsOf (words : List (List ℕ)) (status : ℕ) (old new : Option (Lis
   mistaken : AreMistaken words → status ≡ refused_status → Keeps old new → (text : List ℕ) → IsPut text told telling has_failed → TellsOf words status old new told telling has_failed
   no_memory : status ≡ status_of Memory → Keeps old new → TellsFault told telling has_failed → TellsOf words status old new told telling has_failed
 
--- What is asked for is done by a network, or taken, to be done by it, and nothing is printed yet; memory may run out before that.
-abbrev pub HandsOver : (Ended → Type 0) → Result Ended RunFault → Option (List ℕ) → Option (List ℕ) → Type 0
-HandsOver takes (Ok ended) old new = takes ended × Keeps old new
-HandsOver takes (Err Memory) old new = Keeps old new
-HandsOver takes (Err Device) old new = ⊥
-HandsOver takes (Err Network) old new = ⊥
-HandsOver takes (Err Output) old new = ⊥
-HandsOver takes (Err InputFault) old new = ⊥
-HandsOver takes (Err (Line number fault)) old new = ⊥
+-- what a run, or an audit, that ended so leaves: it is done, and the status is that of its end; or its fault is told
+abbrev pub done_of : Result Ended RunFault → Result Errand RunFault
+done_of (Ok ended) = Ok (Done (ended_status ended))
+done_of (Err fault) = Err fault
 
--- what is asked for is done on an input of these bytes
-abbrev pub Works : (runs : List ℕ → Runs) → (serves : Serves) → (connects : Connects) → Asked → List ℕ → Result Ended RunFault → Option (List ℕ) → Option (List ℕ) → Type 0
-Works runs serves connects (a_run source) input ended old new = RunsAs input ended old new
-Works runs serves connects (an_audit source) input ended old new = AuditsAs input ended old new
-Works runs serves connects (a_net folder source) input ended old new = NetsAs (runs folder) input ended old new
-Works runs serves connects (a_serve service) input ended old new = HandsOver (serves service) ended old new
-Works runs serves connects (a_connect connection) input ended old new = HandsOver (connects connection) ended old new
+-- it ended in one of these ways
+abbrev pub Ends : (Result Ended RunFault → Option (List ℕ) → Option (List ℕ) → Type 0) → Result Errand RunFault → (old new : Option (List ℕ)) → Type 0
+Ends runs came old new = (ended : Result Ended RunFault) × runs ended old new × (came ≡ done_of ended)
+
+-- The server that is asked for is left to live, as the words say; or memory ran out. Nothing is printed yet.
+abbrev pub ServesAs : Service → Result Errand RunFault → (old new : Option (List ℕ)) → Type 0
+ServesAs wanted (Ok (Serve service)) old new = IsServiceOf wanted service × Keeps old new
+ServesAs wanted (Ok (Done status)) old new = ⊥
+ServesAs wanted (Ok (Net folder script)) old new = ⊥
+ServesAs wanted (Ok (Connect call)) old new = ⊥
+ServesAs wanted (Err fault) old new = (fault ≡ Memory) × Keeps old new
+
+-- The servers are left to be asked what lines say, as the words say; or memory ran out. Nothing is printed yet.
+abbrev pub ConnectsAs : Connection → Result Errand RunFault → (old new : Option (List ℕ)) → Type 0
+ConnectsAs wanted (Ok (Connect call)) old new = IsCallOf wanted call × Keeps old new
+ConnectsAs wanted (Ok (Done status)) old new = ⊥
+ConnectsAs wanted (Ok (Net folder script)) old new = ⊥
+ConnectsAs wanted (Ok (Serve service)) old new = ⊥
+ConnectsAs wanted (Err fault) old new = (fault ≡ Memory) × Keeps old new
+
+-- what becomes of what is asked for on an input of these bytes
+abbrev pub Works : Asked → List ℕ → Result Errand RunFault → (old new : Option (List ℕ)) → Type 0
+Works (a_run source) input came old new = Ends (RunsAs input) came old new
+Works (an_audit source) input came old new = Ends (AuditsAs input) came old new
+Works (a_net folder source) input came old new = NetsAs folder input came old new
+Works (a_serve service) input came old new = ServesAs service came old new
+Works (a_connect connection) input came old new = ConnectsAs connection came old new
+
+-- what is left to be done then: nothing where a fault was told
+abbrev pub errand_of : Result Errand RunFault → Errand
+errand_of (Ok errand) = errand
+errand_of (Err fault) = Done (status_of fault)
+
+-- no fault was told
+abbrev pub IsWell : Errand → Type 0
+IsWell (Done status) = status < 2
+IsWell (Net folder script) = Unit {0}
+IsWell (Serve service) = Unit {0}
+IsWell (Connect call) = Unit {0}
 
 abbrev pub input_of_asked : Asked → Input
 input_of_asked (a_run source) = source
@@ -80,10 +101,10 @@ input_of_asked (a_connect connection) = standard
 
 -- What becomes of what is asked for on a file: the file may be refused, or memory may run out before it is opened, and nothing is printed;
 -- else it is done on what a reader of it gives, which is at fault only where a call of it failed or no turn was left.
-pub data WorksOn {R : Type 0} (opens : R → Type 0) (refuses : Type 0) (runs : List ℕ → Plan → Result Ended RunFault → Type 0) (serves : Serves) (connects : Connects) (remaining : R → Option (List ℕ)) (kept : Bool → ℕ → Type 0) (asked : Asked) (ended : Result Ended RunFault)
+pub data WorksOn {R : Type 0} (opens : R → Type 0) (refuses : Type 0) (remaining : R → Option (List ℕ)) (kept : Bool → ℕ → Type 0) (asked : Asked) (came : Result Errand RunFault)
     (old new : Option (List ℕ)) : Type 0 where
-  not_opened : refuses → ended ≡ Err InputFault → Keeps old new → WorksOn opens refuses runs serves connects remaining kept asked ended old new
-  no_memory : ended ≡ Err Memory → Keeps old new → WorksOn opens refuses runs serves connects remaining kept asked ended old new
-  opened : (reader : R) → opens reader → IfSome (remaining reader) (λ text. Works runs serves connects asked text ended old new)
-      → (has_failed : Bool) (turns_left : ℕ) → kept has_failed turns_left → IfErr ended (EndsReading has_failed turns_left)
-      → WorksOn opens refuses runs serves connects remaining kept asked ended old new
+  not_opened : refuses → came ≡ Err InputFault → Keeps old new → WorksOn opens refuses remaining kept asked came old new
+  no_memory : came ≡ Err Memory → Keeps old new → WorksOn opens refuses remaining kept asked came old new
+  opened : (reader : R) → opens reader → IfSome (remaining reader) (λ text. Works asked text came old new)
+      → (has_failed : Bool) (turns_left : ℕ) → kept has_failed turns_left → IfErr came (EndsReading has_failed turns_left)
+      → WorksOn opens refuses remaining kept asked came old new

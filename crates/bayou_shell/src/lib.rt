@@ -1,11 +1,12 @@
 //! Scripts and audit files to printed lines: what the program does between the bytes that come in and the bytes that go out.
 //!
 //! Callers see each task as a relation in `specs/` between the bytes that the reader has left, how the task ended, and what
-//! the writer holds before and after: `RunsAs` of a run, `AuditsAs` of an audit, `NetsAs` of a run over sockets. The whole
-//! input is read, and checked by `bayou_script` as it comes, before anything runs. Where it is refused, nothing is printed, and
-//! the least line with a fault is told; where a fault comes later, a front of what is to be printed is printed. What a run
-//! prints are the lines of its answers (`bayou_machine`). Which lines a run over sockets prints, no clause says: they are put
-//! behind what the writer holds, and nothing else is done there.
+//! the writer holds before and after: `RunsAs` of a run, `AuditsAs` of an audit. The whole input is read, and checked by
+//! `bayou_script` as it comes, before anything runs. Where it is refused, nothing is printed, and the least line with a fault is
+//! told; where a fault comes later, a front of what is to be printed is printed. What a run prints are the lines of its answers
+//! (`bayou_machine`). A run over sockets, a server that is to live and a person's session are left to be done ([`Errand`]), as
+//! the words and the script say. Which lines a run over sockets prints then, no clause says: they are put behind what the writer
+//! holds, and nothing else is done there.
 //!
 //! Streams come as `bayou_streams`' `CountedChannel` and `Output`, which alone call them: an input is read in at most
 //! [`MAX_TURNS`](bayou_base::MAX_TURNS) turns, and each printed line is written in at most as many, however lines are gathered
@@ -18,9 +19,9 @@
 
 pub mod audit;
 pub mod connected;
+pub mod errand;
 pub mod files;
 pub mod net;
-pub mod networks;
 pub mod program;
 mod reading;
 pub mod run;
@@ -29,9 +30,9 @@ mod telling;
 
 pub use audit::run_audit;
 pub use connected::{Call, run_connected};
+pub use errand::Errand;
 pub use files::Files;
 pub use net::run_net;
-pub use networks::Networks;
-pub use program::{refuse_words, run_main, run_taken};
+pub use program::{refuse_words, run_main};
 pub use run::run_script;
 pub use served::{Service, run_served};

@@ -1,62 +1,35 @@
+//! What the program does with the words that it is called with.
 ghost use Rattle.std.specs.IoError.{error_kind};
-ghost use Rattle.std.specs.Prelude.{◌≡◌, ◌≢◌, ◌<◌, ◌≤◌, ℕ, IfErr, IfSome, List, Result, map, true};
+ghost use Rattle.std.specs.Prelude.{◌≡◌, ◌≢◌, ◌≤◌, ℕ, IfErr, IfSome, List, Result, map, true};
 ghost use Rattle.bayou_command.specs.Words.{AskFor, Asked, file, input_seen, standard, task_seen};
-ghost use Rattle.bayou_print.specs.declared.ended.Ended.{Ended};
 ghost use Rattle.bayou_print.specs.declared.fault.RunFault.{RunFault};
 ghost use Rattle.bayou_print.specs.declared.fault.RunFault.TheVariants.{Memory};
-ghost use Rattle.bayou_print.specs.Fault.{exit_status, status_of};
-ghost use Rattle.bayou_shell.specs.Program.{TellsOf, Works, WorksOn, WritesText, input_of_asked, refused_status, text_status};
-ghost use Rattle.bayou_socket_run.specs.Books.{PrintsRun};
-ghost use Rattle.bayou_socket_run.specs.Damage.{TellsStart};
-ghost use Rattle.bayou_socket_run.specs.Faults.{IsNetFault, KeepsUnstarted};
-ghost use Rattle.bayou_streams.specs.Account.{Pays, TakesBytes, account};
+ghost use Rattle.bayou_print.specs.Fault.{status_of};
 ghost use Rattle.bayou_print.specs.Telling.{TellsEnd, TellsFault};
 ghost use Rattle.bayou_print.specs.Turns.{EndsReading, EndsWriting, cut_lines};
+ghost use Rattle.bayou_shell.specs.declared.errand.Errand.{Errand as Left};
+ghost use Rattle.bayou_shell.specs.declared.errand.Errand.TheVariants.{Done};
+ghost use Rattle.bayou_shell.specs.Program.{IsWell, TellsOf, Works, WorksOn, WritesText, done_of, errand_of, input_of_asked, refused_status, text_status};
+ghost use Rattle.bayou_streams.specs.Account.{Pays, account};
 
 use crate::audit::run_audit;
+use crate::connected::Call;
+use crate::errand::Errand;
 use crate::files::Files;
-use crate::net::run_net;
-use crate::networks::Networks;
+use crate::net::read_net;
 use crate::run::run_script;
+use crate::served::Service;
+use crate::telling::tell;
 use bayou_command::{Source, Stop, Task, read_words};
-use bayou_net::Sockets;
 use bayou_print::{Ended, RunFault, write_text};
-use bayou_script::NetworkScript;
-use bayou_socket_run::run_on_sockets;
 use bayou_streams::{CountedChannel, Output};
 use std::alloc::Global;
 use std::convert::AsStr;
-use std::fs::File;
+use std::io;
 use std::io::{ErrorKind, Read, Write};
-use std::sync::Wait;
-use std::thread::Threads;
-use std::{fs, io};
 
 /// The exit status of a command line that is refused.
 const REFUSED: u8 = 2;
-
-/// Tells a fault, as far as that can be written, and gives the exit status.
-fn tell<E: Write>(errors: &mut Output<E>, fault: RunFault) -> u8
-    ensures status { result ≡ status_of fault }
-    ensures told { TellsFault (account E.contents errors.old) (account E.contents errors.new) errors.new.channel.write_failed }
-    ensures paid { Pays (account E.contents errors.old) (account E.contents errors.new) 1 }
-{
-    // Where the fault can't be told, the status still tells it.
-    let _ = write_text(errors, fault.to_line().as_bytes());
-    fault.status()
-}
-
-/// Tells how a task ended, where it ended with a fault, and gives the exit status.
-fn finish<E: Write>(errors: &mut Output<E>, ended: Result<Ended, RunFault>) -> u8
-    ensures status { result ≡ exit_status ended }
-    ensures told { TellsEnd ended (account E.contents errors.old) (account E.contents errors.new) errors.new.channel.write_failed }
-    ensures paid { Pays (account E.contents errors.old) (account E.contents errors.new) 1 }
-{
-    match ended {
-        Ok(ended) => ended.status(),
-        Err(fault) => tell(errors, fault),
-    }
-}
 
 /// Writes a text that was asked for, and gives the exit status.
 fn show<W: Write, E: Write>(output: &mut Output<W>, errors: &mut Output<E>, text: &str) -> u8
@@ -97,64 +70,73 @@ fn source_of<'a>(task: &Task<'a>) -> Source<'a>
     }
 }
 
-/// Does a task on this input.
-fn work<N: Networks, R: Read, W: Write>(
+/// What was asked for is done, as it ended.
+fn done(ended: Result<Ended, RunFault>) -> Result<Errand, RunFault>
+    ensures { result ≡ done_of ended }
+{
+    match ended {
+        Ok(ended) => Ok(Errand::Done(ended.status())),
+        Err(fault) => Err(fault),
+    }
+}
+
+/// Does a task on this input, or tells what of it is left to be done.
+fn work<R: Read, W: Write>(
     alloc: Global,
     task: Task,
-    networks: &mut N,
     input: &mut CountedChannel<R, ()>,
     output: &mut Output<W>,
-) -> Result<Ended, RunFault>
-    ensures works { IfSome (R.remaining input.old.reader) (λ text. Works N.runs N.serves N.connects (task_seen task.entry) text result (W.contents output.old.channel.writer) (W.contents output.new.channel.writer)) }
+) -> Result<Errand, RunFault>
+    ensures works { IfSome (R.remaining input.old.reader) (λ text. Works (task_seen task.entry) text result (W.contents output.old.channel.writer) (W.contents output.new.channel.writer)) }
     ensures read { IfErr result (EndsReading input.new.read_failed input.new.turns_left) }
     ensures written { IfErr result (EndsWriting output.new.channel.write_failed output.new.channel.turns_left) }
     ensures turns { input.new.turns_left ≤ input.old.turns_left }
     ensures paid { Pays (account W.contents output.old) (account W.contents output.new) (cut_lines result) }
 {
     match task {
-        Task::Run(_) => run_script(alloc, input, output),
-        Task::Audit(_) => run_audit(alloc, input, output),
-        Task::Net { folder, .. } => run_net(alloc, networks, folder, input, output),
-        Task::Serve(serving) => networks.serve(alloc, &serving),
-        Task::Connect(connecting) => networks.connect(alloc, &connecting),
+        Task::Run(_) => done(run_script(alloc, input, output)),
+        Task::Audit(_) => done(run_audit(alloc, input, output)),
+        Task::Net { folder, .. } => read_net(alloc, folder, input),
+        Task::Serve(serving) => Ok(Errand::Serve(Service::of(alloc, &serving)?)),
+        Task::Connect(connecting) => Ok(Errand::Connect(Call::of(alloc, &connecting)?)),
     }
 }
 
 /// Does a task on the file of this name.
-fn work_on<F: Files + Networks, W: Write>(
+fn work_on<F: Files, W: Write>(
     alloc: Global,
     task: Task,
     name: &str,
     files: &mut F,
     output: &mut Output<W>,
-) -> Result<Ended, RunFault>
-    ensures works { WorksOn (F.opens name.now) (F.refuses name.now) F.runs F.serves F.connects ⟦<F::Reader as Read>⟧.remaining (F.kept files.new) (task_seen task.entry) result (W.contents output.old.channel.writer) (W.contents output.new.channel.writer) }
+) -> Result<Errand, RunFault>
+    ensures works { WorksOn (F.opens name.now) (F.refuses name.now) ⟦<F::Reader as Read>⟧.remaining (F.kept files.new) (task_seen task.entry) result (W.contents output.old.channel.writer) (W.contents output.new.channel.writer) }
     ensures written { IfErr result (EndsWriting output.new.channel.write_failed output.new.channel.turns_left) }
     ensures paid { Pays (account W.contents output.old) (account W.contents output.new) (cut_lines result) }
 {
     match files.open(alloc, name) {
         Ok(reader) => {
             let mut file = CountedChannel::new(reader, ());
-            let ended = work(alloc, task, files, &mut file, output);
+            let came = work(alloc, task, &mut file, output);
             files.keep(file);
-            ended
+            came
         }
         Err(_) => Err(RunFault::Input),
     }
 }
 
-/// Does a task on the input that it names.
-fn do_task<F: Files + Networks, R: Read, W: Write>(
+/// Does a task on the input that it names, or tells what of it is left to be done.
+fn do_task<F: Files, R: Read, W: Write>(
     alloc: Global,
     task: Task,
     files: &mut F,
     input: &mut CountedChannel<R, ()>,
     output: &mut Output<W>,
-) -> Result<Ended, RunFault>
+) -> Result<Errand, RunFault>
     ensures standard { input_of_asked (task_seen task.entry) ≡ standard → IfSome (R.remaining input.old.reader) (λ text.
-        Works F.runs F.serves F.connects (task_seen task.entry) text result (W.contents output.old.channel.writer) (W.contents output.new.channel.writer)) }
+        Works (task_seen task.entry) text result (W.contents output.old.channel.writer) (W.contents output.new.channel.writer)) }
     ensures named { (name : List ℕ) → input_of_asked (task_seen task.entry) ≡ file name
-        → WorksOn (F.opens name) (F.refuses name) F.runs F.serves F.connects ⟦<F::Reader as Read>⟧.remaining (F.kept files.new) (task_seen task.entry) result (W.contents output.old.channel.writer) (W.contents output.new.channel.writer) }
+        → WorksOn (F.opens name) (F.refuses name) ⟦<F::Reader as Read>⟧.remaining (F.kept files.new) (task_seen task.entry) result (W.contents output.old.channel.writer) (W.contents output.new.channel.writer) }
     ensures unread { ¬ (input_of_asked (task_seen task.entry) ≡ standard) → input.new ≡ input.old }
     ensures read { input_of_asked (task_seen task.entry) ≡ standard → IfErr result (EndsReading input.new.read_failed input.new.turns_left) }
     ensures written { IfErr result (EndsWriting output.new.channel.write_failed output.new.channel.turns_left) }
@@ -162,80 +144,64 @@ fn do_task<F: Files + Networks, R: Read, W: Write>(
     ensures paid { Pays (account W.contents output.old) (account W.contents output.new) (cut_lines result) }
 {
     match source_of(&task) {
-        Source::Standard => work(alloc, task, files, input, output),
+        Source::Standard => work(alloc, task, input, output),
         Source::File(name) => work_on(alloc, task, name, files, output),
     }
 }
 
-/// Does what the words say, of which the first is the program's own name, and gives the exit status.
-pub fn run_main<'a, S: AsStr, F: Files + Networks, R: Read, W: Write, E: Write>(
+/// Tells a fault, where a task ended with one, which is done then.
+fn end<E: Write>(errors: &mut Output<E>, came: Result<Errand, RunFault>) -> Errand
+    ensures errand { result ≡ errand_of came }
+    ensures told { TellsEnd came (account E.contents errors.old) (account E.contents errors.new) errors.new.channel.write_failed }
+    ensures paid { Pays (account E.contents errors.old) (account E.contents errors.new) 1 }
+{
+    match came {
+        Ok(errand) => errand,
+        Err(fault) => Errand::Done(tell(errors, fault)),
+    }
+}
+
+/// Does what the words say, of which the first is the program's own name, and tells what of it is left to be done: what wants threads or sockets is.
+pub fn run_main<'a, S: AsStr, F: Files, R: Read, W: Write, E: Write>(
     alloc: Global,
     words: &'a [S],
     files: &mut F,
     input: &mut CountedChannel<R, ()>,
     output: &mut Output<W>,
     errors: &mut Output<E>,
-) -> u8
+) -> Errand
     // A task on the standard input.
-    ensures standard { (asked : Asked) → AskFor (map S.text words.entry.now) asked → input_of_asked asked ≡ standard → IfSome (R.remaining input.old.reader) (λ text. (ended : Result Ended RunFault)
-        × Works F.runs F.serves F.connects asked text ended (W.contents output.old.channel.writer) (W.contents output.new.channel.writer) × (result ≡ exit_status ended)
-        × IfErr ended (EndsReading input.new.read_failed input.new.turns_left) × IfErr ended (EndsWriting output.new.channel.write_failed output.new.channel.turns_left)
-        × TellsEnd ended (account E.contents errors.old) (account E.contents errors.new) errors.new.channel.write_failed) }
+    ensures standard { (asked : Asked) → AskFor (map S.text words.entry.now) asked → input_of_asked asked ≡ standard → IfSome (R.remaining input.old.reader) (λ text. (came : Result Left RunFault)
+        × Works asked text came (W.contents output.old.channel.writer) (W.contents output.new.channel.writer) × (result ≡ errand_of came)
+        × IfErr came (EndsReading input.new.read_failed input.new.turns_left) × IfErr came (EndsWriting output.new.channel.write_failed output.new.channel.turns_left)
+        × TellsEnd came (account E.contents errors.old) (account E.contents errors.new) errors.new.channel.write_failed) }
     // A task on a file.
-    ensures named { (asked : Asked) (name : List ℕ) → AskFor (map S.text words.entry.now) asked → input_of_asked asked ≡ file name → (ended : Result Ended RunFault)
-        × WorksOn (F.opens name) (F.refuses name) F.runs F.serves F.connects ⟦<F::Reader as Read>⟧.remaining (F.kept files.new) asked ended (W.contents output.old.channel.writer) (W.contents output.new.channel.writer)
-        × (result ≡ exit_status ended) × IfErr ended (EndsWriting output.new.channel.write_failed output.new.channel.turns_left)
-        × TellsEnd ended (account E.contents errors.old) (account E.contents errors.new) errors.new.channel.write_failed }
+    ensures named { (asked : Asked) (name : List ℕ) → AskFor (map S.text words.entry.now) asked → input_of_asked asked ≡ file name → (came : Result Left RunFault)
+        × WorksOn (F.opens name) (F.refuses name) ⟦<F::Reader as Read>⟧.remaining (F.kept files.new) asked came (W.contents output.old.channel.writer) (W.contents output.new.channel.writer)
+        × (result ≡ errand_of came) × IfErr came (EndsWriting output.new.channel.write_failed output.new.channel.turns_left)
+        × TellsEnd came (account E.contents errors.old) (account E.contents errors.new) errors.new.channel.write_failed }
     // The standard input isn't read where nothing is asked for of it.
     ensures unread { ¬ ((asked : Asked) × AskFor (map S.text words.entry.now) asked × (input_of_asked asked ≡ standard)) → input.new ≡ input.old }
-    ensures others { ¬ ((asked : Asked) × AskFor (map S.text words.entry.now) asked) → TellsOf (map S.text words.entry.now) result (W.contents output.old.channel.writer) (W.contents output.new.channel.writer)
+    ensures others { ¬ ((asked : Asked) × AskFor (map S.text words.entry.now) asked) → (status : ℕ) × (result ≡ Done status)
+        × TellsOf (map S.text words.entry.now) status (W.contents output.old.channel.writer) (W.contents output.new.channel.writer)
         (account E.contents errors.old) (account E.contents errors.new) errors.new.channel.write_failed }
     // A text that was asked for is not lost in silence.
-    ensures clean { ¬ ((asked : Asked) × AskFor (map S.text words.entry.now) asked) → result ≡ 0 → output.new.channel.write_failed ≡ true → output.old.channel.write_failed ≡ true }
+    ensures clean { ¬ ((asked : Asked) × AskFor (map S.text words.entry.now) asked) → result ≡ Done 0 → output.new.channel.write_failed ≡ true → output.old.channel.write_failed ≡ true }
     ensures turns { input.new.turns_left ≤ input.old.turns_left }
     ensures paid { Pays (account W.contents output.old) (account W.contents output.new) 1 }
-    ensures paid_whole { (asked : Asked) → AskFor (map S.text words.entry.now) asked → result < 2 → Pays (account W.contents output.old) (account W.contents output.new) 0 }
+    ensures paid_whole { (asked : Asked) → AskFor (map S.text words.entry.now) asked → IsWell result → Pays (account W.contents output.old) (account W.contents output.new) 0 }
     ensures paid_errors { Pays (account E.contents errors.old) (account E.contents errors.new) 1 }
 {
     match read_words(alloc, words) {
         Ok(task) => {
-            let ended = do_task(alloc, task, files, input, output);
-            finish(errors, ended)
+            let came = do_task(alloc, task, files, input, output);
+            end(errors, came)
         }
-        Err(Stop::Asked(text)) => show(output, errors, text.as_str()),
+        Err(Stop::Asked(text)) => Errand::Done(show(output, errors, text.as_str())),
         Err(Stop::Refused(text)) => {
             let _ = write_text(errors, text.as_bytes());
-            REFUSED
+            Errand::Done(REFUSED)
         }
-        Err(Stop::Memory) => tell(errors, RunFault::Memory),
+        Err(Stop::Memory) => Errand::Done(tell(errors, RunFault::Memory)),
     }
-}
-
-/// Runs a script over sockets that a network took ([`Networks`]), tells a fault, and gives the exit status. Before the fault the damage of a
-/// journal is told, where there is some; and before all else that the last entry of a journal was dropped.
-pub fn run_taken<T, W, E, D>(
-    rt: &T,
-    alloc: Global,
-    folder: &str,
-    script: NetworkScript,
-    output: &mut Output<W>,
-    errors: &mut Output<E>,
-    damage: &mut Output<D>,
-) -> u8
-where
-    T: Threads + Wait + fs::Files<File = File> + Sockets + Send + Sync,
-    W: Write,
-    E: Write,
-    D: Write,
-    ensures took { (text : List ℕ) × TakesBytes (account W.contents output.old) (account W.contents output.new) text }
-    ensures ended { (ended : Result Ended RunFault) × (result ≡ exit_status ended) × TellsEnd ended (account E.contents errors.old) (account E.contents errors.new) errors.new.channel.write_failed
-        × IfErr ended IsNetFault
-        × KeepsUnstarted ended (account W.contents output.old) (account W.contents output.new)
-        × PrintsRun script.servers.count ended (account W.contents output.old) (account W.contents output.new)
-        × TellsStart ended folder.now script.servers.count (account D.contents damage.old) (account D.contents damage.new)
-        × IfErr ended (EndsWriting output.new.channel.write_failed output.new.channel.turns_left) }
-    ensures paid_errors { Pays (account E.contents errors.old) (account E.contents errors.new) 1 }
-{
-    let ended = run_on_sockets(rt, alloc, folder, script, output, damage);
-    finish(errors, ended)
 }

@@ -1,8 +1,37 @@
-//! The line that tells a fault.
+//! How faults are told, and the exit statuses.
 ghost use Rattle.std.specs.Prelude.{◌≡◌, IfOk, option_map, string_bytes};
+ghost use Rattle.bayou_print.specs.Fault.{exit_status, status_of};
+ghost use Rattle.bayou_print.specs.Telling.{TellsEnd, TellsFault};
 ghost use Rattle.bayou_shell.specs.Told.{told_text};
+ghost use Rattle.bayou_streams.specs.Account.{Pays, account};
 
+use bayou_print::{Ended, RunFault, write_text};
+use bayou_streams::Output;
 use std::alloc::{AllocError, Global};
+use std::io::Write;
+
+/// Tells a fault, as far as that can be written, and gives the exit status.
+pub(crate) fn tell<E: Write>(errors: &mut Output<E>, fault: RunFault) -> u8
+    ensures status { result ≡ status_of fault }
+    ensures told { TellsFault (account E.contents errors.old) (account E.contents errors.new) errors.new.channel.write_failed }
+    ensures paid { Pays (account E.contents errors.old) (account E.contents errors.new) 1 }
+{
+    // Where the fault can't be told, the status still tells it.
+    let _ = write_text(errors, fault.to_line().as_bytes());
+    fault.status()
+}
+
+/// Tells how a run ended, where it ended with a fault, and gives the exit status.
+pub(crate) fn finish<E: Write>(errors: &mut Output<E>, ended: Result<Ended, RunFault>) -> u8
+    ensures status { result ≡ exit_status ended }
+    ensures told { TellsEnd ended (account E.contents errors.old) (account E.contents errors.new) errors.new.channel.write_failed }
+    ensures paid { Pays (account E.contents errors.old) (account E.contents errors.new) 1 }
+{
+    match ended {
+        Ok(ended) => ended.status(),
+        Err(fault) => tell(errors, fault),
+    }
+}
 
 /// The line that tells the cause, with the file that is at fault, where one is.
 pub(crate) fn told_line(

@@ -1,9 +1,13 @@
 -- What the books of a run come to, and what is printed of them.
-use Rattle.std.proofs.Common.{◌≡◌, ◌∙◌, ◌⊎◌, inl, inr, ℕ, zero, suc, ◌+◌, ◌<◌, ◌≤◌, max, List, [], ◌∷◌, ◌++◌, Option, None, Some, Result, Ok, Err, IfOk, add-one, ap, arith, get_or, length, refl, slice_get, subst, sym}
-use Rattle.std.proofs.lemmas.List.{get_or_push, length_push}
+use Rattle.std.proofs.Common.{◌≡◌, ◌∙◌, ℕ, zero, suc, ◌+◌, ◌<◌, ◌≤◌, max, List, [], ◌∷◌, ◌++◌, Option, None, Some, Result, Ok, Err, IfOk, add-one, ap, arith, get_or, length, refl, slice_get, subst, sym, vec_len}
 use Rattle.std.specs.Global.{Vec}
+use Rattle.std.specs.List.{AllZip}
 use Rattle.std.specs.Option.{option_map_or}
-use Rattle.bayou_fleet.specs.Seats.{InOne, SettlesAll}
+use Rattle.bayou_base.specs.declared.entry.Entry.{Entry}
+use Rattle.bayou_fleet.specs.Servers.{IsDump, IsFleetSettled, SettlesAll}
+use Rattle.bayou_fleet.specs.declared.fault.FleetFault.{FleetFault}
+use Rattle.bayou_fleet.specs.declared.network.FleetSettled.{FleetSettled}
+use Rattle.bayou_judge.specs.Answers.{Judges}
 use Rattle.bayou_judge.specs.History.{lists_of}
 use Rattle.bayou_lang.specs.declared.write.Write.{Write}
 use Rattle.bayou_node.specs.Books.{Begun}
@@ -15,7 +19,7 @@ use Rattle.bayou_print.specs.Waiting.{Gathers, Stage}
 use Rattle.bayou_print.specs.declared.ended.Ended.{Ended}
 use Rattle.bayou_print.specs.declared.fault.RunFault.{RunFault}
 use Rattle.bayou_socket_run.specs.Books.{PrintsRun, books_text, line_of, lines_of}
-use Rattle.bayou_socket_run.specs.Inner.Settling.{AreDumps, EndsAt, EndsRunAt, IsJudged}
+use Rattle.bayou_socket_run.specs.Inner.Settling.{EndsAt, EndsRunAt}
 use Rattle.bayou_socket_run.specs.declared.settling.Books.{Books}
 use Rattle.bayou_streams.specs.Account.{Account, TakesBytes}
 use Rattle.bayou_streams.specs.Laws.Taken.{TakesBytes-trans}
@@ -50,64 +54,70 @@ told_more servers nodes a b c before one =
 pub told_three : (a b c d : Stage) (first second third : List ℕ) → Gathers a b first [] → Gathers b c second [] → Gathers c d third [] → Gathers a d (first ++ (second ++ third)) []
 told_three a b c d first second third one two three = Gathers-trans a b d first (second ++ third) [] one (Gathers-trans b c d second third [] two three)
 
--- one dump more
-lists_more : (dumps : List (Vec Write)) (dump : Vec Write) → lists_of (dumps ++ dump ∷ []) ≡ lists_of dumps ++ dump.items ∷ []
-lists_more [] dump = refl
-lists_more (first ∷ dumps) dump = ap (λ (l : List (List Write)). first.items ∷ l) (lists_more dumps dump)
+-- one list for each server
+length_zip : {A B : Type 0} (R : A → B → Type 0) (xs : List A) (ys : List B) → AllZip R xs ys → length ys ≡ length xs
+length_zip R [] [] all = refl
+length_zip R [] (y ∷ ys) all = absurd all
+length_zip R (x ∷ xs) [] all = absurd all
+length_zip R (x ∷ xs) (y ∷ ys) (one, all) = ap suc (length_zip R xs ys all)
 
 length_lists : (dumps : List (Vec Write)) → length (lists_of dumps) ≡ length dumps
 length_lists [] = refl
 length_lists (first ∷ dumps) = ap suc (length_lists dumps)
 
-get_or_before : (xs : List (List Write)) (x : List Write) (at : ℕ) → at < length xs → get_or (xs ++ x ∷ []) at [] ≡ get_or xs at []
-get_or_before [] x at within = absurd (omega (arith, within))
-get_or_before (first ∷ xs) x zero within = refl
-get_or_before (first ∷ xs) x (suc at) within = get_or_before xs x at (omega (arith, within))
+-- there are as many dumps as servers
+pub dumps_number : (servers : List Begun) (number : ℕ) (fleet : FleetSettled) → length servers ≡ number → IsFleetSettled servers (lists_of fleet.dumps.items) fleet.nodes.items
+    → length (lists_of fleet.dumps.items) ≡ number
+dumps_number servers number fleet many settled = length_zip IsDump servers (lists_of fleet.dumps.items) settled.held ∙ many
 
-last_or_before : (at servers : ℕ) → at < servers + 1 → (at ≡ servers) ⊎ (at < servers)
-last_or_before zero zero within = inl refl
-last_or_before zero (suc servers) within = inr (omega arith)
-last_or_before (suc at) zero within = absurd (omega (arith, within))
-last_or_before (suc at) (suc servers) within = elim (last_or_before at servers (omega (arith, within))) [ inl same ↦ inl (ap suc same) | inr less ↦ inr (omega (arith, less)) ]
+pub dumps_each : (servers : List Begun) (number : ℕ) (fleet : FleetSettled) → length servers ≡ number → IsFleetSettled servers (lists_of fleet.dumps.items) fleet.nodes.items
+    → length fleet.dumps.items ≡ number
+dumps_each servers number fleet many settled = sym (length_lists fleet.dumps.items) ∙ dumps_number servers number fleet many settled
 
-pub dumps_none : (seats : List (Option Begun)) → AreDumps seats 0 []
-dumps_none seats = record { number = refl; each = λ at less. absurd (omega (arith, less)) }
+-- what is so of what was had is so of it
+pub had_so : {A F : Type 0} (IsSo : A → Type 0) (had : Result A F) (value : A) → had ≡ Ok value → IfOk had IsSo → IsSo value
+had_so {A} {F} IsSo had value is so = subst (λ (h : Result A F). IfOk h IsSo) is so
 
-pub dumps_more : (seats : List (Option Begun)) (servers : ℕ) (dumps more : List (Vec Write)) (dump : Vec Write) → AreDumps seats servers (lists_of dumps) → InOne seats servers (λ core. dump.items ≡ core.held)
-    → more ≡ dumps ++ dump ∷ [] → AreDumps seats (servers + 1) (lists_of more)
-dumps_more seats servers dumps more dump are one is =
-    let lists = lists_of dumps in
-    let all : lists_of more ≡ lists ++ dump.items ∷ [] = ap lists_of is ∙ lists_more dumps dump in
-    subst (AreDumps seats (servers + 1)) (sym all) (record {
-      number = length_push lists dump.items ∙ ap (λ (n : ℕ). n + 1) are.number;
-      each = λ at less. elim (last_or_before at servers less) [
-        | inl same ↦ subst (λ (n : ℕ). InOne seats n (λ core. get_or (lists ++ dump.items ∷ []) n [] ≡ core.held)) (sym same)
-            (subst (λ (d : List Write). InOne seats servers (λ core. d ≡ core.held)) (sym (get_or_push lists dump.items [] servers are.number)) one)
-        | inr before ↦ subst (λ (d : List Write). InOne seats at (λ core. d ≡ core.held)) (sym (get_or_before lists dump.items at (rw are.number before))) (are.each at before)
-      ];
-    })
+-- and so there are as many dumps as mailboxes
+pub dumps_had : (mailboxes : Vec Begun) (number : ℕ) (had : Result FleetSettled FleetFault) (fleet : FleetSettled) → had ≡ Ok fleet → vec_len mailboxes ≡ number
+    → IfOk had (λ (f : FleetSettled). IsFleetSettled mailboxes.items (lists_of f.dumps.items) f.nodes.items) → vec_len fleet.dumps ≡ number
+dumps_had mailboxes number had fleet is many settled =
+    let all : length mailboxes.items ≡ number = omega (arith, many, mailboxes.ok) in
+    let each : length fleet.dumps.items ≡ number =
+    dumps_each mailboxes.items number fleet all (had_so (λ (f : FleetSettled). IsFleetSettled mailboxes.items (lists_of f.dumps.items) f.nodes.items) had fleet is settled) in
+    omega (arith, each, fleet.dumps.ok)
 
 -- what was written of the books is what they come to
-pub ends_at : (seats : List (Option Begun)) (servers : ℕ) (books : Books) (told : Result Ended RunFault) (a b : Stage) → SettlesAll seats [] books.nodes.items → IsJudged seats servers books.verdict
-    → IfOk told (λ ended. (ended_status ended ≡ verdict_status books.verdict) × Gathers a b (books_text servers books.totals books.nodes.items books.verdict) [])
-    → IfOk told (λ ended. (text : List ℕ) × EndsAt seats servers ended text × Gathers a b text [])
-ends_at seats servers books (Err fault) a b settled judged written = tt
-ends_at seats servers books (Ok ended) a b settled judged written = (
-  books_text servers books.totals books.nodes.items books.verdict,
-  record { totals = books.totals; nodes = books.nodes.items; verdict = books.verdict; settled = settled; judged = judged; printed = refl; status = written.0 },
+pub ends_at : (servers : List Begun) (number : ℕ) (fleet : FleetSettled) (books : Books) (told : Result Ended RunFault) (a b : Stage)
+    → length servers ≡ number → IsFleetSettled servers (lists_of fleet.dumps.items) fleet.nodes.items
+    → books.nodes.items ≡ fleet.nodes.items → (entries : List Entry) × Judges number entries (lists_of fleet.dumps.items) books.verdict
+    → IfOk told (λ ended. (ended_status ended ≡ verdict_status books.verdict) × Gathers a b (books_text number books.totals books.nodes.items books.verdict) [])
+    → IfOk told (λ ended. (text : List ℕ) × EndsAt servers number ended text × Gathers a b text [])
+ends_at servers number fleet books (Err fault) a b many settled nodes judged written = tt
+ends_at servers number fleet books (Ok ended) a b many settled nodes (entries, judges) written = (
+  books_text number books.totals books.nodes.items books.verdict,
+  record {
+    totals = books.totals;
+    nodes = books.nodes.items;
+    verdict = books.verdict;
+    settled = subst (SettlesAll servers) (sym nodes) settled.settled;
+    judged = record { entries = entries; dumps = lists_of fleet.dumps.items; held = settled.held; each = dumps_number servers number fleet many settled; judges = judges };
+    printed = refl;
+    status = written.0;
+  },
   written.1,
 )
 
 -- the end of a run stands behind its lines
-pub run_ends : (seats : List (Option Begun)) (servers : ℕ) (passed told ended : Ended) (a b c : Account) → (text : List ℕ) × TakesBytes a b text → (text : List ℕ) × EndsAt seats servers told text × TakesBytes b c text
-    → ended_status ended ≡ max (ended_status passed) (ended_status told) → EndsRunAt seats servers ended a c
-run_ends seats servers passed told ended a b c (lines, one) (text, end, two) both =
+pub run_ends : (servers : List Begun) (number : ℕ) (passed told ended : Ended) (a b c : Account) → (text : List ℕ) × TakesBytes a b text → (text : List ℕ) × EndsAt servers number told text × TakesBytes b c text
+    → ended_status ended ≡ max (ended_status passed) (ended_status told) → EndsRunAt servers number ended a c
+run_ends servers number passed told ended a b c (lines, one) (text, end, two) both =
     record { lines = lines; text = text; told = told; end = end; took = TakesBytes-trans a b c lines text one two; status = omega (arith, both) }
 
-pub prints_run : (seats : List (Option Begun)) (servers : ℕ) (result : Result Ended RunFault) (a b : Account) → (text : List ℕ) × TakesBytes a b text
-    → IfOk result (λ ended. EndsRunAt seats servers ended a b) → PrintsRun servers result a b
-prints_run seats servers (Err fault) a b took ends = took
-prints_run seats servers (Ok ended) a b took ends =
+pub prints_run : (servers : List Begun) (number : ℕ) (result : Result Ended RunFault) (a b : Account) → (text : List ℕ) × TakesBytes a b text
+    → IfOk result (λ ended. EndsRunAt servers number ended a b) → PrintsRun number result a b
+prints_run servers number (Err fault) a b took ends = took
+prints_run servers number (Ok ended) a b took ends =
     let end = ends.end in (
       ends.lines,
       end.totals,

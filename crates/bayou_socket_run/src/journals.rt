@@ -1,5 +1,5 @@
 //! Servers that are started on journals in files.
-ghost use Rattle.std.specs.Prelude.{◌≡◌, ◌<◌, All, IfErr, IfOk, MatchResult, OnOk, string_bytes};
+ghost use Rattle.std.specs.Prelude.{◌≡◌, ◌+◌, ◌<◌, All, IfErr, IfOk, MatchResult, OnOk, length, string_bytes};
 ghost use Rattle.bayou_print.specs.declared.fault.RunFault.TheVariants.{Memory};
 ghost use Rattle.bayou_socket_run.specs.Damage.{MayTell, RefusesAt, StopsStart, TellsDamage, TellsEntries, TellsEntry, damage_text_of, entry_text_of, journal_name};
 ghost use Rattle.bayou_socket_run.specs.Inner.Faults.{IsStartFault};
@@ -183,6 +183,7 @@ fn start_each<T: Files<File = File>, E: Write>(
     made: &mut Vec<String>,
     told: &mut Output<E>,
 ) -> Result<(), RunFault>
+    ensures number { OnOk result (length started.new.items ≡ length started.old.items + servers.count) }
     ensures fault { IfErr result IsStartFault }
     ensures told { MatchResult result (λ _. TellsEntries folder.now servers.count (account E.contents told.old) (account E.contents told.new)) (λ fault. StopsStart fault folder.now servers.count (account E.contents told.old) (account E.contents told.new)) }
 {
@@ -202,6 +203,7 @@ fn start_run<T: Files<File = File>, E: Write>(
     made: &mut Vec<String>,
     told: &mut Output<E>,
 ) -> Result<u32, RunFault>
+    ensures number { OnOk result (length started.new.items ≡ length started.old.items + servers.count) }
     ensures counted { IfOk result (λ run. 0 < run) }
     ensures later { IfOk result (λ run. All (λ server. HasRunsBefore run server.value.core) started.new.items) }
     ensures fault { IfErr result IsStartFault }
@@ -228,6 +230,7 @@ pub(crate) fn start_all<T: Files<File = File>, E: Write>(
     servers: Servers,
     told: &mut Output<E>,
 ) -> Result<Started, RunFault>
+    ensures number { IfOk result (λ started. length started.servers.items ≡ servers.count) }
     ensures later { IfOk result (λ started. All (λ server. HasRunsBefore started.run server.value.core) started.servers.items) }
     ensures fault { IfErr result IsStartFault }
     ensures told { MatchResult result (λ _. TellsEntries folder.now servers.count (account E.contents told.old) (account E.contents told.new)) (λ fault. StopsStart fault folder.now servers.count (account E.contents told.old) (account E.contents told.new)) }

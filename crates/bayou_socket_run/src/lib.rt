@@ -14,4 +14,4 @@ mod phases;
 mod settling;
 pub mod sockets;
 
-pub use sockets::run_on_sockets;
+pub use sockets::{run_commands, run_on_sockets};

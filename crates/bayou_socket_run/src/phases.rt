@@ -7,7 +7,7 @@ ghost use Rattle.bayou_print.specs.Turns.{EndsWriting};
 use crate::faults::in_run;
 use bayou_answers::Answer;
 use bayou_audit::Ledgers;
-use bayou_fleet::{Closing, Fleet, Inquiry, Network, Phase, RunSession, run_together};
+use bayou_fleet::{Closing, Inquiry, Network, Phase, RunSession, run_together};
 use bayou_net::Sockets;
 use bayou_print::{Ended, RunFault, Waiting, write_answer};
 use bayou_script::{NetworkCommand, Servers, next_phase};
@@ -58,10 +58,10 @@ fn write_answers<W: Write>(
 }
 
 /// Has one of what closes a phase answered, and writes what is printed for it.
-fn answer_one<F: Fleet, K: Ledgers, T: Wait, W: Write>(
+fn answer_one<K: Ledgers, T: Wait, W: Write>(
     rt: &T,
     alloc: Global,
-    network: &Network<F, K>,
+    network: &Network<K>,
     inquiry: &mut Inquiry,
     servers: Servers,
     closing: Closing,
@@ -78,10 +78,10 @@ fn answer_one<F: Fleet, K: Ledgers, T: Wait, W: Write>(
 }
 
 /// Has what closes a phase answered in order, and writes what is printed for it.
-fn answer_closings<F: Fleet, K: Ledgers, T: Wait, W: Write>(
+fn answer_closings<K: Ledgers, T: Wait, W: Write>(
     rt: &T,
     alloc: Global,
-    network: &Network<F, K>,
+    network: &Network<K>,
     inquiry: &mut Inquiry,
     servers: Servers,
     closings: VecDeque<Closing>,
@@ -104,10 +104,10 @@ fn answer_closings<F: Fleet, K: Ledgers, T: Wait, W: Write>(
 }
 
 /// Runs a phase to its end: its sessions and its pulls side by side, and then what closes it. What is printed for it is written.
-fn run_phase<F, K, T, W>(
+fn run_phase<K, T, W>(
     rt: &T,
     alloc: Global,
-    network: &Network<F, K>,
+    network: &Network<K>,
     inquiry: &mut Inquiry,
     servers: Servers,
     phase: Phase,
@@ -116,7 +116,6 @@ fn run_phase<F, K, T, W>(
     waiting: &mut Waiting,
 ) -> Result<Passed<K>, RunFault>
 where
-    F: Fleet + Send + Sync,
     K: Ledgers + Send + Sync,
     T: Threads + Wait + Sockets + Send + Sync,
     W: Write,
@@ -143,16 +142,15 @@ where
 }
 
 /// Runs all phases, one behind another. Then the links of the sessions are closed.
-pub(crate) fn run_phases<F, K, T, W>(
+pub(crate) fn run_phases<K, T, W>(
     rt: &T,
     alloc: Global,
-    network: &Network<F, K>,
+    network: &Network<K>,
     agenda: Agenda<K>,
     output: &mut Output<W>,
     waiting: &mut Waiting,
 ) -> Result<Ended, RunFault>
 where
-    F: Fleet + Send + Sync,
     K: Ledgers + Send + Sync,
     T: Threads + Wait + Sockets + Send + Sync,
     W: Write,

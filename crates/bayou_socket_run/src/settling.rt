@@ -1,25 +1,24 @@
 //! The end of a run over a network: what its books come to, and the verdict.
-ghost use Rattle.std.specs.Prelude.{◌≡◌, ◌≤◌, [], IfErr, IfOk, OnOk};
-ghost use Rattle.bayou_fleet.specs.Seats.{SettlesAll};
+ghost use Rattle.std.specs.Prelude.{◌≡◌, ◌≤◌, [], IfErr, IfOk, List, OnOk, vec_len};
+ghost use Rattle.bayou_base.specs.declared.entry.Entry.{Entry};
+ghost use Rattle.bayou_judge.specs.Answers.{Judges};
 ghost use Rattle.bayou_judge.specs.History.{lists_of};
 ghost use Rattle.bayou_print.specs.Fault.{ended_status, verdict_status};
 ghost use Rattle.bayou_print.specs.Waiting.{Gathers, stage};
 ghost use Rattle.bayou_socket_run.specs.Books.{books_text, line_of, lines_of};
-ghost use Rattle.bayou_socket_run.specs.Inner.Settling.{AreDumps, IsJudged};
 ghost use Rattle.bayou_socket_run.specs.Inner.Telling.{Tells};
 ghost use Rattle.bayou_print.specs.Turns.{EndsWriting};
 
 use bayou_answers::Answer;
-use bayou_audit::{Ledgers, Totals};
+use bayou_audit::{AuditBook, Ledgers, Totals};
 use bayou_base::ServerId;
-use bayou_fleet::{Fleet, FleetFault, Network};
+use bayou_fleet::{FleetFault, FleetSettled};
 use bayou_judge::{BadEvidence, Verdict, judge, lend_dumps};
-use bayou_lang::RestingWrite;
 use bayou_node::NodeSettled;
 use bayou_print::{Ended, RunFault, Waiting, settled_line, write_answer};
 use bayou_script::Servers;
 use bayou_streams::Output;
-use std::alloc::{AllocError, Global};
+use std::alloc::Global;
 use std::io::Write;
 use std::sync::Wait;
 
@@ -32,38 +31,21 @@ pub(crate) struct Books {
     verdict: Result<Verdict, BadEvidence>,
 }
 
-/// What each server holds, in order of receipt.
-fn dumps_of<F: Fleet, T: Wait>(
+/// Takes the books of all servers, and judges what was filed by what the servers hold.
+pub(crate) fn settle<K: Ledgers, T: Wait>(
     rt: &T,
     alloc: Global,
-    fleet: &F,
-    servers: Servers,
-) -> Result<Vec<Vec<RestingWrite>>, AllocError>
-    ensures { IfOk result (λ dumps. AreDumps (F.seats fleet.now) servers.count (lists_of dumps.items)) }
-{
-    let mut dumps = Vec::new(alloc);
-    for at in 0..servers.count {
-        dumps.push(fleet.dump(rt, alloc, usize::from(at))?)?;
-    }
-    Ok(dumps)
-}
-
-/// Settles the books of all servers, and judges what was filed by what the servers hold.
-pub(crate) fn settle<F: Fleet, K: Ledgers, T: Wait>(
-    rt: &T,
-    alloc: Global,
-    network: Network<F, K>,
+    book: AuditBook<K>,
+    fleet: FleetSettled,
     servers: Servers,
 ) -> Result<Books, FleetFault>
-    ensures settled { IfOk result (λ books. SettlesAll (F.seats network.fleet) [] books.nodes.items) }
-    ensures judged { IfOk result (λ books. IsJudged (F.seats network.fleet) servers.count books.verdict) }
+    requires { vec_len fleet.dumps ≡ servers.count }
+    ensures nodes { IfOk result (λ books. books.nodes.items ≡ fleet.nodes.items) }
+    ensures judged { IfOk result (λ books. (entries : List Entry) × Judges servers.count entries (lists_of fleet.dumps.items) books.verdict) }
 {
-    let (fleet, book) = network.parts();
-    let dumps = dumps_of(rt, alloc, &fleet, servers)?;
-    let mut nodes = Vec::new(alloc);
-    fleet.settle(&mut nodes)?;
     let totals = book.totals(rt);
     let entries = book.entries(rt, alloc)?;
+    let FleetSettled { dumps, nodes } = fleet;
     let verdict = judge(alloc, servers.count, &entries, &lend_dumps(&dumps))?;
     Ok(Books {
         totals,

@@ -1,9 +1,10 @@
 //! Sessions that are kept on a device, each of whose calls fails in turn.
 use crate::fixtures::{must_be_so, session_id, vector};
 use bayou_base::{Asks, Seen};
+use bayou_client::Asker;
 use bayou_device::{MemoryDevice, OpenGate};
-use bayou_remember::{KeepFault, Kept, Memory};
-use bayou_session::{Past, Session};
+use bayou_remember::{KeepFault, Memory};
+use bayou_session::Session;
 use std::alloc::Global;
 use std::process::Abort;
 
@@ -30,21 +31,12 @@ fn reader(rt: &impl Abort, index: u8, count: u32) -> Session {
 }
 
 /// What is kept of the reader.
-fn kept_reader(rt: &impl Abort, index: u8, count: u32) -> Kept {
-    let session = reader(rt, index, count);
-    let past = session.past();
-    let past = Past {
-        run: past.run,
-        begun: past.begun,
-        asked: None,
-        reads: past.reads,
-        writes: past.writes,
-    };
-    Kept::new(Session::resume(session.id(), session.asks(), past), None)
+fn kept_reader(rt: &impl Abort, index: u8, count: u32) -> Asker {
+    Asker::asking_nothing(reader(rt, index, count))
 }
 
 /// The place of a session, of those that are kept, or 0 where it isn't.
-fn place_of(all: &[Option<Kept>], index: usize) -> u32 {
+fn place_of(all: &[Option<Asker>], index: usize) -> u32 {
     match all.get(index) {
         Some(Some(kept)) => kept.session().place(),
         _ => 0,

@@ -4,6 +4,8 @@
 #![tactic(auto)]
 
 #[cfg(test)]
+mod askers;
+#[cfg(test)]
 mod careful;
 #[cfg(test)]
 mod counts;

@@ -25,7 +25,10 @@ fn answered(
 
 /// What the server makes of what is sent to it.
 fn pulled(alloc: Global, server: &mut Served, sent: &[u8]) -> Result<Pulled, PullFault> {
-    pull_on(alloc, server, &mut CountedChannel::new(sent, io::sink()))
+    match pull_on(alloc, server, &mut CountedChannel::new(sent, io::sink())) {
+        Ok(pulled) => Ok(pulled),
+        Err(stopped) => Err(stopped.fault),
+    }
 }
 
 /// The server's answer to an Offer of nothing, and once more where memory ran out.

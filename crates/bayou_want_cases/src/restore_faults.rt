@@ -3,7 +3,7 @@ use crate::fixtures::{begun_at_last, must_be_so, server_id};
 use crate::stores::{COUNT, Given, LIMIT, restored, start, vector, write};
 use bayou_peer::Replica;
 use bayou_restore::{Gathered, RestoreFault, first_difference};
-use bayou_server::{TakeFault, Took, TookAll};
+use bayou_server::{TakeFault, TookAll};
 use std::alloc::Global;
 use std::process::Abort;
 
@@ -33,7 +33,7 @@ fn comes_of(
         told == TookAll {
             taken: u32::try_from(given.len()).unwrap_or(u32::MAX),
             had: 0,
-            fault: None
+            refused: None
         }
     );
     let mut server = begun_at_last(rt, alloc, (0, COUNT, limit));
@@ -115,7 +115,8 @@ fn what_fits_nowhere_is_not_gathered(rt: HostRuntime) {
     for (row, (given, fault)) in UNFIT.iter().enumerate() {
         let (gathered, told) = gather(&rt, rt.alloc(), *given, LIMIT);
         let taken = given.len().saturating_sub(1);
-        let is_so = told.fault == Some(*fault) && gathered.writes().len() == taken;
+        let is_so = told.refused.is_some_and(|refused| refused.fault == *fault)
+            && gathered.writes().len() == taken;
         must_be_so(&rt, is_so && told.taken as usize == taken, row);
     }
 }
@@ -132,17 +133,15 @@ fn limits_are_kept(rt: HostRuntime) {
     let alloc = rt.alloc();
     for limit in 0..6_u32 {
         let (gathered, told) = gather(&rt, alloc, &PLAIN, limit);
-        let fault = if limit < 4 {
-            Some(TakeFault::LogFull)
-        } else {
-            None
+        let is_told = match told.refused {
+            None => limit >= 4,
+            Some(refused) => {
+                let next = PLAIN.get(limit as usize);
+                refused.fault == TakeFault::LogFull
+                    && next.is_some_and(|given| refused.wid.seq == given.1)
+            }
         };
-        let is_gathered = told
-            == TookAll {
-                taken: limit.min(4),
-                had: 0,
-                fault,
-            };
+        let is_gathered = told.taken == limit.min(4) && told.had == 0 && is_told;
         let wanted = if limit < 4 {
             Err(RestoreFault::LogFull)
         } else {
@@ -161,11 +160,16 @@ fn limits_are_kept(rt: HostRuntime) {
 fn what_is_gathered_twice_is_had(rt: HostRuntime) {
     let alloc = rt.alloc();
     let (mut gathered, _) = gather(&rt, alloc, &PLAIN, 4);
-    let again = gathered.take(alloc, write(&rt, alloc, (1, 1, 1, [0, 0, 0])));
+    let mut again = Vec::new(alloc);
+    again
+        .push(write(&rt, alloc, (1, 1, 1, [0, 0, 0])))
+        .expect(&rt, "no memory");
+    let again = gathered.take_all(alloc, again);
     let lacking = gathered
         .lacking(alloc, &vector(&rt, [1, 0, 1]), 1)
         .expect(&rt, "no memory");
-    let is_so = again == Ok(Took::Had)
+    let is_so = again.had == 1
+        && again.refused.is_none()
         && gathered.offer() == vector(&rt, [2, 1, 1])
         && lacking.len() == 1
         && lacking[0] == write(&rt, alloc, (1, 1, 1, [0, 0, 0]));
@@ -223,7 +227,7 @@ fn the_first_difference_is_told(rt: HostRuntime) {
     let (plain, _) = gather(&rt, alloc, &PLAIN, LIMIT);
     for (row, (given, number)) in BESIDE.iter().enumerate() {
         let (beside, told) = gather(&rt, alloc, *given, LIMIT);
-        let is_so = told.fault.is_none()
+        let is_so = told.refused.is_none()
             && first_difference(&plain, &beside, first) == *number
             && first_difference(&beside, &plain, first) == *number;
         must_be_so(&rt, is_so, row);

@@ -1,11 +1,22 @@
 //! Restoring where memory is refused.
 use crate::fixtures::must_be_so;
-use crate::stores::{COUNT, LIMIT, restored, start, write};
+use crate::stores::{COUNT, Given, LIMIT, restored, start, write};
+use bayou_lang::RestingWrite;
 use bayou_peer::Replica;
 use bayou_restore::{Gathered, RestoreFault};
 use bayou_server::TakeFault;
 use std::alloc::Global;
 use std::process::Abort;
+
+/// The Write alone, as it is given.
+fn alone(rt: &impl Abort, alloc: Global, given: Given) -> Vec<RestingWrite> {
+    let mut alone = match Vec::with_capacity(alloc, 1) {
+        Ok(list) => list,
+        Err(_) => Vec::with_capacity(alloc, 1).expect(rt, "no memory"),
+    };
+    alone.push_reserved(write(rt, alloc, given));
+    alone
+}
 
 /// Gathers three Writes, one after another, each again where memory was refused.
 fn gather(rt: &impl Abort, alloc: Global) -> Gathered {
@@ -15,10 +26,14 @@ fn gather(rt: &impl Abort, alloc: Global) -> Gathered {
         (1, 1, 1, [0, 0, 0]),
         (0, 2, 2, [1, 1, 0]),
     ] {
-        let told = gathered.take(alloc, write(rt, alloc, given));
-        let is_so = told.is_ok()
-            || told == Err(TakeFault::OutOfMemory)
-                && gathered.take(alloc, write(rt, alloc, given)).is_ok();
+        let told = gathered.take_all(alloc, alone(rt, alloc, given));
+        let is_so = match told.refused {
+            None => told.taken == 1,
+            Some(refused) => {
+                refused.fault == TakeFault::OutOfMemory
+                    && gathered.take_all(alloc, alone(rt, alloc, given)).taken == 1
+            }
+        };
         must_be_so(rt, is_so, given.1 as usize);
     }
     gathered

@@ -88,7 +88,7 @@ pub fn takes(alloc: Global, server: &mut Served, writes: Vec<RestingWrite>) -> b
     told == TookAll {
         taken: count,
         had: 0,
-        fault: None,
+        refused: None,
     }
 }
 
@@ -98,7 +98,7 @@ pub fn gathered(rt: &impl Abort, alloc: Global, server: &Served) -> Gathered {
     let writes = sent(rt, alloc, server, &Vector::zero(), LIMIT as usize);
     assert!(rt; writes.len() < 1000);
     let told = gathered.take_all(alloc, writes);
-    assert!(rt; told.fault.is_none());
+    assert!(rt; told.refused.is_none());
     gathered
 }
 

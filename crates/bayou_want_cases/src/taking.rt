@@ -71,8 +71,8 @@ fn is_replayed(rt: &impl Abort, alloc: Global, server: &Served) -> bool {
 }
 
 /// Whether it tells of want of memory: of the server's, or of its device's.
-fn is_want(fault: Option<TakeFault>) -> bool {
-    matches!(fault, Some(TakeFault::OutOfMemory | TakeFault::Journal))
+fn is_want(fault: TakeFault) -> bool {
+    matches!(fault, TakeFault::OutOfMemory | TakeFault::Journal)
 }
 
 /// Gives the Writes until all are held, again where a growth was refused. Whether that was told once at most and nothing else was, and all
@@ -82,8 +82,10 @@ fn is_taken_at_last(rt: &impl Abort, alloc: Global, server: &mut Served) -> bool
     let mut had_want = false;
     for _ in 0..3 {
         let told = server.take_next(alloc, &mut given(rt, alloc).into_iter(), APART);
-        is_so &= told.fault.is_none() || (!had_want && is_want(told.fault));
-        had_want |= told.fault.is_some();
+        if let Some(refused) = told.refused {
+            is_so &= !had_want && is_want(refused.fault);
+            had_want = true;
+        }
         is_so &= reopen_at_last(alloc, server);
     }
     is_so && server.vector() == vector(rt, APART, APART)

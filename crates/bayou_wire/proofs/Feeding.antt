@@ -9,7 +9,7 @@ use Rattle.bayou_wire.specs.declared.frame.Frame.{Frame}
 use Rattle.bayou_wire.specs.declared.stream.FeedFault.{FeedFault}
 use Rattle.bayou_wire.specs.declared.stream.FeedFault.TheVariants as feeds
 use Rattle.bayou_wire.specs.Spelling.{IsFrame, frame_bytes, packed}
-use Rattle.bayou_wire.specs.Stream.{HasLength, HasPackedFault, Packs, IsFaulty, IsPartial, IsRest, Splits, Holds, TakesIn, Fed, Feeds, IsLeft, stream_of, frames_given, bytes_fed}
+use Rattle.bayou_wire.specs.Stream.{HasLength, HasPackedFault, Packs, IsFaultAt, IsFaulty, IsPartial, IsRest, Splits, Holds, TakesIn, Fed, Feeds, IsLeft, stream_of, frames_given, bytes_fed}
 use Rattle.bayou_wire.specs.Inner.Reading.{IsRestOf, IsTaken}
 use Rattle.bayou_wire.specs.Laws.Inner.Fronts.{frame_begins_one, partial_not_faulty, whole_not_faulty, whole_not_partial}
 
@@ -50,6 +50,14 @@ holds : (rest : List ℕ) (fault : Option DecodeFault) → IsRestOf rest fault �
 holds rest None partial = (inl partial, inl (partial, take_all 8194 rest (partial_short rest partial)))
 holds rest (Some fault) f = (inr (fault, f), inr (fault, faulty_front rest fault f, (drop 8194 rest, sym (take-append-drop 8194 rest))))
 
+-- what stands in a frame's place in what is held back of a rest is what stands there in the rest
+fault_held : (rest : List ℕ) (fault : Option DecodeFault) → IsRestOf rest fault → IsFaultAt (take 8194 rest) fault
+fault_held rest None partial = λ fault. partial_not_faulty (take 8194 rest) fault (subst IsPartial (sym (take_all 8194 rest (partial_short rest partial))) partial)
+fault_held rest (Some fault) f = faulty_front rest fault f
+
+pub nothing_stands : IsFaultAt [] None
+nothing_stands fault = partial_not_faulty [] fault tt
+
 no_fault_first : (rest : List ℕ) (frames : List Frame) (fault : Option DecodeFault) → IsRestOf rest fault → (frames ≡ [] → fault ≡ None) → frames ≡ [] → IsPartial rest
 no_fault_first rest frames fault is none nothing = subst (IsRestOf rest) (none nothing) is
 
@@ -69,6 +77,10 @@ keeps-frames bytes frames left fault t none =
       holds = h.1;
       no_fault = no_fault_first t.rest frames fault t.is none;
     })
+
+pub keeps-behind : (bytes : List ℕ) (frames : List Frame) (left : ℕ) (fault : Option DecodeFault) → IsTaken bytes frames left fault
+    → IsFaultAt (take 8194 (drop (length bytes - left) bytes)) fault
+keeps-behind bytes frames left fault t = rw (taken_rest bytes frames left fault t) (fault_held t.rest fault t.is)
 
 pub keeps-fault : (bytes : List ℕ) (frames : List Frame) (left : ℕ) (fault : DecodeFault) → IsTaken bytes frames left (Some fault) → frames ≡ [] → IsFaulty bytes fault
 keeps-fault bytes frames left fault t nothing =

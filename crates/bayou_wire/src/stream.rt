@@ -1,12 +1,12 @@
 ghost use Rattle.std.specs.Prelude.{◌≡◌, ◌+◌, ◌≤◌, ◌↔◌, [], None, Some, IsTrue, IfSome, MatchOption, length};
 ghost use Rattle.bayou_base.specs.declared.limits.TheConstants.{MAX_FRAME_BYTES};
 ghost use Rattle.bayou_wire.specs.declared.layout.TheConstants.{LENGTH_BYTES};
-ghost use Rattle.bayou_wire.specs.Inner.Reading.{FedOpen, IsFirst, IsTaken, Keeps};
+ghost use Rattle.bayou_wire.specs.Inner.Reading.{FedOpen, IsFirst, IsTaken, Keeps, StandsBehind};
 ghost use Rattle.bayou_wire.specs.Stream.{Fed, IsFaultAt, listed};
 
 use crate::fault::DecodeFault;
 use crate::frame::Frame;
-use crate::front::{PlainFront, Taken, plain_front_of, take_frames};
+use crate::front::{Taken, take_frames};
 use crate::layout::LENGTH_BYTES;
 use bayou_base::MAX_FRAME_BYTES;
 use bytes::BytesMut;
@@ -29,30 +29,22 @@ pub enum FeedFault {
 pub struct Frames {
     alloc: Global,
     held: BytesMut,
+    /// The fault that stands in a frame's place in what is held back, if any.
+    fault: Option<DecodeFault>,
     failed: bool,
 }
 
 impl Model for Frames {
-    ghost use Rattle.std.specs.Prelude.{◌+◌, ◌≤◌, ℕ, List, None, Option, Some, length, if◌then◌else◌};
+    ghost use Rattle.std.specs.Prelude.{◌≡◌, ◌+◌, ◌≤◌, ℕ, List, None, Option, Some, false, length, if◌then◌else◌};
     ghost use Rattle.bayou_base.specs.declared.limits.TheConstants.{MAX_FRAME_BYTES};
     ghost use Rattle.bayou_wire.specs.declared.layout.TheConstants.{LENGTH_BYTES};
+    ghost use Rattle.bayou_wire.specs.Stream.{IsFaultAt};
 
     ghost Value = { Option (List ℕ) };
 
     ghost view = { λ frames. if frames.failed then None else Some frames.held.items };
 
-    ghost invariant = { λ frames. length frames.held.items ≤ LENGTH_BYTES + MAX_FRAME_BYTES };
-}
-
-/// The fault that stands in a frame's place in what is held back, if any.
-fn held_fault(held: &[u8]) -> Option<DecodeFault>
-    ensures { IsFaultAt held.now result }
-{
-    match plain_front_of(held) {
-        PlainFront::Partial => None,
-        PlainFront::Whole(_, _) => None,
-        PlainFront::Faulty(fault) => Some(fault),
-    }
+    ghost invariant = { λ frames. (length frames.held.items ≤ LENGTH_BYTES + MAX_FRAME_BYTES) × (frames.failed ≡ false → IsFaultAt frames.held.items frames.fault) };
 }
 
 /// The fault that stands first, where no frame was taken before it.
@@ -65,10 +57,15 @@ fn first_fault(taken: &Taken) -> Option<DecodeFault>
     }
 }
 
-/// Gives the frames taken, and holds back what they leave, or tells the fault that stands first.
-fn keep(held: &mut BytesMut, taken: Taken) -> Result<Vec<Frame>, FeedFault>
+/// Gives the frames taken, and holds back what they leave with the fault that stands there, or tells the fault that stands first.
+fn keep(
+    held: &mut BytesMut,
+    behind: &mut Option<DecodeFault>,
+    taken: Taken,
+) -> Result<Vec<Frame>, FeedFault>
     requires { IsTaken held.old.items taken.frames.items taken.left taken.fault }
     ensures kept { Keeps held.old.items (listed result) held.new.items }
+    ensures behind { StandsBehind (listed result) held.new.items behind.new }
     ensures held_back { length held.new.items ≤ LENGTH_BYTES + MAX_FRAME_BYTES }
 {
     match first_fault(&taken) {
@@ -79,17 +76,25 @@ fn keep(held: &mut BytesMut, taken: Taken) -> Result<Vec<Frame>, FeedFault>
         None => {
             held.advance(held.len() - taken.left);
             held.truncate(LENGTH_BYTES + MAX_FRAME_BYTES);
+            *behind = taken.fault;
             Ok(taken.frames)
         }
     }
 }
 
-/// A call where no fault was told before.
-fn feed_open(alloc: Global, held: &mut BytesMut, piece: &[u8]) -> Result<Vec<Frame>, FeedFault>
+/// A call where no fault was told before, but may stand in what is held back.
+fn feed_open(
+    alloc: Global,
+    held: &mut BytesMut,
+    behind: &mut Option<DecodeFault>,
+    piece: &[u8],
+) -> Result<Vec<Frame>, FeedFault>
+    requires { IsFaultAt held.old.items behind.old }
     ensures fed { FedOpen held.old.items piece.now (listed result) held.new.items }
+    ensures behind { StandsBehind (listed result) held.new.items behind.new }
     ensures held_back { length held.old.items ≤ LENGTH_BYTES + MAX_FRAME_BYTES → length held.new.items ≤ LENGTH_BYTES + MAX_FRAME_BYTES }
 {
-    if let Some(fault) = held_fault(held.as_slice()) {
+    if let Some(fault) = *behind {
         return Err(FeedFault::Fault(fault));
     }
     let before = held.len();
@@ -100,7 +105,7 @@ fn feed_open(alloc: Global, held: &mut BytesMut, piece: &[u8]) -> Result<Vec<Fra
         held.truncate(before);
         return Err(FeedFault::OutOfMemory);
     };
-    keep(held, taken)
+    keep(held, behind, taken)
 }
 
 impl Frames {
@@ -111,6 +116,7 @@ impl Frames {
         Frames {
             alloc,
             held: BytesMut::new(alloc),
+            fault: None,
             failed: false,
         }
     }
@@ -128,7 +134,7 @@ impl Frames {
         if self.failed {
             return Err(FeedFault::Failed);
         }
-        let result = feed_open(self.alloc, &mut self.held, piece);
+        let result = feed_open(self.alloc, &mut self.held, &mut self.fault, piece);
         self.failed = matches!(result, Err(FeedFault::Fault(_)));
         result
     }
@@ -141,7 +147,7 @@ impl Frames {
         if self.failed {
             return None;
         }
-        held_fault(self.held.as_slice())
+        self.fault
     }
 
     /// Whether no frame is begun, and no fault stands in a frame's place.

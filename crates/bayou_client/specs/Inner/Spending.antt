@@ -1,30 +1,17 @@
--- What is entered of an operation. No public clause cites it.
+-- How a slip of the book is spent on what was heard. No public clause cites it.
 use Rattle.std.specs.Prelude.{◌≡◌, Option, None, Some, Result, Ok, Err}
 use Rattle.bayou_audit.specs.Totals.{Shared, with_filed, with_slip_spent}
-use Rattle.bayou_base.specs.declared.answer.Accepted.{Accepted}
 use Rattle.bayou_base.specs.declared.entry.Entry.{Entry}
-use Rattle.bayou_base.specs.declared.entry.What.{What}
-use Rattle.bayou_base.specs.declared.entry.What.TheVariants as whats
-use Rattle.bayou_client.specs.declared.client.Asked.{Asked}
+use Rattle.bayou_client.specs.declared.fault.ClientFault.{ClientFault}
+use Rattle.bayou_client.specs.declared.fault.ClientFault.TheVariants.{Link}
 use Rattle.bayou_client.specs.declared.fault.LinkFault.{LinkFault}
-use Rattle.bayou_client.specs.declared.fault.LinkFault.TheVariants.{Lost, BadFrame, Refused, OutOfMemory}
-use Rattle.bayou_client.specs.Operating.{Sharing}
-use Rattle.bayou_session.specs.Needs.{after_write}
 
--- what is entered, if anything
-abbrev pub is_told : {A : Type 0} → (A → What) → Result A LinkFault → Option What
-is_told what (Ok answer) = Some (what answer)
-is_told what (Err (Refused refusal)) = Some whats.Refused
-is_told what (Err Lost) = None
-is_told what (Err BadFrame) = None
-is_told what (Err OutOfMemory) = None
-
--- the slip that is out is spent
-abbrev pub Spends : Option What → (before after : Shared) → Type 0
+-- the slip that is out is spent, on the entry or on nothing
+abbrev pub Spends : Option Entry → (before after : Shared) → Type 0
 Spends None before after = after ≡ with_slip_spent before
-Spends (Some what) before after = (entry : Entry) × (entry.what ≡ what) × (after ≡ with_filed before entry)
+Spends (Some entry) before after = after ≡ with_filed before entry
 
--- what was asked may be asked again, until it is told as accepted
-abbrev pub Leaves : Asked → (old : Sharing) → Result Accepted LinkFault → (new : Sharing) → Type 0
-Leaves asked old (Ok accepted) new = (new.session ≡ after_write old.session accepted) × (new.asked ≡ None)
-Leaves asked old (Err fault) new = (new.session ≡ old.session) × (new.asked ≡ Some asked)
+-- what a session is told whose operation had a place in the book
+abbrev pub as_told : {A : Type 0} → Result A LinkFault → Result A ClientFault
+as_told (Ok answer) = Ok answer
+as_told (Err fault) = Err (Link fault)

@@ -1,5 +1,5 @@
 -- What one server sends to another, and what that makes of it. No public clause cites this.
-use Rattle.std.specs.Prelude.{◌≡◌, ◌≤◌, ℕ, List, Option, Err, All, length}
+use Rattle.std.specs.Prelude.{◌≡◌, ◌≤◌, ℕ, List, None, Option, Err, All, length}
 use Rattle.bayou_base.specs.declared.limits.TheConstants.{MAX_WRITES}
 use Rattle.bayou_lang.specs.declared.write.Write.{Write}
 use Rattle.bayou_lang.specs.Ranges.{IsWrite}
@@ -7,6 +7,7 @@ use Rattle.bayou_lang.specs.Writes.{lacking_of}
 use Rattle.bayou_frames.specs.declared.fault.ChannelFault.TheVariants.{OutOfMemory}
 use Rattle.bayou_peer.specs.declared.fault.PullFault.TheVariants.{Stream}
 use Rattle.bayou_peer.specs.Meeting.{Meets}
+use Rattle.bayou_peer.specs.Pulls.{nothing_pulled}
 use Rattle.bayou_frames.specs.Spelled.{answer_bytes}
 use Rattle.bayou_answers.specs.declared.answer.Transfer.{Transfer}
 use Rattle.bayou_answers.specs.declared.answer.Transfer.TheVariants.{NotRunning, Ended}
@@ -28,7 +29,7 @@ IsAnswer counts replica bytes = (server : Serving) × (replica ≡ Running serve
 -- there is no answer
 abbrev pub IsNoAnswer : ScriptServer → Transfer → Type 0
 IsNoAnswer replica NotRunning = IsStopped replica
-IsNoAnswer replica (Ended result) = (server : Serving) × (replica ≡ Running server) × (result ≡ Err (Stream OutOfMemory))
+IsNoAnswer replica (Ended result) = (server : Serving) × (replica ≡ Running server) × (result ≡ Err (record { fault = Stream OutOfMemory; before = nothing_pulled; refused = None }))
 
 -- what a server makes of these Writes, cut or not
 abbrev pub IsGiven : List Write → Option ℕ → ScriptServer → Transfer → ScriptServer → Type 0

@@ -7,7 +7,8 @@ use Rattle.bayou_frames.specs.Spelled.{items_of}
 use Rattle.bayou_peer.specs.declared.fault.PullFault.{PullFault}
 use Rattle.bayou_peer.specs.declared.fault.PullFault.TheVariants.{Stream, Refused}
 use Rattle.bayou_peer.specs.declared.pulling.Pulled.{Pulled}
-use Rattle.bayou_peer.specs.Pulls.{PullEnds, Received, Ways}
+use Rattle.bayou_peer.specs.declared.pulling.Stop.{Stop}
+use Rattle.bayou_peer.specs.Pulls.{PullEnds, PullStops, Received, Ways}
 use Rattle.bayou_wire.specs.declared.frame.Frame.{Frame}
 use Rattle.bayou_wire.specs.declared.frame.Frame.TheVariants.{Item}
 use Rattle.bayou_wire.specs.Stream.{IsPartial}
@@ -45,10 +46,10 @@ IsTakeFault (Stream faults.OutOfMemory) = Unit {0}
 IsTakeFault (Refused refusal) = Unit {0}
 
 -- After a step of a pull that has read these bytes: the pull goes on with this rest, or it came to its End, or it ends in a fault.
-abbrev pub Goes : {S : Type 0} → Ways S → (start now : S) → (read rest : List ℕ) → Pulled → Result Bool PullFault → Type 0
+abbrev pub Goes : {S : Type 0} → Ways S → (start now : S) → (read rest : List ℕ) → Pulled → Result Bool Stop → Type 0
 Goes ways start now read rest pulled (Ok false) = Received ways start now read rest pulled.taken pulled.had
 Goes ways start now read rest pulled (Ok true) = PullEnds ways start now read ⊥ (Ok pulled)
-Goes ways start now read rest pulled (Err fault) = PullEnds ways start now read ⊥ (Err fault)
+Goes ways start now read rest pulled (Err stop) = PullStops ways start now read ⊥ pulled stop.refused stop.fault
 
 -- between two pieces: what is held back is less than a frame, and each whole Item before it was taken
 pub record Standing {S : Type 0} (ways : Ways S) (start now : S) (read : List ℕ) (frames : Option (List ℕ)) (pulled : Pulled) : Type 0 where
@@ -58,7 +59,7 @@ pub record Standing {S : Type 0} (ways : Ways S) (start now : S) (read : List �
   pub received : Received ways start now read held pulled.taken pulled.had
 
 -- after a piece
-abbrev pub GoesOn : {S : Type 0} → Ways S → (start now : S) → (read : List ℕ) → Option (List ℕ) → Pulled → Result Bool PullFault → Type 0
+abbrev pub GoesOn : {S : Type 0} → Ways S → (start now : S) → (read : List ℕ) → Option (List ℕ) → Pulled → Result Bool Stop → Type 0
 GoesOn ways start now read frames pulled (Ok false) = Standing ways start now read frames pulled
 GoesOn ways start now read frames pulled (Ok true) = PullEnds ways start now read ⊥ (Ok pulled)
-GoesOn ways start now read frames pulled (Err fault) = PullEnds ways start now read ⊥ (Err fault)
+GoesOn ways start now read frames pulled (Err stop) = PullStops ways start now read ⊥ pulled stop.refused stop.fault

@@ -52,7 +52,7 @@ recovery_ends (NotRestarted refusal) = behind (codes "restart refused ") _ (behi
 transfer_ends : (transfer : Transfer) → Ends (transfer_text transfer)
 transfer_ends NothingRuns = record { front = codes "pull fault lost"; split = refl }
 transfer_ends (Ended (Ok pulled)) = behind (codes "pulled ") _ (behind (decimal pulled.taken) _ (behind (codes " had ") _ (behind (decimal pulled.had) _ feed)))
-transfer_ends (Ended (Err fault)) = behind (codes "pull fault ") _ (behind (pulling_text fault) _ feed)
+transfer_ends (Ended (Err stopped)) = behind (codes "pull fault ") _ (behind (pulling_text stopped.fault) _ feed)
 
 outcome_ends : (outcome : Outcome) → Ends (outcome_text outcome)
 outcome_ends Updated = record { front = codes " updated"; split = refl }

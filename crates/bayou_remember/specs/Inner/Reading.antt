@@ -1,9 +1,10 @@
 -- What is kept, between the reader in src/ and its spelling. No public clause cites this.
+use Rattle.bayou_client.specs.Operating.{Asking}
 use Rattle.std.specs.Prelude.{◌≡◌, ◌≤◌, ℕ, List, IfSome}
 use Rattle.std.specs.List.{AllByRecursion}
 use Rattle.bayou_remember.specs.declared.head.Head.{Head}
 use Rattle.bayou_remember.specs.Memory.{KeepsNothing}
-use Rattle.bayou_remember.specs.Spelling.{AreAskedFrames, Keeping, frames_of, server_of}
+use Rattle.bayou_remember.specs.Spelling.{AreAskedFrames, frames_of, server_of}
 use Rattle.bayou_remember.specs.declared.memory.RememberFault.{RememberFault}
 use Rattle.bayou_remember.specs.declared.memory.RememberFault.TheVariants.{Journal, NotKept, OutOfMemory}
 use Rattle.bayou_journal.specs.Versions.{Body}
@@ -17,7 +18,7 @@ pub record AreFrames (bytes : List ℕ) (all : List Frame) : Type 0 where
   pub spelled : bytes ≡ spellings all
 
 -- it is what this head and these frames keep
-pub record IsKeptBy (head : Head) (all : List Frame) (kept : Keeping) : Type 0 where
+pub record IsKeptBy (head : Head) (all : List Frame) (kept : Asking) : Type 0 where
   pub whose : kept.session.id.index ≡ head.session.index
   pub asks_are : kept.session.asks ≡ head.asks
   pub begun_is : kept.session.begun ≡ head.begun

@@ -3,6 +3,7 @@ use Rattle.std.proofs.Common.{◌≡◌, ◌+◌, ◌<◌, ◌≤◌, ◌⊎◌,
 use Rattle.bayou_lang.specs.declared.write.Write.{Write}
 use Rattle.bayou_server.specs.declared.answer.Took.{Took}
 use Rattle.bayou_server.specs.declared.answer.Took.TheVariants.{New, Had}
+use Rattle.bayou_server.specs.declared.answer.RefusedWrite.{RefusedWrite}
 use Rattle.bayou_server.specs.declared.answer.TookAll.{TookAll}
 use Rattle.bayou_server.specs.declared.fault.TakeFault.{TakeFault}
 use Rattle.bayou_server.specs.TakesAll.{TakesAll, TakesEach, TakingEnds, hads, news}
@@ -48,20 +49,20 @@ all_taken takes old new (write ∷ writes) (took ∷ tooks) each =
 -- how many of them
 pub told_few : {S : Type 0} (takes : S → Write → Result Took TakeFault → S → Type 0) (old new : S) (writes left : List Write) (told : TookAll) → TakesAll takes old writes left told new
     → told.taken + told.had ≤ length writes
-told_few takes old new writes left told all = omega (arith, all.taken, all.had, all_taken takes old all.mid all.front all.tooks all.each, front_few told.fault all.ends)
+told_few takes old new writes left told all = omega (arith, all.taken, all.had, all_taken takes old all.mid all.front all.tooks all.each, front_few told.refused all.ends)
   where
-    front_few : (fault : Option TakeFault) → TakingEnds takes all.mid writes all.front left fault new → length all.front ≤ length writes
+    front_few : (refused : Option RefusedWrite) → TakingEnds takes all.mid writes all.front left refused new → length all.front ≤ length writes
     front_few None ends = omega (arith, ap length ends.0, length-append all.front left)
-    front_few (Some fault) ends = omega (arith, ap length ends.1, length-append all.front (ends.0 ∷ left))
+    front_few (Some refused) ends = omega (arith, ap length ends.1, length-append all.front (ends.0 ∷ left))
 
 -- and how many are left
 pub left_few : {S : Type 0} (takes : S → Write → Result Took TakeFault → S → Type 0) (old new : S) (given left : List Write) (told : TookAll) → TakesAll takes old given left told new
     → length left ≤ length given
-left_few takes old new given left told all = by told.fault all.ends
+left_few takes old new given left told all = by told.refused all.ends
   where
-    by : (fault : Option TakeFault) → TakingEnds takes all.mid given all.front left fault new → length left ≤ length given
+    by : (refused : Option RefusedWrite) → TakingEnds takes all.mid given all.front left refused new → length left ≤ length given
     by None ends = omega (arith, ap length ends.0, length-append all.front left)
-    by (Some fault) ends = omega (arith, ap length ends.1, length-append all.front (ends.0 ∷ left))
+    by (Some refused) ends = omega (arith, ap length ends.1, length-append all.front (ends.0 ∷ left))
 
 -- ---- Writes that are given in two goes
 
@@ -81,15 +82,15 @@ module _ {S : Type 0} (takes : S → Write → Result Took TakeFault → S → T
   takes_append old mid new (x ∷ xs) ys [] others none rest = absurd none
   takes_append old mid new (x ∷ xs) ys (took ∷ tooks) others each rest = (each.0, each.1, takes_append each.0 mid new xs ys tooks others each.2 rest)
 
-  ends_append : (mid new : S) (given between xs ys left : List Write) (fault : Option TakeFault) → given ≡ xs ++ between → TakingEnds takes mid between ys left fault new
-      → TakingEnds takes mid given (xs ++ ys) left fault new
+  ends_append : (mid new : S) (given between xs ys left : List Write) (refused : Option RefusedWrite) → given ≡ xs ++ between → TakingEnds takes mid between ys left refused new
+      → TakingEnds takes mid given (xs ++ ys) left refused new
   ends_append mid new given between xs ys left None split ends = (split ∙ ap (λ l. xs ++ l) ends.0 ∙ sym (append_assoc xs ys left), ends.1)
-  ends_append mid new given between xs ys left (Some fault) split ends =
-      (ends.0, split ∙ ap (λ l. xs ++ l) ends.1 ∙ sym (append_assoc xs ys (ends.0 ∷ left)), ends.2)
+  ends_append mid new given between xs ys left (Some refused) split ends =
+      (ends.0, split ∙ ap (λ l. xs ++ l) ends.1 ∙ sym (append_assoc xs ys (ends.0 ∷ left)), ends.2, ends.3)
 
   -- where none was refused, more of those that were left may be given
-  pub takes_more : (old mid new : S) (given between left : List Write) (told more both : TookAll) → TakesAll takes old given between told mid → told.fault ≡ None → TakesAll takes mid between left more new
-      → both.taken ≡ told.taken + more.taken → both.had ≡ told.had + more.had → both.fault ≡ more.fault → TakesAll takes old given left both new
+  pub takes_more : (old mid new : S) (given between left : List Write) (told more both : TookAll) → TakesAll takes old given between told mid → told.refused ≡ None → TakesAll takes mid between left more new
+      → both.taken ≡ told.taken + more.taken → both.had ≡ told.had + more.had → both.refused ≡ more.refused → TakesAll takes old given left both new
   takes_more old mid new given between left told more both first none second taken had fault =
       let ends : TakingEnds takes first.mid given first.front between None mid = subst (λ f. TakingEnds takes first.mid given first.front between f mid) none first.ends in
       let each : TakesEach takes old first.front first.tooks mid = subst (λ (s : S). TakesEach takes old first.front first.tooks s) (sym ends.1) first.each in
@@ -101,11 +102,11 @@ module _ {S : Type 0} (takes : S → Write → Result Took TakeFault → S → T
         taken = omega (arith, taken, first.taken, second.taken, news_append first.tooks second.tooks);
         had = omega (arith, had, first.had, second.had, hads_append first.tooks second.tooks);
         ends = subst (λ f. TakingEnds takes second.mid given (first.front ++ second.front) left f new) (sym fault)
-            (ends_append second.mid new given between first.front second.front left more.fault ends.0 second.ends);
+            (ends_append second.mid new given between first.front second.front left more.refused ends.0 second.ends);
       }
 
   -- nothing was given yet
-  pub takes_none : (start : S) (given left : List Write) (told : TookAll) → left ≡ given → told.taken ≡ 0 → told.had ≡ 0 → told.fault ≡ None → TakesAll takes start given left told start
+  pub takes_none : (start : S) (given left : List Write) (told : TookAll) → left ≡ given → told.taken ≡ 0 → told.had ≡ 0 → told.refused ≡ None → TakesAll takes start given left told start
   takes_none start given left told same taken had none = record {
     front = [];
     tooks = [];
@@ -118,12 +119,12 @@ module _ {S : Type 0} (takes : S → Write → Result Took TakeFault → S → T
 
   -- fewer are left, where one was given at least
   pub fewer_left : (old new : S) (given left : List Write) (told : TookAll) → TakesAll takes old given left told new → 0 < length given
-      → (told.fault ≡ None → (left ≡ []) ⊎ (0 < told.taken + told.had)) → length left < length given
-  fewer_left old new given left told all some gives = by told.fault refl all.ends
+      → (told.refused ≡ None → (left ≡ []) ⊎ (0 < told.taken + told.had)) → length left < length given
+  fewer_left old new given left told all some gives = by told.refused refl all.ends
     where
-      by : (fault : Option TakeFault) → told.fault ≡ fault → TakingEnds takes all.mid given all.front left fault new → length left < length given
+      by : (refused : Option RefusedWrite) → told.refused ≡ refused → TakingEnds takes all.mid given all.front left refused new → length left < length given
       by None none ends = elim (gives none) as (λ _. length left < length given) [
         | inl nothing ↦ omega (arith, some, ap {A = List Write} length nothing)
         | inr taken ↦ omega (arith, taken, all.taken, all.had, all_taken takes old all.mid all.front all.tooks all.each, ap {A = List Write} length ends.0, length-append all.front left)
       ]
-      by (Some fault) refused ends = omega (arith, ap {A = List Write} length ends.1, length-append all.front (ends.0 ∷ left))
+      by (Some refused) is ends = omega (arith, ap {A = List Write} length ends.1, length-append all.front (ends.0 ∷ left))

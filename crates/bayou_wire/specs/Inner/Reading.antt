@@ -40,7 +40,7 @@ use Rattle.bayou_wire.specs.declared.record.Form.TheVariants.{Plain, Tagged, Wid
 use Rattle.bayou_wire.specs.Forms.{frame_of}
 use Rattle.bayou_wire.specs.Records.{SpellsOld}
 use Rattle.bayou_wire.specs.Spelling.{IsFrame, SpellsWrite, frame_bytes, kind_of, payload_bytes}
-use Rattle.bayou_wire.specs.Stream.{IsFaulty, IsPackedFault, IsPartial, TakesIn, stream_of}
+use Rattle.bayou_wire.specs.Stream.{IsFaultAt, IsFaulty, IsPackedFault, IsPartial, TakesIn, stream_of}
 
 abbrev pub Read : Type 0 → Type 0
 Read T = Option (T × List ℕ)
@@ -332,6 +332,13 @@ Keeps bytes (Ok frames) now = TakesIn bytes frames now
 Keeps bytes (Err (feeds.Fault fault)) now = IsFaulty bytes fault
 Keeps bytes (Err feeds.OutOfMemory) now = ⊥
 Keeps bytes (Err feeds.Failed) now = ⊥
+
+-- which fault, if any, stands in a frame's place in what is held back then, unless one was told
+abbrev pub StandsBehind : Result (List Frame) FeedFault → List ℕ → Option DecodeFault → Type 0
+StandsBehind (Err (feeds.Fault told)) now behind = Unit {0}
+StandsBehind (Err feeds.OutOfMemory) now behind = IsFaultAt now behind
+StandsBehind (Err feeds.Failed) now behind = IsFaultAt now behind
+StandsBehind (Ok frames) now behind = IsFaultAt now behind
 
 -- one call on what is held back
 abbrev pub FedOpen : List ℕ → List ℕ → Result (List Frame) FeedFault → List ℕ → Type 0

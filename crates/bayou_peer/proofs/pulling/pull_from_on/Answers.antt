@@ -1,7 +1,6 @@
 use Rattle.std.proofs.Common.{refl, Result, Ok, OnOk, ◌≡◌, [], ℕ, List, Err, Option, ◌∙◌, subst}
 use Rattle.std.proofs.KnownBytes.{Consumes-nil}
 use Rattle.std.specs.Io.KnownBytes.{Appends, IsAtEnd}
-use Rattle.std.proofs.lemmas.Result.{err_from_is_err_and}
 use Rattle.bayou_streams.specs.Written.{AppendsFront}
 use Rattle.bayou_wire.specs.Laws.Frames.{spelling_of}
 use Rattle.bayou_peer.proofs.Received.{ends_sending, received_start}
@@ -15,27 +14,26 @@ any_ok (Ok value) P p = p
 any_ok (Err fault) P p = tt
 
 pub returns-in_default-clause-ends : goal.returns-in_default-clause-ends
-returns-in_default-clause-ends g c = ([], Consumes-nil _, ([], 0, 0, received_start _ _ 0 0 refl refl))
-
-pub returns-in_err-send-clause-part : goal.returns-in_err-send-clause-part
-returns-in_err-send-clause-part g c =
-    let text = c.deref.ensures.value ∙ spelling_of _ _ c.in-Ok.ensures.spelling in
-    front_of _ _ _ _ text c.in_err-send.ensures.part
-
-pub returns-in_err-send-clause-ends : goal.returns-in_err-send-clause-ends
-returns-in_err-send-clause-ends g c =
-    let p = err_from_is_err_and c.from_residual.result c.from_residual.ensures.1 in
-    let ended = ends_sending {S = g.row.P.Denot} (record { list = g.P.Replica.list; takes = g.P.Replica.takes }) c.args.replica.now
-    (IsAtEnd (g.R.Read.remaining c.send.new.channel.reader)) c.in_err-send.field-0.0 c.in_err-send.ensures.fault in
-    ([], rw c.in_err-send.ensures.other.0 (Consumes-nil _), rw (p.1, p.2) ended)
-
-pub returns-clause-offered : goal.returns-clause-offered
-returns-clause-offered g c =
-    let text = c.deref.ensures.value ∙ spelling_of _ _ c.in-Ok.ensures.spelling in
-    let whole = subst (Appends (g.W.Write.contents c.args.channel.now.writer) (g.W.Write.contents c.send.new.channel.writer)) text c.in_ok-send.ensures.whole in
-    any_ok c.receive.result _ (rw c.receive.ensures.other.0 whole)
+returns-in_default-clause-ends g c = ([], Consumes-nil _, rw c.at_once.ensures ([], received_start _ _ 0 0 refl refl, refl))
 
 pub returns-clause-part : goal.returns-clause-part
 returns-clause-part g c =
     let text = c.deref.ensures.value ∙ spelling_of _ _ c.in-Ok.ensures.spelling in
-    rw c.receive.ensures.other.0 (front_of _ _ _ _ text c.in_ok-send.ensures.part)
+    front_of _ _ _ _ text c.in-Err.ensures.part
+
+pub returns-clause-ends : goal.returns-clause-ends
+returns-clause-ends g c =
+    let ended = ends_sending {S = g.row.P.Denot} (record { list = g.P.Replica.list; takes = g.P.Replica.takes }) c.args.replica.now
+    (IsAtEnd (g.R.Read.remaining c.send.new.channel.reader)) c.in-Err.fault c.in-Err.ensures.fault in
+    ([], rw c.in-Err.ensures.other.0 (Consumes-nil _), rw c.at_once-in-Err.ensures ended)
+
+pub returns-in-Ok-send-clause-offered : goal.returns-in-Ok-send-clause-offered
+returns-in-Ok-send-clause-offered g c =
+    let text = c.deref.ensures.value ∙ spelling_of _ _ c.in-Ok.ensures.spelling in
+    let whole = subst (Appends (g.W.Write.contents c.args.channel.now.writer) (g.W.Write.contents c.send.new.channel.writer)) text c.in-Ok-send.ensures.whole in
+    any_ok c.receive.result _ (rw c.receive.ensures.other.0 whole)
+
+pub returns-in-Ok-send-clause-part : goal.returns-in-Ok-send-clause-part
+returns-in-Ok-send-clause-part g c =
+    let text = c.deref.ensures.value ∙ spelling_of _ _ c.in-Ok.ensures.spelling in
+    rw c.receive.ensures.other.0 (front_of _ _ _ _ text c.in-Ok-send.ensures.part)

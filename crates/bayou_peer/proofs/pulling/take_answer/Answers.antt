@@ -21,26 +21,25 @@ take_piece-requires g c =
       );
     }
 
-pub returns-in_err-take_piece-clause-ends : goal.returns-in_err-take_piece-clause-ends
-returns-in_err-take_piece-clause-ends g c =
+pub returns-in-Err-clause-ends : goal.returns-in-Err-clause-ends
+returns-in-Err-clause-ends g c =
     let (read, whole, standing) = c.loop-rest.invariant.went in
-    let went = c.in_err-take_piece.ensures.goes _ read standing.held standing.partial standing.waits standing.received in
-    let p = err_from_is_err_and c.from_residual.result c.from_residual.ensures.1 in (
+    let went = c.in-Err.ensures.goes _ read standing.held standing.partial standing.waits standing.received in (
       read ++ c.split_at.result.0.now,
       c.split_at.result.1.now,
       goes_on c.args.answer.now read c.loop-rest.rest.now c.min.result c.split_at.result.0.now c.split_at.result.1.now whole c.split_at.ensures.front c.split_at.ensures.back,
-      rw (p.1, p.2) (ends_anywhere {S = g.row.P.Denot} (record { list = g.P.Replica.list; takes = g.P.Replica.takes }) c.args.replica.now c.take_piece.new.replica (read ++ c.split_at.result.0.now)
-          (c.split_at.result.1.now ≡ []) (Err c.in_err-take_piece.field-0.0) went),
+      rw c.behind.ensures (ends_anywhere {S = g.row.P.Denot} (record { list = g.P.Replica.list; takes = g.P.Replica.takes }) c.args.replica.now c.take_piece.new.replica (read ++ c.split_at.result.0.now)
+          (c.split_at.result.1.now ≡ []) c.take_piece.new.pulled c.in-Err.stop.refused c.in-Err.stop.fault went),
     )
 
-pub returns-then-branch-clause-ends : goal.returns-then-branch-clause-ends
-returns-then-branch-clause-ends g c =
+pub returns-in-Ok-true-clause-ends : goal.returns-in-Ok-true-clause-ends
+returns-in-Ok-true-clause-ends g c =
     let (read, whole, standing) = c.loop-rest.invariant.went in
-    let went = c.in_ok-take_piece.ensures.goes _ read standing.held standing.partial standing.waits standing.received in (
+    let went = c.in-Ok-true.ensures.goes _ read standing.held standing.partial standing.waits standing.received in (
       read ++ c.split_at.result.0.now,
       c.split_at.result.1.now,
       goes_on c.args.answer.now read c.loop-rest.rest.now c.min.result c.split_at.result.0.now c.split_at.result.1.now whole c.split_at.ensures.front c.split_at.ensures.back,
-      rw c.if-branch.true at went,
+      rw c.in-Ok-true.field-0-test at went,
     )
 
 pub loop-rest-smaller : goal.loop-rest-smaller
@@ -51,16 +50,16 @@ loop-rest-smaller g c =
 pub loop-rest-preserved : goal.loop-rest-preserved
 loop-rest-preserved g c =
     let (read, whole, standing) = c.loop-rest.invariant.went in
-    let went = c.in_ok-take_piece.ensures.goes _ read standing.held standing.partial standing.waits standing.received in
+    let went = c.in-Ok-false.ensures.goes _ read standing.held standing.partial standing.waits standing.received in
     record {
       went = (
         read ++ c.split_at.result.0.now,
         goes_on c.args.answer.now read c.loop-rest.rest.now c.min.result c.split_at.result.0.now c.split_at.result.1.now whole c.split_at.ensures.front c.split_at.ensures.back,
-        rw c.if-branch.false at went,
+        rw c.in-Ok-false.field-0-test at went,
       );
     }
 
 pub returns-clause-ends : goal.returns-clause-ends
 returns-clause-ends g c =
     let (read, whole, standing) = c.loop-rest.invariant.went in
-    (read, c.loop-rest.rest.now, whole, (none_left c.loop-rest.rest.now c.is_empty.ensures c.loop-rest-test.false, stands _ _ _ _ _ _ standing))
+    (read, c.loop-rest.rest.now, whole, rw (c.behind-2.ensures, c.from.ensures) (none_left c.loop-rest.rest.now c.is_empty.ensures c.loop-rest-test.false, stands _ _ _ _ _ _ standing, refl))

@@ -1,4 +1,4 @@
-use Rattle.std.proofs.Common.{arith, ◌++◌, inl}
+use Rattle.std.proofs.Common.{arith, ◌++◌, inl, refl}
 use Rattle.std.proofs.lemmas.Result.{err_from_is_err_and}
 use Rattle.bayou_peer.proofs.Received.{few_items, received_more, received_rest}
 use Rattle.bayou_peer.proofs.pulling.take_piece.Goals as goal
@@ -8,7 +8,7 @@ returns-in_err-front-clause-goes g c start read held partial waits before =
     let piece = c.args.piece.now in
     let refused = c.in_err-front.ensures.refused in
     let p = err_from_is_err_and c.from_residual.result c.from_residual.ensures.1 in
-    rw (p.1, p.2, refused) (held ++ piece, c.args.pulled.now.taken, c.args.pulled.now.had, received_more _ start _ read held piece _ _ before)
+    rw (p.1, p.2, refused) (held ++ piece, received_more _ start _ read held piece _ _ before, refl)
 
 pub take_came-requires : goal.take_came-requires
 take_came-requires g c =
@@ -48,7 +48,7 @@ returns-then-is_bad-clause-goes g c start read held partial waits before =
     let stands = received_rest _ start _ _ _ _ _ _ comes.whole (received_more _ start _ read held piece _ _ before) in
     let went = c.in_ok-take_came.ensures.goes start (read ++ piece) comes.rest gathers.came comes.each gathers.front stands in
     let received = rw c.if-branch.false at went in
-    (comes.rest, c.take_came.new.pulled.taken, c.take_came.new.pulled.had, inl (comes.bad c.if-is_bad.true), received)
+    rw c.from.ensures (comes.rest, inl (comes.bad c.if-is_bad.true), received, refl)
 
 pub returns-clause-goes : goal.returns-clause-goes
 returns-clause-goes g c start read held partial waits before =

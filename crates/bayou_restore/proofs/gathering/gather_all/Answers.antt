@@ -68,5 +68,5 @@ returns-in-Err-clause-gathers c =
       each = each;
       taken = taken;
       had = had;
-      ends = (c.in-Some.write, split ∙ ap (λ rest. front ++ rest) c.in-Some.ensures.items, c.in-Err.ensures);
+      ends = (c.in-Some.write, split ∙ ap (λ rest. front ++ rest) c.in-Some.ensures.items, c.in-Err.ensures, c.wid-wid.ensures);
     }

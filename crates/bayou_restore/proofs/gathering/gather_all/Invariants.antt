@@ -12,7 +12,7 @@ invariant-loop-write l = record {
   took : (front : List Write) × (tooks : List Took) × (into_iter_items l.initial.writes ≡ front ++ into_iter_items l.writes)
       × TakesEach Gathers (gathering_of l.initial.log) front tooks (gathering_of l.log)
       × (l.told.taken ≡ news tooks) × (l.told.had ≡ hads tooks);
-  none : l.told.fault ≡ None;
+  none : l.told.refused ≡ None;
   few : (l.told.taken + l.told.had) + length (into_iter_items l.writes) ≡ length (into_iter_items l.initial.writes);
 }
 

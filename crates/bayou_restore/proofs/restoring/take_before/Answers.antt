@@ -40,7 +40,7 @@ returns-in-Some g c =
     let left = into_iter_items c.take_next-told.new.writes in
     let are_due = subst (λ (t : List ℕ). AreAllDue own.deps writes t due) c.vector.ensures (subst (λ (t : List ℕ). AreAllDue t writes c.vector.result due) c.deps-2.ensures c.in_ok-due.ensures.due) in
     let all = subst (λ (given : List Write). TakesAll (TakesAt g.D.Device) old given left told new) c.into_iter.ensures.rest c.take_next-told.ensures.takes in
-    let (takes, same) = taken_some g.D.Device c.args.gathered.now old own due c.requires are_due new left told c.in-Some.fault c.wid.result.seq all c.in-Some.is in
+    let (takes, same) = taken_some g.D.Device c.args.gathered.now old own due c.requires are_due new left told c.in-Some.refused c.wid.result.seq all c.in-Some.is in
     record {
       same = same;
       takes = subst (λ (fault : RestoreFault). TakesBefore c.args.gathered.now old.core own (Err fault) new.core) (sym c.untaken.ensures) takes;

@@ -16,11 +16,11 @@ is_nothing (Some x) none = absurd cc
 
 -- what both goes came to
 abbrev both : (told more : TookAll) → TookAll
-both told more = record { taken = told.taken + more.taken; had = told.had + more.had; fault = more.fault }
+both told more = record { taken = told.taken + more.taken; had = told.had + more.had; refused = more.refused }
 
-taken_both : {D : Type 0} (d : Ghosts D) (start mid new : ServerState D) (given between left : List Write) (told more : TookAll) → TakesAll (TakesAt d) start given between told mid → is_some told.fault ≡ false
+taken_both : {D : Type 0} (d : Ghosts D) (start mid new : ServerState D) (given between left : List Write) (told more : TookAll) → TakesAll (TakesAt d) start given between told mid → is_some told.refused ≡ false
     → TakesAll (TakesAt d) mid between left more new → TakesAll (TakesAt d) start given left (both told more) new
-taken_both d start mid new given between left told more first none second = takes_more (TakesAt d) start mid new given between left told more (both told more) first (is_nothing told.fault none) second refl refl refl
+taken_both d start mid new given between left told more first none second = takes_more (TakesAt d) start mid new given between left told more (both told more) first (is_nothing told.refused none) second refl refl refl
 
 pub overflow_add-told : goal.overflow_add-told
 overflow_add-told g c =

@@ -9,7 +9,7 @@ abbrev pub invariant-loop-writes : goal.invariant-loop-writes
 invariant-loop-writes g l = record {
   took : TakesAll (TakesAt g.D.Device) (server_of l.fn.journal l.fn.holding l.id.index) (into_iter_items l.fn.writes) (into_iter_items l.writes) l.told (server_of l.journal l.holding l.id.index);
   together : BelongTogether l.journal l.holding l.id.index;
-  some : l.told.fault ≡ None → (into_iter_items l.writes ≡ []) ⊎ (0 < l.told.taken + l.told.had);
+  some : l.told.refused ≡ None → (into_iter_items l.writes ≡ []) ⊎ (0 < l.told.taken + l.told.had);
 }
 
 abbrev pub decreases-loop-writes : goal.decreases-loop-writes

@@ -85,7 +85,7 @@ returns-in-Err-clause-takes g c =
       each = each;
       taken = taken;
       had = had;
-      ends = (c.in-Some.write, split ∙ ap (λ rest. front ++ rest) c.in-Some.ensures.items, c.in-Err.ensures.takes);
+      ends = (c.in-Some.write, split ∙ ap (λ rest. front ++ rest) c.in-Some.ensures.items, c.in-Err.ensures.takes, c.wid-wid.ensures);
     }
 
 pub returns-clause-takes : goal.returns-clause-takes

@@ -12,7 +12,7 @@ invariant-loop-told g l = record {
   took : (front : List Write) × (tooks : List Took) × (into_iter_items l.initial.writes ≡ front ++ into_iter_items l.writes)
       × TakesEach (TakesAt g.D.Device) (server_of l.initial.journal l.initial.holding l.id.index) front tooks (server_of l.journal l.holding l.id.index)
       × (l.told.taken ≡ news tooks) × (l.told.had ≡ hads tooks);
-  none : l.told.fault ≡ None;
+  none : l.told.refused ≡ None;
   together : BelongTogether l.journal l.holding l.id.index;
   few : l.told.taken + l.told.had ≤ l.most;
 }

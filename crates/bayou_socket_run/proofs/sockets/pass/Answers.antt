@@ -1,6 +1,6 @@
 use Rattle.std.proofs.Common.{rules}
 use Rattle.bayou_print.specs.Waiting.{stage}
-use Rattle.bayou_socket_run.proofs.Told.{phase_kept, tells_phase, took_same, took_told}
+use Rattle.bayou_socket_run.proofs.Told.{took_same, took_told}
 use Rattle.bayou_streams.specs.Account.{account}
 use Rattle.bayou_socket_run.proofs.sockets.pass.Goals as goal
 
@@ -13,8 +13,10 @@ returns-clause-took g c =
     (took_told passed.0 (now c.args.output.now c.in_ok-waiting.waiting) (now passed.1.now passed.2) (account g.W.Write.contents c.end.new.output)
     c.in_ok-waiting.ensures c.run_meanwhile-passed.ensures.told c.end.ensures.part)
 
-pub returns-clause-fault : goal.returns-clause-fault
-returns-clause-fault g c =
+pub returns-in_err-ended-clause-took : goal.returns-in_err-ended-clause-took
+returns-in_err-ended-clause-took g c =
     let now = stage g.W.Write.contents in
     let passed = c.run_meanwhile-passed.result in
-    phase_kept passed.0 c.end.result (tells_phase passed.0 (now c.args.output.now c.in_ok-waiting.waiting) (now passed.1.now passed.2) c.run_meanwhile-passed.ensures.told) c.end.ensures.cause
+    took_same _ _ _ (search rules)
+    (took_told passed.0 (now c.args.output.now c.in_ok-waiting.waiting) (now passed.1.now passed.2) (account g.W.Write.contents c.end.new.output)
+    c.in_ok-waiting.ensures c.run_meanwhile-passed.ensures.told c.end.ensures.part)

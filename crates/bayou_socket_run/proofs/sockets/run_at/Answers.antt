@@ -16,5 +16,5 @@ returns-clause-took g c =
 pub returns-clause-prints : goal.returns-clause-prints
 returns-clause-prints g c =
     let at = account g.W.Write.contents in
-    run_ends (g.F.Fleet.seats c.args.network.fleet) c.args.agenda.servers.count c.in_ok-passed.passed c.in_ok-told.told c.and.result (at c.args.output.now) (at c.pass.new.output) (at c.conclude.new.output)
+    run_ends c.args.network.mailboxes.items c.args.agenda.servers.count c.in_ok-passed.passed c.in_ok-told.told c.and.result (at c.args.output.now) (at c.pass.new.output) (at c.conclude.new.output)
     c.in_ok-passed.ensures.took c.in_ok-told.ensures.prints c.and.ensures

@@ -1,67 +1,39 @@
-use Rattle.std.proofs.Common.{◌≡◌, ◌∙◌, [], Some, Err, Ok, ap, refl, subst, sym}
+use Rattle.std.proofs.Common.{◌∙◌, [], ap, refl, subst}
 use Rattle.std.proofs.KnownBytes.{Consumes-nil}
-use Rattle.std.proofs.lemmas.Result.{err_from_is_err_and}
 use Rattle.std.specs.Io.KnownBytes.{IsAtEnd}
 use Rattle.bayou_audit.specs.Totals.{Shared}
-use Rattle.bayou_client.proofs.Operated.{but_share, fails_operating, serves_operating, some_of}
-use Rattle.bayou_client.specs.Exchange.{IsGone, LinkEnds, asks_write}
-use Rattle.bayou_client.specs.Operating.{Sharing, asking_again, told_accepted}
+use Rattle.bayou_client.proofs.Operated.{hears_again, operates, some_of}
+use Rattle.bayou_client.specs.Exchange.{IsGone}
+use Rattle.bayou_client.specs.Inner.Spending.{Spends}
+use Rattle.bayou_client.specs.Operating.{Sharing, asking_again}
 use Rattle.bayou_client.proofs.client.Client.again.Goals as goal
-use Rattle.bayou_session.specs.Needs.{Told, after_write, write_need}
-use Rattle.bayou_wire.specs.declared.frame.Frame.TheVariants.{Write as WriteFrame}
-use Rattle.bayou_wire.specs.Stream.{spelling}
 
 pub returns-in_default-clause-operates : goal.returns-in_default-clause-operates
 returns-in_default-clause-operates g c =
     let (asked, is) = some_of _ c.requires.asked in
-    let same = ap (λ (share : Shared). record { session = c.self.inside.session; share = share; asked = c.self.inside.asked }) c.in_default.ensures ∙ c.self.view_is in
+    let asker = c.self.inside.asker in
+    let same = ap (λ (share : Shared). record { session = asker.session; share = share; asked = asker.asked }) c.in_default.ensures ∙ c.self.view_is in
     (asked, is, [], Consumes-nil _, (same, refl, refl, refl))
-
-pub returns-in_err-accepted-clause-operates : goal.returns-in_err-accepted-clause-operates
-returns-in_err-accepted-clause-operates g c =
-    let before = g.W.Write.contents c.args.link.now.channel.writer in
-    let after = g.W.Write.contents c.ask_under.new.link.channel.writer in
-    let channel = c.ask_under.new.link.channel in
-    let gone = IsGone channel.read_failed channel.write_failed channel.turns_left (IsAtEnd (g.R.Read.remaining channel.reader)) in
-    let old : Sharing = record { session = c.self.inside.session; share = c.self.inside.share; asked = c.self.inside.asked } in
-    let asked = c.in-Some-take.asked in
-    let operation = asking_again c.self.inside.session asked in
-    let told = Err c.in_err-accepted.field-0.0 in
-    let is : c.self.inside.asked ≡ Some asked = sym c.take.ensures.value ∙ c.in-Some-take.is in
-    let (number, first, tagged, begun) = c.in-Some.ensures in
-    let (read, consumed, went) = c.in_err-accepted.ensures.ends in
-    let ends = subst (λ (s : Told). LinkEnds (asks_write (write_need s) asked.server) (spelling (WriteFrame c.in-Some.tag (write_need s) asked.program)) before after read c.args.link.now.is_closed c.ask_under.new.link.is_closed gone told) begun went in
-    let but = but_share c.ask_under.new.self (operation.begins old) (c.in_err-accepted.ensures.leaves.0 ∙ begun) (c.in_err-accepted.ensures.leaves.1 ∙ sym is) in
-    let fails = err_from_is_err_and c.from_residual.result c.from_residual.ensures.1 in
-    rw (← c.self.view_is, fails.1, fails.2) (
-      asked,
-      is,
-      read,
-      consumed,
-      fails_operating operation old c.ask_under.new.self c.claim.new.share before after read c.args.link.now.is_closed c.ask_under.new.link.is_closed gone told c.in_err-accepted.field-0.0
-          refl (_, (number, c.in-Some.tag, first, tagged, refl), ends) but c.in-Ok.ensures.1 c.in_err-accepted.ensures.spends,
-    )
 
 pub returns-clause-operates : goal.returns-clause-operates
 returns-clause-operates g c =
     let before = g.W.Write.contents c.args.link.now.channel.writer in
-    let after = g.W.Write.contents c.ask_under.new.link.channel.writer in
-    let channel = c.ask_under.new.link.channel in
+    let after = g.W.Write.contents c.send-told.new.link.channel.writer in
+    let channel = c.send-told.new.link.channel in
+    let was = c.args.link.now.is_closed in
+    let is = c.send-told.new.link.is_closed in
     let gone = IsGone channel.read_failed channel.write_failed channel.turns_left (IsAtEnd (g.R.Read.remaining channel.reader)) in
-    let old : Sharing = record { session = c.self.inside.session; share = c.self.inside.share; asked = c.self.inside.asked } in
-    let asked = c.in-Some-take.asked in
-    let operation = asking_again c.self.inside.session asked in
-    let accepted = c.in_ok-accepted.accepted in
-    let is : c.self.inside.asked ≡ Some asked = sym c.take.ensures.value ∙ c.in-Some-take.is in
-    let (number, first, tagged, begun) = c.in-Some.ensures in
-    let (read, consumed, went) = c.in_ok-accepted.ensures.ends in
-    let ends = subst (λ (s : Told). LinkEnds (asks_write (write_need s) asked.server) (spelling (WriteFrame c.in-Some.tag (write_need s) asked.program)) before after read c.args.link.now.is_closed c.ask_under.new.link.is_closed gone (Ok accepted)) begun went in
-    let but = but_share c.ask_under.new.self (told_accepted (operation.begins old) accepted) (c.in_ok-accepted.ensures.leaves.0 ∙ ap (λ (s : Told). after_write s accepted) begun) c.in_ok-accepted.ensures.leaves.1 in
-    rw (← c.self.view_is) (
+    let asker = c.self.inside.asker in
+    let new = c.send-told.new.self in
+    let old : Sharing = record { session = asker.session; share = c.self.inside.share; asked = asker.asked } in
+    let heard = c.send-told.result in
+    let (asked, is_asked, read, consumed, heard_so) = c.send-told.ensures.hears in
+    let (same, hears) = hears_again asker c.ask_again.new.self asked new before after read was is gone heard c.ask_again.ensures is_asked heard_so in
+    let spent = subst (λ (s : Shared). Spends heard.entry s c.spend.new.share) c.in-Ok.ensures.1 c.spend.ensures in
+    rw (← c.self.view_is, c.told_as.ensures) (
       asked,
-      is,
+      same,
       read,
       consumed,
-      serves_operating operation old c.ask_under.new.self c.claim.new.share before after read c.args.link.now.is_closed c.ask_under.new.link.is_closed gone (Ok accepted) accepted
-          refl (_, (number, c.in-Some.tag, first, tagged, refl), ends) but c.in-Ok.ensures.1 c.in_ok-accepted.ensures.spends,
+      operates (asking_again asker.session asked) asked.server old new c.spend.new.share before after read was is gone heard hears spent,
     )

@@ -12,11 +12,11 @@ loop-told-init g c = record { took = takes_none {S = Unit {0}} (TakesAtNode g.L.
 pub loop-told-preserved : goal.loop-told-preserved
 loop-told-preserved g c =
     let more = c.take_meanwhile-more.result in
-    let both : TookAll = record { taken = c.loop-told.told.taken + more.taken; had = c.loop-told.told.had + more.had; fault = more.fault } in
+    let both : TookAll = record { taken = c.loop-told.told.taken + more.taken; had = c.loop-told.told.had + more.had; refused = more.refused } in
     let second : TakesAllAtNode g.L.Desks.begun (into_iter_items c.loop-told.writes) (into_iter_items c.take_meanwhile-more.new.writes) more =
     (all_kept g.D.Device g.L.Desks.begun _ _ (into_iter_items c.loop-told.writes) (into_iter_items c.take_meanwhile-more.new.writes) more c.take_meanwhile-more.ensures.takes
     (kept_of g.L.Desks.begun _ c.take_meanwhile-more.ensures.exact.0)).0 in
-    let none : c.loop-told.told.fault ≡ None = is_nothing c.loop-told.told.fault c.if-is_none.ensures in
+    let none : c.loop-told.told.refused ≡ None = is_nothing c.loop-told.told.refused c.if-is_none.ensures in
     let took : TakesAllAtNode g.L.Desks.begun c.args.writes.items (into_iter_items c.take_meanwhile-more.new.writes) both =
     takes_more {S = Unit {0}} (TakesAtNode g.L.Desks.begun) tt tt tt c.args.writes.items (into_iter_items c.loop-told.writes) (into_iter_items c.take_meanwhile-more.new.writes) c.loop-told.told more both
     c.loop-told.invariant.took none second refl refl refl in
@@ -25,11 +25,11 @@ loop-told-preserved g c =
 pub overflow_add-told : goal.overflow_add-told
 overflow_add-told g c =
     let more = c.take_meanwhile-more.result in
-    let both : TookAll = record { taken = c.loop-told.told.taken + more.taken; had = c.loop-told.told.had + more.had; fault = more.fault } in
+    let both : TookAll = record { taken = c.loop-told.told.taken + more.taken; had = c.loop-told.told.had + more.had; refused = more.refused } in
     let second : TakesAllAtNode g.L.Desks.begun (into_iter_items c.loop-told.writes) (into_iter_items c.take_meanwhile-more.new.writes) more =
     (all_kept g.D.Device g.L.Desks.begun _ _ (into_iter_items c.loop-told.writes) (into_iter_items c.take_meanwhile-more.new.writes) more c.take_meanwhile-more.ensures.takes
     (kept_of g.L.Desks.begun _ c.take_meanwhile-more.ensures.exact.0)).0 in
-    let none : c.loop-told.told.fault ≡ None = is_nothing c.loop-told.told.fault c.if-is_none.ensures in
+    let none : c.loop-told.told.refused ≡ None = is_nothing c.loop-told.told.refused c.if-is_none.ensures in
     let took : TakesAllAtNode g.L.Desks.begun c.args.writes.items (into_iter_items c.take_meanwhile-more.new.writes) both =
     takes_more {S = Unit {0}} (TakesAtNode g.L.Desks.begun) tt tt tt c.args.writes.items (into_iter_items c.loop-told.writes) (into_iter_items c.take_meanwhile-more.new.writes) c.loop-told.told more both
     c.loop-told.invariant.took none second refl refl refl in
@@ -38,11 +38,11 @@ overflow_add-told g c =
 pub overflow_add-told-in-loop-told : goal.overflow_add-told-in-loop-told
 overflow_add-told-in-loop-told g c =
     let more = c.take_meanwhile-more.result in
-    let both : TookAll = record { taken = c.loop-told.told.taken + more.taken; had = c.loop-told.told.had + more.had; fault = more.fault } in
+    let both : TookAll = record { taken = c.loop-told.told.taken + more.taken; had = c.loop-told.told.had + more.had; refused = more.refused } in
     let second : TakesAllAtNode g.L.Desks.begun (into_iter_items c.loop-told.writes) (into_iter_items c.take_meanwhile-more.new.writes) more =
     (all_kept g.D.Device g.L.Desks.begun _ _ (into_iter_items c.loop-told.writes) (into_iter_items c.take_meanwhile-more.new.writes) more c.take_meanwhile-more.ensures.takes
     (kept_of g.L.Desks.begun _ c.take_meanwhile-more.ensures.exact.0)).0 in
-    let none : c.loop-told.told.fault ≡ None = is_nothing c.loop-told.told.fault c.if-is_none.ensures in
+    let none : c.loop-told.told.refused ≡ None = is_nothing c.loop-told.told.refused c.if-is_none.ensures in
     let took : TakesAllAtNode g.L.Desks.begun c.args.writes.items (into_iter_items c.take_meanwhile-more.new.writes) both =
     takes_more {S = Unit {0}} (TakesAtNode g.L.Desks.begun) tt tt tt c.args.writes.items (into_iter_items c.loop-told.writes) (into_iter_items c.take_meanwhile-more.new.writes) c.loop-told.told more both
     c.loop-told.invariant.took none second refl refl refl in

@@ -1,0 +1,20 @@
+//! What the words leave to be done.
+use crate::connected::Call;
+use crate::served::Service;
+use bayou_script::NetworkScript;
+
+/// What is still to be done once the words were read, by who has threads and sockets.
+#[derive(Drop)]
+pub enum Errand {
+    /// Nothing: what was asked for was done or refused, and this is the exit status.
+    Done(u8),
+    /// To run a script over sockets, with its servers' journals in this folder.
+    Net {
+        folder: String,
+        script: NetworkScript,
+    },
+    /// To have a server live.
+    Serve(Service),
+    /// To ask servers what lines say.
+    Connect(Call),
+}
