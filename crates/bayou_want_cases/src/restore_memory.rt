@@ -1,4 +1,6 @@
 //! Restoring where memory is refused.
+ghost use Rattle.std.specs.Prelude.{◌≡◌, length};
+
 use crate::fixtures::must_be_so;
 use crate::stores::{COUNT, Given, LIMIT, restored, start, write};
 use bayou_lang::RestingWrite;
@@ -9,7 +11,9 @@ use std::alloc::Global;
 use std::process::Abort;
 
 /// The Write alone, as it is given.
-fn alone(rt: &impl Abort, alloc: Global, given: Given) -> Vec<RestingWrite> {
+fn alone(rt: &impl Abort, alloc: Global, given: Given) -> Vec<RestingWrite>
+    ensures { length result.items ≡ 1 }
+{
     let mut alone = match Vec::with_capacity(alloc, 1) {
         Ok(list) => list,
         Err(_) => Vec::with_capacity(alloc, 1).expect(rt, "no memory"),
